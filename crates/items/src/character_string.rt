@@ -1,4 +1,4 @@
-ghost use Rattle.std.specs.Prelude.{◌≡◌, length, IfOk, IsTrue};
+ghost use Rattle.std.specs.Prelude.{◌≡◌, length, take, IfOk, IsTrue};
 ghost use Rattle.items.specs.Text.{is_character, is_text, as_text};
 
 use crate::list::Items;
@@ -64,6 +64,14 @@ impl Text {
     {
         let codes = Items::from_slice(alloc, self.codes.as_slice())?;
         Ok(Text { codes })
+    }
+
+    /// Keeps the first `count` characters; keeps all where there are no more.
+    #[tactic(auto, using(crate::proofs::TextLemmas::is_text_parts))]
+    pub fn truncate(&mut self, count: usize)
+        ensures { self.new ≡ take count self.old }
+    {
+        self.codes.truncate(count);
     }
 
     /// The codes as a list, without taking memory.

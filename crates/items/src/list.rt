@@ -1,8 +1,12 @@
-ghost use Rattle.std.specs.Prelude.{◌≡◌, [], ◌∷◌, ◌++◌, ◌<◌, length, take, slice_get, slice_set, remove, ◌↔◌, IsTrue, IfOk, MatchOption, OnOk, OnErr, OnSome};
-ghost use Rattle.std.specs.Option.{option_copied};
+ghost use Rattle.std.specs.Prelude.{◌≡◌, [], ◌∷◌, ◌++◌, ◌<◌, ◌^◌, length, take, slice_get, slice_set, remove, ◌↔◌, IsTrue, IfOk, MatchOption, OnOk, OnErr, OnSome};
+ghost use Rattle.std.specs.Option.{option_copied, option_copied_mut};
+ghost use Rattle.std.specs.Iterator.Adapters.{IterYieldsInOrder};
+ghost use Rattle.std.specs.Borrow.{LendsIf, sem};
+ghost use Rattle.std.specs.Slice.Iter.{iter_rest};
 
 use std::alloc::{AllocError, Global};
 use std::marker::Model;
+use std::slice::Iter;
 
 /// A growing list. Contracts see it as the list of its elements, so that a copy equals what it copies.
 #[derive(Debug, Drop)]
@@ -22,6 +26,8 @@ impl<T> Model for Items<T> {
 }
 
 impl<T> Items<T> {
+    ghost use Rattle.items.specs.contracts.list.Items.{the_row};
+
     /// The empty list. Takes no memory until the first element.
     pub fn new(alloc: Global) -> Items<T>
         ensures { result ≡ [] }
@@ -61,6 +67,16 @@ impl<T> Items<T> {
         self.items.as_slice()
     }
 
+    /// The elements, one after another.
+    pub fn iter(&self) -> Iter<'_, T>
+        ensures rest { iter_rest result ≡ self.now }
+        ensures len { length (iter_rest result) ≡ length self.now }
+        ensures bound { length (iter_rest result) < 2 ^ 64 }
+        ensures runs { IterYieldsInOrder T }
+    {
+        self.items.iter()
+    }
+
     /// The number of elements.
     pub fn len(&self) -> usize
         ensures { result ≡ length self.now }
@@ -81,6 +97,15 @@ impl<T> Items<T> {
         ensures within { OnSome result (at < length self.now) }
     {
         self.items.get(at)
+    }
+
+    /// The element at place `at`, to be changed; `None` past the end. Afterwards the list has there what was left behind
+    /// the reference, and is otherwise as it was.
+    pub fn get_mut(&mut self, at: usize) -> Option<&mut T>
+        ensures* writes_back { sem 𝓛 (LendsIf (the_row T.row) T.row self.entry result (slice_set self.old at) self.old) }
+        ensures value { option_copied_mut result ≡ slice_get self.old at }
+    {
+        self.items.get_mut(at)
     }
 
     /// Takes the last element off; `None` where there is none.
@@ -136,6 +161,14 @@ impl<T: Drop> Items<T> {
 }
 
 impl<T: Copy> Items<T> {
+    /// Puts a copy of `more` at the end. Refuses for want of memory alone: the list then stays as it was.
+    pub fn extend_from_slice(&mut self, more: &[T]) -> Result<(), AllocError>
+        ensures ok { OnOk result (self.new ≡ self.old ++ more.now) }
+        ensures err { OnErr result (self.new ≡ self.old) }
+    {
+        self.items.extend_from_slice(more)
+    }
+
     /// A copy of the elements. Refuses for want of memory alone.
     pub fn from_slice(alloc: Global, items: &[T]) -> Result<Items<T>, AllocError>
         ensures { IfOk result (λ list. list ≡ items.now) }
