@@ -1,0 +1,3 @@
+pub mod Words
+pub mod Name
+pub mod Refusal
