@@ -1,0 +1,4 @@
+pub mod Contents
+pub mod Refused
+pub mod Memory
+pub mod Faulty

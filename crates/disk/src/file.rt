@@ -1,0 +1,97 @@
+ghost use Rattle.std.specs.Prelude.{◌≡◌, [], false, is_ok, IfOk};
+ghost use Rattle.disk.specs.Refused.{CountsRefusal};
+
+use crate::memory::refuse;
+use crate::{Disk, DiskError};
+use std::fs::{File, Files, OpenOptions};
+use std::io;
+use std::marker::Model;
+use std::os::unix::fs::FileExt;
+
+/// A file of the operating system.
+///
+/// No contract can say what a file gives or takes, so a `FileDisk` does not claim to be honest: what
+/// is proved of every honest device speaks of a file under the premise that it is one. That it counts
+/// its refused calls is proved.
+#[derive(Drop)]
+pub struct FileDisk {
+    file: File,
+    refused: u64,
+}
+
+impl Model for FileDisk {
+    ghost use Rattle.std.specs.Prelude.{ℕ};
+
+    ghost Value = { ℕ };
+
+    ghost view = { λ d. d.refused };
+}
+
+impl FileDisk {
+    /// The device over an open file.
+    pub fn new(file: File) -> FileDisk
+        ensures { result ≡ 0 }
+    {
+        FileDisk { file, refused: 0 }
+    }
+
+    /// Opens the file at this path to read and write, and makes it where there is none. Refused where
+    /// the system does not open it so, and where another process has it open as a device.
+    pub fn open<R: Files<File = File>>(rt: &R, path: &str) -> Result<FileDisk, DiskError>
+        ensures { IfOk result (λ disk. disk ≡ 0) }
+    {
+        let mut options = OpenOptions::new();
+        options.read(true);
+        options.write(true);
+        options.create(true);
+        let file = options.open(rt, path).map_err(DiskError::System)?;
+        match file.try_lock() {
+            Ok(()) => Ok(FileDisk::new(file)),
+            Err(_) => Err(DiskError::System(io::ErrorKind::WouldBlock.into())),
+        }
+    }
+}
+
+/// Counts an answer that is a refusal.
+fn counted<T>(refused: &mut u64, answer: io::Result<T>) -> Result<T, DiskError>
+    ensures variant { is_ok result ≡ is_ok answer }
+    ensures count { CountsRefusal result refused.old refused.new }
+{
+    match answer {
+        Ok(value) => Ok(value),
+        Err(error) => refuse(refused, DiskError::System(error)),
+    }
+}
+
+/// The length of a file.
+fn length(file: &File) -> io::Result<u64> {
+    Ok(file.metadata()?.len())
+}
+
+impl Disk for FileDisk {
+    ghost is_honest = { false };
+
+    ghost bytes = { λ _. [] };
+
+    ghost refused = { λ d. d };
+
+    fn len(&mut self) -> Result<u64, DiskError> {
+        counted(&mut self.refused, length(&self.file))
+    }
+
+    fn read_at(&mut self, at: u64, into: &mut [u8]) -> Result<(), DiskError> {
+        counted(&mut self.refused, self.file.read_exact_at(into, at))
+    }
+
+    fn write_at(&mut self, at: u64, from: &[u8]) -> Result<(), DiskError> {
+        counted(&mut self.refused, self.file.write_all_at(from, at))
+    }
+
+    fn set_len(&mut self, len: u64) -> Result<(), DiskError> {
+        counted(&mut self.refused, self.file.set_len(len))
+    }
+
+    fn sync(&mut self) -> Result<(), DiskError> {
+        counted(&mut self.refused, self.file.sync_all())
+    }
+}

@@ -1,0 +1,154 @@
+ghost use Rattle.std.specs.Prelude.{◌≡◌, ◌+◌, ◌-◌, ◌++◌, take, drop, replicate, ◌<◌, ◌≤◌, ◌↔◌, [], true, length, IsOk, IfErr, OnOk, OnErr};
+ghost use Rattle.disk.specs.Contents.{Holds, overwritten, resized};
+ghost use Rattle.disk.specs.Refused.{CountsRefusal};
+
+use crate::{Disk, DiskError};
+use std::alloc::{AllocError, Global};
+use std::marker::Model;
+
+/// A device in memory. It is honest, and refuses only for want of memory and a read past its end.
+#[derive(Drop)]
+pub struct MemDisk {
+    bytes: Vec<u8>,
+    refused: u64,
+}
+
+impl Model for MemDisk {
+    ghost use Rattle.disk.specs.Memory.{Held};
+
+    ghost Value = { Held };
+
+    ghost view = { λ d. record { bytes = d.bytes.items; refused = d.refused } };
+}
+
+impl MemDisk {
+    /// An empty device.
+    pub fn new(alloc: Global) -> MemDisk
+        ensures { result ≡ record { bytes = []; refused = 0 } }
+    {
+        MemDisk {
+            bytes: Vec::new(alloc),
+            refused: 0,
+        }
+    }
+
+    /// A device that holds these bytes.
+    pub fn from_bytes(bytes: Vec<u8>) -> MemDisk
+        ensures { result ≡ record { bytes = bytes.items; refused = 0 } }
+    {
+        MemDisk { bytes, refused: 0 }
+    }
+
+    /// Its bytes.
+    pub fn as_slice(&self) -> &[u8]
+        ensures { result.now ≡ self.now.bytes }
+    {
+        self.bytes.as_slice()
+    }
+}
+
+/// Raises a count of refused calls, and answers the refusal.
+pub(crate) fn refuse<T>(refused: &mut u64, error: DiskError) -> Result<T, DiskError>
+    ensures error { result ≡ Err error }
+    ensures count { CountsRefusal result refused.old refused.new }
+{
+    *refused = refused.saturating_add(1);
+    Err(error)
+}
+
+/// Lengthens a file with zeros to `end`, where it is shorter.
+fn lengthen(file: &mut Vec<u8>, end: usize) -> Result<(), AllocError>
+    ensures ok { OnOk result (file.new.items ≡ file.old.items ++ replicate (end - length file.old.items) 0) }
+    ensures err { OnErr result (file.new.items ≡ file.old.items) }
+{
+    if file.len() < end {
+        file.resize(end, 0)?;
+    }
+    Ok(())
+}
+
+/// Puts bytes in the place of those at an offset.
+fn put(file: &mut [u8], at: usize, bytes: &[u8])
+    requires { at + length bytes.now ≤ length file.old }
+    ensures { file.new ≡ take at file.old ++ (bytes.now ++ drop (at + length bytes.now) file.old) }
+{
+    file[at..at + bytes.len()].copy_from_slice(bytes);
+}
+
+/// Writes bytes at an offset, or leaves all as it was.
+fn overwrite(file: &mut Vec<u8>, at: usize, bytes: &[u8]) -> Result<(), AllocError>
+    ensures ok { OnOk result (file.new.items ≡ overwritten file.old.items at bytes.now) }
+    ensures err { OnErr result (file.new.items ≡ file.old.items) }
+{
+    let end = at.checked_add(bytes.len()).ok_or(AllocError)?;
+    lengthen(file, end)?;
+    put(file.as_mut_slice(), at, bytes);
+    Ok(())
+}
+
+impl Disk for MemDisk {
+    ghost is_honest = { true };
+
+    ghost bytes = { λ d. d.bytes };
+
+    ghost refused = { λ d. d.refused };
+
+    /// Never refused.
+    fn len(&mut self) -> Result<u64, DiskError>
+        ensures value { result ≡ Ok (length self.old.bytes) }
+        ensures same { self.new ≡ self.old }
+    {
+        Ok(self.bytes.len() as u64)
+    }
+
+    /// Refused just where the range does not lie within the device.
+    fn read_at(&mut self, at: u64, into: &mut [u8]) -> Result<(), DiskError>
+        ensures within { IsOk result ↔ (at + length into.old ≤ length self.old.bytes) }
+        ensures value { OnOk result (Holds self.old.bytes at into.new) }
+        ensures same { self.new.bytes ≡ self.old.bytes }
+        ensures count { CountsRefusal result self.old.refused self.new.refused }
+    {
+        let len = self.bytes.len();
+        let at = at as usize;
+        if at > len || into.len() > len - at {
+            return refuse(&mut self.refused, DiskError::PastEnd);
+        }
+        into.copy_from_slice(&self.bytes[at..at + into.len()]);
+        Ok(())
+    }
+
+    /// Refused only for want of memory, and then it changes nothing.
+    fn write_at(&mut self, at: u64, from: &[u8]) -> Result<(), DiskError>
+        ensures written { OnOk result (self.new.bytes ≡ overwritten self.old.bytes at from.now) }
+        ensures cause { IfErr result (λ e. e ≡ DiskError.Memory) }
+        ensures unchanged { OnErr result (self.new.bytes ≡ self.old.bytes) }
+        ensures count { CountsRefusal result self.old.refused self.new.refused }
+    {
+        match overwrite(&mut self.bytes, at as usize, from) {
+            Ok(()) => Ok(()),
+            Err(_) => refuse(&mut self.refused, DiskError::Memory),
+        }
+    }
+
+    /// Refused only for want of memory, where it was to grow, and then it changes nothing.
+    fn set_len(&mut self, len: u64) -> Result<(), DiskError>
+        ensures resized { OnOk result (self.new.bytes ≡ resized self.old.bytes len) }
+        ensures cause { IfErr result (λ e. (e ≡ DiskError.Memory) × (length self.old.bytes < len)) }
+        ensures unchanged { OnErr result (self.new.bytes ≡ self.old.bytes) }
+        ensures count { CountsRefusal result self.old.refused self.new.refused }
+    {
+        match self.bytes.resize(len as usize, 0) {
+            Ok(()) => Ok(()),
+            Err(_) => refuse(&mut self.refused, DiskError::Memory),
+        }
+    }
+
+    /// Never refused: memory is all the medium that there is.
+    fn sync(&mut self) -> Result<(), DiskError>
+        ensures value { IsOk result }
+        ensures same { self.new ≡ self.old }
+    {
+        // There is no medium beneath it.
+        Ok(())
+    }
+}
