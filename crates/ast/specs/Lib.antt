@@ -1,0 +1,9 @@
+pub mod Layers
+pub mod Words
+pub mod Notation
+pub mod Terminals
+pub mod Expressions
+pub mod Queries
+pub mod Statements
+pub mod Grammar
+pub mod Nesting

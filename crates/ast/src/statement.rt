@@ -1,0 +1,172 @@
+//! Statements.
+
+use crate::operator::Direction;
+use crate::tree::{Condition, Expression, Query};
+use items::Items;
+use lexer::Name;
+
+/// A statement, without the `;` that may follow it.
+#[derive(Drop)]
+pub enum Statement {
+    Query(OrderedQuery),
+    Explain(OrderedQuery),
+    CreateTable(CreateTable),
+    DropTable(Name),
+    CreateIndex(CreateIndex),
+    DropIndex(Name),
+    Insert(Insert),
+    Update(Update),
+    Delete(Delete),
+    /// Whether WORK is written.
+    Commit(bool),
+    /// Whether WORK is written.
+    Rollback(bool),
+    SetTransaction(AccessMode),
+    DeclareCursor(DeclareCursor),
+    OpenCursor(Name),
+    Fetch(Name),
+    CloseCursor(Name),
+}
+
+/// A query and the order of its rows.
+#[derive(Drop)]
+pub struct OrderedQuery {
+    pub query: Query,
+    /// The keys after ORDER BY, the first one first; empty where that is not written.
+    pub order: Items<SortKey>,
+}
+
+#[derive(Debug, Drop)]
+pub struct SortKey {
+    pub column: SortColumn,
+    pub direction: Option<Direction>,
+}
+
+/// A result column, by its name or by its place, counted from 1.
+#[derive(Debug, Drop)]
+pub enum SortColumn {
+    Named(Name),
+    Position(i64),
+}
+
+#[derive(Drop)]
+pub struct CreateTable {
+    pub table: Name,
+    /// The columns and the rules of the table, at least one.
+    pub elements: Items<TableElement>,
+}
+
+#[derive(Drop)]
+pub enum TableElement {
+    Column(ColumnDefinition),
+    Constraint(TableConstraint),
+}
+
+#[derive(Drop)]
+pub struct ColumnDefinition {
+    pub column: Name,
+    pub type_name: TypeName,
+    pub constraints: Items<ColumnConstraint>,
+}
+
+/// A column's type, with the greatest length of a text.
+#[derive(Clone, Copy, Debug, PartialEq, Eq)]
+pub enum TypeName {
+    Integer,
+    /// `INT`
+    Int,
+    Varchar(i64),
+    CharacterVarying(i64),
+}
+
+#[derive(Drop)]
+pub struct ColumnConstraint {
+    /// The name after CONSTRAINT, where that is written.
+    pub name: Option<Name>,
+    pub rule: ColumnRule,
+}
+
+#[derive(Drop)]
+pub enum ColumnRule {
+    NotNull,
+    PrimaryKey,
+    Unique,
+    Check(Condition),
+}
+
+#[derive(Drop)]
+pub struct TableConstraint {
+    /// The name after CONSTRAINT, where that is written.
+    pub name: Option<Name>,
+    pub rule: TableRule,
+}
+
+/// A rule of a table. The names are columns, at least one.
+#[derive(Drop)]
+pub enum TableRule {
+    PrimaryKey(Items<Name>),
+    Unique(Items<Name>),
+    Check(Condition),
+}
+
+#[derive(Drop)]
+pub struct CreateIndex {
+    pub index: Name,
+    pub table: Name,
+    /// At least one.
+    pub columns: Items<Name>,
+}
+
+#[derive(Drop)]
+pub struct Insert {
+    pub table: Name,
+    /// The columns named; empty where none are written.
+    pub columns: Items<Name>,
+    pub rows: InsertRows,
+}
+
+#[derive(Drop)]
+pub enum InsertRows {
+    /// The rows after VALUES, at least one, each of at least one value.
+    Values(Items<Items<StoredSource>>),
+    Query(Query),
+}
+
+/// What is stored into a column.
+#[derive(Drop)]
+pub enum StoredSource {
+    Value(Expression),
+    Null,
+}
+
+#[derive(Drop)]
+pub struct Update {
+    pub table: Name,
+    /// At least one.
+    pub assignments: Items<Assignment>,
+    pub filter: Option<Condition>,
+}
+
+#[derive(Drop)]
+pub struct Assignment {
+    pub column: Name,
+    pub source: StoredSource,
+}
+
+#[derive(Drop)]
+pub struct Delete {
+    pub table: Name,
+    pub filter: Option<Condition>,
+}
+
+#[derive(Clone, Copy, Debug, PartialEq, Eq)]
+pub enum AccessMode {
+    ReadOnly,
+    ReadWrite,
+}
+
+#[derive(Drop)]
+pub struct DeclareCursor {
+    pub cursor: Name,
+    pub query: OrderedQuery,
+}
