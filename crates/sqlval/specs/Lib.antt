@@ -1,3 +1,9 @@
+pub mod Arithmetic
+pub mod Code
+pub mod CodedLength
 pub mod Comparison
+pub mod Concatenation
+pub mod Matching
+pub mod Storing
 pub mod Truth
 pub mod Value
