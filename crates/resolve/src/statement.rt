@@ -2,10 +2,11 @@
 //! from 0.
 
 use crate::typed::{Condition, Expression, OrderedQuery, Query};
+use ast::DeclareCursor;
 use items::{Items, Text};
 use sqlval::{Column, Constraint};
 
-/// A statement, without its DECLAREd query: that one is typed when it is opened.
+/// A statement.
 #[derive(Drop)]
 pub enum Typed {
     Query(OrderedQuery),
@@ -14,6 +15,8 @@ pub enum Typed {
     Commit,
     Rollback,
     SetTransaction(AccessMode),
+    /// A cursor's name and its query, which is typed at each OPEN.
+    Declare(DeclareCursor),
     Open(Text),
     Fetch(Text),
     Close(Text),
