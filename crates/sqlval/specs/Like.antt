@@ -16,6 +16,9 @@ underscore = 95
 abbrev pub is_percent : ℕ → Bool
 is_percent sign = sign == percent
 
+abbrev pub is_wildcard : ℕ → Bool
+is_wildcard sign = is_percent sign || sign == underscore
+
 -- what a pattern means: `%` stands for any run of characters, `_` for any one, every other character for itself
 pub data Fits : List ℕ → List ℕ → Type 0 where
   nothing : Fits [] []
