@@ -24,14 +24,14 @@ Within (Some limit) others = others < limit
 abbrev pub Chain : {A B : Type 0} → Option ℕ → Rule A → Rule B → Rule (A × List B)
 Chain limit A B ts x rest = (A ⨾ Many B) ts x rest × Within limit (length x.1)
 
--- the greatest number of operands in a chain, if there is one, and the rules of what stands between parentheses
+-- the rules of what stands between parentheses
 pub record Nested : Type 1 where
-  pub limit : Option ℕ
   pub expression : Rule Expression
   pub condition : Rule Condition
   pub query : Rule Query
 
-module _ (inner : Nested) where
+-- over the greatest number of operands in a chain, if there is one, and the rules of what stands between parentheses
+module _ (limit : Option ℕ) (inner : Nested) where
   -- primary = number | string | column | setfn | ( expr ) | ( query )
   -- setfn   = COUNT ( * ) | (COUNT|SUM|AVG|MIN|MAX) ( [ALL | DISTINCT] expr )
   abbrev pub IsPrimaryLayer : Rule PrimaryLayer
@@ -53,11 +53,11 @@ module _ (inner : Nested) where
 
   -- term = factor {(* | /) factor}
   pub record IsTerm (ts : Tokens) (x : Term) (rest : Tokens) : Type 0 where
-    pub is : Chain inner.limit IsFactor (IsMultiplyOperator ⨾ IsFactor) ts ((out-Term x).first, (out-Term x).others) rest
+    pub is : Chain limit IsFactor (IsMultiplyOperator ⨾ IsFactor) ts ((out-Term x).first, (out-Term x).others) rest
 
   -- expr = term {(+ | - | ||) term}
   pub record IsExpression (ts : Tokens) (x : Expression) (rest : Tokens) : Type 0 where
-    pub is : Chain inner.limit IsTerm (IsAddOperator ⨾ IsTerm) ts ((out-Expression x).first, (out-Expression x).others) rest
+    pub is : Chain limit IsTerm (IsAddOperator ⨾ IsTerm) ts ((out-Expression x).first, (out-Expression x).others) rest
 
   -- ( cond ) | predicate
   -- predicate = expr (= | <> | < | > | <= | >=) expr | expr [NOT] BETWEEN expr AND expr
@@ -89,8 +89,8 @@ module _ (inner : Nested) where
 
   -- conj = neg {AND neg}
   pub record IsConjunction (ts : Tokens) (x : Conjunction) (rest : Tokens) : Type 0 where
-    pub is : Chain inner.limit IsNegation (AND ⊳ IsNegation) ts ((out-Conjunction x).first, (out-Conjunction x).others) rest
+    pub is : Chain limit IsNegation (AND ⊳ IsNegation) ts ((out-Conjunction x).first, (out-Conjunction x).others) rest
 
   -- cond = conj {OR conj}
   pub record IsCondition (ts : Tokens) (x : Condition) (rest : Tokens) : Type 0 where
-    pub is : Chain inner.limit IsConjunction (OR ⊳ IsConjunction) ts ((out-Condition x).first, (out-Condition x).others) rest
+    pub is : Chain limit IsConjunction (OR ⊳ IsConjunction) ts ((out-Condition x).first, (out-Condition x).others) rest

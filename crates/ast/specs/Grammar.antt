@@ -10,12 +10,11 @@ use Rattle.ast.specs.Words.{SEMICOLON}
 
 -- the rules of expressions, conditions and queries in which parentheses stand less than so deep, and chains are within the limit
 abbrev pub nested_at : Option ℕ → ℕ → Nested
-nested_at limit zero = record { limit = limit; expression = λ _ _ _. ⊥; condition = λ _ _ _. ⊥; query = λ _ _ _. ⊥ }
+nested_at limit zero = record { expression = λ _ _ _. ⊥; condition = λ _ _ _. ⊥; query = λ _ _ _. ⊥ }
 nested_at limit (suc depth) = record {
-  limit = limit;
-  expression = IsExpression (nested_at limit depth);
-  condition = IsCondition (nested_at limit depth);
-  query = IsQuery (nested_at limit depth);
+  expression = IsExpression limit (nested_at limit depth);
+  condition = IsCondition limit (nested_at limit depth);
+  query = IsQuery limit (nested_at limit depth);
 }
 
 -- The tokens are one statement, which has this tree, and perhaps a ; after it.

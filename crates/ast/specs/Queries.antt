@@ -1,5 +1,5 @@
 -- The grammar of queries. (SQL-92, 6.3, 7.3 to 7.10, with our own cuts.)
-use Rattle.std.specs.Prelude.{◌≡◌, Bool, true, false, List, [], ◌∷◌, Option, Some, None}
+use Rattle.std.specs.Prelude.{◌≡◌, ℕ, Bool, true, false, List, [], ◌∷◌, Option, Some, None}
 use Rattle.ast.specs.declared.operator.Column.{Column}
 use Rattle.ast.specs.declared.tree.Condition.{Condition}
 use Rattle.ast.specs.declared.tree.Addend.{Addend, out-Addend}
@@ -29,7 +29,8 @@ abbrev pub is_lone : {A B : Type 0} → Operand → List A → List B → Bool
 is_lone x [] [] = is_grouped x
 is_lone x _ _ = false
 
-module _ (inner : Nested) where
+-- over the greatest number of operands in a chain, if there is one, and the rules of what stands between parentheses
+module _ (limit : Option ℕ) (inner : Nested) where
   -- source1 = name [[AS] name] | ( query ) [AS] name
   abbrev pub IsTableSourceLayer : Rule TableSourceLayer
   IsTableSourceLayer ts (TableSource-F.Table x alias) rest = (IsName ⨾ Maybe IsAlias) ts (x, alias) rest
@@ -42,9 +43,9 @@ module _ (inner : Nested) where
   abbrev pub IsJoinLayer : Rule JoinLayer
   IsJoinLayer ts (Join-F.Cross x) rest = (CROSS ⊳ JOIN ⊳ IsTableSource) ts x rest
   IsJoinLayer ts (Join-F.Inner inner_written x on) rest =
-      (Written INNER ⨾ JOIN ⊳ IsTableSource ⨾ ON ⊳ IsCondition inner) ts (inner_written, (x, on)) rest
+      (Written INNER ⨾ JOIN ⊳ IsTableSource ⨾ ON ⊳ IsCondition limit inner) ts (inner_written, (x, on)) rest
   IsJoinLayer ts (Join-F.Left outer_written x on) rest =
-      (LEFT ⊳ Written OUTER ⨾ JOIN ⊳ IsTableSource ⨾ ON ⊳ IsCondition inner) ts (outer_written, (x, on)) rest
+      (LEFT ⊳ Written OUTER ⨾ JOIN ⊳ IsTableSource ⨾ ON ⊳ IsCondition limit inner) ts (outer_written, (x, on)) rest
 
   pub record IsJoin (ts : Tokens) (x : Join) (rest : Tokens) : Type 0 where
     pub is : IsJoinLayer ts (out-Join x) rest
@@ -55,7 +56,7 @@ module _ (inner : Nested) where
 
   -- item = expr [[AS] name]
   pub record IsSelectItem (ts : Tokens) (x : SelectItem) (rest : Tokens) : Type 0 where
-    pub is : (IsExpression inner ⨾ Maybe IsAlias) ts ((out-SelectItem x).value, (out-SelectItem x).alias) rest
+    pub is : (IsExpression limit inner ⨾ Maybe IsAlias) ts ((out-SelectItem x).value, (out-SelectItem x).alias) rest
 
   -- * | item {, item}
   abbrev pub AreSelectItems : Rule (Option (List SelectItem))
@@ -64,7 +65,7 @@ module _ (inner : Nested) where
 
   -- [WHERE cond]
   abbrev pub IsFilter : Rule (Option Condition)
-  IsFilter = Maybe (WHERE ⊳ IsCondition inner)
+  IsFilter = Maybe (WHERE ⊳ IsCondition limit inner)
 
   -- [GROUP BY column {, column}]
   abbrev pub AreGroups : Rule (List Column)
@@ -72,7 +73,7 @@ module _ (inner : Nested) where
 
   -- [HAVING cond]
   abbrev pub IsHaving : Rule (Option Condition)
-  IsHaving = Maybe (HAVING ⊳ IsCondition inner)
+  IsHaving = Maybe (HAVING ⊳ IsCondition limit inner)
 
   -- select = SELECT [ALL | DISTINCT] ( * | item {, item} ) FROM ref {, ref} [WHERE cond] [GROUP BY column {, column}] [HAVING cond]
   pub record IsSelect (ts : Tokens) (x : Select) (rest : Tokens) : Type 0 where
@@ -89,9 +90,9 @@ module _ (inner : Nested) where
 
   -- addend = operand {INTERSECT [ALL] operand}
   pub record IsAddend (ts : Tokens) (x : Addend) (rest : Tokens) : Type 0 where
-    pub is : Chain inner.limit IsOperand (INTERSECT ⊳ Written ALL ⨾ IsOperand) ts ((out-Addend x).first, (out-Addend x).others) rest
+    pub is : Chain limit IsOperand (INTERSECT ⊳ Written ALL ⨾ IsOperand) ts ((out-Addend x).first, (out-Addend x).others) rest
 
   -- query = select | sum, where sum = addend {(UNION | EXCEPT) [ALL] addend} has a set operator in it
   pub record IsQuery (ts : Tokens) (x : Query) (rest : Tokens) : Type 0 where
-    pub is : Chain inner.limit IsAddend (IsSetOperator ⨾ IsAddend) ts ((out-Query x).first, (out-Query x).others) rest
+    pub is : Chain limit IsAddend (IsSetOperator ⨾ IsAddend) ts ((out-Query x).first, (out-Query x).others) rest
     pub has_operator : is_lone (out-Addend (out-Query x).first).first (out-Addend (out-Query x).first).others (out-Query x).others ≡ false

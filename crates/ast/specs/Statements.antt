@@ -75,6 +75,7 @@ IsTypeName ts (type_name.CharacterVarying n) rest = (CHARACTER ⊳ VARYING ⊳ P
 abbrev pub IsConstraintName : Rule (Option (List ℕ))
 IsConstraintName = Maybe (CONSTRAINT ⊳ IsName)
 
+-- over the rules of expressions, conditions and queries
 module _ (inner : Nested) where
   -- query [order]
   abbrev pub IsOrderedQuery : Rule OrderedQuery
