@@ -1,0 +1,9 @@
+pub mod Skipping
+pub mod Steps
+pub mod WordSound
+pub mod NumberSound
+pub mod StringSound
+pub mod SymbolSound
+pub mod Sound
+pub mod WordTable
+pub mod Whole

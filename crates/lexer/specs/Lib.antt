@@ -1,3 +1,6 @@
 pub mod Words
 pub mod Name
 pub mod Refusal
+pub mod Token
+pub mod Tokens
+pub mod Reading

@@ -1,7 +1,7 @@
 -- Which lists of codes are identifiers.
 -- SQL-92, 5.2 <regular identifier>, with letters folded to upper case there too. That the letters are those
 -- of ASCII, and the limit of 64 characters in place of 128, is our own choice.
-use Rattle.std.specs.Prelude.{ℕ, Bool, false, ◌&&◌, ◌||◌, ◌==◌, nat_le, List, [], ◌∷◌, length, is_none}
+use Rattle.std.specs.Prelude.{ℕ, Bool, false, ◌&&◌, ◌||◌, ◌==◌, nat_le, List, [], ◌∷◌, length, is_none, Option, Some, None, if◌then◌else◌}
 use Rattle.std.specs.Char.{is_ascii_uppercase, is_ascii_digit}
 use Rattle.std.specs.List.{list_all}
 use Rattle.lexer.specs.Words.{reserved}
@@ -22,3 +22,7 @@ is_identifier text = begins_name text && list_all is_name_character text
 -- a name: such a text of at most 64 characters that is no reserved word
 abbrev pub is_name : List ℕ → Bool
 is_name text = nat_le (length text) 64 && is_identifier text && is_none (reserved text)
+
+-- the name that this text is, if it is one
+abbrev pub as_name : List ℕ → Option (List ℕ)
+as_name text = if is_name text then Some text else None

@@ -1,7 +1,6 @@
 ghost use Rattle.std.specs.Prelude.{◌≡◌, length, IsTrue, IfOk};
-ghost use Rattle.std.specs.Option.{SomeIff};
 ghost use Rattle.std.specs.List.{list_all};
-ghost use Rattle.lexer.specs.Name.{begins_name, is_identifier, is_name, is_name_character};
+ghost use Rattle.lexer.specs.Name.{as_name, begins_name, is_identifier, is_name, is_name_character};
 
 use crate::words::reserved_word;
 use items::Text;
@@ -35,7 +34,7 @@ impl Name {
 
     /// The name of this text, without taking memory; `None` exactly where it is no name.
     pub fn from_text(text: Text) -> Option<Name>
-        ensures { SomeIff result (IsTrue (is_name text)) text }
+        ensures { result ≡ as_name text }
     {
         if is_name_of(text.as_slice()) {
             Some(Name { text })
