@@ -1,0 +1,12 @@
+pub mod Evaluation
+pub mod Outcome
+pub mod Expression
+pub mod Condition
+pub mod From
+pub mod Bag
+pub mod Group
+pub mod Select
+pub mod SetOperator
+pub mod Meaning
+pub mod Stop
+pub mod OnePass

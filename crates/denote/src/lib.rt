@@ -1,0 +1,12 @@
+//! What queries and changes mean, and a plain evaluator that is exact.
+#![tactic(auto)]
+
+mod evaluate;
+mod fault;
+mod query;
+mod tables;
+
+pub use evaluate::{condition_truth, expression_value};
+pub use fault::{Fault, Stop};
+pub use query::query_rows;
+pub use tables::{Env, Row, Rows, Tables};
