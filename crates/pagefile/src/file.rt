@@ -1,0 +1,131 @@
+ghost use Rattle.std.specs.Prelude.{◌≡◌, ◌+◌, ◌*◌, IsTrue, IfOk, IfErr, OnOk, OnErr, MatchResult, Some};
+ghost use Rattle.disk.specs.Refused.{CountsRefusal, HasRisen};
+ghost use Rattle.pagefile.specs.Header.{header_bytes, IsInBounds};
+ghost use Rattle.pagefile.specs.Pages.{page_of, IsWritten, KeepsOthers};
+ghost use Rattle.pagefile.specs.Whole.{IsWhole, IsDamaged, IsPartlyMade, IsCounted};
+
+use crate::{FileHeader, OpenError, PAGE_SIZE, Page, Refused};
+use disk::{Disk, DiskError};
+
+/// A file of numbered pages over a device.
+///
+/// To its callers it is the device under it, whose bytes are a map from page numbers to pages. What is
+/// said of pages holds where the device is honest.
+#[derive(Drop)]
+pub struct PageFile<D: Disk> {
+    disk: D,
+}
+
+/// The offset of a page.
+fn offset_of(number: u32) -> u64
+    ensures { result ≡ 4096 * number }
+{
+    number as u64 * PAGE_SIZE as u64
+}
+
+/// Reads the header of the file that a device holds.
+fn read_header<D: Disk>(disk: &mut D) -> Result<FileHeader, OpenError>
+    ensures whole { IfOk result (λ h. IsTrue D.is_honest → IsWhole (D.bytes disk.old) h) }
+    ensures bounds { IfOk result IsInBounds }
+    ensures damaged { IfErr result (λ e. e ≡ OpenError.Damaged → IsTrue D.is_honest → IsDamaged (D.bytes disk.old)) }
+    ensures same { IsTrue D.is_honest → D.bytes disk.new ≡ D.bytes disk.old }
+    ensures count { MatchResult result (λ _. D.refused disk.new ≡ D.refused disk.old) (λ e. IsCounted e (D.refused disk.old) (D.refused disk.new)) }
+{
+    let len = disk.len()?;
+    if len < PAGE_SIZE as u64 {
+        return Err(OpenError::Damaged);
+    }
+    let mut page = [0; PAGE_SIZE];
+    disk.read_at(0, &mut page)?;
+    match FileHeader::of_file(len, &page) {
+        Some(header) => Ok(header),
+        None => Err(OpenError::Damaged),
+    }
+}
+
+impl<D: Disk> PageFile<D> {
+    ghost use Rattle.pagefile.specs.File.{disk_of};
+
+    /// Makes a new file of one page, in the place of what the device held.
+    ///
+    /// Refused where the device refuses a call, and then the device is handed back as it was or with 4,096 bytes.
+    pub fn create(mut disk: D) -> Result<PageFile<D>, Refused<D, DiskError>>
+        ensures made { IfOk result (λ file. IsTrue D.is_honest → D.bytes (disk_of file) ≡ header_bytes FileHeader.NEW) }
+        ensures whole { IfOk result (λ file. IsTrue D.is_honest → IsWhole (D.bytes (disk_of file)) FileHeader.NEW) }
+        ensures left { IfErr result (λ r. IsTrue D.is_honest → IsPartlyMade (D.bytes disk) (D.bytes r.disk)) }
+        ensures count { MatchResult result (λ file. D.refused (disk_of file) ≡ D.refused disk) (λ r. HasRisen (D.refused disk) (D.refused r.disk)) }
+    {
+        match write_new(&mut disk) {
+            Ok(()) => Ok(PageFile { disk }),
+            Err(cause) => Err(Refused { disk, cause }),
+        }
+    }
+
+    /// Opens the file that a device holds, and gives its header too.
+    ///
+    /// `Damaged` where the length is not the page count times 4,096, the magic differs, the page count
+    /// is 0 or above 65,536, or one of the two page numbers is not below it. A refusal hands the device
+    /// back. The device keeps its bytes.
+    pub fn open(mut disk: D) -> Result<(PageFile<D>, FileHeader), Refused<D, OpenError>>
+        ensures whole { IfOk result (λ opened. IsTrue D.is_honest → IsWhole (D.bytes disk) opened.1) }
+        ensures bounds { IfOk result (λ opened. IsInBounds opened.1) }
+        ensures damaged { IfErr result (λ r. r.cause ≡ OpenError.Damaged → IsTrue D.is_honest → IsDamaged (D.bytes disk)) }
+        ensures same { MatchResult result
+            (λ opened. IsTrue D.is_honest → D.bytes (disk_of opened.0) ≡ D.bytes disk)
+            (λ r. IsTrue D.is_honest → D.bytes r.disk ≡ D.bytes disk) }
+        ensures count { MatchResult result
+            (λ opened. D.refused (disk_of opened.0) ≡ D.refused disk)
+            (λ r. IsCounted r.cause (D.refused disk) (D.refused r.disk)) }
+    {
+        match read_header(&mut disk) {
+            Ok(header) => Ok((PageFile { disk }, header)),
+            Err(cause) => Err(Refused { disk, cause }),
+        }
+    }
+
+    /// Reads a page. Refused where the device refuses; a page that the file does not have all of is refused too.
+    pub fn read_page(&mut self, number: u32, into: &mut Page) -> Result<(), DiskError>
+        ensures value { OnOk result (IsTrue D.is_honest → page_of (D.bytes (disk_of self.old)) number ≡ Some into.new) }
+        ensures same { IsTrue D.is_honest → D.bytes (disk_of self.new) ≡ D.bytes (disk_of self.old) }
+        ensures count { CountsRefusal result (D.refused (disk_of self.old)) (D.refused (disk_of self.new)) }
+    {
+        self.disk.read_at(offset_of(number), into)
+    }
+
+    /// Writes a page, and lengthens the file where the page lies behind its end. Refused where the
+    /// device refuses, and then this page may hold anything; every other page stays as it was.
+    pub fn write_page(&mut self, number: u32, page: &Page) -> Result<(), DiskError>
+        ensures written { OnOk result (IsTrue D.is_honest → IsWritten number page.now (D.bytes (disk_of self.old)) (D.bytes (disk_of self.new))) }
+        ensures others { IsTrue D.is_honest → KeepsOthers number (D.bytes (disk_of self.old)) (D.bytes (disk_of self.new)) }
+        ensures count { CountsRefusal result (D.refused (disk_of self.old)) (D.refused (disk_of self.new)) }
+    {
+        self.disk.write_at(offset_of(number), page)
+    }
+
+    /// Waits until all that was written is on the medium.
+    pub fn sync(&mut self) -> Result<(), DiskError>
+        ensures same { IsTrue D.is_honest → D.bytes (disk_of self.new) ≡ D.bytes (disk_of self.old) }
+        ensures count { CountsRefusal result (D.refused (disk_of self.old)) (D.refused (disk_of self.new)) }
+    {
+        self.disk.sync()
+    }
+
+    /// Hands back the device.
+    pub fn into_disk(self) -> D
+        ensures { result ≡ disk_of self }
+    {
+        let PageFile { disk } = self;
+        disk
+    }
+}
+
+/// Writes the first page of a new file over what a device holds.
+fn write_new<D: Disk>(disk: &mut D) -> Result<(), DiskError>
+    ensures made { OnOk result (IsTrue D.is_honest → D.bytes disk.new ≡ header_bytes FileHeader.NEW) }
+    ensures whole { OnOk result (IsTrue D.is_honest → IsWhole (D.bytes disk.new) FileHeader.NEW) }
+    ensures left { OnErr result (IsTrue D.is_honest → IsPartlyMade (D.bytes disk.old) (D.bytes disk.new)) }
+    ensures count { CountsRefusal result (D.refused disk.old) (D.refused disk.new) }
+{
+    disk.set_len(PAGE_SIZE as u64)?;
+    disk.write_at(0, &FileHeader::NEW.encode())
+}
