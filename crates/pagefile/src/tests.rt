@@ -242,6 +242,7 @@ fn free_pages_read_back(rt: HostRuntime) {
         (12, 1),
         (15, 1),
     ] {
+        assert!(rt; at < PAGE_SIZE);
         let kept = page[at];
         page[at] = other;
         assert_eq!(rt; FreePage::decode(&page), None, "byte {at}");

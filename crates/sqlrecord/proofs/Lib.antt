@@ -1,0 +1,4 @@
+pub mod ByteLemmas
+pub mod CodeLemmas
+pub mod RowLemmas
+pub mod OrderLemmas

@@ -1,0 +1,14 @@
+use Rattle.std.proofs.Common.{◌≡◌, ◌≤◌, ◌-◌, ◌++◌, length, drop}
+use Rattle.sqlrecord.specs.Storable.{AllStorable}
+use Rattle.sqlrecord.specs.Row.{row_code}
+use Rattle.sqlrecord.proofs.row.decode_row.Given as goal
+
+abbrev pub invariant-loop-at : goal.invariant-loop-at
+invariant-loop-at l = record {
+  storable : AllStorable l.row;
+  code : row_code l.row ++ drop l.at l.bytes ≡ l.bytes;
+  within : l.at ≤ length l.bytes;
+}
+
+abbrev pub decreases-loop-at : goal.decreases-loop-at
+decreases-loop-at l = length l.bytes - l.at

@@ -1,0 +1,3 @@
+pub mod Storable
+pub mod Row
+pub mod Key
