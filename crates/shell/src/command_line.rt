@@ -1,0 +1,52 @@
+//! Command lines.
+
+use crate::options::{DEFAULT_FRAMES, Frames, Settings};
+use clap::error::ErrorKind;
+use clap::{Arg, ArgMatches, Command, Error, value_parser};
+use std::alloc::Global;
+use std::convert::AsStr;
+
+/// Reads the words of a command line of `sqlsh`, the program's name first.
+///
+/// The answer is an error for words that no command has, for a number of frames outside 16 to 4,096, for
+/// want of memory, and where the words ask for help, which the error's text then is.
+pub fn settings<'a, S: AsStr>(alloc: Global, words: &'a [S]) -> Result<Settings, Error> {
+    let command: Command<'a> = command_line(alloc)?;
+    let matches = command.try_get_matches_from(words)?;
+    match matches.subcommand() {
+        Some((_, run)) => run_settings(alloc, run),
+        None => fault(alloc, "no command"),
+    }
+}
+
+/// The commands of `sqlsh` and their options.
+fn command_line<'a>(alloc: Global) -> Result<Command<'a>, Error> {
+    let frames = Arg::new(alloc, "frames")
+        .long("frames")
+        .value_name("N")
+        .help("Pages that the pool keeps in memory, from 16 to 4096")
+        .value_parser(value_parser!(u32).range(16..=4096))
+        .default_value("256");
+    let run = Command::new(alloc, "run")
+        .about("Reads SQL on standard input and prints rows, counts or refusals")
+        .arg(frames)?;
+    let sqlsh = Command::new(alloc, "sqlsh")
+        .about("A SQL engine whose answers are proved")
+        .subcommand_required(true)
+        .subcommand(run)?;
+    Ok(sqlsh)
+}
+
+/// The settings of `sqlsh run`.
+fn run_settings(alloc: Global, run: &ArgMatches<'_>) -> Result<Settings, Error> {
+    let count = run.get_one::<u32>("frames").unwrap_or(DEFAULT_FRAMES);
+    match Frames::new(count) {
+        Some(frames) => Ok(Settings { frames }),
+        None => fault(alloc, "--frames takes a number from 16 to 4096"),
+    }
+}
+
+/// A command line fault with this text.
+fn fault(alloc: Global, text: &str) -> Result<Settings, Error> {
+    Err(command_line(alloc)?.error(ErrorKind::InvalidValue, text)?)
+}

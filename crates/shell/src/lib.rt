@@ -1,0 +1,8 @@
+//! What the programs do: their command lines, and a script's way to its printed replies.
+#![tactic(auto)]
+
+mod command_line;
+mod options;
+
+pub use command_line::settings;
+pub use options::{DEFAULT_FRAMES, Frames, GREATEST_FRAMES, LEAST_FRAMES, Settings};

@@ -1,0 +1,7 @@
+//! An input cut into pieces.
+
+mod buffer;
+mod cutter;
+mod place;
+
+pub(crate) use cutter::{Cutter, Request};

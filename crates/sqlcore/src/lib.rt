@@ -1,0 +1,4 @@
+//! Sessions and transactions over tables, and the pieces of an input.
+#![tactic(auto)]
+
+mod input;
