@@ -1,2 +1,4 @@
 pub mod Pieces
 pub mod PieceMeaning
+pub mod Printed
+pub mod Writes
