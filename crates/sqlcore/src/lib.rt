@@ -3,3 +3,8 @@
 
 mod input;
 mod printing;
+mod reply;
+mod rollback;
+mod store;
+
+pub use reply::Reply;

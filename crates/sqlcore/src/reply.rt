@@ -1,0 +1,31 @@
+use items::{Items, Text};
+use lexer::Refusal;
+use sqlval::Value;
+
+/// What a call of a session answers.
+#[derive(Debug, Drop)]
+pub enum Reply {
+    /// The rows of a query, in their order.
+    Rows(Items<Items<Value>>),
+    /// One row of a cursor.
+    Row(Items<Value>),
+    /// A cursor has no more rows.
+    EndOfRows,
+    /// So many rows were inserted, updated or deleted.
+    Changed(usize),
+    /// A change touched no row.
+    Unchanged,
+    /// The lines of an EXPLAIN.
+    Lines(Items<Text>),
+    /// Any other statement was carried out.
+    Done,
+    /// The statement was refused: tables, transaction and sessions are as before.
+    Refused(Refusal),
+}
+
+impl Reply {
+    /// Whether it is a refusal.
+    pub fn is_refused(&self) -> bool {
+        matches!(self, Reply::Refused(_))
+    }
+}
