@@ -1,7 +1,7 @@
 //! Replies as text.
 
 mod put;
+mod reply;
 mod row;
 
-pub(crate) use put::put;
-pub(crate) use row::print_row;
+pub use reply::print_reply;

@@ -1,0 +1,47 @@
+use crate::options::Settings;
+use disk::Disk;
+use lexer::Refusal;
+use sqlcore::{Core, Reply, ScriptFault, print_reply, run};
+use std::alloc::Global;
+use std::io::{Read, Write};
+
+/// The exit status where a reply was a refusal.
+const REFUSED: u8 = 1;
+
+/// The exit status where a device could not be opened or closed, or a script was not read or printed to its end.
+const FAILED: u8 = 3;
+
+/// Does what `sqlsh run` does over this device, from reader to writer: opens it, carries out the script and closes
+/// it. The answer is the exit status: 0; 1 where a reply was a refusal; 3 where the device could not be opened or
+/// closed, or the script was not read or printed to its end, which a line `ERROR` and the code then says where it
+/// can be written.
+pub fn run_on<D: Disk + Drop, R: Read, W: Write>(
+    alloc: Global,
+    settings: &Settings,
+    disk: D,
+    reader: &mut R,
+    writer: &mut W,
+) -> u8 {
+    let frames = settings.frames.get() as usize;
+    let mut core = match Core::open(alloc, disk, frames) {
+        Ok(core) => core,
+        Err(refused) => return fail(refused.refusal, writer),
+    };
+    let status = match run(alloc, &mut core, reader, writer) {
+        Ok(true) => REFUSED,
+        Ok(false) => 0,
+        Err(ScriptFault::Memory) => fail(Refusal::Memory, writer),
+        Err(ScriptFault::Reader(_) | ScriptFault::Writer(_)) => fail(Refusal::Disk, writer),
+    };
+    match core.close() {
+        Ok(_disk) => status,
+        Err(refused) => fail(refused.refusal, writer),
+    }
+}
+
+/// Says that the program failed, where it can be written.
+fn fail<W: Write>(refusal: Refusal, writer: &mut W) -> u8 {
+    let _ = print_reply(&Reply::Refused(refusal), writer);
+    let _ = writer.flush();
+    FAILED
+}

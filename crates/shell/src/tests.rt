@@ -1,0 +1,35 @@
+//! Whole scripts over a device in memory, and command lines.
+
+mod command_lines;
+mod expressions;
+mod pieces;
+mod refusals;
+
+use crate::{Settings, run_on};
+use disk::MemDisk;
+use std::alloc::Global;
+use std::process::Abort;
+use std::test::Fail;
+
+/// The settings of `sqlsh run` without options.
+fn plain(alloc: Global) -> Result<Settings, Fail> {
+    Ok(crate::settings(alloc, &["sqlsh", "run"])?)
+}
+
+/// Runs a script over a new device, and compares what it prints and its exit status.
+fn check(
+    rt: &(impl Abort + AllocGlobal),
+    script: &str,
+    printed: &str,
+    status: u8,
+) -> Result<(), Fail> {
+    let alloc = rt.alloc();
+    let mut reader = script.as_bytes();
+    let mut writer = Vec::new(alloc);
+    let disk = MemDisk::new(alloc);
+    let found = run_on(alloc, &plain(alloc)?, disk, &mut reader, &mut writer);
+    let text = String::from_utf8(writer)?;
+    assert!(rt; text.as_str() == printed, "{script} printed {text}");
+    assert!(rt; found == status, "{script} ended with {found}");
+    Ok(())
+}

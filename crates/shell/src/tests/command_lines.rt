@@ -1,0 +1,37 @@
+use crate::settings;
+use std::test::Fail;
+
+#[test]
+fn frames_are_from_16_to_4096(rt: HostRuntime) -> Result<(), Fail> {
+    let alloc = rt.alloc();
+    assert!(rt; settings(alloc, &["sqlsh", "run"])?.frames.get() == 256);
+    assert!(rt;
+        settings(alloc, &["sqlsh", "run", "--frames", "16"])?
+            .frames
+            .get()
+            == 16
+    );
+    assert!(rt;
+        settings(alloc, &["sqlsh", "run", "--frames=4096"])?
+            .frames
+            .get()
+            == 4096
+    );
+    for count in ["15", "4097", "x", "", "-1"] {
+        assert!(rt;
+            settings(alloc, &["sqlsh", "run", "--frames", count]).is_err(),
+            "{count}"
+        );
+    }
+    Ok(())
+}
+
+#[test]
+fn other_words_are_faults(rt: HostRuntime) -> Result<(), Fail> {
+    let alloc = rt.alloc();
+    assert!(rt; settings(alloc, &["sqlsh"]).is_err());
+    assert!(rt; settings(alloc, &["sqlsh", "walk"]).is_err());
+    assert!(rt; settings(alloc, &["sqlsh", "run", "FILE"]).is_err());
+    assert!(rt; settings(alloc, &["sqlsh", "run", "--pieces", "2"]).is_err());
+    Ok(())
+}

@@ -1,0 +1,195 @@
+//! A script: the pieces of an input, carried out in order.
+ghost use Rattle.std.specs.Prelude.{◌≤◌, length, IfOk};
+
+use crate::engine::{Core, SessionId};
+use crate::input::{Cutter, Request};
+use crate::printing::print_reply;
+use crate::reply::Reply;
+use disk::Disk;
+use lexer::{Reason, Refusal};
+use std::alloc::{AllocError, Global};
+use std::io;
+use std::io::{ErrorKind, Read, Write};
+use thiserror::Error;
+
+/// The greatest number of a session of a script.
+const SESSIONS: usize = 64;
+
+/// Bytes that are asked of the reader at once.
+const CHUNK: usize = 4_096;
+
+/// What ended a script before its end.
+#[derive(Debug, Drop, Error)]
+pub enum ScriptFault {
+    #[error("no memory for the text of a statement")]
+    Memory,
+    #[error("the input was refused: {0}")]
+    Reader(io::Error),
+    #[error("the output was refused: {0}")]
+    Writer(io::Error),
+}
+
+impl From<AllocError> for ScriptFault {
+    fn from(_refused: AllocError) -> ScriptFault {
+        ScriptFault::Memory
+    }
+}
+
+/// The sessions of a script, the one that is chosen, and whether a reply was a refusal.
+#[derive(Drop)]
+struct Sessions {
+    standing: [Option<SessionId>; SESSIONS],
+    /// Its place among them, one less than its number.
+    chosen: usize,
+    refused: bool,
+}
+
+/// Reads a script, makes the calls of its pieces in order and prints each reply; then ends its sessions.
+///
+/// The answer tells whether a reply was a refusal. After a fault of the reader only the pieces that ended
+/// before it were carried out, and after one of the writer no later piece.
+pub fn run<D: Disk, R: Read, W: Write>(
+    alloc: Global,
+    core: &mut Core<D>,
+    reader: &mut R,
+    writer: &mut W,
+) -> Result<bool, ScriptFault> {
+    let mut cutter = Cutter::new(alloc)?;
+    let mut sessions = Sessions {
+        standing: [None; SESSIONS],
+        chosen: 0,
+        refused: false,
+    };
+    let outcome = play(core, &mut cutter, &mut sessions, reader, writer);
+    sessions.end(core);
+    outcome?;
+    Ok(sessions.refused)
+}
+
+/// Carries out all the pieces that the reader gives.
+fn play<D: Disk, R: Read, W: Write>(
+    core: &mut Core<D>,
+    cutter: &mut Cutter,
+    sessions: &mut Sessions,
+    reader: &mut R,
+    writer: &mut W,
+) -> Result<(), ScriptFault> {
+    let mut chunk = [0u8; CHUNK];
+    for _ in 0..u64::MAX {
+        let count = read_some(reader, &mut chunk).map_err(ScriptFault::Reader)?;
+        if count == 0 {
+            break;
+        }
+        play_bytes(core, cutter, sessions, &chunk[..count], writer).map_err(ScriptFault::Writer)?;
+        writer.flush().map_err(ScriptFault::Writer)?;
+    }
+    let last = cutter.finish();
+    let printed = carry_out(core, cutter, sessions, last, writer);
+    printed.and_then(|_| writer.flush()).map_err(ScriptFault::Writer)
+}
+
+/// Reads at least one byte, or none at the end.
+fn read_some<R: Read>(reader: &mut R, chunk: &mut [u8]) -> io::Result<usize>
+    ensures { IfOk result (λ count. count ≤ length chunk.new) }
+{
+    for _ in 0..u64::MAX {
+        match reader.read(chunk) {
+            Err(error) if error.kind() == ErrorKind::Interrupted => {}
+            answer => return answer,
+        }
+    }
+    Err(io::Error::from(ErrorKind::TimedOut))
+}
+
+/// Carries out the pieces that end in these bytes.
+fn play_bytes<D: Disk, W: Write>(
+    core: &mut Core<D>,
+    cutter: &mut Cutter,
+    sessions: &mut Sessions,
+    bytes: &[u8],
+    writer: &mut W,
+) -> io::Result<()> {
+    for byte in bytes {
+        if let Some(request) = cutter.take(*byte) {
+            carry_out(core, cutter, sessions, request, writer)?;
+            cutter.clear();
+        }
+    }
+    Ok(())
+}
+
+/// Carries out what a piece asks for, and prints the reply.
+fn carry_out<D: Disk, W: Write>(
+    core: &mut Core<D>,
+    cutter: &Cutter,
+    sessions: &mut Sessions,
+    request: Request,
+    writer: &mut W,
+) -> io::Result<()> {
+    let reply = match request {
+        Request::Nothing => return Ok(()),
+        Request::Chooses(session) => {
+            sessions.choose(session);
+            return Ok(());
+        }
+        Request::Calls(session) => {
+            if let Some(session) = session {
+                sessions.choose(session);
+            }
+            sessions.call(core, cutter.text())
+        }
+        Request::Flushes => flush_all(core),
+        Request::Wrong => Reply::Refused(Refusal::Invalid(Reason::Session)),
+    };
+    sessions.refused = sessions.refused || reply.is_refused();
+    print_reply(&reply, writer)
+}
+
+/// Flushes until no page is left.
+fn flush_all<D: Disk>(core: &mut Core<D>) -> Reply {
+    for _ in 0..u64::MAX {
+        match core.flush() {
+            Ok(0) => return Reply::Done,
+            Ok(_) => {}
+            Err(refusal) => return Reply::Refused(refusal),
+        }
+    }
+    Reply::Done
+}
+
+impl Sessions {
+    /// Chooses the session of this number, from 1 to 64.
+    fn choose(&mut self, session: usize) {
+        self.chosen = session.saturating_sub(1);
+    }
+
+    /// Calls the chosen session, which is made where it does not stand; where that is refused, the refusal
+    /// is the reply.
+    fn call<D: Disk>(&mut self, core: &mut Core<D>, text: &[u8]) -> Reply {
+        match self.session(core) {
+            Ok(session) => core.step(session, text),
+            Err(refusal) => Reply::Refused(refusal),
+        }
+    }
+
+    /// The chosen session.
+    fn session<D: Disk>(&mut self, core: &mut Core<D>) -> Result<SessionId, Refusal> {
+        if self.chosen >= SESSIONS {
+            return Err(Refusal::Invalid(Reason::Session));
+        }
+        if let Some(session) = self.standing[self.chosen] {
+            return Ok(session);
+        }
+        let session = core.new_session()?;
+        self.standing[self.chosen] = Some(session);
+        Ok(session)
+    }
+
+    /// Ends all sessions.
+    fn end<D: Disk>(&mut self, core: &mut Core<D>) {
+        for session in self.standing.iter().flatten() {
+            core.end_session(*session);
+        }
+        self.standing = [None; SESSIONS];
+    }
+}
