@@ -1,3 +1,4 @@
+ghost use Rattle.std.specs.Prelude.{is_ok};
 ghost use Rattle.sqlcore.specs.Writes.{Writes};
 
 use std::io;
@@ -5,7 +6,7 @@ use std::io::{ErrorKind, Write};
 
 /// Writes all the bytes, or a beginning of them where the writer refuses.
 pub(crate) fn put<W: Write>(writer: &mut W, bytes: &[u8]) -> io::Result<()>
-    ensures { Writes (W.contents writer.old) (W.contents writer.new) result bytes.now }
+    ensures { Writes (W.contents writer.old) (W.contents writer.new) (is_ok result) bytes.now }
 {
     let mut rest = bytes;
     for _ in 0..u64::MAX {
