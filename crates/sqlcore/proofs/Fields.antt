@@ -55,6 +55,7 @@ next_line old new whole lines line i within is before = rw (is, ← printed_line
 pub refusal_parts : (old : Option (List ℕ)) (code detail : List ℕ)
     → HasTaken old old (codes "ERROR " ++ ((code ++ 32 ∷ detail) ++ codes "\n")) ((codes "ERROR " ++ (code ++ 32 ∷ [])) ++ (detail ++ codes "\n"))
 refusal_parts old code detail = record {
-    front = [];
-    whole = ap (λ l. codes "ERROR " ++ l) (ap (λ l. l ++ codes "\n") (sym (append_assoc code (32 ∷ []) detail)) ∙ append_assoc (code ++ 32 ∷ []) detail (codes "\n"));
-    taken = Appends-nil old }
+  front = [];
+  whole = ap (λ l. codes "ERROR " ++ l) (ap (λ l. l ++ codes "\n") (sym (append_assoc code (32 ∷ []) detail)) ∙ append_assoc (code ++ 32 ∷ []) detail (codes "\n"));
+  taken = Appends-nil old;
+}

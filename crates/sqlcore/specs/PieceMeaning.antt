@@ -1,5 +1,5 @@
 -- What a piece of an input stands for. All of this is our own choice.
-use Rattle.std.specs.Prelude.{◌≡◌, ◌≢◌, ◌⊎◌, ℕ, ◌+◌, ◌*◌, ◌-◌, ◌≤◌, List, [], ◌∷◌, ◌++◌, take, Option, Some, None, Contains, All, codes}
+use Rattle.std.specs.Prelude.{◌≡◌, ◌≢◌, ◌⊎◌, ℕ, ◌≤◌, List, [], ◌∷◌, ◌++◌, take, Contains, All, codes}
 use Rattle.std.specs.Str.Parse.{digits_value}
 use Rattle.sqlcore.specs.Pieces.{semicolon, minus, newline, at_sign, IsComment}
 

@@ -1,6 +1,6 @@
 -- Pieces of an input: where each ends, and what it stands for.
 -- That a semicolon ends a statement given directly is SQL-92, 20.1; `@k` and `@flush` are our own choice.
-use Rattle.std.specs.Prelude.{◌≡◌, ◌≢◌, ◌⊎◌, ℕ, ◌+◌, ◌*◌, ◌-◌, ◌≤◌, List, [], ◌∷◌, ◌++◌, take, Option, Some, None, Contains, codes}
+use Rattle.std.specs.Prelude.{◌≡◌, ◌≢◌, ◌⊎◌, ℕ, List, [], ◌∷◌, ◌++◌, Contains}
 
 -- the codes that decide where a piece ends
 abbrev pub semicolon : ℕ

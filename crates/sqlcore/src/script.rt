@@ -85,7 +85,9 @@ fn play<D: Disk, R: Read, W: Write>(
     }
     let last = cutter.finish();
     let printed = carry_out(core, cutter, sessions, last, writer);
-    printed.and_then(|_| writer.flush()).map_err(ScriptFault::Writer)
+    printed
+        .and_then(|_| writer.flush())
+        .map_err(ScriptFault::Writer)
 }
 
 /// Reads at least one byte, or none at the end.

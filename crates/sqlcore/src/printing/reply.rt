@@ -80,7 +80,12 @@ fn print_count<W: Write>(count: usize, noun: &[u8], writer: &mut W) -> io::Resul
 fn print_changed<W: Write>(count: usize, writer: &mut W) -> io::Result<()>
     ensures { Writes (W.contents writer.old) (W.contents writer.new) (is_ok result) (printed_changed count) }
 {
-    put_three(b"00000 ", Buffer::new().format(count).as_bytes(), b"\n", writer)
+    put_three(
+        b"00000 ",
+        Buffer::new().format(count).as_bytes(),
+        b"\n",
+        writer,
+    )
 }
 
 fn print_refusal<W: Write>(refusal: &Refusal, writer: &mut W) -> io::Result<()>

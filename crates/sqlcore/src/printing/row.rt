@@ -6,9 +6,8 @@ use super::put::put;
 use items::Items;
 use itoa::Buffer;
 use sqlval::Value;
-use std::io;
 use std::io::Write;
-use std::slice;
+use std::{io, slice};
 
 /// A row on a line of its own.
 pub(crate) fn print_row<W: Write>(row: &Items<Value>, writer: &mut W) -> io::Result<()>

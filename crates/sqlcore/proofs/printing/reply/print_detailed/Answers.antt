@@ -11,4 +11,4 @@ returns-in_err-put_three g c =
 pub returns : goal.returns
 returns g c =
     Writes-last _ _ _ _ _ _
-        (HasTaken-next _ _ _ _ _ _ _ _ c.in_ok-put_three.was (refusal_parts _ c.args.code.now c.args.detail.now) c.put_three.ensures) c.put_two.ensures
+    (HasTaken-next _ _ _ _ _ _ _ _ c.in_ok-put_three.was (refusal_parts _ c.args.code.now c.args.detail.now) c.put_three.ensures) c.put_two.ensures

@@ -8,11 +8,11 @@ pub returns-in_err-print_row : goal.returns-in_err-print_row
 returns-in_err-print_row g c =
     let p = err_from_is_err_and c.from_residual.result c.from_residual.ensures.1 in
     Writes-stop _ _ _ _ _ _ _ _ _ _ c.in_err-print_row.was p.1
-        (next_row _ _ _ c.args.rows.now c.row-item.result c.loop-row.row-index (search rules) c.row-item.is c.loop-row.invariant)
-        c.print_row.ensures
+    (next_row _ _ _ c.args.rows.now c.row-item.result c.loop-row.row-index (search rules) c.row-item.is c.loop-row.invariant)
+    c.print_row.ensures
 
 pub loop-row-preserved : goal.loop-row-preserved
 loop-row-preserved g c =
     HasTaken-next _ _ _ _ _ _ _ _ c.in_ok-print_row.was
-        (next_row _ _ _ c.args.rows.now c.row-item.result c.loop-row.row-index (search rules) c.row-item.is c.loop-row.invariant)
-        c.print_row.ensures
+    (next_row _ _ _ c.args.rows.now c.row-item.result c.loop-row.row-index (search rules) c.row-item.is c.loop-row.invariant)
+    c.print_row.ensures

@@ -1,4 +1,3 @@
-use Rattle.std.proofs.Common.{◌++◌}
 use Rattle.std.proofs.lemmas.Result.{err_from_is_err_and}
 use Rattle.sqlcore.proofs.Written.{HasTaken-none, HasTaken-next, Writes-stop, Writes-last}
 use Rattle.sqlcore.proofs.printing.reply.put_three.Goals as goal

@@ -13,13 +13,13 @@ pub returns-in_err-print_quoted : goal.returns-in_err-print_quoted
 returns-in_err-print_quoted g c =
     let p = err_from_is_err_and c.from_residual-in_err-print_quoted.result c.from_residual-in_err-print_quoted.ensures.1 in
     Writes-stop _ _ _ _ _ (39 ∷ []) _ _ _ _ c.in_err-print_quoted.was p.1
-        (HasTaken-next _ _ _ _ _ (quotes_doubled c.args.text.now ++ 39 ∷ []) _ _ c.in_ok-put.was (HasTaken-none _ _) c.put.ensures)
-        c.print_quoted.ensures
+    (HasTaken-next _ _ _ _ _ (quotes_doubled c.args.text.now ++ 39 ∷ []) _ _ c.in_ok-put.was (HasTaken-none _ _) c.put.ensures)
+    c.print_quoted.ensures
 
 pub returns : goal.returns
 returns g c =
     Writes-last _ _ _ _ _ _
-        (HasTaken-next _ _ _ _ _ (39 ∷ []) _ _ c.in_ok-print_quoted.was
-            (HasTaken-next _ _ _ _ _ (quotes_doubled c.args.text.now ++ 39 ∷ []) _ _ c.in_ok-put.was (HasTaken-none _ _) c.put.ensures)
-            c.print_quoted.ensures)
-        c.put-2.ensures
+    (HasTaken-next _ _ _ _ _ (39 ∷ []) _ _ c.in_ok-print_quoted.was
+    (HasTaken-next _ _ _ _ _ (quotes_doubled c.args.text.now ++ 39 ∷ []) _ _ c.in_ok-put.was (HasTaken-none _ _) c.put.ensures)
+    c.print_quoted.ensures)
+    c.put-2.ensures
