@@ -43,6 +43,11 @@ abbrev pub unless : {A : Type 0} → List Fault → A → Evaluation A
 unless [] x = Ok x
 unless (fault ∷ faults) x = Err (fault ∷ faults)
 
+-- faults that come to those of an evaluation
+abbrev pub adding : {A : Type 0} → List Fault → Evaluation A → Evaluation A
+adding [] x = x
+adding (fault ∷ faults) x = Err ((fault ∷ faults) ++ faults_in x)
+
 -- a value before others, or the faults of both
 abbrev pub joined : {A : Type 0} → Evaluation A → Evaluation (List A) → Evaluation (List A)
 joined (Ok x) (Ok xs) = Ok (x ∷ xs)

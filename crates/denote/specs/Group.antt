@@ -1,5 +1,5 @@
 -- Groups and set functions (ISO/IEC 9075:1992, 6.5, 7.7, 7.8).
-use Rattle.std.specs.Prelude.{ℕ, ℤ, pos, ◌+ℤ◌, ◌^◌, int_div, nat_lt, Bool, true, false, not, if◌then◌else◌, List, [], ◌∷◌, ◌++◌, map, filter, fold, length, Option, Some, None, Result, Ok, Err}
+use Rattle.std.specs.Prelude.{ℕ, ℤ, pos, ◌+ℤ◌, ◌^◌, int_div, nat_lt, Bool, true, false, not, if◌then◌else◌, List, [], ◌∷◌, ◌++◌, map, filter, fold, length, Option, Some, None, Result, Ok}
 use Rattle.std.specs.Ordering.{is_lt}
 use Rattle.sqlval.specs.declared.value.Value.{Value}
 use Rattle.sqlval.specs.declared.value.Value.TheVariants.{Null, Int}
@@ -12,7 +12,7 @@ use Rattle.denote.specs.declared.fault.Fault.{Fault}
 use Rattle.denote.specs.declared.fault.Fault.TheVariants.{OutOfRange}
 use Rattle.sqlval.specs.Matching.{key_of}
 use Rattle.sqlval.specs.Value.{Row, is_null}
-use Rattle.denote.specs.Evaluation.{Env, Evaluation, ◌>>=◌, given, faults_in, together}
+use Rattle.denote.specs.Evaluation.{Env, Evaluation, ◌>>=◌, given, adding, together}
 use Rattle.denote.specs.Outcome.{Outcome, each, through}
 use Rattle.denote.specs.Expression.{ExpressionMeaning}
 use Rattle.denote.specs.Condition.{ConditionMeaning}
@@ -70,11 +70,6 @@ aggregated Min [] = Ok Null
 aggregated Min (x ∷ xs) = Ok (fold lesser x xs)
 aggregated Max [] = Ok Null
 aggregated Max (x ∷ xs) = Ok (fold greater x xs)
-
--- faults that come to those of an evaluation
-abbrev pub adding : {A : Type 0} → List Fault → Evaluation A → Evaluation A
-adding [] x = x
-adding (fault ∷ faults) x = Err ((fault ∷ faults) ++ faults_in x)
 
 -- a group of more than 2^63 - 1 rows cannot be counted: our own choice
 abbrev pub beyond_count : List Row → List Fault

@@ -8,5 +8,10 @@ pub mod Group
 pub mod Select
 pub mod SetOperator
 pub mod Meaning
+pub mod Database
+pub mod Query
+pub mod Answer
+pub mod StoredRow
+pub mod Change
 pub mod Stop
 pub mod OnePass

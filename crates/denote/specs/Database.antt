@@ -1,0 +1,124 @@
+-- Tables and databases, and when they are good (ISO/IEC 9075:1992, 4.8 to 4.10, 11.3 to 11.9).
+use Rattle.std.specs.Prelude.{ℕ, ◌≡◌, Bool, true, false, ◌||◌, List, [], ◌∷◌, filter, map, Option, Some, None, Ok, Err}
+use Rattle.std.specs.List.{list_any, list_all, filter_map}
+use Rattle.std.specs.Cmp.Lexicographic.{pointwise}
+use Rattle.std.specs.FinMap.{FinMap, get}
+use Rattle.sqlval.specs.declared.schema.Column.{Column}
+use Rattle.sqlval.specs.declared.schema.Constraint.{Constraint}
+use Rattle.sqlval.specs.declared.schema.Rule.{Rule}
+use Rattle.sqlval.specs.declared.schema.Rule.TheVariants.{NotNull, PrimaryKey, Unique, Check}
+use Rattle.sqlval.specs.declared.truth.Truth.{Truth}
+use Rattle.sqlval.specs.declared.truth.Truth.TheVariants.{False, Unknown, True}
+use Rattle.sqlval.specs.Comparison.{text_order}
+use Rattle.sqlval.specs.Matching.{key_of, matches}
+use Rattle.sqlval.specs.Storing.{fits_column}
+use Rattle.sqlval.specs.Value.{Row, is_null}
+use Rattle.resolve.specs.declared.typed.Condition.{Condition}
+use Rattle.denote.specs.Evaluation.{Evaluation}
+use Rattle.denote.specs.Bag.{Permutes}
+use Rattle.denote.specs.Meaning.{truth_at}
+
+-- names of tables, columns, constraints and indexes, as their character codes
+abbrev pub Name : Type 0
+Name = List ℕ
+
+-- an index that PRIMARY KEY or UNIQUE owns has no name
+pub record IndexDeclaration : Type 0 where
+  pub name : Option Name
+  pub columns : List ℕ
+
+-- typed columns, named constraints, indexes, and a bag of rows
+pub record Table : Type 0 where
+  pub columns : List Column
+  pub constraints : List Constraint
+  pub indexes : List IndexDeclaration
+  pub rows : List Row
+
+-- a finite map from names to tables
+abbrev pub Database : Type 0
+Database = FinMap text_order Table
+
+abbrev pub rows_of : Option Table → List Row
+rows_of None = []
+rows_of (Some table) = table.rows
+
+-- the rows that a query finds under a table's name
+abbrev pub rows_in : Database → Name → List Row
+rows_in db name = rows_of (get db name)
+
+-- ---- constraints
+
+-- The condition that the printed text of a CHECK stands for, in the table with this name and these columns: that of the grammar
+-- and of the rules of names and types.
+abbrev pub CheckReading : Type 0
+CheckReading = Name → List Column → List ℕ → Condition
+
+-- what a CHECK is at a row; it has no subquery, so it asks nothing of other tables
+abbrev pub check_at : Condition → Row → Evaluation Truth
+check_at check row = truth_at (λ _. []) check (row ∷ [])
+
+abbrev pub is_check : Rule → Option (List ℕ)
+is_check (NotNull column) = None
+is_check (PrimaryKey columns) = None
+is_check (Unique columns) = None
+is_check (Check text) = Some text
+
+-- the conditions of a table's CHECKs
+abbrev pub checks_of : CheckReading → Name → Table → List Condition
+checks_of reading name table = map (reading name table.columns) (filter_map (λ c. is_check c.rule) table.constraints)
+
+abbrev pub is_false : Evaluation Truth → Bool
+is_false (Ok False) = true
+is_false (Ok Unknown) = false
+is_false (Ok True) = false
+is_false (Err faults) = false
+
+-- whether one row has null in some of these columns
+abbrev pub has_null : List ℕ → List Row → Bool
+has_null columns rows = list_any (λ row. list_any is_null (key_of columns row)) rows
+
+-- whether two rows have equal and wholly non-null columns (11.7)
+abbrev pub has_twins : List ℕ → List Row → Bool
+has_twins columns [] = false
+has_twins columns (row ∷ rows) = list_any (matches columns (key_of columns row)) rows || has_twins columns rows
+
+-- Whether a table violates a rule. A CHECK is violated only where it is false (4.10.1). PRIMARY KEY is UNIQUE and NOT NULL in one: our own choice.
+abbrev pub is_violated : CheckReading → Name → Table → Rule → Bool
+is_violated reading name table (NotNull column) = has_null (column ∷ []) table.rows
+is_violated reading name table (PrimaryKey columns) = has_null columns table.rows || has_twins columns table.rows
+is_violated reading name table (Unique columns) = has_twins columns table.rows
+is_violated reading name table (Check text) = list_any (λ row. is_false (check_at (reading name table.columns text) row)) table.rows
+
+-- the names of the constraints that a table violates
+abbrev pub violated_by : CheckReading → Name → Table → List Name
+violated_by reading name table = map (λ c. c.name) (filter (λ c. is_violated reading name table c.rule) table.constraints)
+
+-- ---- good databases
+
+-- as many values as columns, each one that its column may hold
+abbrev pub fits_columns : List Column → Row → Bool
+fits_columns columns row = pointwise (λ value column. fits_column value column.column_type) row columns
+
+pub record IsGoodTable (reading : CheckReading) (name : Name) (table : Table) : Type 0 where
+  pub fitting : list_all (fits_columns table.columns) table.rows ≡ true
+  pub unviolated : violated_by reading name table ≡ []
+
+abbrev pub IsGood : CheckReading → Database → Type 0
+IsGood reading db = (name : Name) (table : Table) → get db name ≡ Some table → IsGoodTable reading name table
+
+-- ---- databases that are the same up to the order of rows
+
+pub record IsSameTable (t u : Table) : Type 0 where
+  pub columns : t.columns ≡ u.columns
+  pub constraints : t.constraints ≡ u.constraints
+  pub indexes : t.indexes ≡ u.indexes
+  pub rows : Permutes t.rows u.rows
+
+abbrev pub AreSame : Option Table → Option Table → Type 0
+AreSame None None = Unit {0}
+AreSame None (Some u) = ⊥
+AreSame (Some t) None = ⊥
+AreSame (Some t) (Some u) = IsSameTable t u
+
+abbrev pub IsSameDatabase : Database → Database → Type 0
+IsSameDatabase db new = (name : Name) → AreSame (get db name) (get new name)
