@@ -7,3 +7,5 @@ pub mod SymbolSound
 pub mod Sound
 pub mod WordTable
 pub mod Whole
+pub mod Printed
+pub mod Unsigned

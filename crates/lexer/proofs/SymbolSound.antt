@@ -72,10 +72,10 @@ at_most_two symbol.NotEqual = omega arith
 at_most_two symbol.GreaterOrEqual = omega arith
 at_most_two symbol.Concatenation = omega arith
 
-longest_of_two : (b c : ℕ) (s : Symbol) (rest : Bytes) → b ∷ c ∷ [] ≡ symbol_text s → IsLongest s rest
+pub longest_of_two : (b c : ℕ) (s : Symbol) (rest : Bytes) → b ∷ c ∷ [] ≡ symbol_text s → IsLongest s rest
 longest_of_two b c s rest own longer more h = let two : 2 ≡ length (symbol_text s) = ap length own in omega (arith, at_most_two longer)
 
-longest_alone : (b : ℕ) (s : Symbol) (rest : Bytes) → b ∷ [] ≡ symbol_text s → ((c : ℕ) (cs : Bytes) → rest ≡ c ∷ cs → symbol_of_two b c ≡ None) → IsLongest s rest
+pub longest_alone : (b : ℕ) (s : Symbol) (rest : Bytes) → b ∷ [] ≡ symbol_text s → ((c : ℕ) (cs : Bytes) → rest ≡ c ∷ cs → symbol_of_two b c ≡ None) → IsLongest s rest
 longest_alone b s rest own none longer more h =
     let there : b ∷ rest ≡ symbol_text longer ++ more = ap (λ front. front ++ rest) own ∙ h in
     let size : 1 ≡ length (symbol_text s) = ap length own in

@@ -13,13 +13,13 @@ use Rattle.lexer.proofs.Steps.{Begins, IsStep}
 use Rattle.lexer.proofs.Sound.{next_sound}
 
 -- what stands between two places, and what stands from the second on
-record IsCut (text : Bytes) (from to : ℕ) (front back : Bytes) : Type 0 where
-  between : slice_range text from to ≡ front
-  left : drop to text ≡ back
-  order : from ≤ to
-  within : to ≤ length text
+pub record IsCut (text : Bytes) (from to : ℕ) (front back : Bytes) : Type 0 where
+  pub between : slice_range text from to ≡ front
+  pub left : drop to text ≡ back
+  pub order : from ≤ to
+  pub within : to ≤ length text
 
-cut : (text front back : Bytes) (from : ℕ) → from ≤ length text → drop from text ≡ front ++ back → IsCut text from (length text - length back) front back
+pub cut : (text front back : Bytes) (from : ℕ) → from ≤ length text → drop from text ≡ front ++ back → IsCut text from (length text - length back) front back
 cut text front back from within e =
     let lengths : length text - from ≡ length front + length back = sym (length-drop from text) ∙ ap length e ∙ length-append front back in
     let place : length text - length back ≡ from + length front = omega arith in

@@ -4,3 +4,5 @@ pub mod Refusal
 pub mod Token
 pub mod Tokens
 pub mod Reading
+pub mod Support
+pub mod Printing

@@ -1,8 +1,12 @@
 -- The tokens of a whole text, each with its place, and its first fault.
-use Rattle.std.specs.Prelude.{◌≡◌, ℕ, ◌≤◌, false, List, [], ◌∷◌, length, drop, slice_range}
+use Rattle.std.specs.Prelude.{◌≡◌, ℕ, ◌≤◌, false, List, [], ◌∷◌, length, drop, map, slice_range}
+use Rattle.lexer.specs.declared.kinds.Kind.{Kind}
 use Rattle.lexer.specs.declared.kinds.Token.{Token}
 use Rattle.lexer.specs.declared.refusals.Refusal.{Refusal}
 use Rattle.lexer.specs.Token.{Bytes, IsGap, Spells, EndsBefore, IsFault, begins_comment}
+
+abbrev pub kinds_of : List Token → List Kind
+kinds_of = map (λ token. token.kind)
 
 -- After the first `from` bytes of the text the next token is this one, behind white space and comments.
 pub record IsToken (text : Bytes) (from : ℕ) (token : Token) : Type 0 where

@@ -6,14 +6,18 @@ mod identifiers;
 mod kinds;
 mod names;
 mod numbers;
+mod printing;
 mod refusals;
 mod scan;
 mod strings;
+mod support;
 mod symbols;
 mod words;
 
 pub use kinds::{Kind, Symbol, Token};
 pub use names::Name;
+pub use printing::{print_kind, print_kinds};
 pub use refusals::{Limit, Reason, Refusal};
 pub use scan::tokens;
+pub use support::first_unsupported;
 pub use words::{Support, WORDS, Word, reserved_word};

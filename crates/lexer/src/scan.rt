@@ -3,7 +3,8 @@
 ghost use Rattle.std.specs.Prelude.{◌≡◌, ◌≢◌, ◌∷◌, ◌<◌, ◌≤◌, length, IfOk, IfErr, IfSome};
 ghost use Rattle.lexer.specs.Reading as reading;
 ghost use Rattle.lexer.specs.Reading.{Gives, GivesStep};
-ghost use Rattle.lexer.specs.Tokens.{AreTokens, IsFirstFault};
+ghost use Rattle.lexer.specs.Tokens.{AreTokens, IsFirstFault, kinds_of};
+ghost use Rattle.lexer.specs.Printing.{AreUnsigned};
 
 use crate::gaps::skip_gap;
 use crate::identifiers::read_word;
@@ -18,6 +19,7 @@ use std::alloc::Global;
 /// by byte; or want of memory.
 pub fn tokens(alloc: Global, text: &[u8]) -> Result<Vec<Token>, Refusal>
     ensures found { IfOk result (λ found. AreTokens text.now found.items) }
+    ensures unsigned { IfOk result (λ found. AreUnsigned (kinds_of found.items)) }
     ensures fault { IfErr result (λ refusal. refusal ≢ Refusal.Memory → IsFirstFault text.now refusal) }
 {
     let mut found = Vec::new(alloc);
