@@ -2,3 +2,4 @@ pub mod ByteLemmas
 pub mod CodeLemmas
 pub mod RowLemmas
 pub mod OrderLemmas
+pub mod PageLemmas

@@ -1,3 +1,5 @@
 pub mod Storable
 pub mod Row
 pub mod Key
+pub mod Page
+pub mod Build

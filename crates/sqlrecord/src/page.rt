@@ -1,0 +1,110 @@
+ghost use Rattle.std.specs.Prelude.{◌≡◌, ◌<◌, ◌+◌, ◌↔◌, [], length, slice_index_or, IfSome, IsNone, IsTrue};
+ghost use Rattle.sqlrecord.specs.declared.kind.PageKind.TheVariants.{Inner as inner_kind};
+ghost use Rattle.sqlrecord.specs.Page.{cells_of, link_of, key_of, value_of, child_of, AreCells, IsSound};
+
+use crate::sound::{cell_in, four, is_sound, key_in, two};
+use crate::{PAGE_SIZE, PageKind};
+use std::marker::Model;
+
+/// A sound page, read as the list of its cells, which are lent without copying.
+pub struct SlotPage<'a> {
+    bytes: &'a [u8],
+    kind: PageKind,
+}
+
+impl<'a> Model for SlotPage<'a> {
+    ghost use Rattle.sqlrecord.specs.Page.{PageView, IsReadable, link_of, cells_of};
+
+    ghost Value = { PageView };
+
+    ghost view = { λ p. record { kind = p.kind; link = link_of p.bytes.now; cells = cells_of p.bytes.now } };
+
+    ghost invariant = { λ p. IsReadable p.bytes.now p.kind };
+}
+
+impl<'a> SlotPage<'a> {
+    /// Reads a page; `None` just where it is damaged.
+    pub fn read(bytes: &'a [u8; PAGE_SIZE]) -> Option<SlotPage<'a>>
+        ensures sound { IfSome result (λ page. IsSound bytes.now page.kind) }
+        ensures view { IfSome result (λ page. (page.link ≡ link_of bytes.now) × (page.cells ≡ cells_of bytes.now)) }
+        ensures damaged { IsNone result → (kind : _) → IsSound bytes.now kind → ⊥ }
+    {
+        let kind = match bytes[0] {
+            1 => PageKind::Leaf,
+            2 => PageKind::Inner,
+            _ => return None,
+        };
+        if is_sound(bytes, kind) {
+            Some(SlotPage { bytes, kind })
+        } else {
+            None
+        }
+    }
+
+    /// Whether it is a leaf or an inner page.
+    pub fn kind(&self) -> PageKind
+        ensures { result ≡ self.now.kind }
+    {
+        self.kind
+    }
+
+    /// A leaf's next leaf, or 0 at the last one; an inner page's leftmost child.
+    pub fn link(&self) -> u32
+        ensures { result ≡ self.now.link }
+    {
+        four(self.bytes, 8)
+    }
+
+    /// The number of cells.
+    #[tactic(auto, using(crate::proofs::PageLemmas::length_cells))]
+    pub fn len(&self) -> usize
+        ensures length { result ≡ length self.now.cells }
+        ensures cells { AreCells self.now.kind self.now.cells }
+    {
+        two(self.bytes, 2)
+    }
+
+    /// Whether there are no cells.
+    pub fn is_empty(&self) -> bool
+        ensures { IsTrue result ↔ (length self.now.cells ≡ 0) }
+    {
+        self.len() == 0
+    }
+
+    /// A cell.
+    #[tactic(auto, using(crate::proofs::PageLemmas::cell_facts))]
+    pub fn cell(&self, i: usize) -> &'a [u8]
+        requires { i < length self.now.cells }
+        ensures cell { result.now ≡ slice_index_or self.now.cells i [] }
+        ensures cells { AreCells self.now.kind self.now.cells }
+    {
+        cell_in(self.bytes, i)
+    }
+
+    /// The key of a cell.
+    pub fn key(&self, i: usize) -> &'a [u8]
+        requires { i < length self.now.cells }
+        ensures { result.now ≡ key_of (slice_index_or self.now.cells i []) }
+    {
+        key_in(self.cell(i))
+    }
+
+    /// What stands in a cell behind its key: a leaf's value, or an inner page's child in four bytes.
+    pub fn value(&self, i: usize) -> &'a [u8]
+        requires { i < length self.now.cells }
+        ensures value { result.now ≡ value_of (slice_index_or self.now.cells i []) }
+        ensures cells { AreCells self.now.kind self.now.cells }
+    {
+        let cell = self.cell(i);
+        &cell[2 + two(cell, 0)..]
+    }
+
+    /// The child of an inner page's cell.
+    pub fn child(&self, i: usize) -> u32
+        requires inner { self.now.kind ≡ inner_kind }
+        requires place { i < length self.now.cells }
+        ensures { result ≡ child_of (slice_index_or self.now.cells i []) }
+    {
+        four(self.value(i), 0)
+    }
+}

@@ -1,0 +1,194 @@
+//! Whether a page is sound.
+
+ghost use Rattle.std.specs.Prelude.{◌≡◌, ◌+◌, ◌*◌, ◌<◌, ◌≤◌, ◌↔◌, ◌^◌, ℕ, [], ◌∷◌, length, IsTrue, IsOk};
+ghost use Rattle.std.specs.Ordering.{is_lt};
+ghost use Rattle.sqlrecord.specs.Key.{byte_order};
+ghost use Rattle.sqlrecord.specs.declared.kind.PageKind.TheVariants.{Inner as inner_kind};
+ghost use Rattle.sqlrecord.specs.Page.{two_at, four_at, kind_byte, count_of, offset_of, length_of, cell_of, cells_of, lowest_of, key_length_of, key_of, IsCell, AreCells, HasHead, HasSlots, AreApart, IsApart, IsSound};
+
+use crate::{PAGE_SIZE, PageKind};
+use std::cmp::Ordering;
+
+/// The number in two bytes.
+pub(crate) fn two(bytes: &[u8], at: usize) -> usize
+    requires { at + 2 ≤ length bytes.now }
+    ensures value { result ≡ two_at bytes.now at }
+    ensures small { result < 65536 }
+{
+    u16::from_be_bytes([bytes[at], bytes[at + 1]]) as usize
+}
+
+/// The number in four bytes.
+pub(crate) fn four(bytes: &[u8], at: usize) -> u32
+    requires { at + 4 ≤ length bytes.now }
+    ensures { result ≡ four_at bytes.now at }
+{
+    u32::from_be_bytes([bytes[at], bytes[at + 1], bytes[at + 2], bytes[at + 3]])
+}
+
+/// The byte of a kind.
+pub(crate) fn byte_of(kind: PageKind) -> u8
+    ensures { result ≡ kind_byte kind }
+{
+    match kind {
+        PageKind::Leaf => 1,
+        PageKind::Inner => 2,
+    }
+}
+
+/// Whether the fixed fields are as they are to be.
+fn has_head(page: &[u8], kind: PageKind) -> bool
+    requires { length page.now ≡ 4096 }
+    ensures { IsTrue result ↔ HasHead page.now kind }
+{
+    page[0] == byte_of(kind) && page[1] == 0 && two(page, 6) == 0 && four(page, 12) == 0
+}
+
+/// Whether the slots lie in the page, and each cell in it behind them.
+fn has_slots(page: &[u8]) -> bool
+    requires { length page.now ≡ 4096 }
+    ensures { IsTrue result ↔ HasSlots page.now }
+{
+    let count = two(page, 2);
+    if 16 + 4 * count > PAGE_SIZE {
+        return false;
+    }
+    for i in 0..count {
+        let offset = two(page, 16 + 4 * i);
+        let length = two(page, 18 + 4 * i);
+        if offset < 16 + 4 * count || offset + length > PAGE_SIZE {
+            return false;
+        }
+    }
+    true
+}
+
+/// Where a cell begins and ends.
+fn bounds(page: &[u8], i: usize) -> (usize, usize)
+    requires size { length page.now ≡ 4096 }
+    requires slots { HasSlots page.now }
+    requires place { i < count_of page.now }
+    ensures begin { result.0 ≡ offset_of page.now i }
+    ensures end { result.1 ≡ offset_of page.now i + length_of page.now i }
+{
+    let begin = two(page, 16 + 4 * i);
+    (begin, begin + two(page, 18 + 4 * i))
+}
+
+/// Whether a cell overlaps none of those before it.
+fn is_clear(page: &[u8], j: usize) -> bool
+    requires size { length page.now ≡ 4096 }
+    requires slots { HasSlots page.now }
+    requires place { j < count_of page.now }
+    ensures { IsTrue result ↔ ((i : ℕ) → i < j → AreApart page.now i j) }
+{
+    let (begin, end) = bounds(page, j);
+    for i in 0..j {
+        let (other_begin, other_end) = bounds(page, i);
+        if other_end.min(end) > other_begin.max(begin) {
+            return false;
+        }
+    }
+    true
+}
+
+/// Whether no cells overlap. Cells that lie one behind another are not compared.
+fn is_apart(page: &[u8]) -> bool
+    requires size { length page.now ≡ 4096 }
+    requires slots { HasSlots page.now }
+    ensures { IsTrue result ↔ IsApart page.now }
+{
+    let mut past = 0;
+    for j in 0..two(page, 2) {
+        let (begin, end) = bounds(page, j);
+        if begin < past && !is_clear(page, j) {
+            return false;
+        }
+        past = past.max(end);
+    }
+    true
+}
+
+/// Whether the lowest byte used by a cell is as the page says.
+fn has_lowest(page: &[u8]) -> bool
+    requires size { length page.now ≡ 4096 }
+    requires slots { HasSlots page.now }
+    ensures { IsTrue result ↔ (two_at page.now 4 ≡ lowest_of page.now (count_of page.now)) }
+{
+    let mut lowest = PAGE_SIZE;
+    for i in 0..two(page, 2) {
+        lowest = lowest.min(two(page, 16 + 4 * i));
+    }
+    two(page, 4) == lowest
+}
+
+/// The cell of a slot.
+pub(crate) fn cell_in(page: &[u8], i: usize) -> &[u8]
+    requires size { length page.now ≡ 4096 }
+    requires slots { HasSlots page.now }
+    requires place { i < count_of page.now }
+    ensures { result.now ≡ cell_of page.now i }
+{
+    let (begin, end) = bounds(page, i);
+    &page[begin..end]
+}
+
+/// Whether a cell has its key, and an inner page's its child.
+fn is_cell(cell: &[u8], kind: PageKind) -> bool
+    ensures { IsTrue result ↔ IsCell kind cell.now }
+{
+    if cell.len() < 2 {
+        return false;
+    }
+    let rest = 2 + two(cell, 0);
+    match kind {
+        PageKind::Leaf => rest <= cell.len(),
+        PageKind::Inner => rest + 4 == cell.len(),
+    }
+}
+
+/// The key of a cell.
+pub(crate) fn key_in(cell: &[u8]) -> &[u8]
+    requires { 2 + key_length_of cell.now ≤ length cell.now }
+    ensures { result.now ≡ key_of cell.now }
+{
+    &cell[2..2 + two(cell, 0)]
+}
+
+/// Whether a key comes before another.
+fn precedes(a: &[u8], b: &[u8]) -> bool
+    ensures { result ≡ is_lt (byte_order a.now b.now) }
+{
+    a.cmp(b) == Ordering::Less
+}
+
+/// Whether each cell is formed as its kind asks, and the keys rise.
+#[tactic(auto, using(crate::proofs::PageLemmas::cell_facts))]
+fn has_cells(page: &[u8], kind: PageKind) -> bool
+    requires size { length page.now ≡ 4096 }
+    requires slots { HasSlots page.now }
+    ensures { IsTrue result ↔ AreCells kind (cells_of page.now) }
+{
+    for i in 0..two(page, 2) {
+        let cell = cell_in(page, i);
+        if !is_cell(cell, kind) {
+            return false;
+        }
+        if i > 0 && !precedes(key_in(cell_in(page, i - 1)), key_in(cell)) {
+            return false;
+        }
+    }
+    true
+}
+
+/// Whether a page is sound.
+pub(crate) fn is_sound(page: &[u8], kind: PageKind) -> bool
+    requires { length page.now ≡ 4096 }
+    ensures { IsTrue result ↔ IsSound page.now kind }
+{
+    has_head(page, kind)
+        && has_slots(page)
+        && is_apart(page)
+        && has_lowest(page)
+        && has_cells(page, kind)
+}
