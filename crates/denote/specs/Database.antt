@@ -7,6 +7,7 @@ use Rattle.sqlval.specs.declared.schema.Column.{Column}
 use Rattle.sqlval.specs.declared.schema.Constraint.{Constraint}
 use Rattle.sqlval.specs.declared.schema.Rule.{Rule}
 use Rattle.sqlval.specs.declared.schema.Rule.TheVariants.{NotNull, PrimaryKey, Unique, Check}
+use Rattle.sqlval.specs.declared.schema.Table as schema
 use Rattle.sqlval.specs.declared.truth.Truth.{Truth}
 use Rattle.sqlval.specs.declared.truth.Truth.TheVariants.{False, Unknown, True}
 use Rattle.sqlval.specs.Comparison.{text_order}
@@ -33,6 +34,10 @@ pub record Table : Type 0 where
   pub constraints : List Constraint
   pub indexes : List IndexDeclaration
   pub rows : List Row
+
+-- a table of a schema, with these rows; where its trees begin is left out
+abbrev pub table_of : schema.Table → List Row → Table
+table_of t rows = record { columns = t.columns; constraints = t.constraints; indexes = map (λ i. record { name = i.name; columns = i.columns }) t.indexes; rows = rows }
 
 -- a finite map from names to tables
 abbrev pub Database : Type 0
@@ -92,6 +97,16 @@ is_violated reading name table (Check text) = list_any (λ row. is_false (check_
 -- the names of the constraints that a table violates
 abbrev pub violated_by : CheckReading → Name → Table → List Name
 violated_by reading name table = map (λ c. c.name) (filter (λ c. is_violated reading name table c.rule) table.constraints)
+
+-- the names of the NOT NULLs that some of these rows violate
+abbrev pub breaks_not_null : List Row → Rule → Bool
+breaks_not_null rows (NotNull column) = has_null (column ∷ []) rows
+breaks_not_null rows (PrimaryKey columns) = false
+breaks_not_null rows (Unique columns) = false
+breaks_not_null rows (Check text) = false
+
+abbrev pub broken_not_nulls : List Constraint → List Row → List Name
+broken_not_nulls constraints rows = map (λ c. c.name) (filter (λ c. breaks_not_null rows c.rule) constraints)
 
 -- ---- good databases
 

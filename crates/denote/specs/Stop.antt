@@ -36,3 +36,8 @@ pub record Gives {A : Type 0} (reply : Result A Stop) (meant : Evaluation A) : T
 pub record GivesRows (reply : Result (List Row) Stop) (meant : Outcome) : Type 0 where
   pub ok : IfOk reply (λ rows. (meant.faults ≡ []) × (meant.rows ≡ rows))
   pub err : IfErr reply (IsFaultOf meant.faults)
+
+-- a test that passes where there is no fault, and else one of the faults
+pub record Passes (reply : Result (Unit {0}) Stop) (faults : List Raised) : Type 0 where
+  pub ok : IfOk reply (λ _. faults ≡ [])
+  pub err : IfErr reply (IsFaultOf faults)

@@ -1,5 +1,5 @@
 -- The rows that INSERT and UPDATE store (ISO/IEC 9075:1992, 9.2, 13.8, 13.10).
-use Rattle.std.specs.Prelude.{ℕ, ◌+◌, ◌==◌, nat_le, if◌then◌else◌, List, [], ◌∷◌, ◌++◌, map, flat_map, Option, Some, None, Ok}
+use Rattle.std.specs.Prelude.{ℕ, ◌+◌, ◌==◌, nat_le, if◌then◌else◌, List, [], ◌∷◌, ◌++◌, map, flat_map, position, slice_get, option_and_then, Option, Some, None, Ok}
 use Rattle.std.specs.List.{enumerate_from}
 use Rattle.sqlval.specs.declared.value.Value.{Value}
 use Rattle.sqlval.specs.declared.schema.Column.{Column}
@@ -14,11 +14,9 @@ use Rattle.denote.specs.Evaluation.{Evaluation, ◌>>=◌, given, faults_in, unl
 use Rattle.denote.specs.Expression.{cell}
 use Rattle.denote.specs.Database.{Table, check_at}
 
--- the value given for the column at a place, if there is one
-abbrev pub given_for : ℕ → List ℕ → List (Evaluation Value) → Option (Evaluation Value)
-given_for place [] values = None
-given_for place (column ∷ columns) [] = None
-given_for place (column ∷ columns) (value ∷ values) = if column == place then Some value else given_for place columns values
+-- what is given for the column at a place, if anything is
+abbrev pub given_for : {A : Type 0} → ℕ → List ℕ → List A → Option A
+given_for place columns items = option_and_then (slice_get items) (position (λ column. column == place) columns)
 
 -- the given value as the column holds it, else the old one
 abbrev pub value_for : Option (Evaluation Value) → Column → Value → Evaluation Value

@@ -25,3 +25,16 @@ pub enum Env<'a> {
     Outermost,
     Inside(&'a [Value], &'a Env<'a>),
 }
+
+/// No tables: each name has no rows. What a CHECK is evaluated over.
+pub(crate) struct NoTables;
+
+impl Tables for NoTables {
+    ghost use Rattle.std.specs.Prelude.{[]};
+
+    ghost rows_of = { λ _ _. [] };
+
+    fn rows(&self, _name: &Text) -> &[Row] {
+        &[]
+    }
+}
