@@ -2,6 +2,7 @@
 
 mod command_lines;
 mod expressions;
+mod limits;
 mod pieces;
 mod refusals;
 
