@@ -2,3 +2,5 @@ pub mod Pieces
 pub mod PieceMeaning
 pub mod Printed
 pub mod Writes
+pub mod Store
+pub mod Place

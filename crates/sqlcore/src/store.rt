@@ -1,13 +1,12 @@
-ghost use Rattle.std.specs.Prelude.{◌≡◌, length};
-
+use denote::{Row, Rows, Tables};
 use items::{Items, Text};
-use sqlval::{Schema, Table, Value};
+use sqlval::{Schema, Table};
 use std::alloc::{AllocError, Global};
 
 /// The rows of a table, of which the first `committed` are.
 #[derive(Drop)]
 struct TableRows {
-    rows: Items<Items<Value>>,
+    rows: Rows,
     committed: usize,
 }
 
@@ -39,14 +38,6 @@ impl Store {
         &self.schema
     }
 
-    /// The rows of the table at this place of the schema.
-    pub(crate) fn rows(&self, place: usize) -> &[Items<Value>] {
-        match self.rows.get(place) {
-            Some(table) => table.rows.as_slice(),
-            None => &[],
-        }
-    }
-
     /// Adds a table without rows. Refuses for want of memory alone: the tables then stay as they were.
     pub(crate) fn create(&mut self, table: Table) -> Result<(), AllocError> {
         self.schema.tables.push(table)?;
@@ -66,7 +57,7 @@ impl Store {
     pub(crate) fn append(
         &mut self,
         place: usize,
-        rows: Items<Items<Value>>,
+        rows: Rows,
     ) -> Result<(), AllocError> {
         match self.rows.get_mut(place) {
             Some(table) => table.rows.append(rows),
@@ -92,6 +83,22 @@ impl Store {
             if let Some(table) = self.rows.get_mut(place) {
                 table.rows.truncate(table.committed);
             }
+        }
+    }
+}
+
+impl Tables for Store {
+    ghost use Rattle.sqlcore.specs.Store.{stored_rows};
+
+    ghost rows_of = { stored_rows };
+
+    fn rows(&self, name: &Text) -> &[Row] {
+        match self.schema.find_table(name.as_slice()) {
+            Some(place) => match self.rows.get(place) {
+                Some(table) => table.rows.as_slice(),
+                None => &[],
+            },
+            None => &[],
         }
     }
 }

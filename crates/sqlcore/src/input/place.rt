@@ -1,3 +1,5 @@
+ghost use Rattle.std.specs.Prelude.{◌≡◌};
+
 /// Where the next byte of a piece stands.
 #[derive(Clone, Copy, Debug, PartialEq, Eq)]
 pub(crate) enum Place {
@@ -23,8 +25,12 @@ pub(crate) enum Kind {
 }
 
 impl Place {
+    ghost use Rattle.sqlcore.specs.Place.{begun_by, place_after, is_outside};
+
     /// The place of the byte after this one.
-    pub(crate) fn after(self, byte: u8) -> Place {
+    pub(crate) fn after(self, byte: u8) -> Place
+        ensures { result ≡ place_after self byte }
+    {
         match self {
             Place::InString if byte == b'\'' => Place::Outside,
             Place::InString => Place::InString,
@@ -36,7 +42,9 @@ impl Place {
     }
 
     /// The place after a byte outside strings and comments.
-    fn begun_by(byte: u8) -> Place {
+    fn begun_by(byte: u8) -> Place
+        ensures { result ≡ begun_by byte }
+    {
         match byte {
             b'-' => Place::AfterMinus,
             b'\'' => Place::InString,
@@ -45,7 +53,9 @@ impl Place {
     }
 
     /// Whether a semicolon here ends the piece.
-    pub(crate) fn is_outside(self) -> bool {
+    pub(crate) fn is_outside(self) -> bool
+        ensures { result ≡ is_outside self }
+    {
         matches!(self, Place::Outside | Place::AfterMinus)
     }
 
