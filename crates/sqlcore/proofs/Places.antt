@@ -62,21 +62,24 @@ no_member x c = absurd (omega (arith, c.1))
 
 after_quote : (place : Place) (bytes : List ℕ) → is_outside place ≡ true → LeadsTo place bytes → LeadsTo InString (bytes ++ quote ∷ [])
 after_quote place bytes outside leads = record {
-    before = bytes; inside = []; whole = refl;
-    passed = λ rest. reaches place bytes quote rest outside leads (λ e. cc e);
-    unclosed = no_member _ }
+  before = bytes;
+  inside = [];
+  whole = refl;
+  passed = λ rest. reaches place bytes quote rest outside leads (λ e. cc e);
+  unclosed = no_member _;
+}
 
 close_string : (bytes : List ℕ) → LeadsTo InString bytes → LeadsTo Outside (bytes ++ quote ∷ [])
 close_string bytes leads rest =
     rw (append_assoc bytes (quote ∷ []) rest, leads.whole, append_assoc leads.before (quote ∷ leads.inside) (quote ∷ rest))
     (Passes-trans _ _ _ (leads.passed (leads.inside ++ quote ∷ rest))
-        (string _ rest rest (record { inside = leads.inside; closed = leads.unclosed; whole = refl }) (here rest)))
+    (string _ rest rest (record { inside = leads.inside; closed = leads.unclosed; whole = refl }) (here rest)))
 
 close_comment : (bytes : List ℕ) → LeadsTo InComment bytes → LeadsTo Outside (bytes ++ newline ∷ [])
 close_comment bytes leads rest =
     rw (append_assoc bytes (newline ∷ []) rest, leads.whole, append_assoc leads.before (minus ∷ minus ∷ leads.inside) (newline ∷ rest))
     (Passes-trans _ _ _ (leads.passed (leads.inside ++ newline ∷ rest))
-        (comment _ rest rest (record { inside = leads.inside; closed = leads.unclosed; whole = refl }) (here rest)))
+    (comment _ rest rest (record { inside = leads.inside; closed = leads.unclosed; whole = refl }) (here rest)))
 
 after_minus : (bytes : List ℕ) → LeadsTo Outside bytes → LeadsTo AfterMinus (bytes ++ minus ∷ [])
 after_minus bytes leads = record { before = bytes; whole = refl; passed = leads }
@@ -84,10 +87,12 @@ after_minus bytes leads = record { before = bytes; whole = refl; passed = leads 
 -- a second minus begins a comment
 begin_comment : (bytes : List ℕ) → LeadsTo AfterMinus bytes → LeadsTo InComment (bytes ++ minus ∷ [])
 begin_comment bytes leads = record {
-    before = leads.before; inside = [];
-    whole = ap (λ l. l ++ minus ∷ []) leads.whole ∙ append_assoc leads.before (minus ∷ []) (minus ∷ []);
-    passed = λ rest. leads.passed (minus ∷ minus ∷ rest);
-    unclosed = no_member _ }
+  before = leads.before;
+  inside = [];
+  whole = ap (λ l. l ++ minus ∷ []) leads.whole ∙ append_assoc leads.before (minus ∷ []) (minus ∷ []);
+  passed = λ rest. leads.passed (minus ∷ minus ∷ rest);
+  unclosed = no_member _;
+}
 
 grown : (before inside : List ℕ) (front bytes : List ℕ) (b : ℕ) → bytes ≡ before ++ (front ++ inside) → bytes ++ b ∷ [] ≡ before ++ (front ++ (inside ++ b ∷ []))
 grown before inside front bytes b e =
@@ -102,17 +107,21 @@ still_open inside b c unclosed other has =
 
 in_string : (bytes : List ℕ) (b : ℕ) → LeadsTo InString bytes → b ≢ quote → LeadsTo InString (bytes ++ b ∷ [])
 in_string bytes b leads other = record {
-    before = leads.before; inside = leads.inside ++ b ∷ [];
-    whole = grown leads.before leads.inside (quote ∷ []) bytes b leads.whole;
-    passed = leads.passed;
-    unclosed = still_open leads.inside b quote leads.unclosed other }
+  before = leads.before;
+  inside = leads.inside ++ b ∷ [];
+  whole = grown leads.before leads.inside (quote ∷ []) bytes b leads.whole;
+  passed = leads.passed;
+  unclosed = still_open leads.inside b quote leads.unclosed other;
+}
 
 in_comment : (bytes : List ℕ) (b : ℕ) → LeadsTo InComment bytes → b ≢ newline → LeadsTo InComment (bytes ++ b ∷ [])
 in_comment bytes b leads other = record {
-    before = leads.before; inside = leads.inside ++ b ∷ [];
-    whole = grown leads.before leads.inside (minus ∷ minus ∷ []) bytes b leads.whole;
-    passed = leads.passed;
-    unclosed = still_open leads.inside b newline leads.unclosed other }
+  before = leads.before;
+  inside = leads.inside ++ b ∷ [];
+  whole = grown leads.before leads.inside (minus ∷ minus ∷ []) bytes b leads.whole;
+  passed = leads.passed;
+  unclosed = still_open leads.inside b newline leads.unclosed other;
+}
 
 -- ---- any byte that ends no piece
 
@@ -167,11 +176,17 @@ unended_minus bytes leads =
 
 unended_string : (bytes : List ℕ) → IsInString bytes → IsUnclosed bytes
 unended_string bytes leads = record {
-    rest = quote ∷ leads.inside; before = rw (leads.whole) (leads.passed leads.inside); open_end = inl (leads.inside, refl, leads.unclosed) }
+  rest = quote ∷ leads.inside;
+  before = rw (leads.whole) (leads.passed leads.inside);
+  open_end = inl (leads.inside, refl, leads.unclosed);
+}
 
 unended_comment : (bytes : List ℕ) → IsInComment bytes → IsUnclosed bytes
 unended_comment bytes leads = record {
-    rest = minus ∷ minus ∷ leads.inside; before = rw (leads.whole) (leads.passed leads.inside); open_end = inr (leads.inside, refl, leads.unclosed) }
+  rest = minus ∷ minus ∷ leads.inside;
+  before = rw (leads.whole) (leads.passed leads.inside);
+  open_end = inr (leads.inside, refl, leads.unclosed);
+}
 
 -- a last piece that nothing ends
 pub unended : (place : Place) (bytes : List ℕ) → LeadsTo place bytes → IsUnended bytes

@@ -54,11 +54,7 @@ impl Store {
 
     /// Puts rows at the end of the table at this place. Refuses for want of memory alone: the table
     /// then stays as it was.
-    pub(crate) fn append(
-        &mut self,
-        place: usize,
-        rows: Rows,
-    ) -> Result<(), AllocError> {
+    pub(crate) fn append(&mut self, place: usize, rows: Rows) -> Result<(), AllocError> {
         match self.rows.get_mut(place) {
             Some(table) => table.rows.append(rows),
             None => Ok(()),
