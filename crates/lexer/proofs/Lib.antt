@@ -9,3 +9,10 @@ pub mod WordTable
 pub mod Whole
 pub mod Printed
 pub mod Unsigned
+pub mod SkippingAgain
+pub mod WordAgain
+pub mod NumberAgain
+pub mod StringAgain
+pub mod SymbolAgain
+pub mod Again
+pub mod Unique

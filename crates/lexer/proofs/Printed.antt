@@ -38,7 +38,7 @@ folded-identifier (b ∷ bs) h =
     let others : folded bs ≡ bs = folded-identifier bs parts.1 in
     cc
 
-is_identifier-is_name : (name : Bytes) → is_name name ≡ true → is_identifier name ≡ true
+pub is_identifier-is_name : (name : Bytes) → is_name name ≡ true → is_identifier name ≡ true
 is_identifier-is_name name h = (and_parts (nat_le (length name) 64) (is_identifier name) (and_parts (nat_le (length name) 64 && is_identifier name) (is_none (reserved name)) h).0).1
 
 folded-is_identifier : (text : Bytes) → is_identifier text ≡ true → folded text ≡ text

@@ -55,7 +55,7 @@ inside b bs skips runs = elim (cases_Bool (eqb b 10)) [
   ])
 ]
 
-no_minus : (b : ℕ) → is_space b ≡ true → eqb b 45 ≡ false
+pub no_minus : (b : ℕ) → is_space b ≡ true → eqb b 45 ≡ false
 no_minus b s = false_from_ne_true (eqb b 45) (λ e. let at : is_space 45 ≡ true = subst (λ c. is_space c ≡ true) (eqb-true b 45 e) s in cc)
 
 two_minus : (b : ℕ) (bs : Bytes) → (eqb b 45 && begins 45 bs) ≡ true → (cs : Bytes) × (b ≡ 45) × (bs ≡ 45 ∷ cs)

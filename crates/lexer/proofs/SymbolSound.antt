@@ -8,20 +8,20 @@ use Rattle.lexer.specs.Token.{Bytes, IsLongest, wrong_byte, is_known, symbol_tex
 use Rattle.lexer.specs.Reading.{symbol_alone, symbol_of_two, symbol_step, symbol_or_fault, symbol_in_front}
 use Rattle.lexer.proofs.Steps.{IsStep}
 
-abbrev IsAlone : ℕ → Option Symbol → Type 0
+abbrev pub IsAlone : ℕ → Option Symbol → Type 0
 IsAlone b o = IfSome o (λ s. b ∷ [] ≡ symbol_text s)
 
-abbrev IsTwo : ℕ → ℕ → Option Symbol → Type 0
+abbrev pub IsTwo : ℕ → ℕ → Option Symbol → Type 0
 IsTwo b c o = IfSome o (λ s. b ∷ c ∷ [] ≡ symbol_text s)
 
 pair : (b c x y : ℕ) → (eqb b x && eqb c y) ≡ true → ◌≡◌ {A = Bytes} (b ∷ c ∷ []) (x ∷ y ∷ [])
 pair b c x y e = let parts = and_parts (eqb b x) (eqb c y) e in let p : b ≡ x = eqb-true b x parts.0 in let q : c ≡ y = eqb-true c y parts.1 in cc
 
-symbol_alone-text : (b : ℕ) → IsAlone b (symbol_alone b)
+pub symbol_alone-text : (b : ℕ) → IsAlone b (symbol_alone b)
 symbol_alone-text b =
     cond_both (eqb b 40) _ _ (IsAlone b) (λ e. ap (λ c. c ∷ []) (eqb-true b 40 e)) (λ _. cond_both (eqb b 41) _ _ (IsAlone b) (λ e. ap (λ c. c ∷ []) (eqb-true b 41 e)) (λ _. cond_both (eqb b 42) _ _ (IsAlone b) (λ e. ap (λ c. c ∷ []) (eqb-true b 42 e)) (λ _. cond_both (eqb b 43) _ _ (IsAlone b) (λ e. ap (λ c. c ∷ []) (eqb-true b 43 e)) (λ _. cond_both (eqb b 44) _ _ (IsAlone b) (λ e. ap (λ c. c ∷ []) (eqb-true b 44 e)) (λ _. cond_both (eqb b 45) _ _ (IsAlone b) (λ e. ap (λ c. c ∷ []) (eqb-true b 45 e)) (λ _. cond_both (eqb b 46) _ _ (IsAlone b) (λ e. ap (λ c. c ∷ []) (eqb-true b 46 e)) (λ _. cond_both (eqb b 47) _ _ (IsAlone b) (λ e. ap (λ c. c ∷ []) (eqb-true b 47 e)) (λ _. cond_both (eqb b 59) _ _ (IsAlone b) (λ e. ap (λ c. c ∷ []) (eqb-true b 59 e)) (λ _. cond_both (eqb b 60) _ _ (IsAlone b) (λ e. ap (λ c. c ∷ []) (eqb-true b 60 e)) (λ _. cond_both (eqb b 61) _ _ (IsAlone b) (λ e. ap (λ c. c ∷ []) (eqb-true b 61 e)) (λ _. cond_both (eqb b 62) _ _ (IsAlone b) (λ e. ap (λ c. c ∷ []) (eqb-true b 62 e)) (λ _. tt))))))))))))
 
-symbol_of_two-text : (b c : ℕ) → IsTwo b c (symbol_of_two b c)
+pub symbol_of_two-text : (b c : ℕ) → IsTwo b c (symbol_of_two b c)
 symbol_of_two-text b c =
     cond_both (eqb b 60 && eqb c 61) _ _ (IsTwo b c) (λ e. pair b c 60 61 e) (λ _. cond_both (eqb b 60 && eqb c 62) _ _ (IsTwo b c) (λ e. pair b c 60 62 e) (λ _. cond_both (eqb b 62 && eqb c 61) _ _ (IsTwo b c) (λ e. pair b c 62 61 e) (λ _. cond_both (eqb b 124 && eqb c 124) _ _ (IsTwo b c) (λ e. pair b c 124 124 e) (λ _. tt))))
 

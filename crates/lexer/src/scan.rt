@@ -1,6 +1,8 @@
 //! Whole texts.
 
-ghost use Rattle.std.specs.Prelude.{◌≡◌, ◌≢◌, ◌∷◌, ◌<◌, ◌≤◌, length, IfOk, IfErr, IfSome};
+ghost use Rattle.std.specs.Prelude.{◌≡◌, ◌≢◌, ◌∷◌, ◌<◌, ◌≤◌, ◌⊎◌, List, length, IfOk, IfErr, IfSome, MatchResult};
+ghost use Rattle.lexer.specs.declared.kinds.Token.{Token};
+ghost use Rattle.lexer.specs.declared.refusals.Refusal.{Refusal};
 ghost use Rattle.lexer.specs.Reading as reading;
 ghost use Rattle.lexer.specs.Reading.{Gives, GivesStep};
 ghost use Rattle.lexer.specs.Tokens.{AreTokens, IsFirstFault, kinds_of};
@@ -16,8 +18,22 @@ use crate::symbols::read_symbol;
 use std::alloc::Global;
 
 /// The tokens of the text in order, whatever its length; or its first fault from left to right, byte
-/// by byte; or want of memory.
+/// by byte. Refuses for want of memory too.
 pub fn tokens(alloc: Global, text: &[u8]) -> Result<Vec<Token>, Refusal>
+    ensures found { IfOk result (λ found. AreTokens text.now found.items) }
+    ensures unsigned { IfOk result (λ found. AreUnsigned (kinds_of found.items)) }
+    ensures fault { IfErr result (λ refusal. refusal ≢ Refusal.Memory → IsFirstFault text.now refusal) }
+
+    // A text that has tokens has these alone, and one that has a first fault that one alone.
+    ensures only { (all : List Token) → AreTokens text.now all →
+        MatchResult result (λ found. found.items ≡ all) (λ refusal. refusal ≡ Refusal.Memory) }
+    ensures only_fault { (first : Refusal) → IsFirstFault text.now first →
+        MatchResult result (λ _. ⊥) (λ refusal. (refusal ≡ Refusal.Memory) ⊎ (refusal ≡ first)) }
+{
+    read_tokens(alloc, text)
+}
+
+fn read_tokens(alloc: Global, text: &[u8]) -> Result<Vec<Token>, Refusal>
     ensures found { IfOk result (λ found. AreTokens text.now found.items) }
     ensures unsigned { IfOk result (λ found. AreUnsigned (kinds_of found.items)) }
     ensures fault { IfErr result (λ refusal. refusal ≢ Refusal.Memory → IsFirstFault text.now refusal) }

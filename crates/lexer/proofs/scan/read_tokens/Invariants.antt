@@ -1,6 +1,6 @@
 use Rattle.std.proofs.Common.{◌≤◌, ◌-◌, length}
 use Rattle.lexer.specs.Tokens.{AreTokensBetween}
-use Rattle.lexer.proofs.scan.tokens.Given as goal
+use Rattle.lexer.proofs.scan.read_tokens.Given as goal
 
 abbrev pub invariant-loop-found : goal.invariant-loop-found
 invariant-loop-found l = record { within : l.last ≤ length l.text; before : AreTokensBetween l.text 0 l.found.items l.last }
