@@ -2,27 +2,27 @@
 
 use crate::operator::Direction;
 use crate::tree::{Condition, Expression, Query};
-use items::Items;
+use items::{Boxed, Items};
 use lexer::Name;
 
 /// A statement, without the `;` that may follow it.
 #[derive(Drop)]
 pub enum Statement {
-    Query(OrderedQuery),
-    Explain(OrderedQuery),
-    CreateTable(CreateTable),
+    Query(Boxed<OrderedQuery>),
+    Explain(Boxed<OrderedQuery>),
+    CreateTable(Boxed<CreateTable>),
     DropTable(Name),
-    CreateIndex(CreateIndex),
+    CreateIndex(Boxed<CreateIndex>),
     DropIndex(Name),
-    Insert(Insert),
-    Update(Update),
-    Delete(Delete),
+    Insert(Boxed<Insert>),
+    Update(Boxed<Update>),
+    Delete(Boxed<Delete>),
     /// Whether WORK is written.
     Commit(bool),
     /// Whether WORK is written.
     Rollback(bool),
     SetTransaction(AccessMode),
-    DeclareCursor(DeclareCursor),
+    DeclareCursor(Boxed<DeclareCursor>),
     OpenCursor(Name),
     Fetch(Name),
     CloseCursor(Name),
