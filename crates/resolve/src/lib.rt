@@ -1,9 +1,18 @@
-//! Typed trees: statements whose names and types are settled.
+//! Names and types: the typed trees, and how a statement becomes one.
 #![tactic(auto)]
 
+mod conditions;
+mod expressions;
+mod inserts;
+mod queries;
+mod resolving;
+mod scope;
 mod statement;
+mod support;
+mod tables;
 mod typed;
 
+pub use resolving::resolve;
 pub use statement::{
     AccessMode, Assignment, Change, CreateIndex, CreateTable, Delete, Insert, InsertSource, Typed,
     Update,
