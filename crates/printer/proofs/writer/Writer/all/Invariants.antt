@@ -1,0 +1,7 @@
+use Rattle.std.proofs.Common.{take}
+use Rattle.ast.specs.Notation.{Many}
+use Rattle.printer.specs.Writing.{Prints}
+use Rattle.printer.proofs.writer.Writer.all.Given as goal
+
+abbrev pub invariant-loop-part : goal.invariant-loop-part
+invariant-loop-part g l = Prints (λ inner. Many (g.P.Part.rule inner)) (take l.part-index l.parts) l.initial.self l.self

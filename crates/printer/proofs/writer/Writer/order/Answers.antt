@@ -1,0 +1,11 @@
+use Rattle.std.proofs.Common.{sym}
+use Rattle.ast.specs.Notation.{◌⊳◌, Listed}
+use Rattle.ast.specs.Statements.{IsSortKey}
+use Rattle.ast.specs.Words.{BY, ORDER}
+use Rattle.printer.proofs.Parts.{done, ◌⨟◌}
+use Rattle.printer.proofs.Productions.{some_listed}
+use Rattle.printer.proofs.writer.Writer.order.Goals as goal
+
+pub returns : goal.returns
+returns c = done c.list.result (λ last. some_listed (λ _. ORDER ⊳ BY ⊳ Listed IsSortKey) _ (sym c.if-is_empty.ensures)
+    (c.in_ok-word.ensures ⨟ c.in_ok-word-2.ensures ⨟ last)) c.list.ensures

@@ -1,0 +1,216 @@
+//! The parts that hold no tree.
+
+ghost use Rattle.std.specs.Prelude.{◌≡◌, ◌∷◌, OnOk};
+ghost use Rattle.ast.specs.Notation.{◌⊲◌, Maybe};
+ghost use Rattle.ast.specs.Queries.{AreGroups};
+ghost use Rattle.printer.specs.Writing.{IsWrittenAs, Prints, Puts};
+ghost use Rattle.ast.specs.Terminals.{IsAddOperator, IsComparison, IsMultiplyOperator, IsName, IsQuantifier, IsSetFunction, IsSign, IsTruthValue};
+ghost use Rattle.ast.specs.Words.{ASTERISK, COUNT, LEFT_PARENTHESIS, RIGHT_PARENTHESIS};
+
+use crate::writer::{Part, Writer};
+use ast::{
+    AddOperator, Alias, Column, Comparison, Literal, MultiplyOperator, Quantifier, SetFunction,
+    SetOperator, Sign, TruthTest, TruthValue,
+};
+use lexer::{Kind, Name, Symbol, Word};
+use std::alloc::AllocError;
+
+pub fn add_symbol(operator: AddOperator) -> Symbol
+    ensures { IsWrittenAs IsAddOperator operator (Kind.Symbol result) }
+{
+    match operator {
+        AddOperator::Plus => Symbol::Plus,
+        AddOperator::Minus => Symbol::Minus,
+        AddOperator::Concatenate => Symbol::Concatenation,
+    }
+}
+
+pub fn multiply_symbol(operator: MultiplyOperator) -> Symbol
+    ensures { IsWrittenAs IsMultiplyOperator operator (Kind.Symbol result) }
+{
+    match operator {
+        MultiplyOperator::Times => Symbol::Asterisk,
+        MultiplyOperator::Divide => Symbol::Solidus,
+    }
+}
+
+pub fn comparison_symbol(comparison: Comparison) -> Symbol
+    ensures { IsWrittenAs IsComparison comparison (Kind.Symbol result) }
+{
+    match comparison {
+        Comparison::Equal => Symbol::Equal,
+        Comparison::NotEqual => Symbol::NotEqual,
+        Comparison::Less => Symbol::Less,
+        Comparison::Greater => Symbol::Greater,
+        Comparison::LessOrEqual => Symbol::LessOrEqual,
+        Comparison::GreaterOrEqual => Symbol::GreaterOrEqual,
+    }
+}
+
+pub fn set_function_word(function: SetFunction) -> Word
+    ensures { IsWrittenAs IsSetFunction function (Kind.Word result) }
+{
+    match function {
+        SetFunction::Count => Word::Count,
+        SetFunction::Sum => Word::Sum,
+        SetFunction::Average => Word::Avg,
+        SetFunction::Minimum => Word::Min,
+        SetFunction::Maximum => Word::Max,
+    }
+}
+
+fn sign_symbol(sign: Sign) -> Symbol
+    ensures { IsWrittenAs IsSign sign (Kind.Symbol result) }
+{
+    match sign {
+        Sign::Plus => Symbol::Plus,
+        Sign::Minus => Symbol::Minus,
+    }
+}
+
+fn quantifier_word(quantifier: Quantifier) -> Word
+    ensures { IsWrittenAs IsQuantifier quantifier (Kind.Word result) }
+{
+    match quantifier {
+        Quantifier::All => Word::All,
+        Quantifier::Distinct => Word::Distinct,
+    }
+}
+
+fn truth_word(value: TruthValue) -> Word
+    ensures { IsWrittenAs IsTruthValue value (Kind.Word result) }
+{
+    match value {
+        TruthValue::True => Word::True,
+        TruthValue::False => Word::False,
+        TruthValue::Unknown => Word::Unknown,
+    }
+}
+
+impl Part for Sign {
+    ghost use Rattle.ast.specs.Terminals.{IsSign};
+
+    ghost rule = { λ _. IsSign };
+
+    fn write(&self, writer: &mut Writer) -> Result<(), AllocError> {
+        writer.symbol(sign_symbol(*self))
+    }
+}
+
+impl Part for Quantifier {
+    ghost use Rattle.ast.specs.Terminals.{IsQuantifier};
+
+    ghost rule = { λ _. IsQuantifier };
+
+    fn write(&self, writer: &mut Writer) -> Result<(), AllocError> {
+        writer.word(quantifier_word(*self))
+    }
+}
+
+impl Part for SetOperator {
+    ghost use Rattle.ast.specs.Terminals.{IsSetOperator};
+
+    ghost rule = { λ _. IsSetOperator };
+
+    fn write(&self, writer: &mut Writer) -> Result<(), AllocError> {
+        match self {
+            SetOperator::Union => writer.word(Word::Union),
+            SetOperator::UnionAll => {
+                writer.word(Word::Union)?;
+                writer.word(Word::All)
+            }
+            SetOperator::Except => writer.word(Word::Except),
+            SetOperator::ExceptAll => {
+                writer.word(Word::Except)?;
+                writer.word(Word::All)
+            }
+        }
+    }
+}
+
+impl Part for TruthTest {
+    ghost use Rattle.ast.specs.Terminals.{IsTruthTest};
+
+    ghost rule = { λ _. IsTruthTest };
+
+    fn write(&self, writer: &mut Writer) -> Result<(), AllocError> {
+        writer.word(Word::Is)?;
+        writer.word_if(self.is_negated, Word::Not)?;
+        writer.word(truth_word(self.value))
+    }
+}
+
+impl Part for Literal {
+    ghost use Rattle.ast.specs.Terminals.{IsLiteral};
+
+    ghost rule = { λ _. IsLiteral };
+
+    fn write(&self, writer: &mut Writer) -> Result<(), AllocError> {
+        match self {
+            Literal::Number(sign, number) => {
+                writer.maybe(sign)?;
+                writer.number(*number)
+            }
+            Literal::Text(text) => writer.text(text),
+        }
+    }
+}
+
+impl Part for Column {
+    ghost use Rattle.ast.specs.Terminals.{IsColumn};
+
+    ghost rule = { λ _. IsColumn };
+
+    fn write(&self, writer: &mut Writer) -> Result<(), AllocError> {
+        writer.qualifier(&self.table)?;
+        writer.name(&self.name)
+    }
+}
+
+impl Part for Alias {
+    ghost use Rattle.ast.specs.Terminals.{IsAlias};
+
+    ghost rule = { λ _. IsAlias };
+
+    fn write(&self, writer: &mut Writer) -> Result<(), AllocError> {
+        writer.word_if(self.has_as, Word::As)?;
+        writer.name(&self.name)
+    }
+}
+
+impl Writer {
+    /// Writes the table's name and a period, or nothing.
+    fn qualifier(&mut self, table: &Option<Name>) -> Result<(), AllocError>
+        ensures { OnOk result (Prints (λ _. Maybe (IsName ⊲ Kind.Symbol Symbol.Period)) table.now self.old self.new) }
+    {
+        match table {
+            None => Ok(()),
+            Some(name) => {
+                self.name(name)?;
+                self.symbol(Symbol::Period)
+            }
+        }
+    }
+
+    /// Writes `COUNT ( * )`.
+    pub fn count_rows(&mut self) -> Result<(), AllocError>
+        ensures { OnOk result (Puts (λ _ ts rest. ts ≡ COUNT ∷ LEFT_PARENTHESIS ∷ ASTERISK ∷ RIGHT_PARENTHESIS ∷ rest) self.old self.new) }
+    {
+        self.word(Word::Count)?;
+        self.symbol(Symbol::LeftParenthesis)?;
+        self.symbol(Symbol::Asterisk)?;
+        self.symbol(Symbol::RightParenthesis)
+    }
+
+    /// Writes the columns after GROUP BY, or nothing where there are none.
+    pub fn groups(&mut self, columns: &[Column]) -> Result<(), AllocError>
+        ensures { OnOk result (Prints (λ inner. AreGroups inner) columns.now self.old self.new) }
+    {
+        if columns.is_empty() {
+            return Ok(());
+        }
+        self.word(Word::Group)?;
+        self.word(Word::By)?;
+        self.list(columns)
+    }
+}

@@ -1,0 +1,151 @@
+//! The list of tokens that is written.
+
+ghost use Rattle.std.specs.Prelude.{◌≡◌, ◌∷◌, [], OnOk};
+ghost use Rattle.ast.specs.Notation.{Listed, Many, Maybe, Parenthesized, Written};
+ghost use Rattle.printer.specs.Writing.{Puts, Prints};
+
+use items::{Items, Text};
+use lexer::{Kind, Name, Symbol, Word};
+use std::alloc::{AllocError, Global};
+use std::marker::Model;
+
+/// Writes tokens at the end of a list. Contracts see it as that list. After a refusal, which is for want of memory alone,
+/// some tokens of the part may be in it.
+#[derive(Drop)]
+pub struct Writer {
+    alloc: Global,
+    kinds: Items<Kind>,
+}
+
+impl Model for Writer {
+    ghost use Rattle.std.specs.Prelude.{List};
+    ghost use Rattle.lexer.specs.declared.kinds.Kind.{Kind};
+
+    ghost Value = { List Kind };
+
+    ghost view = { λ writer. writer.kinds };
+}
+
+/// A part of the language, and the rule of its tokens.
+pub trait Part {
+    ghost use Rattle.ast.specs.Expressions.{Nested};
+    ghost use Rattle.ast.specs.Notation.{Rule};
+
+    ghost rule: { Nested → Rule Self };
+
+    /// Writes the tokens of the part.
+    fn write(&self, writer: &mut Writer) -> Result<(), AllocError>
+        ensures { OnOk result (Prints rule self.now writer.old writer.new) };
+}
+
+impl Writer {
+    /// A writer of no tokens.
+    pub fn new(alloc: Global) -> Writer
+        ensures { result ≡ [] }
+    {
+        Writer {
+            alloc,
+            kinds: Items::new(alloc),
+        }
+    }
+
+    /// What was written.
+    pub fn into_kinds(self) -> Items<Kind>
+        ensures { result ≡ self }
+    {
+        let Writer { kinds, .. } = self;
+        kinds
+    }
+
+    fn push(&mut self, kind: Kind) -> Result<(), AllocError>
+        ensures { OnOk result (Puts (λ _ ts rest. ts ≡ kind ∷ rest) self.old self.new) }
+    {
+        self.kinds.push(kind)
+    }
+
+    pub fn word(&mut self, word: Word) -> Result<(), AllocError>
+        ensures { OnOk result (Puts (λ _ ts rest. ts ≡ Kind.Word word ∷ rest) self.old self.new) }
+    {
+        self.push(Kind::Word(word))
+    }
+
+    pub fn symbol(&mut self, symbol: Symbol) -> Result<(), AllocError>
+        ensures { OnOk result (Puts (λ _ ts rest. ts ≡ Kind.Symbol symbol ∷ rest) self.old self.new) }
+    {
+        self.push(Kind::Symbol(symbol))
+    }
+
+    pub fn number(&mut self, number: i64) -> Result<(), AllocError>
+        ensures { OnOk result (Puts (λ _ ts rest. ts ≡ Kind.Number number ∷ rest) self.old self.new) }
+    {
+        self.push(Kind::Number(number))
+    }
+
+    pub fn name(&mut self, name: &Name) -> Result<(), AllocError>
+        ensures { OnOk result (Puts (λ _ ts rest. ts ≡ Kind.Name name.now ∷ rest) self.old self.new) }
+    {
+        let name = name.copy(self.alloc)?;
+        self.push(Kind::Name(name))
+    }
+
+    pub fn text(&mut self, text: &Text) -> Result<(), AllocError>
+        ensures { OnOk result (Puts (λ _ ts rest. ts ≡ Kind.Text text.now ∷ rest) self.old self.new) }
+    {
+        let text = text.copy(self.alloc)?;
+        self.push(Kind::Text(text))
+    }
+
+    /// Writes a word that may be left out.
+    pub fn word_if(&mut self, is_written: bool, word: Word) -> Result<(), AllocError>
+        ensures { OnOk result (Prints (λ _. Written (Kind.Word word)) is_written self.old self.new) }
+    {
+        if is_written {
+            self.word(word)
+        } else {
+            Ok(())
+        }
+    }
+
+    /// Writes a part that may be left out.
+    pub fn maybe<P: Part>(&mut self, part: &Option<P>) -> Result<(), AllocError>
+        ensures { OnOk result (Prints (λ inner. Maybe (P.rule inner)) part.now self.old self.new) }
+    {
+        match part {
+            None => Ok(()),
+            Some(part) => part.write(self),
+        }
+    }
+
+    /// Writes parts one after another.
+    pub fn all<P: Part>(&mut self, parts: &[P]) -> Result<(), AllocError>
+        ensures { OnOk result (Prints (λ inner. Many (P.rule inner)) parts.now self.old self.new) }
+    {
+        for part in parts {
+            part.write(self)?;
+        }
+        Ok(())
+    }
+
+    /// Writes parts with commas between them.
+    pub fn list<P: Part>(&mut self, parts: &[P]) -> Result<(), AllocError>
+        ensures { OnOk result (Prints (λ inner. Listed (P.rule inner)) parts.now self.old self.new) }
+    {
+        if let [first, others @ ..] = parts {
+            first.write(self)?;
+            for part in others {
+                self.symbol(Symbol::Comma)?;
+                part.write(self)?;
+            }
+        }
+        Ok(())
+    }
+
+    /// Writes parts with commas between them, in parentheses.
+    pub fn list_in_parentheses<P: Part>(&mut self, parts: &[P]) -> Result<(), AllocError>
+        ensures { OnOk result (Prints (λ inner. Parenthesized (Listed (P.rule inner))) parts.now self.old self.new) }
+    {
+        self.symbol(Symbol::LeftParenthesis)?;
+        self.list(parts)?;
+        self.symbol(Symbol::RightParenthesis)
+    }
+}
