@@ -90,7 +90,7 @@ fn truth_word(value: TruthValue) -> Word
 impl Part for Sign {
     ghost use Rattle.ast.specs.Terminals.{IsSign};
 
-    ghost rule = { λ _. IsSign };
+    ghost rule = { λ _ _. IsSign };
 
     fn write(&self, writer: &mut Writer) -> Result<(), AllocError> {
         writer.symbol(sign_symbol(*self))
@@ -100,7 +100,7 @@ impl Part for Sign {
 impl Part for Quantifier {
     ghost use Rattle.ast.specs.Terminals.{IsQuantifier};
 
-    ghost rule = { λ _. IsQuantifier };
+    ghost rule = { λ _ _. IsQuantifier };
 
     fn write(&self, writer: &mut Writer) -> Result<(), AllocError> {
         writer.word(quantifier_word(*self))
@@ -110,7 +110,7 @@ impl Part for Quantifier {
 impl Part for SetOperator {
     ghost use Rattle.ast.specs.Terminals.{IsSetOperator};
 
-    ghost rule = { λ _. IsSetOperator };
+    ghost rule = { λ _ _. IsSetOperator };
 
     fn write(&self, writer: &mut Writer) -> Result<(), AllocError> {
         match self {
@@ -131,7 +131,7 @@ impl Part for SetOperator {
 impl Part for TruthTest {
     ghost use Rattle.ast.specs.Terminals.{IsTruthTest};
 
-    ghost rule = { λ _. IsTruthTest };
+    ghost rule = { λ _ _. IsTruthTest };
 
     fn write(&self, writer: &mut Writer) -> Result<(), AllocError> {
         writer.word(Word::Is)?;
@@ -143,7 +143,7 @@ impl Part for TruthTest {
 impl Part for Literal {
     ghost use Rattle.ast.specs.Terminals.{IsLiteral};
 
-    ghost rule = { λ _. IsLiteral };
+    ghost rule = { λ _ _. IsLiteral };
 
     fn write(&self, writer: &mut Writer) -> Result<(), AllocError> {
         match self {
@@ -159,7 +159,7 @@ impl Part for Literal {
 impl Part for Column {
     ghost use Rattle.ast.specs.Terminals.{IsColumn};
 
-    ghost rule = { λ _. IsColumn };
+    ghost rule = { λ _ _. IsColumn };
 
     fn write(&self, writer: &mut Writer) -> Result<(), AllocError> {
         writer.qualifier(&self.table)?;
@@ -170,7 +170,7 @@ impl Part for Column {
 impl Part for Alias {
     ghost use Rattle.ast.specs.Terminals.{IsAlias};
 
-    ghost rule = { λ _. IsAlias };
+    ghost rule = { λ _ _. IsAlias };
 
     fn write(&self, writer: &mut Writer) -> Result<(), AllocError> {
         writer.word_if(self.has_as, Word::As)?;
@@ -181,7 +181,7 @@ impl Part for Alias {
 impl Writer {
     /// Writes the table's name and a period, or nothing.
     fn qualifier(&mut self, table: &Option<Name>) -> Result<(), AllocError>
-        ensures { OnOk result (Prints (λ _. Maybe (IsName ⊲ Kind.Symbol Symbol.Period)) table.now self.old self.new) }
+        ensures { OnOk result (Prints (λ _ _. Maybe (IsName ⊲ Kind.Symbol Symbol.Period)) table.now self.old self.new) }
     {
         match table {
             None => Ok(()),
@@ -194,7 +194,7 @@ impl Writer {
 
     /// Writes `COUNT ( * )`.
     pub fn count_rows(&mut self) -> Result<(), AllocError>
-        ensures { OnOk result (Puts (λ _ ts rest. ts ≡ COUNT ∷ LEFT_PARENTHESIS ∷ ASTERISK ∷ RIGHT_PARENTHESIS ∷ rest) self.old self.new) }
+        ensures { OnOk result (Puts (λ _ _ ts rest. ts ≡ COUNT ∷ LEFT_PARENTHESIS ∷ ASTERISK ∷ RIGHT_PARENTHESIS ∷ rest) self.old self.new) }
     {
         self.word(Word::Count)?;
         self.symbol(Symbol::LeftParenthesis)?;
@@ -204,7 +204,7 @@ impl Writer {
 
     /// Writes the columns after GROUP BY, or nothing where there are none.
     pub fn groups(&mut self, columns: &[Column]) -> Result<(), AllocError>
-        ensures { OnOk result (Prints (λ inner. AreGroups inner) columns.now self.old self.new) }
+        ensures { OnOk result (Prints AreGroups columns.now self.old self.new) }
     {
         if columns.is_empty() {
             return Ok(());

@@ -77,7 +77,7 @@ impl Writer {
     /// Writes a query in parentheses.
     #[cycle(print)]
     fn subquery(&mut self, query: &Boxed<Query>) -> Result<(), AllocError>
-        ensures { OnOk result (Prints (λ inner. Parenthesized (Nested.query inner)) query.now self.old self.new) }
+        ensures { OnOk result (Prints (λ _ inner. Parenthesized (Nested.query inner)) query.now self.old self.new) }
     {
         self.symbol(Symbol::LeftParenthesis)?;
         self.query(query.get())?;
@@ -254,7 +254,7 @@ impl Writer {
 
     #[cycle(print)]
     fn table_references(&mut self, references: &[TableReference]) -> Result<(), AllocError>
-        ensures { OnOk result (Prints (λ inner. Listed (IsTableReference inner)) references.now self.old self.new) }
+        ensures { OnOk result (Prints (λ limit inner. Listed (IsTableReference limit inner)) references.now self.old self.new) }
     {
         if let [first, others @ ..] = references {
             self.table_reference(first)?;
@@ -324,7 +324,7 @@ impl Writer {
     /// Writes a condition after its word, or nothing.
     #[cycle(print)]
     fn filter(&mut self, word: Word, condition: &Option<Boxed<Condition>>) -> Result<(), AllocError>
-        ensures { OnOk result (Prints (λ inner. Maybe (Kind.Word word ⊳ IsCondition inner)) condition.now self.old self.new) }
+        ensures { OnOk result (Prints (λ limit inner. Maybe (Kind.Word word ⊳ IsCondition limit inner)) condition.now self.old self.new) }
     {
         match condition {
             None => Ok(()),

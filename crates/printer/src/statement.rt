@@ -30,7 +30,7 @@ fn direction_word(direction: Direction) -> Word
 impl Writer {
     /// Writes ORDER BY and its keys, or nothing where there are none.
     fn order(&mut self, keys: &[SortKey]) -> Result<(), AllocError>
-        ensures { OnOk result (Prints (λ _. MaybeListed IsOrder) keys.now self.old self.new) }
+        ensures { OnOk result (Prints (λ _ _. MaybeListed IsOrder) keys.now self.old self.new) }
     {
         if keys.is_empty() {
             return Ok(());
@@ -42,7 +42,7 @@ impl Writer {
 
     /// Writes names in parentheses, or nothing where there are none.
     fn column_names(&mut self, names: &[Name]) -> Result<(), AllocError>
-        ensures { OnOk result (Prints (λ _. MaybeListed (Parenthesized AreNames)) names.now self.old self.new) }
+        ensures { OnOk result (Prints (λ _ _. MaybeListed (Parenthesized AreNames)) names.now self.old self.new) }
     {
         if names.is_empty() {
             return Ok(());
@@ -52,7 +52,7 @@ impl Writer {
 
     /// Writes WHERE and a condition, or nothing.
     fn filter_of(&mut self, condition: &Option<Condition>) -> Result<(), AllocError>
-        ensures { OnOk result (Prints IsFilter condition.now self.old self.new) }
+        ensures { OnOk result (Prints (λ _. IsFilter) condition.now self.old self.new) }
     {
         match condition {
             None => Ok(()),
@@ -65,7 +65,7 @@ impl Writer {
 
     /// Writes CONSTRAINT and a name, or nothing.
     fn constraint_name(&mut self, name: &Option<Name>) -> Result<(), AllocError>
-        ensures { OnOk result (Prints (λ _. IsConstraintName) name.now self.old self.new) }
+        ensures { OnOk result (Prints (λ _ _. IsConstraintName) name.now self.old self.new) }
     {
         match name {
             None => Ok(()),
@@ -78,7 +78,7 @@ impl Writer {
 
     /// Writes CHECK and a condition in parentheses.
     fn check(&mut self, condition: &Condition) -> Result<(), AllocError>
-        ensures { OnOk result (Prints (λ inner. CHECK ⊳ Parenthesized (Nested.condition inner)) condition.now self.old self.new) }
+        ensures { OnOk result (Prints (λ _ inner. CHECK ⊳ Parenthesized (Nested.condition inner)) condition.now self.old self.new) }
     {
         self.word(Word::Check)?;
         self.symbol(Symbol::LeftParenthesis)?;
@@ -88,7 +88,7 @@ impl Writer {
 
     /// Writes a number in parentheses.
     fn length(&mut self, length: i64) -> Result<(), AllocError>
-        ensures { OnOk result (Prints (λ _. Parenthesized IsNumber) length self.old self.new) }
+        ensures { OnOk result (Prints (λ _ _. Parenthesized IsNumber) length self.old self.new) }
     {
         self.symbol(Symbol::LeftParenthesis)?;
         self.number(length)?;
@@ -99,7 +99,7 @@ impl Writer {
 impl Part for Name {
     ghost use Rattle.ast.specs.Terminals.{IsName};
 
-    ghost rule = { λ _. IsName };
+    ghost rule = { λ _ _. IsName };
 
     fn write(&self, writer: &mut Writer) -> Result<(), AllocError> {
         writer.name(self)
@@ -109,7 +109,7 @@ impl Part for Name {
 impl Part for Direction {
     ghost use Rattle.ast.specs.Statements.{IsDirection};
 
-    ghost rule = { λ _. IsDirection };
+    ghost rule = { λ _ _. IsDirection };
 
     fn write(&self, writer: &mut Writer) -> Result<(), AllocError> {
         writer.word(direction_word(*self))
@@ -119,7 +119,7 @@ impl Part for Direction {
 impl Part for SortColumn {
     ghost use Rattle.ast.specs.Statements.{IsSortColumn};
 
-    ghost rule = { λ _. IsSortColumn };
+    ghost rule = { λ _ _. IsSortColumn };
 
     fn write(&self, writer: &mut Writer) -> Result<(), AllocError> {
         match self {
@@ -132,7 +132,7 @@ impl Part for SortColumn {
 impl Part for SortKey {
     ghost use Rattle.ast.specs.Statements.{IsSortKey};
 
-    ghost rule = { λ _. IsSortKey };
+    ghost rule = { λ _ _. IsSortKey };
 
     fn write(&self, writer: &mut Writer) -> Result<(), AllocError> {
         self.column.write(writer)?;
@@ -143,7 +143,7 @@ impl Part for SortKey {
 impl Part for OrderedQuery {
     ghost use Rattle.ast.specs.Statements.{IsOrderedQuery};
 
-    ghost rule = { IsOrderedQuery };
+    ghost rule = { λ _. IsOrderedQuery };
 
     fn write(&self, writer: &mut Writer) -> Result<(), AllocError> {
         writer.query(&self.query)?;
@@ -154,7 +154,7 @@ impl Part for OrderedQuery {
 impl Part for TypeName {
     ghost use Rattle.ast.specs.Statements.{IsTypeName};
 
-    ghost rule = { λ _. IsTypeName };
+    ghost rule = { λ _ _. IsTypeName };
 
     fn write(&self, writer: &mut Writer) -> Result<(), AllocError> {
         match self {
@@ -176,7 +176,7 @@ impl Part for TypeName {
 impl Part for ColumnRule {
     ghost use Rattle.ast.specs.Statements.{IsColumnRule};
 
-    ghost rule = { IsColumnRule };
+    ghost rule = { λ _. IsColumnRule };
 
     fn write(&self, writer: &mut Writer) -> Result<(), AllocError> {
         match self {
@@ -197,7 +197,7 @@ impl Part for ColumnRule {
 impl Part for ColumnConstraint {
     ghost use Rattle.ast.specs.Statements.{IsColumnConstraint};
 
-    ghost rule = { IsColumnConstraint };
+    ghost rule = { λ _. IsColumnConstraint };
 
     fn write(&self, writer: &mut Writer) -> Result<(), AllocError> {
         writer.constraint_name(&self.name)?;
@@ -208,7 +208,7 @@ impl Part for ColumnConstraint {
 impl Part for ColumnDefinition {
     ghost use Rattle.ast.specs.Statements.{IsColumnDefinition};
 
-    ghost rule = { IsColumnDefinition };
+    ghost rule = { λ _. IsColumnDefinition };
 
     fn write(&self, writer: &mut Writer) -> Result<(), AllocError> {
         writer.name(&self.column)?;
@@ -220,7 +220,7 @@ impl Part for ColumnDefinition {
 impl Part for TableRule {
     ghost use Rattle.ast.specs.Statements.{IsTableRule};
 
-    ghost rule = { IsTableRule };
+    ghost rule = { λ _. IsTableRule };
 
     fn write(&self, writer: &mut Writer) -> Result<(), AllocError> {
         match self {
@@ -241,7 +241,7 @@ impl Part for TableRule {
 impl Part for TableConstraint {
     ghost use Rattle.ast.specs.Statements.{IsTableConstraint};
 
-    ghost rule = { IsTableConstraint };
+    ghost rule = { λ _. IsTableConstraint };
 
     fn write(&self, writer: &mut Writer) -> Result<(), AllocError> {
         writer.constraint_name(&self.name)?;
@@ -252,7 +252,7 @@ impl Part for TableConstraint {
 impl Part for TableElement {
     ghost use Rattle.ast.specs.Statements.{IsTableElement};
 
-    ghost rule = { IsTableElement };
+    ghost rule = { λ _. IsTableElement };
 
     fn write(&self, writer: &mut Writer) -> Result<(), AllocError> {
         match self {
@@ -265,7 +265,7 @@ impl Part for TableElement {
 impl Part for CreateTable {
     ghost use Rattle.ast.specs.Statements.{IsCreateTable};
 
-    ghost rule = { IsCreateTable };
+    ghost rule = { λ _. IsCreateTable };
 
     fn write(&self, writer: &mut Writer) -> Result<(), AllocError> {
         writer.word(Word::Create)?;
@@ -278,7 +278,7 @@ impl Part for CreateTable {
 impl Part for CreateIndex {
     ghost use Rattle.ast.specs.Statements.{IsCreateIndex};
 
-    ghost rule = { IsCreateIndex };
+    ghost rule = { λ _. IsCreateIndex };
 
     fn write(&self, writer: &mut Writer) -> Result<(), AllocError> {
         writer.word(Word::Create)?;
@@ -293,7 +293,7 @@ impl Part for CreateIndex {
 impl Part for StoredSource {
     ghost use Rattle.ast.specs.Statements.{IsStoredSource};
 
-    ghost rule = { IsStoredSource };
+    ghost rule = { λ _. IsStoredSource };
 
     fn write(&self, writer: &mut Writer) -> Result<(), AllocError> {
         match self {
@@ -306,7 +306,7 @@ impl Part for StoredSource {
 impl Part for Items<StoredSource> {
     ghost use Rattle.ast.specs.Statements.{IsRow};
 
-    ghost rule = { IsRow };
+    ghost rule = { λ _. IsRow };
 
     fn write(&self, writer: &mut Writer) -> Result<(), AllocError> {
         writer.list_in_parentheses(self.as_slice())
@@ -316,7 +316,7 @@ impl Part for Items<StoredSource> {
 impl Part for InsertRows {
     ghost use Rattle.ast.specs.Statements.{AreInsertRows};
 
-    ghost rule = { AreInsertRows };
+    ghost rule = { λ _. AreInsertRows };
 
     fn write(&self, writer: &mut Writer) -> Result<(), AllocError> {
         match self {
@@ -332,7 +332,7 @@ impl Part for InsertRows {
 impl Part for Insert {
     ghost use Rattle.ast.specs.Statements.{IsInsert};
 
-    ghost rule = { IsInsert };
+    ghost rule = { λ _. IsInsert };
 
     fn write(&self, writer: &mut Writer) -> Result<(), AllocError> {
         writer.word(Word::Insert)?;
@@ -346,7 +346,7 @@ impl Part for Insert {
 impl Part for Assignment {
     ghost use Rattle.ast.specs.Statements.{IsAssignment};
 
-    ghost rule = { IsAssignment };
+    ghost rule = { λ _. IsAssignment };
 
     fn write(&self, writer: &mut Writer) -> Result<(), AllocError> {
         writer.name(&self.column)?;
@@ -358,7 +358,7 @@ impl Part for Assignment {
 impl Part for Update {
     ghost use Rattle.ast.specs.Statements.{IsUpdate};
 
-    ghost rule = { IsUpdate };
+    ghost rule = { λ _. IsUpdate };
 
     fn write(&self, writer: &mut Writer) -> Result<(), AllocError> {
         writer.word(Word::Update)?;
@@ -372,7 +372,7 @@ impl Part for Update {
 impl Part for Delete {
     ghost use Rattle.ast.specs.Statements.{IsDelete};
 
-    ghost rule = { IsDelete };
+    ghost rule = { λ _. IsDelete };
 
     fn write(&self, writer: &mut Writer) -> Result<(), AllocError> {
         writer.word(Word::Delete)?;
@@ -385,7 +385,7 @@ impl Part for Delete {
 impl Part for AccessMode {
     ghost use Rattle.ast.specs.Statements.{IsAccessMode};
 
-    ghost rule = { IsAccessMode };
+    ghost rule = { λ _. IsAccessMode };
 
     fn write(&self, writer: &mut Writer) -> Result<(), AllocError> {
         writer.word(Word::Read)?;
@@ -399,7 +399,7 @@ impl Part for AccessMode {
 impl Part for DeclareCursor {
     ghost use Rattle.ast.specs.Statements.{IsDeclareCursor};
 
-    ghost rule = { IsDeclareCursor };
+    ghost rule = { λ _. IsDeclareCursor };
 
     fn write(&self, writer: &mut Writer) -> Result<(), AllocError> {
         writer.word(Word::Declare)?;
@@ -413,7 +413,7 @@ impl Part for DeclareCursor {
 impl Part for Statement {
     ghost use Rattle.ast.specs.Statements.{IsStatement};
 
-    ghost rule = { IsStatement };
+    ghost rule = { λ _. IsStatement };
 
     fn write(&self, writer: &mut Writer) -> Result<(), AllocError> {
         match self {

@@ -28,10 +28,9 @@ impl Model for Writer {
 
 /// A part of the language, and the rule of its tokens.
 pub trait Part {
-    ghost use Rattle.ast.specs.Expressions.{Nested};
-    ghost use Rattle.ast.specs.Notation.{Rule};
+    ghost use Rattle.printer.specs.Writing.{LimitedRule};
 
-    ghost rule: { Nested → Rule Self };
+    ghost rule: { LimitedRule Self };
 
     /// Writes the tokens of the part.
     fn write(&self, writer: &mut Writer) -> Result<(), AllocError>
@@ -58,38 +57,38 @@ impl Writer {
     }
 
     fn push(&mut self, kind: Kind) -> Result<(), AllocError>
-        ensures { OnOk result (Puts (λ _ ts rest. ts ≡ kind ∷ rest) self.old self.new) }
+        ensures { OnOk result (Puts (λ _ _ ts rest. ts ≡ kind ∷ rest) self.old self.new) }
     {
         self.kinds.push(kind)
     }
 
     pub fn word(&mut self, word: Word) -> Result<(), AllocError>
-        ensures { OnOk result (Puts (λ _ ts rest. ts ≡ Kind.Word word ∷ rest) self.old self.new) }
+        ensures { OnOk result (Puts (λ _ _ ts rest. ts ≡ Kind.Word word ∷ rest) self.old self.new) }
     {
         self.push(Kind::Word(word))
     }
 
     pub fn symbol(&mut self, symbol: Symbol) -> Result<(), AllocError>
-        ensures { OnOk result (Puts (λ _ ts rest. ts ≡ Kind.Symbol symbol ∷ rest) self.old self.new) }
+        ensures { OnOk result (Puts (λ _ _ ts rest. ts ≡ Kind.Symbol symbol ∷ rest) self.old self.new) }
     {
         self.push(Kind::Symbol(symbol))
     }
 
     pub fn number(&mut self, number: i64) -> Result<(), AllocError>
-        ensures { OnOk result (Puts (λ _ ts rest. ts ≡ Kind.Number number ∷ rest) self.old self.new) }
+        ensures { OnOk result (Puts (λ _ _ ts rest. ts ≡ Kind.Number number ∷ rest) self.old self.new) }
     {
         self.push(Kind::Number(number))
     }
 
     pub fn name(&mut self, name: &Name) -> Result<(), AllocError>
-        ensures { OnOk result (Puts (λ _ ts rest. ts ≡ Kind.Name name.now ∷ rest) self.old self.new) }
+        ensures { OnOk result (Puts (λ _ _ ts rest. ts ≡ Kind.Name name.now ∷ rest) self.old self.new) }
     {
         let name = name.copy(self.alloc)?;
         self.push(Kind::Name(name))
     }
 
     pub fn text(&mut self, text: &Text) -> Result<(), AllocError>
-        ensures { OnOk result (Puts (λ _ ts rest. ts ≡ Kind.Text text.now ∷ rest) self.old self.new) }
+        ensures { OnOk result (Puts (λ _ _ ts rest. ts ≡ Kind.Text text.now ∷ rest) self.old self.new) }
     {
         let text = text.copy(self.alloc)?;
         self.push(Kind::Text(text))
@@ -97,7 +96,7 @@ impl Writer {
 
     /// Writes a word that may be left out.
     pub fn word_if(&mut self, is_written: bool, word: Word) -> Result<(), AllocError>
-        ensures { OnOk result (Prints (λ _. Written (Kind.Word word)) is_written self.old self.new) }
+        ensures { OnOk result (Prints (λ _ _. Written (Kind.Word word)) is_written self.old self.new) }
     {
         if is_written {
             self.word(word)
@@ -108,7 +107,7 @@ impl Writer {
 
     /// Writes a part that may be left out.
     pub fn maybe<P: Part>(&mut self, part: &Option<P>) -> Result<(), AllocError>
-        ensures { OnOk result (Prints (λ inner. Maybe (P.rule inner)) part.now self.old self.new) }
+        ensures { OnOk result (Prints (λ limit inner. Maybe (P.rule limit inner)) part.now self.old self.new) }
     {
         match part {
             None => Ok(()),
@@ -118,7 +117,7 @@ impl Writer {
 
     /// Writes parts one after another.
     pub fn all<P: Part>(&mut self, parts: &[P]) -> Result<(), AllocError>
-        ensures { OnOk result (Prints (λ inner. Many (P.rule inner)) parts.now self.old self.new) }
+        ensures { OnOk result (Prints (λ limit inner. Many (P.rule limit inner)) parts.now self.old self.new) }
     {
         for part in parts {
             part.write(self)?;
@@ -128,7 +127,7 @@ impl Writer {
 
     /// Writes parts with commas between them.
     pub fn list<P: Part>(&mut self, parts: &[P]) -> Result<(), AllocError>
-        ensures { OnOk result (Prints (λ inner. Listed (P.rule inner)) parts.now self.old self.new) }
+        ensures { OnOk result (Prints (λ limit inner. Listed (P.rule limit inner)) parts.now self.old self.new) }
     {
         if let [first, others @ ..] = parts {
             first.write(self)?;
@@ -142,7 +141,7 @@ impl Writer {
 
     /// Writes parts with commas between them, in parentheses.
     pub fn list_in_parentheses<P: Part>(&mut self, parts: &[P]) -> Result<(), AllocError>
-        ensures { OnOk result (Prints (λ inner. Parenthesized (Listed (P.rule inner))) parts.now self.old self.new) }
+        ensures { OnOk result (Prints (λ limit inner. Parenthesized (Listed (P.rule limit inner))) parts.now self.old self.new) }
     {
         self.symbol(Symbol::LeftParenthesis)?;
         self.list(parts)?;

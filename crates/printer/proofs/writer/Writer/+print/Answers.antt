@@ -25,23 +25,23 @@ use Rattle.printer.proofs.writer.Writer.+print.Goals as goal
 
 pub expression-loop-operator-preserved : goal.expression-loop-operator-preserved
 expression-loop-operator-preserved t c =
-    turn (λ inner. IsAddOperator ⨾ IsTerm inner) _ _ _ c.loop-operator-test.true c.loop-operator-item.is c.loop-operator.invariant
+    turn (λ limit inner. IsAddOperator ⨾ IsTerm limit inner) _ _ _ c.loop-operator-test.true c.loop-operator-item.is c.loop-operator.invariant
     (written c.add_symbol.ensures c.in_ok-symbol.ensures ⨟ c.in_ok-term-2.ensures)
 
 pub expression-returns : goal.expression-returns
 expression-returns t c = expression c.in_ok-term.ensures
-    (subst (λ xs. Prints (λ inner. Many (IsAddOperator ⨾ IsTerm inner)) xs c.term.new.self c.loop-operator.self) c.as_slice-operator-items.ensures
-    (ended (λ inner. IsAddOperator ⨾ IsTerm inner) _ _ c.loop-operator-test.false c.loop-operator.invariant))
+    (subst (λ xs. Prints (λ limit inner. Many (IsAddOperator ⨾ IsTerm limit inner)) xs c.term.new.self c.loop-operator.self) c.as_slice-operator-items.ensures
+    (ended (λ limit inner. IsAddOperator ⨾ IsTerm limit inner) _ _ c.loop-operator-test.false c.loop-operator.invariant))
 
 pub term-loop-operator-preserved : goal.term-loop-operator-preserved
 term-loop-operator-preserved t c =
-    turn (λ inner. IsMultiplyOperator ⨾ IsFactor inner) _ _ _ c.loop-operator-test.true c.loop-operator-item.is c.loop-operator.invariant
+    turn (λ limit inner. IsMultiplyOperator ⨾ IsFactor limit inner) _ _ _ c.loop-operator-test.true c.loop-operator-item.is c.loop-operator.invariant
     (written c.multiply_symbol.ensures c.in_ok-symbol.ensures ⨟ c.in_ok-factor-2.ensures)
 
 pub term-returns : goal.term-returns
 term-returns t c = term c.in_ok-factor.ensures
-    (subst (λ xs. Prints (λ inner. Many (IsMultiplyOperator ⨾ IsFactor inner)) xs c.factor.new.self c.loop-operator.self) c.as_slice-operator-items.ensures
-    (ended (λ inner. IsMultiplyOperator ⨾ IsFactor inner) _ _ c.loop-operator-test.false c.loop-operator.invariant))
+    (subst (λ xs. Prints (λ limit inner. Many (IsMultiplyOperator ⨾ IsFactor limit inner)) xs c.factor.new.self c.loop-operator.self) c.as_slice-operator-items.ensures
+    (ended (λ limit inner. IsMultiplyOperator ⨾ IsFactor limit inner) _ _ c.loop-operator-test.false c.loop-operator.invariant))
 
 pub factor-returns : goal.factor-returns
 factor-returns t c =
@@ -88,23 +88,23 @@ subquery-returns t c =
 
 pub condition-loop-conjunction-preserved : goal.condition-loop-conjunction-preserved
 condition-loop-conjunction-preserved t c =
-    turn (λ inner. OR ⊳ IsConjunction inner) _ _ _ c.loop-conjunction-test.true c.conjunction-item.is c.loop-conjunction.invariant
+    turn (λ limit inner. OR ⊳ IsConjunction limit inner) _ _ _ c.loop-conjunction-test.true c.conjunction-item.is c.loop-conjunction.invariant
     (c.in_ok-word.ensures ⨟ c.in_ok-conjunction-2.ensures)
 
 pub condition-returns : goal.condition-returns
 condition-returns t c = condition c.in_ok-conjunction.ensures
-    (subst (λ xs. Prints (λ inner. Many (OR ⊳ IsConjunction inner)) xs c.conjunction.new.self c.loop-conjunction.self) c.as_slice-conjunction-items.ensures
-    (ended (λ inner. OR ⊳ IsConjunction inner) _ _ c.loop-conjunction-test.false c.loop-conjunction.invariant))
+    (subst (λ xs. Prints (λ limit inner. Many (OR ⊳ IsConjunction limit inner)) xs c.conjunction.new.self c.loop-conjunction.self) c.as_slice-conjunction-items.ensures
+    (ended (λ limit inner. OR ⊳ IsConjunction limit inner) _ _ c.loop-conjunction-test.false c.loop-conjunction.invariant))
 
 pub conjunction-loop-negation-preserved : goal.conjunction-loop-negation-preserved
 conjunction-loop-negation-preserved t c =
-    turn (λ inner. AND ⊳ IsNegation inner) _ _ _ c.loop-negation-test.true c.negation-item.is c.loop-negation.invariant
+    turn (λ limit inner. AND ⊳ IsNegation limit inner) _ _ _ c.loop-negation-test.true c.negation-item.is c.loop-negation.invariant
     (c.in_ok-word.ensures ⨟ c.in_ok-negation-2.ensures)
 
 pub conjunction-returns : goal.conjunction-returns
 conjunction-returns t c = conjunction c.in_ok-negation.ensures
-    (subst (λ xs. Prints (λ inner. Many (AND ⊳ IsNegation inner)) xs c.negation.new.self c.loop-negation.self) c.as_slice-negation-items.ensures
-    (ended (λ inner. AND ⊳ IsNegation inner) _ _ c.loop-negation-test.false c.loop-negation.invariant))
+    (subst (λ xs. Prints (λ limit inner. Many (AND ⊳ IsNegation limit inner)) xs c.negation.new.self c.loop-negation.self) c.as_slice-negation-items.ensures
+    (ended (λ limit inner. AND ⊳ IsNegation limit inner) _ _ c.loop-negation-test.false c.loop-negation.invariant))
 
 pub negation-returns : goal.negation-returns
 negation-returns t c =
@@ -159,23 +159,23 @@ predicate-returns-in_ok-word-in-Exists t c =
 
 pub query-loop-operator-preserved : goal.query-loop-operator-preserved
 query-loop-operator-preserved t c =
-    turn (λ inner. IsSetOperator ⨾ IsAddend inner) _ _ _ c.loop-operator-test.true c.loop-operator-item.is c.loop-operator.invariant
+    turn (λ limit inner. IsSetOperator ⨾ IsAddend limit inner) _ _ _ c.loop-operator-test.true c.loop-operator-item.is c.loop-operator.invariant
     (c.in_ok-write.ensures ⨟ c.in_ok-addend-2.ensures)
 
 pub query-returns : goal.query-returns
 query-returns t c = query c.in_ok-addend.ensures
-    (subst (λ xs. Prints (λ inner. Many (IsSetOperator ⨾ IsAddend inner)) xs c.addend.new.self c.loop-operator.self) c.as_slice-operator-items.ensures
-    (ended (λ inner. IsSetOperator ⨾ IsAddend inner) _ _ c.loop-operator-test.false c.loop-operator.invariant))
+    (subst (λ xs. Prints (λ limit inner. Many (IsSetOperator ⨾ IsAddend limit inner)) xs c.addend.new.self c.loop-operator.self) c.as_slice-operator-items.ensures
+    (ended (λ limit inner. IsSetOperator ⨾ IsAddend limit inner) _ _ c.loop-operator-test.false c.loop-operator.invariant))
 
 pub addend-loop-has_all-preserved : goal.addend-loop-has_all-preserved
 addend-loop-has_all-preserved t c =
-    turn (λ inner. INTERSECT ⊳ Written ALL ⨾ IsOperand inner) _ _ _ c.loop-has_all-test.true c.loop-has_all-item.is c.loop-has_all.invariant
+    turn (λ limit inner. INTERSECT ⊳ Written ALL ⨾ IsOperand limit inner) _ _ _ c.loop-has_all-test.true c.loop-has_all-item.is c.loop-has_all.invariant
     ((c.in_ok-word.ensures ⨟ c.in_ok-word_if.ensures) ⨟ c.in_ok-operand-2.ensures)
 
 pub addend-returns : goal.addend-returns
 addend-returns t c = addend c.in_ok-operand.ensures
-    (subst (λ xs. Prints (λ inner. Many (INTERSECT ⊳ Written ALL ⨾ IsOperand inner)) xs c.operand.new.self c.loop-has_all.self) c.as_slice-has_all-items.ensures
-    (ended (λ inner. INTERSECT ⊳ Written ALL ⨾ IsOperand inner) _ _ c.loop-has_all-test.false c.loop-has_all.invariant))
+    (subst (λ xs. Prints (λ limit inner. Many (INTERSECT ⊳ Written ALL ⨾ IsOperand limit inner)) xs c.operand.new.self c.loop-has_all.self) c.as_slice-has_all-items.ensures
+    (ended (λ limit inner. INTERSECT ⊳ Written ALL ⨾ IsOperand limit inner) _ _ c.loop-has_all-test.false c.loop-has_all.invariant))
 
 pub operand-returns-in-Select : goal.operand-returns-in-Select
 operand-returns-in-Select t c =
@@ -198,7 +198,7 @@ select_items-returns-in_default t c =
 
 pub select_items-loop-item-preserved : goal.select_items-loop-item-preserved
 select_items-loop-item-preserved t c =
-    turn (λ inner. COMMA ⊳ IsSelectItem inner) _ _ _ c.loop-item-test.true c.item-item.is c.loop-item.invariant
+    turn (λ limit inner. COMMA ⊳ IsSelectItem limit inner) _ _ _ c.loop-item-test.true c.item-item.is c.loop-item.invariant
     (c.in_ok-symbol.ensures ⨟ c.in_ok-select_item-2.ensures)
 
 pub select_items-returns-after-loop-item : goal.select_items-returns-after-loop-item
@@ -212,7 +212,7 @@ select_item-returns t c =
 
 pub table_references-loop-reference-preserved : goal.table_references-loop-reference-preserved
 table_references-loop-reference-preserved t c =
-    turn (λ inner. COMMA ⊳ IsTableReference inner) _ _ _ c.loop-reference-test.true c.reference-item.is c.loop-reference.invariant
+    turn (λ limit inner. COMMA ⊳ IsTableReference limit inner) _ _ _ c.loop-reference-test.true c.reference-item.is c.loop-reference.invariant
     (c.in_ok-symbol.ensures ⨟ c.in_ok-table_reference-2.ensures)
 
 pub table_references-returns-after-loop-reference : goal.table_references-returns-after-loop-reference
@@ -224,7 +224,7 @@ table_reference-loop-join-preserved t c = turn IsJoin _ _ _ c.loop-join-test.tru
 
 pub table_reference-returns : goal.table_reference-returns
 table_reference-returns t c = table_reference c.in_ok-table_source.ensures
-    (subst (λ xs. Prints (λ inner. Many (IsJoin inner)) xs c.table_source.new.self c.loop-join.self) c.as_slice-join-items.ensures
+    (subst (λ xs. Prints (λ limit inner. Many (IsJoin limit inner)) xs c.table_source.new.self c.loop-join.self) c.as_slice-join-items.ensures
     (ended IsJoin _ _ c.loop-join-test.false c.loop-join.invariant))
 
 pub join-returns-in_ok-word-in-Cross-2 : goal.join-returns-in_ok-word-in-Cross-2

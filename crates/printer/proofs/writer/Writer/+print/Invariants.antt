@@ -9,36 +9,36 @@ use Rattle.printer.proofs.writer.Writer.+print.Given as goal
 
 abbrev pub invariant-expression-loop-operator : goal.invariant-expression-loop-operator
 invariant-expression-loop-operator l =
-    Prints (λ inner. Many (IsAddOperator ⨾ IsTerm inner)) (take l.operator-index l.operator-items) l.initial.self l.self
+    Prints (λ limit inner. Many (IsAddOperator ⨾ IsTerm limit inner)) (take l.operator-index l.operator-items) l.initial.self l.self
 
 abbrev pub invariant-term-loop-operator : goal.invariant-term-loop-operator
 invariant-term-loop-operator l =
-    Prints (λ inner. Many (IsMultiplyOperator ⨾ IsFactor inner)) (take l.operator-index l.operator-items) l.initial.self l.self
+    Prints (λ limit inner. Many (IsMultiplyOperator ⨾ IsFactor limit inner)) (take l.operator-index l.operator-items) l.initial.self l.self
 
 abbrev pub invariant-condition-loop-conjunction : goal.invariant-condition-loop-conjunction
 invariant-condition-loop-conjunction l =
-    Prints (λ inner. Many (OR ⊳ IsConjunction inner)) (take l.conjunction-index l.conjunction-items) l.initial.self l.self
+    Prints (λ limit inner. Many (OR ⊳ IsConjunction limit inner)) (take l.conjunction-index l.conjunction-items) l.initial.self l.self
 
 abbrev pub invariant-conjunction-loop-negation : goal.invariant-conjunction-loop-negation
 invariant-conjunction-loop-negation l =
-    Prints (λ inner. Many (AND ⊳ IsNegation inner)) (take l.negation-index l.negation-items) l.initial.self l.self
+    Prints (λ limit inner. Many (AND ⊳ IsNegation limit inner)) (take l.negation-index l.negation-items) l.initial.self l.self
 
 abbrev pub invariant-query-loop-operator : goal.invariant-query-loop-operator
 invariant-query-loop-operator l =
-    Prints (λ inner. Many (IsSetOperator ⨾ IsAddend inner)) (take l.operator-index l.operator-items) l.initial.self l.self
+    Prints (λ limit inner. Many (IsSetOperator ⨾ IsAddend limit inner)) (take l.operator-index l.operator-items) l.initial.self l.self
 
 abbrev pub invariant-addend-loop-has_all : goal.invariant-addend-loop-has_all
 invariant-addend-loop-has_all l =
-    Prints (λ inner. Many (INTERSECT ⊳ Written ALL ⨾ IsOperand inner)) (take l.has_all-index l.has_all-items) l.initial.self l.self
+    Prints (λ limit inner. Many (INTERSECT ⊳ Written ALL ⨾ IsOperand limit inner)) (take l.has_all-index l.has_all-items) l.initial.self l.self
 
 abbrev pub invariant-select_items-loop-item : goal.invariant-select_items-loop-item
 invariant-select_items-loop-item l =
-    Prints (λ inner. Many (COMMA ⊳ IsSelectItem inner)) (take l.item-index l.others) l.initial.self l.self
+    Prints (λ limit inner. Many (COMMA ⊳ IsSelectItem limit inner)) (take l.item-index l.others) l.initial.self l.self
 
 abbrev pub invariant-table_references-loop-reference : goal.invariant-table_references-loop-reference
 invariant-table_references-loop-reference l =
-    Prints (λ inner. Many (COMMA ⊳ IsTableReference inner)) (take l.reference-index l.others) l.initial.self l.self
+    Prints (λ limit inner. Many (COMMA ⊳ IsTableReference limit inner)) (take l.reference-index l.others) l.initial.self l.self
 
 abbrev pub invariant-table_reference-loop-join : goal.invariant-table_reference-loop-join
 invariant-table_reference-loop-join l =
-    Prints (λ inner. Many (IsJoin inner)) (take l.join-index l.join-items) l.initial.self l.self
+    Prints (λ limit inner. Many (IsJoin limit inner)) (take l.join-index l.join-items) l.initial.self l.self

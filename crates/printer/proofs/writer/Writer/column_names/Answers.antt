@@ -6,4 +6,4 @@ use Rattle.printer.proofs.Productions.{some_listed}
 use Rattle.printer.proofs.writer.Writer.column_names.Goals as goal
 
 pub returns : goal.returns
-returns c = done c.list_in_parentheses.result (some_listed (λ _. Parenthesized AreNames) _ (sym c.if-is_empty.ensures)) c.list_in_parentheses.ensures
+returns c = done c.list_in_parentheses.result (some_listed (λ _ _. Parenthesized AreNames) _ (sym c.if-is_empty.ensures)) c.list_in_parentheses.ensures

@@ -8,5 +8,5 @@ use Rattle.printer.proofs.writer.Writer.groups.Goals as goal
 
 pub returns : goal.returns
 returns c = done c.list.result
-    (λ last. some_listed (λ _. GROUP ⊳ BY ⊳ Listed IsColumn) _ (sym c.if-is_empty.ensures) (c.in_ok-word.ensures ⨟ c.in_ok-word-2.ensures ⨟ last))
+    (λ last. some_listed (λ _ _. GROUP ⊳ BY ⊳ Listed IsColumn) _ (sym c.if-is_empty.ensures) (c.in_ok-word.ensures ⨟ c.in_ok-word-2.ensures ⨟ last))
     c.list.ensures

@@ -6,7 +6,7 @@ use Rattle.printer.proofs.writer.Writer.list.Goals as goal
 
 pub loop-part-preserved : goal.loop-part-preserved
 loop-part-preserved g c =
-    turn (λ inner. COMMA ⊳ g.P.Part.rule inner) _ _ _ c.loop-part-test.true c.part-item.is c.loop-part.invariant
+    turn (λ limit inner. COMMA ⊳ g.P.Part.rule limit inner) _ _ _ c.loop-part-test.true c.part-item.is c.loop-part.invariant
     (c.in_ok-symbol.ensures ⨟ c.in_ok-write-2.ensures)
 
 pub returns-after-loop-part : goal.returns-after-loop-part

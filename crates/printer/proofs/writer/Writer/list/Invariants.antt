@@ -5,4 +5,4 @@ use Rattle.printer.specs.Writing.{Prints}
 use Rattle.printer.proofs.writer.Writer.list.Given as goal
 
 abbrev pub invariant-loop-part : goal.invariant-loop-part
-invariant-loop-part g l = Prints (λ inner. Many (COMMA ⊳ g.P.Part.rule inner)) (take l.part-index l.others) l.initial.self l.self
+invariant-loop-part g l = Prints (λ limit inner. Many (COMMA ⊳ g.P.Part.rule limit inner)) (take l.part-index l.others) l.initial.self l.self

@@ -7,5 +7,5 @@ use Rattle.printer.proofs.Productions.{some_listed}
 use Rattle.printer.proofs.writer.Writer.order.Goals as goal
 
 pub returns : goal.returns
-returns c = done c.list.result (λ last. some_listed (λ _. ORDER ⊳ BY ⊳ Listed IsSortKey) _ (sym c.if-is_empty.ensures)
+returns c = done c.list.result (λ last. some_listed (λ _ _. ORDER ⊳ BY ⊳ Listed IsSortKey) _ (sym c.if-is_empty.ensures)
     (c.in_ok-word.ensures ⨟ c.in_ok-word-2.ensures ⨟ last)) c.list.ensures
