@@ -19,9 +19,10 @@ pub ◌⨟◌ : {A B : Part} {old middle new : Tokens} → Puts A old middle →
   only = λ limit depth ts rest h.
       p.only limit depth ts h.0 h.1 ∙ (ap (λ a. p.kinds ++ a) (q.only limit depth h.0 rest h.2) ∙ sym (append_assoc p.kinds q.kinds rest));
   again = λ limit depth ts rest after h. (
-      q.kinds ++ after,
-      subst (λ a. A limit (nested_at limit depth) a (q.kinds ++ after)) (sym (append_assoc p.kinds q.kinds after)) (p.again limit depth ts h.0 (q.kinds ++ after) h.1),
-      q.again limit depth h.0 rest after h.2);
+    q.kinds ++ after,
+    subst (λ a. A limit (nested_at limit depth) a (q.kinds ++ after)) (sym (append_assoc p.kinds q.kinds after)) (p.again limit depth ts h.0 (q.kinds ++ after) h.1),
+    q.again limit depth h.0 rest after h.2,
+  );
 }
 
 infixr 6 ◌⨠◌

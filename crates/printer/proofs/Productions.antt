@@ -40,6 +40,7 @@ deeper Inside R {x} {old} {new} none from to p = record { kinds = p.kinds; put =
   only : (limit : Option ℕ) (depth : ℕ) (ts rest : Tokens) → Inside limit (nested_at limit depth) ts x rest → ts ≡ p.kinds ++ rest
   only limit zero ts rest h = absurd (none limit ts rest h)
   only limit (suc depth) ts rest h = p.only limit depth ts rest (from limit depth ts rest h)
+
   again : (limit : Option ℕ) (depth : ℕ) (ts rest after : Tokens) → Inside limit (nested_at limit depth) ts x rest → Inside limit (nested_at limit depth) (p.kinds ++ after) x after
   again limit zero ts rest after h = absurd (none limit ts rest h)
   again limit (suc depth) ts rest after h = to limit depth _ after (p.again limit depth ts rest after (from limit depth ts rest h))

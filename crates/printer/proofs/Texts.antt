@@ -26,9 +26,10 @@ statement_tokens x kinds p = record { only = only; again = again } where
   only limit ts h =
       let all : ts ≡ kinds ++ h.rest = p.only limit h.depth ts h.rest h.statement ∙ ap (λ a. a ++ h.rest) (sym p.put) in
       elim h.end [
-        inl none ↦ inl (all ∙ (ap (λ a. kinds ++ a) none ∙ append-nil kinds))
-      | inr one ↦ inr (all ∙ ap (λ a. kinds ++ a) one)
+        | inl none ↦ inl (all ∙ (ap (λ a. kinds ++ a) none ∙ append-nil kinds))
+        | inr one ↦ inr (all ∙ ap (λ a. kinds ++ a) one)
       ]
+
   again : (limit : Option ℕ) (ts : Tokens) → IsText limit ts x → IsText limit kinds x
   again limit ts h = record {
     depth = h.depth;
@@ -42,9 +43,9 @@ pub statement_text : (x : Statement) (kinds : Tokens) (text : Bytes) → AreToke
 statement_text x kinds text are text_is reads = record { kinds = kinds; are = are; text_is = text_is; again = again } where
   again : (limit : Option ℕ) (ts : Tokens) → AreUnsigned ts → IsText limit ts x → HasKinds text kinds
   again limit ts unsigned h = elim (are.only limit ts h) [
-      inl same ↦ reads (subst AreUnsigned same unsigned)
+    | inl same ↦ reads (subst AreUnsigned same unsigned)
     | inr longer ↦ reads (unsigned_front kinds (SEMICOLON ∷ []) (subst AreUnsigned longer unsigned))
-    ]
+  ]
 
 -- ---- conditions
 
@@ -52,8 +53,10 @@ pub condition_tokens : (x : Condition) (kinds : Tokens) → Prints IsCondition x
 condition_tokens x kinds written = record { only = only; again = again } where
   p : Prints (λ _ inner. inner.condition) x [] kinds
   p = condition_inside written
+
   only : (limit : Option ℕ) (ts rest : Tokens) → BeginsWithCondition limit ts x rest → ts ≡ kinds ++ rest
   only limit ts rest h = p.only limit h.depth ts rest h.condition ∙ ap (λ a. a ++ rest) (sym p.put)
+
   again : (limit : Option ℕ) (ts rest : Tokens) → BeginsWithCondition limit ts x rest → IsConditionText limit kinds x
   again limit ts rest h = record {
     depth = h.depth;

@@ -4,7 +4,7 @@ ghost use Rattle.std.specs.Prelude.{◌≡◌, ◌∷◌, [], OnOk};
 ghost use Rattle.ast.specs.Notation.{Listed, Many, Maybe, Parenthesized, Written};
 ghost use Rattle.printer.specs.Writing.{Puts, Prints};
 
-use items::{Items, Text};
+use items::{Boxed, Items, Text};
 use lexer::{Kind, Name, Symbol, Word};
 use std::alloc::{AllocError, Global};
 use std::marker::Model;
@@ -35,6 +35,14 @@ pub trait Part {
     /// Writes the tokens of the part.
     fn write(&self, writer: &mut Writer) -> Result<(), AllocError>
         ensures { OnOk result (Prints rule self.now writer.old writer.new) };
+}
+
+impl<P: Part> Part for Boxed<P> {
+    ghost rule = { P.rule };
+
+    fn write(&self, writer: &mut Writer) -> Result<(), AllocError> {
+        self.get().write(writer)
+    }
 }
 
 impl Writer {
@@ -98,11 +106,7 @@ impl Writer {
     pub fn word_if(&mut self, is_written: bool, word: Word) -> Result<(), AllocError>
         ensures { OnOk result (Prints (λ _ _. Written (Kind.Word word)) is_written self.old self.new) }
     {
-        if is_written {
-            self.word(word)
-        } else {
-            Ok(())
-        }
+        if is_written { self.word(word) } else { Ok(()) }
     }
 
     /// Writes a part that may be left out.
