@@ -1,0 +1,121 @@
+//! Whole texts of tokens.
+
+ghost use Rattle.std.specs.Prelude.{◌≡◌, if◌then◌else◌, true, false};
+ghost use Rattle.parser.specs.Readers.{kinds, GivesAll};
+ghost use Rattle.parser.specs.ReadStatements as statements;
+ghost use Rattle.parser.specs.Shallow.{is_shallow};
+ghost use Rattle.parser.specs.Levels.{inner_at};
+
+use crate::cursor::is_symbol;
+use crate::error::ParseError;
+use crate::statement::Statements;
+use ast::{Condition, Statement};
+use lexer::{Limit, Reason, Refusal, Symbol, Token};
+use std::alloc::Global;
+
+/// How many parentheses may be open at once.
+pub const MAXIMUM_NESTING: usize = 64;
+
+/// How many operands a chain may have.
+pub const MAXIMUM_OPERANDS: usize = 64;
+
+fn is_nested_deeper(tokens: &[Token]) -> bool
+    ensures { is_shallow (kinds tokens.now) 64 ≡ (if result then false else true) }
+{
+    let mut rest = tokens;
+    let mut left = MAXIMUM_NESTING;
+    while let [first, after @ ..] = rest {
+        rest = after;
+        if is_symbol(first, Symbol::LeftParenthesis) {
+            if left == 0 {
+                return true;
+            }
+            left -= 1;
+        } else if is_symbol(first, Symbol::RightParenthesis) {
+            left += 1;
+        }
+    }
+    false
+}
+
+/// The statement that the tokens are, where no chain has more operands than `limit`.
+fn text(
+    alloc: Global,
+    limit: Option<usize>,
+    depth: usize,
+    tokens: &[Token],
+) -> Result<Statement, ParseError>
+    ensures { GivesAll result (statements.text (inner_at limit depth) (kinds tokens.now)) }
+{
+    let statements = Statements {
+        alloc,
+        limit,
+        depth,
+    };
+    let (statement, _rest) = statements.text(tokens)?;
+    Ok(statement)
+}
+
+/// The condition that the tokens are, where no chain has more operands than `limit`.
+fn condition_text(
+    alloc: Global,
+    limit: Option<usize>,
+    depth: usize,
+    tokens: &[Token],
+) -> Result<Condition, ParseError>
+    ensures { GivesAll result (statements.condition_text (inner_at limit depth) (kinds tokens.now)) }
+{
+    let statements = Statements {
+        alloc,
+        limit,
+        depth,
+    };
+    let (condition, _rest) = statements.condition_text(tokens)?;
+    Ok(condition)
+}
+
+/// Why the tokens are no statement with chains within the limit.
+fn statement_refusal(alloc: Global, tokens: &[Token]) -> Refusal {
+    match text(alloc, None, MAXIMUM_NESTING + 1, tokens) {
+        Ok(_) => Refusal::Exceeded(Limit::Chain),
+        Err(ParseError::Memory) => Refusal::Memory,
+        Err(ParseError::Syntax) => Refusal::Invalid(Reason::Syntax),
+    }
+}
+
+/// Why the tokens are no condition with chains within the limit.
+fn condition_refusal(alloc: Global, tokens: &[Token]) -> Refusal {
+    match condition_text(alloc, None, MAXIMUM_NESTING + 1, tokens) {
+        Ok(_) => Refusal::Exceeded(Limit::Chain),
+        Err(ParseError::Memory) => Refusal::Memory,
+        Err(ParseError::Syntax) => Refusal::Invalid(Reason::Syntax),
+    }
+}
+
+/// The statement that the tokens are, without the `;` that may end them.
+///
+/// Refuses `Exceeded(Nesting)` where more than 64 parentheses are open at once, whatever else the tokens are;
+/// otherwise `Exceeded(Chain)` where the tokens are a statement only with more than 64 operands in a chain, and
+/// `Invalid(Syntax)` where they are no statement; `Memory` for want of memory.
+pub fn parse(alloc: Global, tokens: &[Token]) -> Result<Statement, Refusal> {
+    if is_nested_deeper(tokens) {
+        return Err(Refusal::Exceeded(Limit::Nesting));
+    }
+    match text(alloc, Some(MAXIMUM_OPERANDS), MAXIMUM_NESTING + 1, tokens) {
+        Ok(statement) => Ok(statement),
+        Err(ParseError::Memory) => Err(Refusal::Memory),
+        Err(ParseError::Syntax) => Err(statement_refusal(alloc, tokens)),
+    }
+}
+
+/// The condition that the tokens are. Refuses as `parse` does.
+pub fn parse_condition(alloc: Global, tokens: &[Token]) -> Result<Condition, Refusal> {
+    if is_nested_deeper(tokens) {
+        return Err(Refusal::Exceeded(Limit::Nesting));
+    }
+    match condition_text(alloc, Some(MAXIMUM_OPERANDS), MAXIMUM_NESTING + 1, tokens) {
+        Ok(condition) => Ok(condition),
+        Err(ParseError::Memory) => Err(Refusal::Memory),
+        Err(ParseError::Syntax) => Err(condition_refusal(alloc, tokens)),
+    }
+}
