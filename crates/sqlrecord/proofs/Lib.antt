@@ -3,3 +3,6 @@ pub mod CodeLemmas
 pub mod RowLemmas
 pub mod OrderLemmas
 pub mod PageLemmas
+pub mod BuildLemmas
+pub mod CellLemmas
+pub mod KeyLemmas

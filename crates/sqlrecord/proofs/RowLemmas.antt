@@ -14,7 +14,7 @@ use Rattle.sqlrecord.specs.Row.{value_code, row_code, IsPartOf, IsCodeOf, HasNoP
 use Rattle.sqlrecord.proofs.CodeLemmas.{value_unique, value_some, list_unique, list_goes_on, length_row}
 
 -- the text that was read
-text_from : (b : Bool) (codes text : List ℕ) → is_text codes ≡ b → Some text ≡ (if b then Some codes else None) → (text ≡ codes) × IsTrue (is_text text)
+pub text_from : (b : Bool) (codes text : List ℕ) → is_text codes ≡ b → Some text ≡ (if b then Some codes else None) → (text ≡ codes) × IsTrue (is_text text)
 text_from true codes text is e = let same : text ≡ codes = cc in (same, rw same is)
 text_from false codes text is e = absurd (cc)
 

@@ -1,5 +1,5 @@
 -- The code of a key, whose bytes have the order of its values. Our own choice.
-use Rattle.std.specs.Prelude.{ℕ, ◌+◌, ◌-◌, ◌^◌, List, [], ◌∷◌, ◌++◌, ℤ, pos, negsuc}
+use Rattle.std.specs.Prelude.{◌≡◌, ℕ, ◌+◌, ◌-◌, ◌^◌, ◌≤◌, List, [], ◌∷◌, ◌++◌, length, drop, ℤ, pos, negsuc}
 use Rattle.std.specs.Int.{w64, to_be_bytes}
 use Rattle.std.specs.List.{flat_map}
 use Rattle.std.specs.declared.cmp.Ordering.{Ordering}
@@ -9,6 +9,7 @@ use Rattle.std.specs.Cmp.Lexicographic.{slice_cmp}
 use Rattle.sqlval.specs.declared.value.Value.{Value}
 use Rattle.sqlval.specs.declared.value.Value.TheVariants.{Null, Int, Text}
 use Rattle.sqlval.specs.Comparison.{value_order}
+use Rattle.sqlrecord.specs.Storable.{IsStorable, AllStorable}
 
 -- an integer above 2^63, so that the least one is 0: its 64 bits with the sign bit flipped
 abbrev pub biased : ℤ → ℕ
@@ -43,3 +44,19 @@ key_order [] [] = Equal
 key_order [] (y ∷ ys) = Less
 key_order (x ∷ xs) [] = Greater
 key_order (x ∷ xs) (y ∷ ys) = ordering_then (value_order x y) (key_order xs ys)
+
+-- the bytes are the code of this key
+pub record IsKeyOf (bytes : List ℕ) (key : List Value) : Type 0 where
+  pub storable : AllStorable key
+  pub code : key_code key ≡ bytes
+
+-- the bytes begin with the key of this value, which takes n bytes
+pub record IsKeyPartOf (bytes : List ℕ) (value : Value) (n : ℕ) : Type 0 where
+  pub storable : IsStorable value
+  pub code : value_key value ++ drop n bytes ≡ bytes
+  pub some : 1 ≤ n
+  pub within : n ≤ length bytes
+
+-- the bytes begin with the key of no value
+abbrev pub HasNoKeyPart : List ℕ → Type 0
+HasNoKeyPart bytes = (value : Value) (rest : List ℕ) → IsStorable value → bytes ≡ value_key value ++ rest → ⊥

@@ -3,3 +3,4 @@ pub mod Row
 pub mod Key
 pub mod Page
 pub mod Build
+pub mod Cell

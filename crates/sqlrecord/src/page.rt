@@ -7,6 +7,7 @@ use crate::{PAGE_SIZE, PageKind};
 use std::marker::Model;
 
 /// A sound page, read as the list of its cells, which are lent without copying.
+#[derive(Drop)]
 pub struct SlotPage<'a> {
     bytes: &'a [u8],
     kind: PageKind,

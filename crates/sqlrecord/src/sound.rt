@@ -134,7 +134,7 @@ pub(crate) fn cell_in(page: &[u8], i: usize) -> &[u8]
 }
 
 /// Whether a cell has its key, and an inner page's its child.
-fn is_cell(cell: &[u8], kind: PageKind) -> bool
+pub(crate) fn is_cell(cell: &[u8], kind: PageKind) -> bool
     ensures { IsTrue result ↔ IsCell kind cell.now }
 {
     if cell.len() < 2 {
@@ -156,7 +156,7 @@ pub(crate) fn key_in(cell: &[u8]) -> &[u8]
 }
 
 /// Whether a key comes before another.
-fn precedes(a: &[u8], b: &[u8]) -> bool
+pub(crate) fn precedes(a: &[u8], b: &[u8]) -> bool
     ensures { result ≡ is_lt (byte_order a.now b.now) }
 {
     a.cmp(b) == Ordering::Less
