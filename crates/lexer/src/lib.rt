@@ -21,3 +21,6 @@ pub use refusals::{Limit, Reason, Refusal};
 pub use scan::tokens;
 pub use support::first_unsupported;
 pub use words::{Support, WORDS, Word, reserved_word};
+
+#[cfg(test)]
+mod tests;
