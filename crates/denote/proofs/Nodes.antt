@@ -19,9 +19,9 @@ use Rattle.resolve.specs.declared.typed.Source.TheVariants as f
 use Rattle.resolve.specs.declared.typed.SetFunction.TheVariants as a
 use Rattle.resolve.specs.declared.typed.SetFunctionType.{SetFunctionType}
 use Rattle.resolve.specs.declared.typed.SetOperation.{SetOperation}
-use Rattle.resolve.specs.declared.typed.Grouping.{Grouping, out-Grouping}
-use Rattle.resolve.specs.declared.typed.Item.{Item, out-Item}
-use Rattle.resolve.specs.declared.typed.Select.{Select, out-Select}
+use Rattle.resolve.specs.declared.typed.Grouping.{Grouping, out-Grouping, roll-Grouping}
+use Rattle.resolve.specs.declared.typed.Item.{Item, out-Item, roll-Item}
+use Rattle.resolve.specs.declared.typed.Select.{Select, out-Select, roll-Select}
 use Rattle.denote.specs.Evaluation.{Env, ◌>>=◌}
 use Rattle.denote.specs.Outcome.{Outcome, through, whole}
 use Rattle.denote.specs.Expression.{column, chained, concatenation, negated, scalar}
@@ -150,9 +150,22 @@ module _ (db : Tables) (env : Env) where
   unfolding groups_of function_value truth_at
   groups_is grouping part = search (rules, the_lemmas)
 
+-- a struct of the trees, made and opened
+pub out_select : (x : _) → out-Select (roll-Select x) ≡ x
+out_select x = search (rules, the_lemmas)
+
+pub out_item : (x : _) → out-Item (roll-Item x) ≡ x
+out_item x = search (rules, the_lemmas)
+
+pub out_grouping : (x : _) → out-Grouping (roll-Grouping x) ≡ x
+out_grouping x = search (rules, the_lemmas)
+
 -- what the evaluator's expressions need, its conditions, and its queries
 pub ruleset value_nodes = (value_constant, value_column, value_calculation, value_concatenation, value_negation, value_scalar, Gives-first, Gives-second)
 
 pub ruleset truth_nodes = (truth_or, truth_and, truth_negation, truth_test, truth_compare, truth_between, truth_in_list, truth_in_query, truth_like, truth_null, truth_exists, Gives-first, Gives-second)
 
 pub ruleset row_nodes = (item_is, source_table, source_derived, source_product, source_inner, source_left, select_is, query_select, query_combined, Gives-first, Gives-second, after-step, each-step)
+
+-- every node: what a whole tree means
+pub ruleset meanings = (value_constant, value_column, value_calculation, value_concatenation, value_negation, value_scalar, truth_or, truth_and, truth_negation, truth_test, truth_compare, truth_between, truth_in_list, truth_in_query, truth_like, truth_null, truth_exists, item_is, source_table, source_derived, source_product, source_inner, source_left, select_is, query_select, query_combined, function_rows, function_over, groups_is, out_select, out_item, out_grouping)
