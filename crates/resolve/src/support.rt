@@ -10,9 +10,9 @@ use ast::{
 /// Whether all forms of a statement are built.
 pub fn is_built(statement: &Statement) -> bool {
     match statement {
-        Statement::Query(query) => is_query_built(query),
-        Statement::CreateTable(table) => are_elements_built(table.elements.as_slice()),
-        Statement::Insert(insert) => are_rows_built(&insert.rows),
+        Statement::Query(query) => is_query_built(query.get()),
+        Statement::CreateTable(table) => are_elements_built(table.get().elements.as_slice()),
+        Statement::Insert(insert) => are_rows_built(&insert.get().rows),
         Statement::Commit(_) | Statement::Rollback(_) => true,
         _ => false,
     }
