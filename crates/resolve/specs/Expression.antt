@@ -82,10 +82,17 @@ abbrev pub concatenation : Finding TypedExpression → Finding (List Expression)
 concatenation first others = also (first >>= must_be Text) others >>= (λ p. Ok (text (expression.Concatenation p.0 p.1)))
 
 -- a chain over `+ - ||`: its first operator says which of the two it is
+abbrev pub leading_operator : {A : Type 0} → List (AddOperator × A) → Option AddOperator
+leading_operator [] = None
+leading_operator ((operator, operand) ∷ others) = Some operator
+
+abbrev pub chain_led_by : Option AddOperator → Finding TypedExpression → List (AddOperator × Finding TypedExpression) → Finding TypedExpression
+chain_led_by None first others = first
+chain_led_by (Some add.Concatenate) first others = concatenation first (each (map text_operand others))
+chain_led_by (Some other) first others = calculation first (each (map sum_operand others))
+
 abbrev pub sum_chain : Finding TypedExpression → List (AddOperator × Finding TypedExpression) → Finding TypedExpression
-sum_chain first [] = first
-sum_chain first ((add.Concatenate, operand) ∷ others) = concatenation first (each (map text_operand ((add.Concatenate, operand) ∷ others)))
-sum_chain first ((operator, operand) ∷ others) = calculation first (each (map sum_operand ((operator, operand) ∷ others)))
+sum_chain first others = chain_led_by (leading_operator others) first others
 
 -- a chain over `* /`
 abbrev pub product_chain : Finding TypedExpression → List (MultiplyOperator × Finding TypedExpression) → Finding TypedExpression

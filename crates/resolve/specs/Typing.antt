@@ -23,12 +23,14 @@ use Rattle.ast.specs.declared.tree.SelectItem.{SelectItem-F}
 use Rattle.ast.specs.declared.tree.TableReference.{TableReference-F}
 use Rattle.ast.specs.declared.tree.Term.{Term, Term-F, fold-Term}
 use Rattle.ast.specs.declared.tree.Test.{Test, Test-F, fold-Test}
+use Rattle.resolve.specs.declared.typed.Arithmetic.{Arithmetic}
 use Rattle.resolve.specs.declared.typed.Condition.{Condition as Typed}
+use Rattle.resolve.specs.declared.typed.Expression.{Expression as TypedTree}
 use Rattle.resolve.specs.declared.typed.Expression.TheVariants as expression
 use Rattle.resolve.specs.declared.expressions.TypedExpression.{TypedExpression}
 use Rattle.resolve.specs.Finding.{Finding, ◌>>=◌}
 use Rattle.resolve.specs.Scope.{Scope, column_in}
-use Rattle.resolve.specs.Expression.{integer, text, signed_number, signed, sum_chain, product_chain}
+use Rattle.resolve.specs.Expression.{integer, text, signed_number, signed, sum_chain, product_chain, sum_operand, text_operand, product_operand}
 use Rattle.resolve.specs.Condition.{conjunction, disjunction, negated, tested, compared, between, in_list, like, null_test}
 
 -- an expression, in the FROMs that it sees
@@ -147,9 +149,12 @@ conjunction_found = fold-Conjunction _ _ _ _ _ _ _ _ _ _ _ _ _ _ _ _ _ join_step
 unfoldable pub condition_found : Condition → ConditionFinding
 condition_found = fold-Condition _ _ _ _ _ _ _ _ _ _ _ _ _ _ _ _ _ join_step operand_step predicate_step primary_step source_step addend_step condition_step conjunction_step expression_step factor_step negation_step query_step select_step item_step reference_step term_step test_step
 
--- the operators of a chain with what is found of their operands
-abbrev pub terms_found : Scope → List (AddOperator × Term) → List (AddOperator × Finding TypedExpression)
-terms_found scope others = found_at scope (map (λ other. (other.0, term_found other.1)) others)
+-- an operator of a chain with its operand
+abbrev pub summand : Scope → AddOperator × Term → Finding (Arithmetic × TypedTree)
+summand scope other = sum_operand (other.0, term_found other.1 scope)
 
-abbrev pub factors_found : Scope → List (MultiplyOperator × Factor) → List (MultiplyOperator × Finding TypedExpression)
-factors_found scope others = found_at scope (map (λ other. (other.0, factor_found other.1)) others)
+abbrev pub joined_text : Scope → AddOperator × Term → Finding TypedTree
+joined_text scope other = text_operand (other.0, term_found other.1 scope)
+
+abbrev pub multiplier : Scope → MultiplyOperator × Factor → Finding (Arithmetic × TypedTree)
+multiplier scope other = product_operand (other.0, factor_found other.1 scope)

@@ -1,10 +1,8 @@
 //! The types of expressions.
 
-ghost use Rattle.std.specs.Prelude.{◌≡◌, ◌∷◌, [], map, Ok};
-ghost use Rattle.resolve.specs.Finding.{each};
+ghost use Rattle.std.specs.Prelude.{◌≡◌, Ok};
 ghost use Rattle.resolve.specs.Finds.{Finds};
-ghost use Rattle.resolve.specs.Expression.{calculation, concatenation, integer, must_be, product_operand, product_operator, signed, signed_number, sum_operand, sum_operator, text_operand};
-ghost use Rattle.resolve.specs.Typing.{expression_found, factor_found, factors_found, primary_found, term_found, terms_found};
+ghost use Rattle.resolve.specs.Expression.{integer, must_be, product_operator, signed, signed_number, sum_operator};
 
 use crate::scope::{Frame, column};
 use crate::typed::{Arithmetic, Expression};

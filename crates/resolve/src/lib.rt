@@ -4,6 +4,7 @@
 mod conditions;
 mod expressions;
 mod inserts;
+pub mod laws;
 mod queries;
 mod resolving;
 mod scope;

@@ -15,19 +15,11 @@ use std::alloc::Global;
 /// A statement with a form that is not built yet is `NotSupported`, whatever else may be wrong with it. Else it is
 /// refused by a reason of names or types, or a limit of its tables and columns, that holds of it; where several hold,
 /// by any of these. Refuses for want of memory too. The statement is dropped.
-pub fn resolve(
-    alloc: Global,
-    statement: Statement,
-    schema: &Schema,
-) -> Result<Typed, Refusal> {
+pub fn resolve(alloc: Global, statement: Statement, schema: &Schema) -> Result<Typed, Refusal> {
     resolve_tree(alloc, &statement, schema)
 }
 
-fn resolve_tree(
-    alloc: Global,
-    statement: &Statement,
-    schema: &Schema,
-) -> Result<Typed, Refusal> {
+fn resolve_tree(alloc: Global, statement: &Statement, schema: &Schema) -> Result<Typed, Refusal> {
     if !is_built(statement) {
         return Err(Refusal::NotSupported);
     }

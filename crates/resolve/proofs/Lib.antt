@@ -1,2 +1,0 @@
-pub mod FindsLemmas
-pub mod Nodes
