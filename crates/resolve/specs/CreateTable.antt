@@ -85,4 +85,4 @@ is_new schema name = if is_none (table_place name schema) then Ok tt else invali
 abbrev pub create_found : Schema → Tree → Finding CreateTable
 create_found schema tree =
     also (is_new schema tree.table) (also (columns_found (definitions tree.elements)) (constraints_found (definitions tree.elements))) >>= (λ p.
-      Ok (record { name = tree.table; columns = (p.1).0; constraints = (p.1).1 }))
+    Ok (record { name = tree.table; columns = (p.1).0; constraints = (p.1).1 }))

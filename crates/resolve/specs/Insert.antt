@@ -55,6 +55,6 @@ rows_found types (rows.Query query) = not_built
 abbrev pub insert_found : Schema → Tree → Finding Insert
 insert_found schema tree =
     table_found schema tree.table >>= (λ table.
-      places_found table tree.columns >>= (λ places.
-        rows_found (types_at table.columns places) tree.rows >>= (λ rows.
-          Ok (record { table = tree.table; columns = places; source = Values rows }))))
+    places_found table tree.columns >>= (λ places.
+    rows_found (types_at table.columns places) tree.rows >>= (λ rows.
+    Ok (record { table = tree.table; columns = places; source = Values rows }))))

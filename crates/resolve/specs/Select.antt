@@ -120,8 +120,8 @@ abbrev pub select_found : Schema → Select → Finding TypedSelect
 select_found schema tree =
     let select = out-Select tree in
     from_found schema select.from >>= (λ from.
-      also (items_found from.1 select.items) (filter_found from.1 select.filter) >>= (λ p.
-        Ok (roll-Select (record { distinct = false; items = p.0; from = from.0; filter = p.1; grouping = None }))))
+    also (items_found from.1 select.items) (filter_found from.1 select.filter) >>= (λ p.
+    Ok (roll-Select (record { distinct = false; items = p.0; from = from.0; filter = p.1; grouping = None }))))
 
 -- the SELECT that a query is, if it is one alone
 abbrev pub select_at : OperandLayer → Option Select

@@ -51,11 +51,7 @@ fn resolve_table(
     Ok(Typed::Change(Change::CreateTable(table)))
 }
 
-fn resolve_insert(
-    alloc: Global,
-    insert: &ast::Insert,
-    schema: &Schema,
-) -> Result<Typed, Refusal> {
+fn resolve_insert(alloc: Global, insert: &ast::Insert, schema: &Schema) -> Result<Typed, Refusal> {
     let insert = typed_insert(alloc, insert, schema)?;
     Ok(Typed::Change(Change::Insert(insert)))
 }
