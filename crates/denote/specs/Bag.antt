@@ -2,6 +2,7 @@
 use Rattle.std.specs.Prelude.{ℕ, ◌↔◌, Bool, true, false, not, ◌&&◌, List, [], ◌∷◌, filter, count_by, Contains}
 use Rattle.std.specs.Ordering.{int_eq}
 use Rattle.std.specs.Str.{bytes_eq}
+use Rattle.std.specs.Cmp.Lexicographic.{pointwise}
 use Rattle.sqlval.specs.declared.value.Value.{Value}
 use Rattle.sqlval.specs.declared.value.Value.TheVariants.{Null, Int, Text}
 use Rattle.sqlval.specs.Value.{Row}
@@ -15,9 +16,7 @@ is_alike (Text x) (Text y) = bytes_eq x y
 is_alike _ _ = false
 
 abbrev pub are_alike : Row → Row → Bool
-are_alike [] [] = true
-are_alike (x ∷ xs) (y ∷ ys) = is_alike x y && are_alike xs ys
-are_alike _ _ = false
+are_alike = pointwise is_alike
 
 -- how often a row comes
 abbrev pub times : Row → List Row → ℕ

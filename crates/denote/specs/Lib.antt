@@ -15,3 +15,4 @@ pub mod StoredRow
 pub mod Change
 pub mod Stop
 pub mod OnePass
+pub mod Law
