@@ -1,12 +1,15 @@
 //! Whole scripts over a device in memory, and command lines.
 
 mod command_lines;
+mod depth;
 mod expressions;
 mod limits;
+mod memory;
 mod pieces;
 mod refusals;
 
 use crate::{Settings, run_on};
+use clap::Error;
 use disk::MemDisk;
 use std::alloc::Global;
 use std::process::Abort;
@@ -15,6 +18,16 @@ use std::test::Fail;
 /// The settings of `sqlsh run` without options.
 fn plain(alloc: Global) -> Result<Settings, Fail> {
     Ok(crate::settings(alloc, &["sqlsh", "run"])?)
+}
+
+/// Whether a script over a new device prints this.
+fn play(alloc: Global, script: &[u8], printed: &[u8]) -> Result<bool, Error> {
+    let mut reader = script;
+    let mut writer = Vec::new(alloc);
+    let disk = MemDisk::new(alloc);
+    let settings = crate::settings(alloc, &["sqlsh", "run"])?;
+    run_on(alloc, &settings, disk, &mut reader, &mut writer);
+    Ok(writer.as_slice() == printed)
 }
 
 /// Runs a script over a new device, and compares what it prints and its exit status.

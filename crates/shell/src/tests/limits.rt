@@ -6,7 +6,12 @@ use std::process::Abort;
 use std::test::Fail;
 
 /// So many times this text, with a separator between each two.
-fn repeated(alloc: Global, text: &str, separator: &str, count: u32) -> Result<String, AllocError> {
+pub(super) fn repeated(
+    alloc: Global,
+    text: &str,
+    separator: &str,
+    count: u32,
+) -> Result<String, AllocError> {
     let mut all = String::new(alloc);
     for turn in 0..count {
         if turn > 0 {
