@@ -1,8 +1,10 @@
 use crate::reply::Reply;
 use crate::rollback::is_rollback;
+use crate::statements::{answer, carry_out, read_statement};
 use crate::store::Store;
 use disk::Disk;
 use lexer::{Limit, Refusal};
+use resolve::{Typed, resolve};
 use std::alloc::Global;
 
 /// The greatest number of bytes of a statement.
@@ -69,10 +71,7 @@ impl<D: Disk> Core<D> {
     /// ROLLBACK takes no memory and always succeeds.
     pub fn step(&mut self, session: SessionId, text: &[u8]) -> Reply {
         let _ = session.number;
-        if text.len() > LONGEST_STATEMENT {
-            return Reply::Refused(Refusal::Exceeded(Limit::Statement));
-        }
-        if is_rollback(text) {
+        if text.len() <= LONGEST_STATEMENT && is_rollback(text) {
             self.roll_back();
             return Reply::Done;
         }
@@ -106,10 +105,30 @@ impl<D: Disk> Core<D> {
         Ok(disk)
     }
 
+    /// The reply of any statement but ROLLBACK.
     fn execute(&mut self, text: &[u8]) -> Result<Reply, Refusal> {
-        let _ = text;
-        self.begin();
-        Err(Refusal::NotSupported)
+        let statement = read_statement(self.alloc, text)?;
+        match resolve(self.alloc, statement, self.store.schema())? {
+            Typed::Query(query) => {
+                let reply = answer(self.alloc, &self.store, &query)?;
+                self.begin();
+                Ok(reply)
+            }
+            Typed::Change(change) => {
+                let reply = carry_out(self.alloc, &mut self.store, change)?;
+                self.session = Some(Session::Active { writes: true });
+                Ok(reply)
+            }
+            Typed::Commit => {
+                self.commit();
+                Ok(Reply::Done)
+            }
+            Typed::Rollback => {
+                self.roll_back();
+                Ok(Reply::Done)
+            }
+            _ => Err(Refusal::NotSupported),
+        }
     }
 
     /// Begins a transaction in a session that has none.

@@ -7,6 +7,7 @@ mod printing;
 mod reply;
 mod rollback;
 mod script;
+mod statements;
 mod store;
 
 pub use engine::{Core, Refused, SessionId};

@@ -1,0 +1,102 @@
+//! A statement's way from its text to its reply.
+
+use crate::engine::LONGEST_STATEMENT;
+use crate::reply::Reply;
+use crate::store::Store;
+use ast::Statement;
+use denote::{Env, Fault, Rows, Stop, broken_not_null, query_rows, rows_to_insert};
+use items::Items;
+use lexer::{Limit, Reason, Refusal, first_unsupported, tokens};
+use parser::parse;
+use resolve::{Change, CreateTable, Insert, InsertSource, OrderedQuery};
+use sqlval::Table;
+use std::alloc::Global;
+
+/// The statement of a text: its length is looked at first, then its tokens, its words and its grammar.
+pub(crate) fn read_statement(alloc: Global, text: &[u8]) -> Result<Statement, Refusal> {
+    if text.len() > LONGEST_STATEMENT {
+        return Err(Refusal::Exceeded(Limit::Statement));
+    }
+    let tokens = tokens(alloc, text)?;
+    if first_unsupported(tokens.as_slice()).is_some() {
+        return Err(Refusal::NotSupported);
+    }
+    parse(alloc, tokens.as_slice())
+}
+
+/// The rows of a query, over the tables as the session sees them.
+pub(crate) fn answer(alloc: Global, store: &Store, query: &OrderedQuery) -> Result<Reply, Refusal> {
+    if !query.keys.is_empty() {
+        return Err(Refusal::NotSupported);
+    }
+    match query_rows(alloc, store, &Env::Outermost, &query.query) {
+        Ok(rows) => Ok(Reply::Rows(rows)),
+        Err(stop) => Err(refusal_of(stop)),
+    }
+}
+
+/// Carries out a change of the tables. A refused one leaves them as they were.
+pub(crate) fn carry_out(alloc: Global, store: &mut Store, change: Change) -> Result<Reply, Refusal> {
+    match change {
+        Change::CreateTable(table) => create_table(alloc, store, table),
+        Change::Insert(insert) => insert_rows(alloc, store, &insert),
+        _ => Err(Refusal::NotSupported),
+    }
+}
+
+fn create_table(alloc: Global, store: &mut Store, table: CreateTable) -> Result<Reply, Refusal> {
+    let CreateTable {
+        name,
+        columns,
+        constraints,
+    } = table;
+    store.create(Table {
+        name,
+        columns,
+        constraints,
+        indexes: Items::new(alloc),
+        root: 0,
+    })?;
+    Ok(Reply::Done)
+}
+
+fn insert_rows(alloc: Global, store: &mut Store, insert: &Insert) -> Result<Reply, Refusal> {
+    let Some(place) = store.schema().find_table(insert.table.as_slice()) else {
+        return Err(Refusal::Invalid(Reason::Name));
+    };
+    let rows = new_rows(alloc, store, place, insert)?;
+    let count = rows.len();
+    store.append(place, rows)?;
+    Ok(Reply::Changed(count))
+}
+
+/// The rows that an INSERT adds to the table at this place, none of which violates its constraints.
+fn new_rows(alloc: Global, store: &Store, place: usize, insert: &Insert) -> Result<Rows, Refusal> {
+    let Some(table) = store.schema().tables.get(place) else {
+        return Err(Refusal::Invalid(Reason::Name));
+    };
+    let InsertSource::Values(sources) = &insert.source else {
+        return Err(Refusal::NotSupported);
+    };
+    let columns = insert.columns.as_slice();
+    match rows_to_insert(alloc, store, table, &[], columns, sources.as_slice()) {
+        Ok(rows) => match broken_not_null(table, rows.as_slice()) {
+            Some(name) => Err(Refusal::Violated(name.copy(alloc)?)),
+            None => Ok(rows),
+        },
+        Err(stop) => Err(refusal_of(stop)),
+    }
+}
+
+/// The refusal of a statement whose evaluation stopped.
+fn refusal_of(stop: Stop) -> Refusal {
+    match stop {
+        Stop::Memory => Refusal::Memory,
+        Stop::Fault(Fault::ManyRows) => Refusal::ManyRows,
+        Stop::Fault(Fault::TextTooLong) => Refusal::TextTooLong,
+        Stop::Fault(Fault::OutOfRange) => Refusal::OutOfRange,
+        Stop::Fault(Fault::DivisionByZero) => Refusal::DivisionByZero,
+        Stop::Fault(Fault::Record) => Refusal::Exceeded(Limit::Record),
+        Stop::Fault(Fault::Key) => Refusal::Exceeded(Limit::Key),
+    }
+}
