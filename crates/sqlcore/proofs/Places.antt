@@ -4,7 +4,7 @@ use Rattle.std.proofs.lemmas.List.Elements.{Contains-append_cases}
 use Rattle.std.proofs.lemmas.Bool.{eqb-true, eqb-false, true≢false}
 use Rattle.sqlcore.specs.declared.input.place.Place.{Place}
 use Rattle.sqlcore.specs.declared.input.place.Place.TheVariants.{Outside, AfterMinus, InString, InComment}
-use Rattle.sqlcore.specs.Pieces.{semicolon, quote, minus, newline, IsString, IsComment, BeginsComment, IsUnclosed, IsUnended, Passes, here, string, comment, byte}
+use Rattle.sqlcore.specs.Pieces.{semicolon, quote, minus, newline, BeginsComment, IsUnclosed, IsUnended, Passes, here, string, comment, byte}
 use Rattle.sqlcore.specs.Place.{begun_by, place_after, is_outside, IsInString, IsInComment, IsAfterMinus, LeadsTo}
 
 pub Passes-trans : (xs ys zs : List ℕ) → Passes xs ys → Passes ys zs → Passes xs zs

@@ -36,7 +36,11 @@ pub(crate) fn answer(alloc: Global, store: &Store, query: &OrderedQuery) -> Resu
 }
 
 /// Carries out a change of the tables. A refused one leaves them as they were.
-pub(crate) fn carry_out(alloc: Global, store: &mut Store, change: Change) -> Result<Reply, Refusal> {
+pub(crate) fn carry_out(
+    alloc: Global,
+    store: &mut Store,
+    change: Change,
+) -> Result<Reply, Refusal> {
     match change {
         Change::CreateTable(table) => create_table(alloc, store, table),
         Change::Insert(insert) => insert_rows(alloc, store, &insert),
