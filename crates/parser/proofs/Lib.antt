@@ -1,2 +1,10 @@
-pub mod Places
-pub mod Turns
+pub mod Steps
+pub mod Sound
+pub mod SoundTerminals
+pub mod SoundExpressions
+pub mod SoundQueries
+pub mod SoundStatements
+pub mod Found
+pub mod Nested
+pub mod Passes
+pub mod Again

@@ -1,7 +1,1 @@
-pub mod Readers
-pub mod ReadTerminals
-pub mod ReadExpressions
-pub mod ReadQueries
-pub mod ReadStatements
-pub mod Levels
 pub mod Shallow

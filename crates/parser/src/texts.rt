@@ -1,16 +1,20 @@
 //! Whole texts of tokens.
 
-ghost use Rattle.std.specs.Prelude.{◌≡◌, if◌then◌else◌, true, false};
-ghost use Rattle.parser.specs.Readers.{kinds, GivesAll};
-ghost use Rattle.parser.specs.ReadStatements as statements;
+ghost use Rattle.std.specs.Prelude.{◌≡◌, ◌≢◌, ◌↔◌, if◌then◌else◌, true, false, IfOk, Some, None, Err};
+ghost use Rattle.ast.specs.Grammar.{IsText, IsConditionText};
+ghost use Rattle.ast.specs.Nesting.{IsNestedWithin};
+ghost use Rattle.ast.specs.declared.statement.Statement.{Statement};
+ghost use Rattle.ast.specs.declared.tree.Condition.{Condition};
+ghost use Rattle.lexer.specs.declared.refusals.Refusal.TheVariants.{Exceeded};
+ghost use Rattle.lexer.specs.declared.refusals.Limit.TheVariants.{Chain, Nesting};
+ghost use Rattle.productions.specs.Readers.{kinds, GivesAll};
+ghost use Rattle.productions.specs.ReadStatements as statements;
 ghost use Rattle.parser.specs.Shallow.{is_shallow};
-ghost use Rattle.parser.specs.Levels.{inner_at};
+ghost use Rattle.productions.specs.Levels.{inner_at};
 
-use crate::cursor::is_symbol;
-use crate::error::ParseError;
-use crate::statement::Statements;
 use ast::{Condition, Statement};
 use lexer::{Limit, Reason, Refusal, Symbol, Token};
+use productions::{ParseError, Statements, is_symbol};
 use std::alloc::Global;
 
 /// How many parentheses may be open at once.
@@ -75,20 +79,32 @@ fn condition_text(
 }
 
 /// Why the tokens are no statement with chains within the limit.
-fn statement_refusal(alloc: Global, tokens: &[Token]) -> Refusal {
-    match text(alloc, None, MAXIMUM_NESTING + 1, tokens) {
-        Ok(_) => Refusal::Exceeded(Limit::Chain),
-        Err(ParseError::Memory) => Refusal::Memory,
-        Err(ParseError::Syntax) => Refusal::Invalid(Reason::Syntax),
+fn statement_refusal(alloc: Global, tokens: &[Token]) -> Refusal
+    ensures chain { result ≡ Exceeded Chain → (x : Statement) × IsText None (kinds tokens.now) x }
+    ensures not_nesting { result ≢ Exceeded Nesting }
+{
+    let refused = match text(alloc, None, MAXIMUM_NESTING + 1, tokens) {
+        Ok(_found) => return Refusal::Exceeded(Limit::Chain),
+        Err(refused) => refused,
+    };
+    match refused {
+        ParseError::Memory => Refusal::Memory,
+        ParseError::Syntax => Refusal::Invalid(Reason::Syntax),
     }
 }
 
 /// Why the tokens are no condition with chains within the limit.
-fn condition_refusal(alloc: Global, tokens: &[Token]) -> Refusal {
-    match condition_text(alloc, None, MAXIMUM_NESTING + 1, tokens) {
-        Ok(_) => Refusal::Exceeded(Limit::Chain),
-        Err(ParseError::Memory) => Refusal::Memory,
-        Err(ParseError::Syntax) => Refusal::Invalid(Reason::Syntax),
+fn condition_refusal(alloc: Global, tokens: &[Token]) -> Refusal
+    ensures chain { result ≡ Exceeded Chain → (x : Condition) × IsConditionText None (kinds tokens.now) x }
+    ensures not_nesting { result ≢ Exceeded Nesting }
+{
+    let refused = match condition_text(alloc, None, MAXIMUM_NESTING + 1, tokens) {
+        Ok(_found) => return Refusal::Exceeded(Limit::Chain),
+        Err(refused) => refused,
+    };
+    match refused {
+        ParseError::Memory => Refusal::Memory,
+        ParseError::Syntax => Refusal::Invalid(Reason::Syntax),
     }
 }
 
@@ -97,7 +113,13 @@ fn condition_refusal(alloc: Global, tokens: &[Token]) -> Refusal {
 /// Refuses `Exceeded(Nesting)` where more than 64 parentheses are open at once, whatever else the tokens are;
 /// otherwise `Exceeded(Chain)` where the tokens are a statement only with more than 64 operands in a chain, and
 /// `Invalid(Syntax)` where they are no statement; `Memory` for want of memory.
-pub fn parse(alloc: Global, tokens: &[Token]) -> Result<Statement, Refusal> {
+pub fn parse(alloc: Global, tokens: &[Token]) -> Result<Statement, Refusal>
+    // What is parsed is in the grammar.
+    ensures found { IfOk result (λ x. IsText (Some 64) (kinds tokens.now) x) }
+    // A chain is refused only where the tokens are a statement but for the limit of chains.
+    ensures chain { result ≡ Err (Exceeded Chain) → (x : Statement) × IsText None (kinds tokens.now) x }
+    ensures nesting { (result ≡ Err (Exceeded Nesting)) ↔ (¬ IsNestedWithin 64 (kinds tokens.now)) }
+{
     if is_nested_deeper(tokens) {
         return Err(Refusal::Exceeded(Limit::Nesting));
     }
@@ -109,7 +131,11 @@ pub fn parse(alloc: Global, tokens: &[Token]) -> Result<Statement, Refusal> {
 }
 
 /// The condition that the tokens are. Refuses as `parse` does.
-pub fn parse_condition(alloc: Global, tokens: &[Token]) -> Result<Condition, Refusal> {
+pub fn parse_condition(alloc: Global, tokens: &[Token]) -> Result<Condition, Refusal>
+    ensures found { IfOk result (λ x. IsConditionText (Some 64) (kinds tokens.now) x) }
+    ensures chain { result ≡ Err (Exceeded Chain) → (x : Condition) × IsConditionText None (kinds tokens.now) x }
+    ensures nesting { (result ≡ Err (Exceeded Nesting)) ↔ (¬ IsNestedWithin 64 (kinds tokens.now)) }
+{
     if is_nested_deeper(tokens) {
         return Err(Refusal::Exceeded(Limit::Nesting));
     }

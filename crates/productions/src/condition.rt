@@ -1,0 +1,238 @@
+//! Conditions.
+
+ghost use Rattle.productions.specs.Readers.{kinds, Gives};
+ghost use Rattle.productions.specs.Readers as read;
+ghost use Rattle.productions.specs.ReadTerminals as terminals;
+ghost use Rattle.productions.specs.ReadExpressions as expressions;
+ghost use Rattle.productions.specs.Levels.{inner_at, Nests};
+
+use crate::cursor::{after_word, eat_word, word};
+use crate::error::ParseError;
+use crate::lists::{listed, many, parenthesized};
+use crate::rules::Rules;
+use crate::terminals::{and, comparison, literal, opens_condition, opens_subquery, or, truth_test};
+use ast::{
+    Comparison, Condition, Conjunction, Expression, Literal, Negation, Predicate, Query, Test,
+};
+use items::{Boxed, Items};
+use lexer::{Token, Word};
+use std::alloc::Global;
+
+impl<
+    E: Fn(Global, Option<usize>, usize, &[Token]) -> Result<(Expression, &[Token]), ParseError>,
+    C: Fn(Global, Option<usize>, usize, &[Token]) -> Result<(Condition, &[Token]), ParseError>,
+    Q: Fn(Global, Option<usize>, usize, &[Token]) -> Result<(Query, &[Token]), ParseError>,
+> Rules<E, C, Q> {
+    /// What follows a comparison's operator.
+    #[tactic(auto, unfolding(crate::specs::ReadExpressions::compare))]
+    fn compare<'a>(
+        &self,
+        left: Expression,
+        operator: Comparison,
+        tokens: &'a [Token],
+    ) -> Result<(Predicate, &'a [Token]), ParseError>
+        requires { Nests self.now.limit self.now.depth (E.pre self.now.expression) (E.post self.now.expression) (C.pre self.now.condition) (C.post self.now.condition) (Q.pre self.now.query) (Q.post self.now.query) }
+        ensures { Gives result (expressions.compare self.now.limit (inner_at self.now.limit self.now.depth) left operator (kinds tokens.now)) }
+    {
+        let (right, rest) = self.expression(tokens)?;
+        Ok((Predicate::Compare(left, operator, right), rest))
+    }
+
+    /// What follows IS after an expression.
+    #[tactic(auto, unfolding(crate::specs::ReadExpressions::is_null))]
+    fn is_null<'a>(
+        &self,
+        left: Expression,
+        tokens: &'a [Token],
+    ) -> Result<(Predicate, &'a [Token]), ParseError>
+        requires { Nests self.now.limit self.now.depth (E.pre self.now.expression) (E.post self.now.expression) (C.pre self.now.condition) (C.post self.now.condition) (Q.pre self.now.query) (Q.post self.now.query) }
+        ensures { Gives result (expressions.is_null self.now.limit (inner_at self.now.limit self.now.depth) left (kinds tokens.now)) }
+    {
+        let (is_negated, rest) = eat_word(Word::Not, tokens);
+        let rest = word(Word::Null, rest)?;
+        Ok((Predicate::IsNull(left, is_negated), rest))
+    }
+
+    /// What follows BETWEEN.
+    #[tactic(auto, unfolding(crate::specs::ReadExpressions::between))]
+    fn between<'a>(
+        &self,
+        left: Expression,
+        is_negated: bool,
+        tokens: &'a [Token],
+    ) -> Result<(Predicate, &'a [Token]), ParseError>
+        requires { Nests self.now.limit self.now.depth (E.pre self.now.expression) (E.post self.now.expression) (C.pre self.now.condition) (C.post self.now.condition) (Q.pre self.now.query) (Q.post self.now.query) }
+        ensures { Gives result (expressions.between self.now.limit (inner_at self.now.limit self.now.depth) left is_negated (kinds tokens.now)) }
+    {
+        let (low, rest) = self.expression(tokens)?;
+        let rest = word(Word::And, rest)?;
+        let (high, rest) = self.expression(rest)?;
+        Ok((Predicate::Between(left, is_negated, low, high), rest))
+    }
+
+    /// `literal {, literal}`
+    fn literals<'a>(&self, tokens: &'a [Token]) -> Result<(Items<Literal>, &'a [Token]), ParseError>
+        ensures { Gives result (read.listed terminals.literal (kinds tokens.now)) }
+    {
+        listed(self.alloc, |at| literal(self.alloc, at), tokens)
+    }
+
+    /// What follows IN.
+    #[tactic(auto, unfolding(crate::specs::ReadExpressions::is_in))]
+    fn is_in<'a>(
+        &self,
+        left: Expression,
+        is_negated: bool,
+        tokens: &'a [Token],
+    ) -> Result<(Predicate, &'a [Token]), ParseError>
+        requires { Nests self.now.limit self.now.depth (E.pre self.now.expression) (E.post self.now.expression) (C.pre self.now.condition) (C.post self.now.condition) (Q.pre self.now.query) (Q.post self.now.query) }
+        ensures { Gives result (expressions.is_in self.now.limit (inner_at self.now.limit self.now.depth) left is_negated (kinds tokens.now)) }
+    {
+        if opens_subquery(tokens) {
+            let (query, rest) = parenthesized(|at| self.inner_query(at), tokens)?;
+            let query = Boxed::new(self.alloc, query)?;
+            Ok((Predicate::InQuery(left, is_negated, query), rest))
+        } else {
+            let (list, rest) = parenthesized(|at| self.literals(at), tokens)?;
+            Ok((Predicate::InList(left, is_negated, list), rest))
+        }
+    }
+
+    /// LIKE and what follows it.
+    #[tactic(auto, unfolding(crate::specs::ReadExpressions::like))]
+    fn like<'a>(
+        &self,
+        left: Expression,
+        is_negated: bool,
+        tokens: &'a [Token],
+    ) -> Result<(Predicate, &'a [Token]), ParseError>
+        requires { Nests self.now.limit self.now.depth (E.pre self.now.expression) (E.post self.now.expression) (C.pre self.now.condition) (C.post self.now.condition) (Q.pre self.now.query) (Q.post self.now.query) }
+        ensures { Gives result (expressions.like self.now.limit (inner_at self.now.limit self.now.depth) left is_negated (kinds tokens.now)) }
+    {
+        let rest = word(Word::Like, tokens)?;
+        let (pattern, rest) = self.expression(rest)?;
+        Ok((Predicate::Like(left, is_negated, pattern), rest))
+    }
+
+    /// BETWEEN, IN or LIKE, and what follows it.
+    #[tactic(auto, unfolding(crate::specs::ReadExpressions::range_list_or_pattern))]
+    fn range_list_or_pattern<'a>(
+        &self,
+        left: Expression,
+        is_negated: bool,
+        tokens: &'a [Token],
+    ) -> Result<(Predicate, &'a [Token]), ParseError>
+        requires { Nests self.now.limit self.now.depth (E.pre self.now.expression) (E.post self.now.expression) (C.pre self.now.condition) (C.post self.now.condition) (Q.pre self.now.query) (Q.post self.now.query) }
+        ensures { Gives result (expressions.range_list_or_pattern self.now.limit (inner_at self.now.limit self.now.depth) left is_negated (kinds tokens.now)) }
+    {
+        if let Some(rest) = after_word(Word::Between, tokens) {
+            return self.between(left, is_negated, rest);
+        }
+        match after_word(Word::In, tokens) {
+            Some(rest) => self.is_in(left, is_negated, rest),
+            None => self.like(left, is_negated, tokens),
+        }
+    }
+
+    /// What follows a predicate's first operand.
+    #[tactic(auto, unfolding(crate::specs::ReadExpressions::after_operand))]
+    fn after_operand<'a>(
+        &self,
+        left: Expression,
+        tokens: &'a [Token],
+    ) -> Result<(Predicate, &'a [Token]), ParseError>
+        requires { Nests self.now.limit self.now.depth (E.pre self.now.expression) (E.post self.now.expression) (C.pre self.now.condition) (C.post self.now.condition) (Q.pre self.now.query) (Q.post self.now.query) }
+        ensures { Gives result (expressions.after_operand self.now.limit (inner_at self.now.limit self.now.depth) left (kinds tokens.now)) }
+    {
+        if let Some((operator, rest)) = comparison(tokens) {
+            return self.compare(left, operator, rest);
+        }
+        if let Some(rest) = after_word(Word::Is, tokens) {
+            return self.is_null(left, rest);
+        }
+        let (is_negated, rest) = eat_word(Word::Not, tokens);
+        self.range_list_or_pattern(left, is_negated, rest)
+    }
+
+    /// What follows EXISTS.
+    #[tactic(auto, unfolding(crate::specs::ReadExpressions::exists))]
+    fn exists<'a>(&self, tokens: &'a [Token]) -> Result<(Predicate, &'a [Token]), ParseError>
+        requires { Nests self.now.limit self.now.depth (E.pre self.now.expression) (E.post self.now.expression) (C.pre self.now.condition) (C.post self.now.condition) (Q.pre self.now.query) (Q.post self.now.query) }
+        ensures { Gives result (expressions.exists self.now.limit (inner_at self.now.limit self.now.depth) (kinds tokens.now)) }
+    {
+        let (query, rest) = parenthesized(|at| self.inner_query(at), tokens)?;
+        Ok((Predicate::Exists(Boxed::new(self.alloc, query)?), rest))
+    }
+
+    /// `( cond )`
+    #[tactic(auto, unfolding(crate::specs::ReadExpressions::nested))]
+    fn nested<'a>(&self, tokens: &'a [Token]) -> Result<(Predicate, &'a [Token]), ParseError>
+        requires { Nests self.now.limit self.now.depth (E.pre self.now.expression) (E.post self.now.expression) (C.pre self.now.condition) (C.post self.now.condition) (Q.pre self.now.query) (Q.post self.now.query) }
+        ensures { Gives result (expressions.nested self.now.limit (inner_at self.now.limit self.now.depth) (kinds tokens.now)) }
+    {
+        let (inside, rest) = parenthesized(|at| self.inner_condition(at), tokens)?;
+        Ok((Predicate::Nested(Boxed::new(self.alloc, inside)?), rest))
+    }
+
+    /// `( cond ) | predicate`
+    #[tactic(auto, unfolding(crate::specs::ReadExpressions::predicate))]
+    fn predicate<'a>(&self, tokens: &'a [Token]) -> Result<(Predicate, &'a [Token]), ParseError>
+        requires { Nests self.now.limit self.now.depth (E.pre self.now.expression) (E.post self.now.expression) (C.pre self.now.condition) (C.post self.now.condition) (Q.pre self.now.query) (Q.post self.now.query) }
+        ensures { Gives result (expressions.predicate self.now.limit (inner_at self.now.limit self.now.depth) (kinds tokens.now)) }
+    {
+        if opens_condition(tokens) {
+            return self.nested(tokens);
+        }
+        if let Some(rest) = after_word(Word::Exists, tokens) {
+            return self.exists(rest);
+        }
+        let (left, rest) = self.expression(tokens)?;
+        self.after_operand(left, rest)
+    }
+
+    /// `test = ( ( cond ) | predicate ) [IS [NOT] (TRUE | FALSE | UNKNOWN)]`
+    #[tactic(auto, unfolding(crate::specs::ReadExpressions::test_))]
+    fn test<'a>(&self, tokens: &'a [Token]) -> Result<(Test, &'a [Token]), ParseError>
+        requires { Nests self.now.limit self.now.depth (E.pre self.now.expression) (E.post self.now.expression) (C.pre self.now.condition) (C.post self.now.condition) (Q.pre self.now.query) (Q.post self.now.query) }
+        ensures { Gives result (expressions.test_ self.now.limit (inner_at self.now.limit self.now.depth) (kinds tokens.now)) }
+    {
+        let (predicate, rest) = self.predicate(tokens)?;
+        let (truth, rest) = truth_test(rest)?;
+        Ok((Test { predicate, truth }, rest))
+    }
+
+    /// `neg = [NOT] test`
+    #[tactic(auto, unfolding(crate::specs::ReadExpressions::negation))]
+    fn negation<'a>(&self, tokens: &'a [Token]) -> Result<(Negation, &'a [Token]), ParseError>
+        requires { Nests self.now.limit self.now.depth (E.pre self.now.expression) (E.post self.now.expression) (C.pre self.now.condition) (C.post self.now.condition) (Q.pre self.now.query) (Q.post self.now.query) }
+        ensures { Gives result (expressions.negation self.now.limit (inner_at self.now.limit self.now.depth) (kinds tokens.now)) }
+    {
+        let (is_negated, rest) = eat_word(Word::Not, tokens);
+        let (test, rest) = self.test(rest)?;
+        Ok((Negation { is_negated, test }, rest))
+    }
+
+    /// `conj = neg {AND neg}`
+    #[tactic(auto, unfolding(crate::specs::ReadExpressions::conjunction))]
+    fn conjunction<'a>(&self, tokens: &'a [Token]) -> Result<(Conjunction, &'a [Token]), ParseError>
+        requires { Nests self.now.limit self.now.depth (E.pre self.now.expression) (E.post self.now.expression) (C.pre self.now.condition) (C.post self.now.condition) (Q.pre self.now.query) (Q.post self.now.query) }
+        ensures { Gives result (expressions.conjunction self.now.limit (inner_at self.now.limit self.now.depth) (kinds tokens.now)) }
+    {
+        let (first, rest) = self.negation(tokens)?;
+        let found = Items::new(self.alloc);
+        let (others, rest) = many(self.limit, and, |_, at| self.negation(at), found, rest)?;
+        Ok((Conjunction { first, others }, rest))
+    }
+
+    /// `cond = conj {OR conj}`
+    #[tactic(auto, unfolding(crate::specs::ReadExpressions::condition))]
+    pub fn condition<'a>(&self, tokens: &'a [Token]) -> Result<(Condition, &'a [Token]), ParseError>
+        requires { Nests self.now.limit self.now.depth (E.pre self.now.expression) (E.post self.now.expression) (C.pre self.now.condition) (C.post self.now.condition) (Q.pre self.now.query) (Q.post self.now.query) }
+        ensures { Gives result (expressions.condition self.now.limit (inner_at self.now.limit self.now.depth) (kinds tokens.now)) }
+    {
+        let (first, rest) = self.conjunction(tokens)?;
+        let found = Items::new(self.alloc);
+        let (others, rest) = many(self.limit, or, |_, at| self.conjunction(at), found, rest)?;
+        Ok((Condition { first, others }, rest))
+    }
+}

@@ -1,0 +1,102 @@
+//! Parts that are repeated.
+
+ghost use Rattle.std.specs.Prelude.{◌≡◌, nat_le, ◌-◌};
+ghost use Rattle.productions.specs.Readers.{kinds, Reader, ReadsBy, ReadsAfter, FindsBy, Gives, Finds};
+ghost use Rattle.productions.specs.Readers as read;
+ghost use Rattle.lexer.specs.declared.kinds.Symbol.TheVariants as s;
+
+use crate::cursor::{after_symbol, name, symbol};
+use crate::error::ParseError;
+use items::Items;
+use lexer::{Name, Symbol, Token};
+use std::alloc::Global;
+
+/// Whether a chain has as many operands after its first as the limit allows.
+fn is_full(limit: Option<usize>, others: usize) -> bool
+    ensures { result ≡ read.is_full limit others }
+{
+    match limit {
+        None => false,
+        Some(limit) => limit.saturating_sub(1) <= others,
+    }
+}
+
+/// Items for as long as `begin` finds what begins one, put behind those in `found`; no more than `limit` allows.
+pub fn many<
+    'a,
+    O,
+    T: Drop,
+    B: Fn(&[Token]) -> Option<(O, &[Token])>,
+    F: Fn(O, &[Token]) -> Result<(T, &[Token]), ParseError>,
+>(
+    limit: Option<usize>,
+    begin: B,
+    item: F,
+    found: Items<T>,
+    tokens: &'a [Token],
+) -> Result<(Items<T>, &'a [Token]), ParseError>
+where
+    O: Drop,
+    requires begin { B.IsAlwaysCallable begin }
+    requires item { F.IsAlwaysCallable item }
+    ensures { (begins : Reader O) (reads : O → Reader T) → FindsBy (B.post begin) begins → ReadsAfter (F.post item) reads
+        → Gives result (read.many limit begins reads found (kinds tokens.now)) }
+{
+    let mut found = found;
+    let mut rest = tokens;
+    for _turn in 0..tokens.len() {
+        let Some((before, after)) = begin(rest) else {
+            return Ok((found, rest));
+        };
+        if is_full(limit, found.len()) {
+            return Err(ParseError::Syntax);
+        }
+        let (next, after) = item(before, after)?;
+        found.push(next)?;
+        rest = after;
+    }
+    Ok((found, rest))
+}
+
+fn comma(tokens: &[Token]) -> Option<((), &[Token])>
+    ensures { Finds result (read.symbol s.Comma (kinds tokens.now)) }
+{
+    after_symbol(Symbol::Comma, tokens).map(|rest| ((), rest))
+}
+
+/// Items with commas between them, at least one.
+pub fn listed<'a, T: Drop, F: Fn(&[Token]) -> Result<(T, &[Token]), ParseError>>(
+    alloc: Global,
+    item: F,
+    tokens: &'a [Token],
+) -> Result<(Items<T>, &'a [Token]), ParseError>
+    requires { F.IsAlwaysCallable item }
+    ensures { (reads : Reader T) → ReadsBy (F.post item) reads → Gives result (read.listed reads (kinds tokens.now)) }
+{
+    let (first, rest) = item(tokens)?;
+    let mut found = Items::new(alloc);
+    found.push(first)?;
+    many(None, comma, |_, at| item(at), found, rest)
+}
+
+/// `names = name {, name}`
+pub fn names(alloc: Global, tokens: &[Token]) -> Result<(Items<Name>, &[Token]), ParseError>
+    ensures { Gives result (read.listed read.name (kinds tokens.now)) }
+{
+    listed(alloc, |at| name(alloc, at), tokens)
+}
+
+/// What `inside` reads, between parentheses.
+#[tactic(auto, unfolding(crate::specs::Readers::symbol))]
+pub fn parenthesized<'a, T: Drop, F: Fn(&[Token]) -> Result<(T, &[Token]), ParseError>>(
+    inside: F,
+    tokens: &'a [Token],
+) -> Result<(T, &'a [Token]), ParseError>
+    requires { F.IsAlwaysCallable inside }
+    ensures { (reads : Reader T) → ReadsBy (F.post inside) reads → Gives result (read.parenthesized reads (kinds tokens.now)) }
+{
+    let rest = symbol(Symbol::LeftParenthesis, tokens)?;
+    let (found, rest) = inside(rest)?;
+    let rest = symbol(Symbol::RightParenthesis, rest)?;
+    Ok((found, rest))
+}

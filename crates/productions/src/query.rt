@@ -1,0 +1,261 @@
+//! Queries.
+
+ghost use Rattle.std.specs.Prelude.{◌≡◌};
+ghost use Rattle.ast.specs.Queries.{is_grouped, is_lone};
+ghost use Rattle.productions.specs.Readers.{kinds, Gives};
+ghost use Rattle.ast.specs.declared.tree.Addend.{out-Addend};
+ghost use Rattle.productions.specs.ReadQueries as queries;
+ghost use Rattle.productions.specs.Levels.{inner_at, Nests};
+
+use crate::cursor::{after_word, next_is_symbol, word};
+use crate::error::ParseError;
+use crate::lists::{listed, many, parenthesized};
+use crate::rules::Rules;
+use crate::terminals::{column, intersect, may_quantifier, set_operator};
+use ast::{
+    Addend, Column, Condition, Expression, Operand, Query, Select, SelectItem, SetOperator,
+    TableReference,
+};
+use items::{Boxed, Items};
+use lexer::{Symbol, Token, Word};
+use std::alloc::Global;
+
+fn is_grouped(operand: &Operand) -> bool
+    ensures { result ≡ is_grouped operand.now }
+{
+    match operand {
+        Operand::Select(_) => false,
+        Operand::Grouped(_) => true,
+    }
+}
+
+/// Whether these are one query in parentheses and nothing more.
+fn is_lone(first: &Addend, others: &Items<(SetOperator, Addend)>) -> bool
+    ensures { result ≡ is_lone (out-Addend first.now).first (out-Addend first.now).others others.now }
+{
+    others.is_empty() && first.others.is_empty() && is_grouped(&first.first)
+}
+
+/// The clauses of a SELECT after its tables.
+#[derive(Drop)]
+pub struct Clauses {
+    pub filter: Option<Boxed<Condition>>,
+    pub groups: Items<Column>,
+    pub having: Option<Boxed<Condition>>,
+}
+
+impl<
+    E: Fn(Global, Option<usize>, usize, &[Token]) -> Result<(Expression, &[Token]), ParseError>,
+    C: Fn(Global, Option<usize>, usize, &[Token]) -> Result<(Condition, &[Token]), ParseError>,
+    Q: Fn(Global, Option<usize>, usize, &[Token]) -> Result<(Query, &[Token]), ParseError>,
+> Rules<E, C, Q> {
+    /// `[WHERE cond]`
+    #[tactic(auto, unfolding(crate::specs::ReadQueries::filter))]
+    fn filter<'a>(
+        &self,
+        tokens: &'a [Token],
+    ) -> Result<(Option<Boxed<Condition>>, &'a [Token]), ParseError>
+        requires { Nests self.now.limit self.now.depth (E.pre self.now.expression) (E.post self.now.expression) (C.pre self.now.condition) (C.post self.now.condition) (Q.pre self.now.query) (Q.post self.now.query) }
+        ensures { Gives result (queries.filter self.now.limit (inner_at self.now.limit self.now.depth) (kinds tokens.now)) }
+    {
+        match after_word(Word::Where, tokens) {
+            None => Ok((None, tokens)),
+            Some(rest) => {
+                let (condition, rest) = self.condition(rest)?;
+                Ok((Some(Boxed::new(self.alloc, condition)?), rest))
+            }
+        }
+    }
+
+    /// `[GROUP BY column {, column}]`
+    #[tactic(auto, unfolding(crate::specs::ReadQueries::groups))]
+    fn groups<'a>(&self, tokens: &'a [Token]) -> Result<(Items<Column>, &'a [Token]), ParseError>
+        requires { Nests self.now.limit self.now.depth (E.pre self.now.expression) (E.post self.now.expression) (C.pre self.now.condition) (C.post self.now.condition) (Q.pre self.now.query) (Q.post self.now.query) }
+        ensures { Gives result (queries.groups self.now.limit (inner_at self.now.limit self.now.depth) (kinds tokens.now)) }
+    {
+        match after_word(Word::Group, tokens) {
+            None => Ok((Items::new(self.alloc), tokens)),
+            Some(rest) => {
+                let rest = word(Word::By, rest)?;
+                listed(self.alloc, |at| column(self.alloc, at), rest)
+            }
+        }
+    }
+
+    /// `[HAVING cond]`
+    #[tactic(auto, unfolding(crate::specs::ReadQueries::having))]
+    fn having<'a>(
+        &self,
+        tokens: &'a [Token],
+    ) -> Result<(Option<Boxed<Condition>>, &'a [Token]), ParseError>
+        requires { Nests self.now.limit self.now.depth (E.pre self.now.expression) (E.post self.now.expression) (C.pre self.now.condition) (C.post self.now.condition) (Q.pre self.now.query) (Q.post self.now.query) }
+        ensures { Gives result (queries.having self.now.limit (inner_at self.now.limit self.now.depth) (kinds tokens.now)) }
+    {
+        match after_word(Word::Having, tokens) {
+            None => Ok((None, tokens)),
+            Some(rest) => {
+                let (condition, rest) = self.condition(rest)?;
+                Ok((Some(Boxed::new(self.alloc, condition)?), rest))
+            }
+        }
+    }
+
+    /// `[WHERE cond] [GROUP BY column {, column}] [HAVING cond]`
+    #[tactic(auto, unfolding(crate::specs::ReadQueries::clauses))]
+    fn clauses<'a>(&self, tokens: &'a [Token]) -> Result<(Clauses, &'a [Token]), ParseError>
+        requires { Nests self.now.limit self.now.depth (E.pre self.now.expression) (E.post self.now.expression) (C.pre self.now.condition) (C.post self.now.condition) (Q.pre self.now.query) (Q.post self.now.query) }
+        ensures { Gives result (queries.clauses self.now.limit (inner_at self.now.limit self.now.depth) (kinds tokens.now)) }
+    {
+        let (filter, rest) = self.filter(tokens)?;
+        let (groups, rest) = self.groups(rest)?;
+        let (having, rest) = self.having(rest)?;
+        let clauses = Clauses {
+            filter,
+            groups,
+            having,
+        };
+        Ok((clauses, rest))
+    }
+
+    /// What follows FROM.
+    #[tactic(auto, unfolding(crate::specs::ReadQueries::tables))]
+    fn tables<'a>(
+        &self,
+        tokens: &'a [Token],
+    ) -> Result<((Items<TableReference>, Clauses), &'a [Token]), ParseError>
+        requires { Nests self.now.limit self.now.depth (E.pre self.now.expression) (E.post self.now.expression) (C.pre self.now.condition) (C.post self.now.condition) (Q.pre self.now.query) (Q.post self.now.query) }
+        ensures { Gives result (queries.tables self.now.limit (inner_at self.now.limit self.now.depth) (kinds tokens.now)) }
+    {
+        let (from, rest) = listed(self.alloc, |at| self.table_reference(at), tokens)?;
+        let (clauses, rest) = self.clauses(rest)?;
+        Ok(((from, clauses), rest))
+    }
+
+    /// What follows SELECT and ALL or DISTINCT.
+    #[tactic(auto, unfolding(crate::specs::ReadQueries::selected))]
+    fn selected<'a>(
+        &self,
+        tokens: &'a [Token],
+    ) -> Result<
+        (
+            (Option<Items<SelectItem>>, (Items<TableReference>, Clauses)),
+            &'a [Token],
+        ),
+        ParseError,
+    >
+        requires { Nests self.now.limit self.now.depth (E.pre self.now.expression) (E.post self.now.expression) (C.pre self.now.condition) (C.post self.now.condition) (Q.pre self.now.query) (Q.post self.now.query) }
+        ensures { Gives result (queries.selected self.now.limit (inner_at self.now.limit self.now.depth) (kinds tokens.now)) }
+    {
+        let (items, rest) = self.select_items(tokens)?;
+        let rest = word(Word::From, rest)?;
+        let (tables, rest) = self.tables(rest)?;
+        Ok(((items, tables), rest))
+    }
+
+    /// `select = SELECT [ALL | DISTINCT] ( * | item {, item} ) FROM ref {, ref}` and the clauses
+    #[tactic(auto, unfolding(crate::specs::ReadQueries::select))]
+    fn select<'a>(&self, tokens: &'a [Token]) -> Result<(Select, &'a [Token]), ParseError>
+        requires { Nests self.now.limit self.now.depth (E.pre self.now.expression) (E.post self.now.expression) (C.pre self.now.condition) (C.post self.now.condition) (Q.pre self.now.query) (Q.post self.now.query) }
+        ensures { Gives result (queries.select self.now.limit (inner_at self.now.limit self.now.depth) (kinds tokens.now)) }
+    {
+        let rest = word(Word::Select, tokens)?;
+        let (quantifier, rest) = may_quantifier(rest);
+        let ((items, (from, clauses)), rest) = self.selected(rest)?;
+        let Clauses {
+            filter,
+            groups,
+            having,
+        } = clauses;
+        let select = Select {
+            quantifier,
+            items,
+            from,
+            filter,
+            groups,
+            having,
+        };
+        Ok((select, rest))
+    }
+
+    /// `operand = select | ( query )`
+    #[tactic(auto, unfolding(crate::specs::ReadQueries::operand))]
+    fn operand<'a>(&self, tokens: &'a [Token]) -> Result<(Operand, &'a [Token]), ParseError>
+        requires { Nests self.now.limit self.now.depth (E.pre self.now.expression) (E.post self.now.expression) (C.pre self.now.condition) (C.post self.now.condition) (Q.pre self.now.query) (Q.post self.now.query) }
+        ensures { Gives result (queries.operand self.now.limit (inner_at self.now.limit self.now.depth) (kinds tokens.now)) }
+    {
+        if next_is_symbol(Symbol::LeftParenthesis, tokens) {
+            let (query, rest) = parenthesized(|at| self.inner_query(at), tokens)?;
+            Ok((Operand::Grouped(Boxed::new(self.alloc, query)?), rest))
+        } else {
+            let (select, rest) = self.select(tokens)?;
+            Ok((Operand::Select(Boxed::new(self.alloc, select)?), rest))
+        }
+    }
+
+    /// What follows INTERSECT and ALL, with whether that is written.
+    #[tactic(auto, unfolding(crate::specs::ReadQueries::intersected))]
+    fn intersected<'a>(
+        &self,
+        all: bool,
+        tokens: &'a [Token],
+    ) -> Result<((bool, Operand), &'a [Token]), ParseError>
+        requires { Nests self.now.limit self.now.depth (E.pre self.now.expression) (E.post self.now.expression) (C.pre self.now.condition) (C.post self.now.condition) (Q.pre self.now.query) (Q.post self.now.query) }
+        ensures { Gives result (queries.intersected self.now.limit (inner_at self.now.limit self.now.depth) all (kinds tokens.now)) }
+    {
+        let (operand, rest) = self.operand(tokens)?;
+        Ok(((all, operand), rest))
+    }
+
+    /// `addend = operand {INTERSECT [ALL] operand}`
+    #[tactic(auto, unfolding(crate::specs::ReadQueries::addend))]
+    fn addend<'a>(&self, tokens: &'a [Token]) -> Result<(Addend, &'a [Token]), ParseError>
+        requires { Nests self.now.limit self.now.depth (E.pre self.now.expression) (E.post self.now.expression) (C.pre self.now.condition) (C.post self.now.condition) (Q.pre self.now.query) (Q.post self.now.query) }
+        ensures { Gives result (queries.addend self.now.limit (inner_at self.now.limit self.now.depth) (kinds tokens.now)) }
+    {
+        let (first, rest) = self.operand(tokens)?;
+        let found = Items::new(self.alloc);
+        let (others, rest) = many(
+            self.limit,
+            intersect,
+            |all, at| self.intersected(all, at),
+            found,
+            rest,
+        )?;
+        Ok((Addend { first, others }, rest))
+    }
+
+    /// What follows an operator between addends, with it.
+    #[tactic(auto, unfolding(crate::specs::ReadQueries::united))]
+    fn united<'a>(
+        &self,
+        operator: SetOperator,
+        tokens: &'a [Token],
+    ) -> Result<((SetOperator, Addend), &'a [Token]), ParseError>
+        requires { Nests self.now.limit self.now.depth (E.pre self.now.expression) (E.post self.now.expression) (C.pre self.now.condition) (C.post self.now.condition) (Q.pre self.now.query) (Q.post self.now.query) }
+        ensures { Gives result (queries.united self.now.limit (inner_at self.now.limit self.now.depth) operator (kinds tokens.now)) }
+    {
+        let (operand, rest) = self.addend(tokens)?;
+        Ok(((operator, operand), rest))
+    }
+
+    /// `query = select | sum`, where `sum = addend {(UNION | EXCEPT) [ALL] addend}` has a set operator in it
+    #[tactic(auto, unfolding(crate::specs::ReadQueries::query))]
+    pub fn query<'a>(&self, tokens: &'a [Token]) -> Result<(Query, &'a [Token]), ParseError>
+        requires { Nests self.now.limit self.now.depth (E.pre self.now.expression) (E.post self.now.expression) (C.pre self.now.condition) (C.post self.now.condition) (Q.pre self.now.query) (Q.post self.now.query) }
+        ensures { Gives result (queries.query self.now.limit (inner_at self.now.limit self.now.depth) (kinds tokens.now)) }
+    {
+        let (first, rest) = self.addend(tokens)?;
+        let found = Items::new(self.alloc);
+        let (others, rest) = many(
+            self.limit,
+            set_operator,
+            |operator, at| self.united(operator, at),
+            found,
+            rest,
+        )?;
+        if is_lone(&first, &others) {
+            return Err(ParseError::Syntax);
+        }
+        Ok((Query { first, others }, rest))
+    }
+}
