@@ -8,3 +8,6 @@ mod statement;
 mod writer;
 
 pub use printing::{print, print_condition, print_condition_tokens, print_tokens};
+
+#[cfg(test)]
+mod tests;
