@@ -4,3 +4,4 @@ pub mod Printed
 pub mod Writes
 pub mod Store
 pub mod Place
+pub mod Cutter

@@ -58,6 +58,11 @@ pub record IsFirstPiece (bytes piece rest : List ℕ) : Type 0 where
   pub before : Passes bytes (semicolon ∷ rest)
   pub whole : bytes ≡ piece ++ rest
 
+-- no piece of theirs ends
+pub record EndsNowhere (bytes : List ℕ) : Type 0 where
+  pub unended : IsUnended bytes
+  pub no_piece : (piece rest : List ℕ) → IsFirstPiece bytes piece rest → ⊥
+
 -- the pieces of an input, in order; a last one may lack its semicolon
 abbrev pub ArePieces : List ℕ → List (List ℕ) → Type 0
 ArePieces bytes [] = bytes ≡ []
