@@ -1,0 +1,11 @@
+pub mod Built
+pub mod Condition
+pub mod CreateTable
+pub mod Expression
+pub mod Finding
+pub mod Finds
+pub mod Insert
+pub mod Scope
+pub mod Select
+pub mod Statement
+pub mod Typing
