@@ -1,8 +1,11 @@
 #!/usr/bin/env bash
-# Times 100,000 rows inserted by statements of 500 rows, and one full scan with a filter, by sqlsh and, where it is
-# installed, by sqlite3's shell on the same text.
+# Times 100,000 rows inserted by statements of 500 rows, and the same with one full scan and a filter behind it, by
+# sqlsh and, where it is installed, by sqlite3's shell. Each is run ten times, in turn; for each the median is printed,
+# with the least and the greatest. sqlite3 gets the same text with BEGIN; before it, since sqlsh begins a transaction by
+# itself. The number of runs may be given.
 set -euo pipefail
 top=$(cd "$(dirname "$0")/.." && pwd)
+runs=${1:-10}
 work=$(mktemp -d)
 trap 'rm -rf "$work"' EXIT
 
@@ -19,28 +22,46 @@ awk 'BEGIN {
   print "COMMIT;"
 }' > "$work/insert.sql"
 echo "SELECT A, B FROM T WHERE C = 7 AND A > 1000;" > "$work/scan.sql"
-cat "$work/insert.sql" "$work/scan.sql" > "$work/both.sql"
+cat "$work/insert.sql" "$work/scan.sql" > "$work/insert_and_scan.sql"
+for name in insert insert_and_scan; do
+  { echo "BEGIN;"; cat "$work/$name.sql"; } > "$work/$name.lite"
+done
 
-seconds() {
+run_sqlsh() { "$top/sqlsh" run < "$work/$1.sql"; }
+run_sqlite3() { sqlite3 < "$work/$1.lite"; }
+
+# Adds the seconds that one run takes to the list of its program and script.
+add_run() {
   local start end
   start=$(date +%s.%N)
-  "$@" > "$work/out"
+  "run_$1" "$2" > "$work/out"
   end=$(date +%s.%N)
-  awk -v s="$start" -v e="$end" 'BEGIN { printf "%.2f", e - s }'
+  awk -v s="$start" -v e="$end" 'BEGIN { printf "%.3f\n", e - s }' >> "$work/$1.$2.seconds"
 }
 
-"$top/sqlsh" --help > /dev/null
-both() { "$top/sqlsh" run < "$work/$1.sql"; }
-sqlite() { sqlite3 < "$work/$1.lite"; }
+# The median of a list, its least and its greatest.
+summary() {
+  sort -n "$work/$1.$2.seconds" | awk -v name="$1, $2" '{ s[NR] = $1 }
+    END {
+      middle = NR % 2 ? s[(NR + 1) / 2] : (s[NR / 2] + s[NR / 2 + 1]) / 2
+      printf "%-26s %.3f s (%.3f to %.3f, %d runs)\n", name ":", middle, s[1], s[NR], NR
+    }'
+}
 
-insert=$(seconds both insert)
-all=$(seconds both both)
-echo "sqlsh:   insert $insert s, insert and scan $all s"
+programs=(sqlsh)
 if command -v sqlite3 > /dev/null; then
-  for name in insert both; do
-    { echo "BEGIN;"; cat "$work/$name.sql"; } > "$work/$name.lite"
-  done
-  insert=$(seconds sqlite insert)
-  all=$(seconds sqlite both)
-  echo "sqlite3: insert $insert s, insert and scan $all s"
+  programs+=(sqlite3)
 fi
+
+# Builds sqlsh, where that is needed, before the clock runs.
+"$top/sqlsh" --help > /dev/null
+for ((turn = 0; turn < runs; turn++)); do
+  for program in "${programs[@]}"; do
+    add_run "$program" insert
+    add_run "$program" insert_and_scan
+  done
+done
+for program in "${programs[@]}"; do
+  summary "$program" insert
+  summary "$program" insert_and_scan
+done

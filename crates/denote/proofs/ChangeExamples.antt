@@ -11,15 +11,15 @@ use Rattle.sqlval.specs.declared.schema.Rule.TheVariants.{PrimaryKey, Unique, Ch
 use Rattle.sqlval.specs.declared.storing.ColumnType.{ColumnType}
 use Rattle.sqlval.specs.declared.storing.ColumnType.TheVariants.{Integer, Varchar}
 use Rattle.sqlval.specs.Value.{Row}
-use Rattle.resolve.specs.declared.typed.Arithmetic.TheVariants.{Add}
-use Rattle.resolve.specs.declared.typed.Expression.{Expression}
-use Rattle.resolve.specs.declared.typed.Expression.TheVariants as e
-use Rattle.resolve.specs.declared.typed.Condition.{Condition}
-use Rattle.resolve.specs.declared.typed.Condition.TheVariants as c
-use Rattle.resolve.specs.declared.statement.Insert.{Insert}
-use Rattle.resolve.specs.declared.statement.InsertSource.TheVariants.{Values}
-use Rattle.resolve.specs.declared.statement.Update.{Update}
-use Rattle.resolve.specs.declared.statement.Delete.{Delete}
+use Rattle.typing.specs.declared.typed.Arithmetic.TheVariants.{Add}
+use Rattle.typing.specs.declared.typed.Expression.{Expression}
+use Rattle.typing.specs.declared.typed.Expression.TheVariants as e
+use Rattle.typing.specs.declared.typed.Condition.{Condition}
+use Rattle.typing.specs.declared.typed.Condition.TheVariants as c
+use Rattle.typing.specs.declared.statement.Insert.{Insert}
+use Rattle.typing.specs.declared.statement.InsertSource.TheVariants.{Values}
+use Rattle.typing.specs.declared.statement.Update.{Update}
+use Rattle.typing.specs.declared.statement.Delete.{Delete}
 use Rattle.denote.specs.declared.fault.Fault.TheVariants.{TextTooLong, DivisionByZero}
 use Rattle.denote.specs.Database.{Database, Table, CheckReading}
 use Rattle.denote.specs.Change.{Changed, Makes, Raises, Violates, insert_into, update_in, delete_from}

@@ -5,23 +5,23 @@ use Rattle.sqlval.specs.declared.value.Value.{Value}
 use Rattle.sqlval.specs.declared.value.Value.TheVariants.{Null, Int, Text}
 use Rattle.sqlval.specs.declared.comparison.CompOp.TheVariants as by
 use Rattle.sqlval.specs.Value.{Row}
-use Rattle.resolve.specs.declared.typed.Arithmetic.TheVariants.{Add, Subtract, Multiply, Divide}
-use Rattle.resolve.specs.declared.typed.Expression.{Expression}
-use Rattle.resolve.specs.declared.typed.Expression.TheVariants as e
-use Rattle.resolve.specs.declared.typed.Condition.{Condition}
-use Rattle.resolve.specs.declared.typed.Condition.TheVariants as c
-use Rattle.resolve.specs.declared.typed.Source.{Source}
-use Rattle.resolve.specs.declared.typed.Source.TheVariants as f
-use Rattle.resolve.specs.declared.typed.SetFunction.{SetFunction}
-use Rattle.resolve.specs.declared.typed.SetFunction.TheVariants as s
-use Rattle.resolve.specs.declared.typed.SetFunctionType.TheVariants.{Count, Sum, Avg}
-use Rattle.resolve.specs.declared.typed.SetOperator.{SetOperator}
-use Rattle.resolve.specs.declared.typed.SetOperator.TheVariants.{Except, Intersect}
-use Rattle.resolve.specs.declared.typed.Query.{Query}
-use Rattle.resolve.specs.declared.typed.Query.TheVariants as q
-use Rattle.resolve.specs.declared.typed.Item.{Item, roll-Item}
-use Rattle.resolve.specs.declared.typed.Grouping.{Grouping, roll-Grouping}
-use Rattle.resolve.specs.declared.typed.Select.{roll-Select}
+use Rattle.typing.specs.declared.typed.Arithmetic.TheVariants.{Add, Subtract, Multiply, Divide}
+use Rattle.typing.specs.declared.typed.Expression.{Expression}
+use Rattle.typing.specs.declared.typed.Expression.TheVariants as e
+use Rattle.typing.specs.declared.typed.Condition.{Condition}
+use Rattle.typing.specs.declared.typed.Condition.TheVariants as c
+use Rattle.typing.specs.declared.typed.Source.{Source}
+use Rattle.typing.specs.declared.typed.Source.TheVariants as f
+use Rattle.typing.specs.declared.typed.SetFunction.{SetFunction}
+use Rattle.typing.specs.declared.typed.SetFunction.TheVariants as s
+use Rattle.typing.specs.declared.typed.SetFunctionType.TheVariants.{Count, Sum, Avg}
+use Rattle.typing.specs.declared.typed.SetOperator.{SetOperator}
+use Rattle.typing.specs.declared.typed.SetOperator.TheVariants.{Except, Intersect}
+use Rattle.typing.specs.declared.typed.Query.{Query}
+use Rattle.typing.specs.declared.typed.Query.TheVariants as q
+use Rattle.typing.specs.declared.typed.Item.{Item, roll-Item}
+use Rattle.typing.specs.declared.typed.Grouping.{Grouping, roll-Grouping}
+use Rattle.typing.specs.declared.typed.Select.{roll-Select}
 use Rattle.denote.specs.declared.fault.Fault.{Fault}
 use Rattle.denote.specs.declared.fault.Fault.TheVariants.{ManyRows, OutOfRange, DivisionByZero}
 use Rattle.denote.specs.Outcome.{Outcome, through, whole}

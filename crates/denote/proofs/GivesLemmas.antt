@@ -5,7 +5,7 @@ use Rattle.sqlval.specs.declared.value.Value.{Value}
 use Rattle.sqlval.specs.declared.truth.Truth.{Truth}
 use Rattle.sqlval.specs.declared.truth.Truth.TheVariants.{False, Unknown, True}
 use Rattle.sqlval.specs.Truth.{truth_and, truth_or}
-use Rattle.resolve.specs.declared.typed.Arithmetic.{Arithmetic}
+use Rattle.typing.specs.declared.typed.Arithmetic.{Arithmetic}
 use Rattle.denote.specs.declared.fault.Fault.{Fault as Raised}
 use Rattle.denote.specs.declared.fault.Stop.{Stop}
 use Rattle.denote.specs.declared.fault.Stop.TheVariants.{Memory, Fault}

@@ -4,23 +4,23 @@
 use Rattle.std.specs.Prelude.{ℕ, ◌≡◌, Contains, Bool, true, false, not, List, [], ◌∷◌, ◌++◌, map, filter, flat_map, count_by, length, Option, Some, None, Ok, Err}
 use Rattle.std.specs.List.{filter_map}
 use Rattle.std.specs.FinMap.{get, insert, remove, entries, from_entries}
-use Rattle.std.specs.Str.{bytes_eq}
 use Rattle.sqlval.specs.declared.truth.Truth.TheVariants.{True}
 use Rattle.sqlval.specs.declared.schema.Rule.{Rule}
 use Rattle.sqlval.specs.declared.schema.Rule.TheVariants.{NotNull, PrimaryKey, Unique, Check}
+use Rattle.sqlval.specs.Schema.{is_named}
 use Rattle.sqlval.specs.Truth.{same_truth}
 use Rattle.sqlval.specs.Value.{Row}
-use Rattle.resolve.specs.declared.statement.Change.{Change}
-use Rattle.resolve.specs.declared.statement.Change.TheVariants as does
-use Rattle.resolve.specs.declared.statement.CreateTable.{CreateTable}
-use Rattle.resolve.specs.declared.statement.CreateIndex.{CreateIndex}
-use Rattle.resolve.specs.declared.statement.Insert.{Insert}
-use Rattle.resolve.specs.declared.statement.InsertSource.{InsertSource}
-use Rattle.resolve.specs.declared.statement.InsertSource.TheVariants as from
-use Rattle.resolve.specs.declared.statement.Update.{Update}
-use Rattle.resolve.specs.declared.statement.Assignment.{Assignment}
-use Rattle.resolve.specs.declared.statement.Delete.{Delete}
-use Rattle.resolve.specs.declared.typed.Condition.{Condition}
+use Rattle.typing.specs.declared.statement.Change.{Change}
+use Rattle.typing.specs.declared.statement.Change.TheVariants as does
+use Rattle.typing.specs.declared.statement.CreateTable.{CreateTable}
+use Rattle.typing.specs.declared.statement.CreateIndex.{CreateIndex}
+use Rattle.typing.specs.declared.statement.Insert.{Insert}
+use Rattle.typing.specs.declared.statement.InsertSource.{InsertSource}
+use Rattle.typing.specs.declared.statement.InsertSource.TheVariants as from
+use Rattle.typing.specs.declared.statement.Update.{Update}
+use Rattle.typing.specs.declared.statement.Assignment.{Assignment}
+use Rattle.typing.specs.declared.statement.Delete.{Delete}
+use Rattle.typing.specs.declared.typed.Condition.{Condition}
 use Rattle.denote.specs.declared.fault.Fault.{Fault}
 use Rattle.denote.specs.Evaluation.{Evaluation, ◌>>=◌, adding, unless, together}
 use Rattle.denote.specs.StoredRow.{key_faults, row_with, admitted, inserted_row}
@@ -114,18 +114,15 @@ index_on db c table =
     unless_raised (unless (flat_map (λ row. key_faults row c.columns) table.rows) (record { name = Some c.name; columns = c.columns }))
     (λ index. Makes (insert db c.table (record table { indexes = table.indexes ++ index ∷ [] })) None)
 
-abbrev pub has_name : Name → Option Name → Bool
-has_name name None = false
-has_name name (Some other) = bytes_eq name other
-
 abbrev pub without_index : Name → Table → Table
-without_index name table = record table { indexes = filter (λ index. not (has_name name index.name)) table.indexes }
+without_index name table = record table { indexes = filter (λ index. not (is_named name index.name)) table.indexes }
 
 -- a change of the table that it names; where no table has that name, which the rules of names exclude, nothing changes
 abbrev pub on_table : Database → Option Table → (Table → Changed) → Changed
 on_table db None change = Makes db (Some 0)
 on_table db (Some table) change = change table
 
+-- What the rules of names exclude is never met: a CREATE TABLE of a name that stands, a DROP of one that does not.
 abbrev pub changed : CheckReading → Database → Change → Changed
 changed reading db (does.CreateTable c) = Makes (insert db c.name (created c)) None
 changed reading db (does.DropTable name) = Makes (remove db name) None

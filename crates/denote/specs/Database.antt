@@ -14,7 +14,7 @@ use Rattle.sqlval.specs.Comparison.{text_order}
 use Rattle.sqlval.specs.Matching.{key_of, matches}
 use Rattle.sqlval.specs.Storing.{fits_column}
 use Rattle.sqlval.specs.Value.{Row, is_null}
-use Rattle.resolve.specs.declared.typed.Condition.{Condition}
+use Rattle.typing.specs.declared.typed.Condition.{Condition}
 use Rattle.denote.specs.Evaluation.{Evaluation}
 use Rattle.denote.specs.Bag.{Permutes}
 use Rattle.denote.specs.Meaning.{truth_at}
@@ -98,13 +98,14 @@ is_violated reading name table (Check text) = list_any (λ row. is_false (check_
 abbrev pub violated_by : CheckReading → Name → Table → List Name
 violated_by reading name table = map (λ c. c.name) (filter (λ c. is_violated reading name table c.rule) table.constraints)
 
--- the names of the NOT NULLs that some of these rows violate
+-- whether some of these rows violate a rule that is a NOT NULL
 abbrev pub breaks_not_null : List Row → Rule → Bool
 breaks_not_null rows (NotNull column) = has_null (column ∷ []) rows
 breaks_not_null rows (PrimaryKey columns) = false
 breaks_not_null rows (Unique columns) = false
 breaks_not_null rows (Check text) = false
 
+-- the names of the NOT NULLs that some of these rows violate
 abbrev pub broken_not_nulls : List Constraint → List Row → List Name
 broken_not_nulls constraints rows = map (λ c. c.name) (filter (λ c. breaks_not_null rows c.rule) constraints)
 

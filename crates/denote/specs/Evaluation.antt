@@ -54,7 +54,8 @@ joined (Ok x) (Ok xs) = Ok (x ∷ xs)
 joined (Ok x) (Err faults) = Err faults
 joined (Err faults) others = Err (faults ++ faults_in others)
 
--- the values of all, or the faults of every one
+-- The values of all, or the faults of every one. So it is for the items of a select list, the rows and the set functions of a group,
+-- and the sources and the rows of a change: all are evaluated. (Of the operands of an operator the first with faults ends it: `>>=`.)
 abbrev pub together : {A : Type 0} → List (Evaluation A) → Evaluation (List A)
 together [] = Ok []
 together (x ∷ xs) = joined x (together xs)

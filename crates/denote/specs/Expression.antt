@@ -4,8 +4,8 @@ use Rattle.sqlval.specs.declared.value.Value.{Value}
 use Rattle.sqlval.specs.declared.value.Value.TheVariants.{Null, Int}
 use Rattle.sqlval.specs.Arithmetic.{sum_of, difference_of, product_of, quotient_of}
 use Rattle.sqlval.specs.Concatenation.{concatenation as concatenation_of}
-use Rattle.resolve.specs.declared.typed.Arithmetic.{Arithmetic}
-use Rattle.resolve.specs.declared.typed.Arithmetic.TheVariants.{Add, Subtract, Multiply, Divide}
+use Rattle.typing.specs.declared.typed.Arithmetic.{Arithmetic}
+use Rattle.typing.specs.declared.typed.Arithmetic.TheVariants.{Add, Subtract, Multiply, Divide}
 use Rattle.denote.specs.declared.fault.Fault.{Fault}
 use Rattle.denote.specs.declared.fault.Fault.TheVariants.{ManyRows}
 use Rattle.sqlval.specs.Value.{Row}

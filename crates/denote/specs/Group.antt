@@ -6,8 +6,8 @@ use Rattle.sqlval.specs.declared.value.Value.TheVariants.{Null, Int}
 use Rattle.sqlval.specs.declared.code.Code.{Code}
 use Rattle.sqlval.specs.Arithmetic.{in_range}
 use Rattle.sqlval.specs.Comparison.{value_order}
-use Rattle.resolve.specs.declared.typed.SetFunctionType.{SetFunctionType}
-use Rattle.resolve.specs.declared.typed.SetFunctionType.TheVariants.{Count, Sum, Avg, Min, Max}
+use Rattle.typing.specs.declared.typed.SetFunctionType.{SetFunctionType}
+use Rattle.typing.specs.declared.typed.SetFunctionType.TheVariants.{Count, Sum, Avg, Min, Max}
 use Rattle.denote.specs.declared.fault.Fault.{Fault}
 use Rattle.denote.specs.declared.fault.Fault.TheVariants.{OutOfRange}
 use Rattle.sqlval.specs.Matching.{key_of}
@@ -17,7 +17,7 @@ use Rattle.denote.specs.Outcome.{Outcome, each, through}
 use Rattle.denote.specs.Expression.{ExpressionMeaning}
 use Rattle.denote.specs.Condition.{ConditionMeaning}
 use Rattle.denote.specs.From.{filtered}
-use Rattle.denote.specs.Bag.{is_alike, are_alike, distinct}
+use Rattle.denote.specs.Bag.{is_alike, are_alike, distinct, distinct_by}
 
 -- a set function over the rows of a group
 abbrev pub SetFunctionMeaning : Type 0
@@ -37,15 +37,10 @@ members (Some columns) key rows = filter (λ row. are_alike key (key_of columns 
 
 -- ---- set functions
 
--- one of each alike values
-abbrev pub distinct_values : List Value → List Value
-distinct_values [] = []
-distinct_values (x ∷ xs) = x ∷ filter (λ y. not (is_alike x y)) (distinct_values xs)
-
 -- the values that a set function takes: those that are not null, and with DISTINCT one of each alike ones
 abbrev pub taken : Bool → List Value → List Value
 taken false xs = filter (λ x. not (is_null x)) xs
-taken true xs = distinct_values (filter (λ x. not (is_null x)) xs)
+taken true xs = distinct_by is_alike (filter (λ x. not (is_null x)) xs)
 
 -- the exact sum
 abbrev pub total : List Value → ℤ
@@ -71,7 +66,8 @@ aggregated Min (x ∷ xs) = Ok (fold lesser x xs)
 aggregated Max [] = Ok Null
 aggregated Max (x ∷ xs) = Ok (fold greater x xs)
 
--- a group of more than 2^63 - 1 rows cannot be counted: our own choice
+-- A group of more rows than the greatest integer, 2^63 - 1: a fault of every set function over an argument, whatever the values
+-- are. (COUNT of rows alone has it by its range.) Our own choice.
 abbrev pub beyond_count : List Row → List Fault
 beyond_count rows = if nat_lt (length rows) (2 ^ 63) then [] else OutOfRange ∷ []
 

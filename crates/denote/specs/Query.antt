@@ -1,6 +1,6 @@
 -- What a query with its ORDER BY denotes over a database (ISO/IEC 9075:1992, 7.10, 13.1).
 use Rattle.std.specs.Prelude.{[]}
-use Rattle.resolve.specs.declared.typed.OrderedQuery.{OrderedQuery}
+use Rattle.typing.specs.declared.typed.OrderedQuery.{OrderedQuery}
 use Rattle.denote.specs.Outcome.{OrderedOutcome}
 use Rattle.denote.specs.Meaning.{query_outcome}
 use Rattle.denote.specs.Database.{Database, rows_in}

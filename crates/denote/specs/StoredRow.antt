@@ -7,7 +7,7 @@ use Rattle.sqlval.specs.CodedLength.{row_length, key_length}
 use Rattle.sqlval.specs.Matching.{key_of}
 use Rattle.sqlval.specs.Storing.{stored}
 use Rattle.sqlval.specs.Value.{Row}
-use Rattle.resolve.specs.declared.typed.Condition.{Condition}
+use Rattle.typing.specs.declared.typed.Condition.{Condition}
 use Rattle.denote.specs.declared.fault.Fault.{Fault}
 use Rattle.denote.specs.declared.fault.Fault.TheVariants.{Record, Key}
 use Rattle.denote.specs.Evaluation.{Evaluation, ◌>>=◌, given, faults_in, unless, together}

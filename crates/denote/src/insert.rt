@@ -10,18 +10,18 @@ ghost use Rattle.denote.specs.Expression.{cell};
 ghost use Rattle.denote.specs.Meaning.{value_of};
 ghost use Rattle.denote.specs.Stop.{Gives, Passes};
 ghost use Rattle.denote.specs.StoredRow.{given_for, value_for, row_with, inserted_row as stored_row, row_faults, key_faults};
-ghost use Rattle.resolve.specs.declared.statement.InsertSource.TheVariants as from;
+ghost use Rattle.typing.specs.declared.statement.InsertSource.TheVariants as from;
 
 use crate::evaluate::{condition_truth, expression_value};
 use crate::fault::{Fault, Stop};
 use crate::tables::{Env, NoTables, Row, Rows, Tables};
 use items::{Items, Text};
-use resolve::{Condition, Expression};
 use sqlval::{
     Column, ColumnType, Index, Rule, Table, Value, coded_index_key_length, coded_row_length,
     store_as,
 };
 use std::alloc::{AllocError, Global};
+use typing::{Condition, Expression};
 
 /// Where a place stands among these columns first.
 fn position_of(place: usize, columns: &[usize]) -> Option<usize>

@@ -10,8 +10,8 @@ use crate::evaluate::{condition_truth, expression_value};
 use crate::fault::Stop;
 use crate::tables::{Env, Row, Rows, Tables};
 use items::Items;
-use resolve::{Condition, Item, Query, Select, Source};
 use std::alloc::Global;
+use typing::{Condition, Item, Query, Select, Source};
 
 /// Whether a filter keeps a row: no filter keeps each.
 #[tactic(auto, using(crate::proofs::Nodes::row_nodes))]

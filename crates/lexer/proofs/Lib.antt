@@ -16,3 +16,4 @@ pub mod StringAgain
 pub mod SymbolAgain
 pub mod Again
 pub mod Unique
+pub mod Recognized

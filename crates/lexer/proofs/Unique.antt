@@ -20,13 +20,13 @@ split text from to order =
     ap (λ more. slice_range text from to ++ more) (sym left) ∙ take-append-drop (to - from) (drop from text)
 
 -- where a token stands, it is read
-record IsRead (text : Bytes) (from : ℕ) (token : Token) : Type 0 where
-  there : gap (drop from text) ≡ drop token.start text
-  step : next (drop token.start text) ≡ Reads token.kind (drop token.end text)
-  start_within : token.start ≤ length text
-  end_within : token.end ≤ length text
+pub record IsRead (text : Bytes) (from : ℕ) (token : Token) : Type 0 where
+  pub there : gap (drop from text) ≡ drop token.start text
+  pub step : next (drop token.start text) ≡ Reads token.kind (drop token.end text)
+  pub start_within : token.start ≤ length text
+  pub end_within : token.end ≤ length text
 
-read : (text : Bytes) (from : ℕ) (token : Token) → IsToken text from token → IsRead text from token
+pub read : (text : Bytes) (from : ℕ) (token : Token) → IsToken text from token → IsRead text from token
 read text from token is_token =
     let spelling : Bytes = slice_range text token.start token.end in
     let takes = taking token.kind spelling is_token.spelling in
@@ -90,7 +90,7 @@ unique text (t ∷ ts) (u ∷ us) from a b s r h e last k f last' =
     let tails : ts ≡ us = others.0 in
     (cc, others.1)
 
-at_end : (text : Bytes) (tokens : List Token) (are : AreTokens text tokens) → next (gap (drop are.last text)) ≡ Stop
+pub at_end : (text : Bytes) (tokens : List Token) (are : AreTokens text tokens) → next (gap (drop are.last text)) ≡ Stop
 at_end text tokens are =
     let none : gap (drop are.last text ++ []) ≡ [] = gap-IsGap (drop are.last text) [] are.gap (record { no_space = refl; no_comment = refl }) in
     ap (λ bytes. next (gap bytes)) (sym (append-nil (drop are.last text))) ∙ ap next none

@@ -63,6 +63,14 @@ module _ (text here : Bytes) (tokens : List Token) (from : ℕ) (within : from �
         ends = rw own.left begins.ends;
       }
 
+  -- what follows it
+  pub what_is_left : (rest : Bytes) (kind : Kind) → next here ≡ Reads kind rest → drop (length text - length rest) text ≡ rest
+  what_is_left rest kind e =
+      let skips : Skips (drop from text) here = at_here text here from there in
+      let begins : Begins here kind rest = subst (IsStep here) e (next_sound here skips.at_token) in
+      let before : IsCut text from (length text - length here) skips.front here = cut text skips.front here from within skips.text in
+      (cut text begins.spelling rest (length text - length here) before.within (before.left ∙ begins.text)).left
+
   pub a_fault : (refusal : Refusal) → AreTokensBetween text 0 tokens from → next here ≡ Fails refusal → IsFirstFault text refusal
   a_fault refusal before e =
       let skips : Skips (drop from text) here = at_here text here from there in

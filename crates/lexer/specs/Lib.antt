@@ -6,3 +6,4 @@ pub mod Tokens
 pub mod Reading
 pub mod Support
 pub mod Printing
+pub mod Recognition

@@ -54,7 +54,7 @@ fn folded(alloc: Global, first: u8, run: &[u8]) -> Result<Vec<u8>, AllocError>
     Ok(text)
 }
 
-fn run_len(bytes: &[u8]) -> usize
+pub fn run_len(bytes: &[u8]) -> usize
     ensures value { result ≡ length (take_while token.is_word_byte bytes.now) }
     ensures within { result ≤ length bytes.now }
 {

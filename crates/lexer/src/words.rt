@@ -1,12 +1,17 @@
 //! The reserved words.
 
 ghost use Rattle.std.specs.Prelude.{◌≡◌, map};
-ghost use Rattle.lexer.specs.Words.{is_supported, reserved, supports, text_with, word_text, word_with};
+ghost use Rattle.lexer.specs.declared.words.TheConstants.{WORDS};
+ghost use Rattle.lexer.specs.Words.{Entry as Line, is_supported, reserved, supports, text_with, word_text, word_with};
 
 /// Whether the forms that use a reserved word are built yet.
 #[derive(Clone, Copy, Debug, PartialEq, Eq)]
 pub enum Support {
     Now,
+    /// Its forms come later. Of these words the language has no form: ALTER, ANY, ASSERTION, CASCADE,
+    /// CASE, CAST, CHAR, COALESCE, COLLATE, CORRESPONDING, CURRENT, DATE, DECIMAL, DEFAULT, DOMAIN, ESCAPE,
+    /// FLOAT, FULL, GRANT, INTERVAL, ISOLATION, NATURAL, NULLIF, NUMERIC, REAL, RESTRICT, REVOKE, RIGHT,
+    /// SAVEPOINT, SCHEMA, SCROLL, SMALLINT, SOME, TIME, TIMESTAMP, USING and VIEW.
     Later,
 }
 
@@ -245,12 +250,19 @@ pub const WORDS: [Entry; 111] = [
     (b"WRITE", Word::Write, Support::Later),
 ];
 
+/// The lines of `WORDS`.
+fn lines() -> &'static [Entry]
+    ensures { map {B = Line} (λ entry. (entry.0.now, entry.1, entry.2)) result.now ≡ map {B = Line} (λ entry. (entry.0.now, entry.1, entry.2)) WORDS }
+{
+    &WORDS
+}
+
 /// The reserved word of this text, which is in upper case; `None` where it is no reserved word.
 #[tactic(auto, unfolding(crate::specs::Words::reserved))]
 pub fn reserved_word(text: &[u8]) -> Option<Word>
     ensures { result ≡ reserved text.now }
 {
-    word_with(&WORDS, text)
+    word_with(lines(), text)
 }
 
 impl Word {
@@ -259,7 +271,7 @@ impl Word {
     pub fn text(self) -> &'static [u8]
         ensures { result.now ≡ word_text self }
     {
-        text_with(&WORDS, self)
+        text_with(lines(), self)
     }
 
     /// Whether the forms that use the word are built.
@@ -267,7 +279,7 @@ impl Word {
     pub fn is_supported(self) -> bool
         ensures { result ≡ is_supported self }
     {
-        supports(&WORDS, self)
+        supports(lines(), self)
     }
 }
 

@@ -110,7 +110,7 @@ unfolding eat_word
 written_again w ts true rest h stops = rw (h, true_same word_type w w refl) refl
 written_again w ts false rest h stops = rw (h, stops) refl
 
-written_passes : (w : Word) (ts : Tokens) (b : Bool) (rest : Tokens) → Written (kind.Word w) ts b rest → Passes ts rest
+pub written_passes : (w : Word) (ts : Tokens) (b : Bool) (rest : Tokens) → Written (kind.Word w) ts b rest → Passes ts rest
 written_passes w ts true rest h = one refl refl h
 written_passes w ts false rest h = same h
 
@@ -118,7 +118,7 @@ written_passes w ts false rest h = same h
 pub may_be_again : {d : ℕ} (w : Word) → Again Bool d (is_word w) (written w) (Written (kind.Word w))
 may_be_again w = record { passes = written_passes w; at = λ ts b rest h shallow stops. ap (λ p. Some p) (written_again w ts b rest h stops) }
 
-maybe_passes : {A : Type 0} (R : Rule A) → ((ts : Tokens) (x : A) (rest : Tokens) → R ts x rest → Passes ts rest) → (ts : Tokens) (x : Option A) (rest : Tokens) → Maybe R ts x rest → Passes ts rest
+pub maybe_passes : {A : Type 0} (R : Rule A) → ((ts : Tokens) (x : A) (rest : Tokens) → R ts x rest → Passes ts rest) → (ts : Tokens) (x : Option A) (rest : Tokens) → Maybe R ts x rest → Passes ts rest
 maybe_passes R p ts None rest h = same h
 maybe_passes R p ts (Some x) rest h = p ts x rest h
 

@@ -1,5 +1,5 @@
 -- A whole text: what is read is in the grammar.
-use Rattle.std.proofs.Common.{◌≡◌, ℕ, zero, suc, Bool, true, false, cond, List, [], ◌∷◌, Option, Some, None, refl, ap, inl, inr}
+use Rattle.std.proofs.Common.{◌≡◌, ℕ, zero, suc, true, false, cond, [], ◌∷◌, Option, Some, None, refl, ap, inl, inr}
 use Rattle.std.specs.Prelude.{◌⊎◌, ◌&&◌}
 use Rattle.lexer.specs.declared.kinds.Kind.{Kind}
 use Rattle.lexer.specs.declared.kinds.Kind.TheVariants as kind
@@ -12,7 +12,7 @@ use Rattle.ast.specs.Notation.{Tokens}
 use Rattle.ast.specs.Words.{SEMICOLON}
 use Rattle.ast.specs.Expressions.{Within, Nested}
 use Rattle.ast.specs.Grammar.{nested_at, IsText, IsConditionText}
-use Rattle.productions.specs.Readers.{◌>>=◌, is_symbol, same_symbol}
+use Rattle.productions.specs.Readers.{is_symbol}
 use Rattle.productions.specs.ReadExpressions.{Inner}
 use Rattle.productions.specs.ReadStatements.{statement, text, condition_text, is_end, is_nothing}
 use Rattle.productions.specs.Levels.{inner_at}

@@ -8,3 +8,11 @@ pub mod Found
 pub mod Nested
 pub mod Passes
 pub mod Again
+pub mod Follow
+pub mod AgainTerminals
+pub mod AgainStatementParts
+pub mod AgainStatements
+pub mod AgainExpressions
+pub mod AgainConditions
+pub mod AgainQueries
+pub mod AgainText

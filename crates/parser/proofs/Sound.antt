@@ -1,6 +1,5 @@
 -- What is read is in the grammar, for each way in which the grammar joins its rules.
-use Rattle.std.proofs.Common.{◌≡◌, ℕ, zero, suc, ◌+◌, ◌-◌, ◌≤◌, ◌<◌, Bool, true, false, cond, nat_le, List, [], ◌∷◌, ◌++◌, length, Option, Some, None, refl, ap, sym as flip, ◌∙◌, subst, arith, append_assoc, append-nil, length-append, inl, inr}
-use Rattle.std.specs.Prelude.{◌⊎◌}
+use Rattle.std.proofs.Common.{◌≡◌, ℕ, zero, suc, ◌-◌, Bool, true, false, cond, List, [], ◌∷◌, ◌++◌, length, Option, Some, None, refl, sym as flip, ◌∙◌, subst, arith, append_assoc, append-nil, length-append, inl, inr}
 use Rattle.std.proofs.lemmas.Bool.Decides.{leb_tells}
 use Rattle.lexer.specs.declared.kinds.Kind.{Kind}
 use Rattle.lexer.specs.declared.kinds.Kind.TheVariants as kind
@@ -10,7 +9,7 @@ use Rattle.lexer.specs.declared.words.Word.{Word}
 use Rattle.ast.specs.Notation.{Tokens, Rule, ◌⨾◌, ◌⊳◌, ◌⊲◌, Parenthesized, Maybe, Written, Many, Listed, MaybeListed}
 use Rattle.ast.specs.Words.{COMMA}
 use Rattle.ast.specs.Expressions.{Within, Chain}
-use Rattle.productions.specs.Readers.{Reader, Outcome, ◌>>=◌, if_next, if_full, is_full, next_is, is_word, word, symbol, eat_word, both, after, before, parenthesized, made, optional, maybe, maybe_listed, written, many_from, many, listed}
+use Rattle.productions.specs.Readers.{Reader, ◌>>=◌, if_next, if_full, is_full, is_word, word, symbol, eat_word, both, after, before, parenthesized, made, optional, maybe, maybe_listed, written, many_from, many, listed}
 use Rattle.parser.proofs.Steps.{bind_some, found, word_found, symbol_found}
 
 -- what r reads is in S

@@ -1,5 +1,5 @@
 -- Expressions and conditions: what is read is in the grammar.
-use Rattle.std.proofs.Common.{◌≡◌, ℕ, Bool, ◌∷◌, List, Option, Some, None, refl, ap, ◌∙◌}
+use Rattle.std.proofs.Common.{◌≡◌, ℕ, Bool, ◌∷◌, Option, Some, refl, ap, ◌∙◌}
 use Rattle.lexer.specs.declared.kinds.Kind.TheVariants as kind
 use Rattle.lexer.specs.declared.kinds.Symbol.TheVariants as s
 use Rattle.lexer.specs.declared.words.Word.TheVariants as w
@@ -22,11 +22,11 @@ use Rattle.ast.specs.declared.tree.Primary.TheVariants.{outs-Number, outs-Text, 
 use Rattle.ast.specs.declared.tree.Query.{Query}
 use Rattle.ast.specs.declared.tree.Term.{Term, roll-Term, out-roll-Term}
 use Rattle.ast.specs.declared.tree.Test.{Test, roll-Test}
-use Rattle.ast.specs.Notation.{Tokens, Rule, ◌⨾◌, ◌⊳◌, Maybe, Written}
+use Rattle.ast.specs.Notation.{Tokens, ◌⨾◌, ◌⊳◌, Maybe, Written}
 use Rattle.ast.specs.Terminals.{IsComparison, IsQuantifier, IsSetFunction}
 use Rattle.ast.specs.Words.{ASTERISK, BETWEEN, COUNT, IN, IS, LEFT_PARENTHESIS, NOT, RIGHT_PARENTHESIS}
 use Rattle.ast.specs.Expressions.{Within, Nested, IsPrimary, IsFactor, IsTerm, IsExpression, IsPredicate, IsTest, IsNegation, IsConjunction, IsCondition}
-use Rattle.productions.specs.Readers.{Reader, Outcome, ◌>>=◌, next_is, is_symbol, word, symbol, eat_word}
+use Rattle.productions.specs.Readers.{◌>>=◌, next_is, is_symbol, word, symbol, eat_word}
 use Rattle.productions.specs.ReadTerminals.{count_rows, is_number, is_string, opens_query, opens_subquery, opens_condition, set_function, comparison}
 use Rattle.productions.specs.ReadExpressions.{Inner, argument, aggregate, in_parentheses, constant_or_column, primary, factor, multiplied, term, added, expression, compare, is_null, between, is_in, like, range_list_or_pattern, after_operand, exists, nested, predicate, test_, negation, conjunction, condition}
 use Rattle.parser.proofs.Steps.{bind_some, found, symbol_found}

@@ -1,5 +1,5 @@
 -- Queries: what is read is in the grammar.
-use Rattle.std.proofs.Common.{◌≡◌, ℕ, Bool, true, false, cond, List, [], ◌∷◌, Option, Some, None, refl, ap, ◌∙◌}
+use Rattle.std.proofs.Common.{◌≡◌, ℕ, Bool, true, false, cond, List, [], ◌∷◌, Option, Some, None, refl}
 use Rattle.lexer.specs.declared.kinds.Symbol.TheVariants as s
 use Rattle.lexer.specs.declared.words.Word.TheVariants as w
 use Rattle.ast.specs.declared.operator.Column.{Column}
@@ -24,9 +24,9 @@ use Rattle.ast.specs.Notation.{Tokens, Rule, ◌⨾◌, ◌⊳◌, Listed}
 use Rattle.ast.specs.Expressions.{Within, Nested, Chain, IsCondition}
 use Rattle.ast.specs.Queries.{is_lone, IsTableSource, IsJoin, IsTableReference, IsSelectItem, AreSelectItems, IsFilter, AreGroups, IsHaving, IsSelect, IsOperand, IsAddend, IsQuery}
 use Rattle.ast.specs.Terminals.{IsSetOperator}
-use Rattle.ast.specs.Words.{CROSS, FROM, INTERSECT, JOIN, LEFT, ON}
+use Rattle.ast.specs.Words.{CROSS, FROM, JOIN, LEFT, ON}
 use Rattle.productions.specs.declared.query.Clauses.{Clauses}
-use Rattle.productions.specs.Readers.{Reader, Outcome, ◌>>=◌, next_is, is_symbol, both, many}
+use Rattle.productions.specs.Readers.{next_is, is_symbol, both, many}
 use Rattle.productions.specs.ReadTerminals.{set_operator}
 use Rattle.productions.specs.ReadExpressions.{Inner}
 use Rattle.productions.specs.ReadQueries.{begins_join, join_ahead, table_source, on, joined, crossed, left, inner_join, join, table_reference, select_item, select_items, filter, groups, having, clauses, tables, selected, select, operand, intersected, addend, united, query}

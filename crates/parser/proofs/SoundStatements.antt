@@ -1,5 +1,5 @@
 -- Statements: what is read is in the grammar.
-use Rattle.std.proofs.Common.{◌≡◌, ℕ, Bool, List, [], ◌∷◌, Option, Some, None, refl, ap, ◌∙◌}
+use Rattle.std.proofs.Common.{◌≡◌, ℕ, List, ◌∷◌, Option, Some, None, refl, ap, ◌∙◌}
 use Rattle.lexer.specs.declared.kinds.Kind.{Kind}
 use Rattle.lexer.specs.declared.kinds.Symbol.TheVariants as s
 use Rattle.lexer.specs.declared.words.Word.TheVariants as w
@@ -32,12 +32,12 @@ use Rattle.ast.specs.declared.statement.TypeName.TheVariants as type_of
 use Rattle.ast.specs.declared.tree.Condition.{Condition}
 use Rattle.ast.specs.declared.tree.Expression.{Expression}
 use Rattle.ast.specs.declared.tree.Query.{Query}
-use Rattle.ast.specs.Notation.{Tokens, Rule, ◌⨾◌, ◌⊳◌, Parenthesized, Maybe, Listed, MaybeListed}
+use Rattle.ast.specs.Notation.{Tokens, Rule, ◌⨾◌, ◌⊳◌, Parenthesized, Listed, MaybeListed}
 use Rattle.ast.specs.Expressions.{Nested}
 use Rattle.ast.specs.Terminals.{IsName}
 use Rattle.ast.specs.Statements.{AreNames, IsSortColumn, IsDirection, IsSortKey, IsOrder, IsTypeName, IsConstraintName, IsOrderedQuery, IsFilter, IsColumnRule, IsColumnConstraint, IsColumnDefinition, IsTableRule, IsTableConstraint, IsTableElement, IsStoredSource, IsRow, AreInsertRows, IsAssignment, IsAccessMode, IsStatement}
 use Rattle.ast.specs.Words.{CHARACTER, CHECK, CREATE, CURSOR, DECLARE, DELETE, DROP, FOR, INDEX, INSERT, NOT, ON, PRIMARY, READ, SET, TABLE, UNIQUE, UPDATE, VALUES}
-use Rattle.productions.specs.Readers.{Reader, Outcome, ◌>>=◌, next_is, word, made}
+use Rattle.productions.specs.Readers.{Reader, next_is, word, made}
 use Rattle.productions.specs.ReadTerminals.{is_name, is_number}
 use Rattle.productions.specs.ReadExpressions.{Inner}
 use Rattle.productions.specs.ReadStatements.{names, sort_column, direction, sort_key, order, varying, text_type, type_name, constraint_name, constraint_ahead, begins_constraint, ordered_query, filter, check, column_rule, column_constraint, column_definition, table_rule, table_constraint, element, create_table, indexed_columns, indexed, create_index, create, drop, stored_source, stored_sources, row_of_sources, insert_rows, opens_names, insert_columns, insert, assignment, assigned, update, delete, access_mode, set_transaction, cursor_query, declare_cursor, data_change, schema_change, transaction_control, cursor_control, begins_data_change, begins_schema_change, begins_transaction_control, begins_cursor_control, query_statement, statement}

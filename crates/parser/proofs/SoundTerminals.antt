@@ -1,9 +1,8 @@
 -- The parts that hold no other part: what is read is in the grammar.
-use Rattle.std.proofs.Common.{◌≡◌, ℕ, ℤ, Bool, true, false, List, [], ◌∷◌, Option, Some, None, refl, ap, sym as flip, ◌∙◌, subst}
+use Rattle.std.proofs.Common.{◌≡◌, ℕ, ℤ, Bool, true, false, List, ◌∷◌, Option, Some, None, refl, ap, sym as flip, ◌∙◌, subst}
 use Rattle.std.specs.Prelude.{if◌then◌else◌}
 use Rattle.lexer.specs.declared.kinds.Kind.{Kind}
 use Rattle.lexer.specs.declared.kinds.Kind.TheVariants as kind
-use Rattle.lexer.specs.declared.kinds.Symbol.{Symbol}
 use Rattle.lexer.specs.declared.kinds.Symbol.TheVariants as s
 use Rattle.lexer.specs.declared.words.Word.TheVariants as w
 use Rattle.ast.specs.declared.operator.AddOperator.{AddOperator}
@@ -27,13 +26,13 @@ use Rattle.ast.specs.declared.operator.Sign.TheVariants as sign_of
 use Rattle.ast.specs.declared.operator.TruthTest.{TruthTest}
 use Rattle.ast.specs.declared.operator.TruthValue.{TruthValue}
 use Rattle.ast.specs.declared.operator.TruthValue.TheVariants as truth
-use Rattle.ast.specs.Notation.{Tokens, Rule, ◌⨾◌, ◌⊳◌, Maybe, Written}
+use Rattle.ast.specs.Notation.{Tokens, ◌⨾◌, ◌⊳◌, Maybe, Written}
 use Rattle.ast.specs.Terminals.{IsName, IsNumber, IsString, IsSign, IsAddOperator, IsMultiplyOperator, IsComparison, IsQuantifier, IsSetFunction, IsSetOperator, IsTruthValue, IsTruthTest, IsLiteral, IsColumn, IsAlias}
-use Rattle.ast.specs.Words.{ALL, EXCEPT, INTERSECT, IS, NOT, PERIOD, UNION}
-use Rattle.productions.specs.Readers.{Reader, Outcome, ◌>>=◌, if_next, next_is, symbol, eat_word, name, number, made}
+use Rattle.ast.specs.Words.{ALL, EXCEPT, INTERSECT, NOT, UNION}
+use Rattle.productions.specs.Readers.{if_next, next_is, symbol, eat_word, name, number, made}
 use Rattle.productions.specs.ReadTerminals.{add_operator, multiply_operator, sign, less, not_less, comparison, quantifier, extreme, count_or_sum, set_function, set_operator, intersect, truth_value, truth_test, string, is_string, literal, column, alias, begins_alias, may_alias}
 use Rattle.parser.proofs.Steps.{bind_some, found, symbol_found}
-use Rattle.parser.proofs.Sound.{Sound, Opening, both_sound, made_sound, eaten, written_sound, optional_sound, maybe_sound, by_word, either_sound, next_sound, none_sound, word_is, symbol_is, word_then, itself, nothing_sound, opening_to}
+use Rattle.parser.proofs.Sound.{Sound, both_sound, made_sound, eaten, written_sound, optional_sound, maybe_sound, by_word, either_sound, next_sound, none_sound, word_is, symbol_is, word_then, itself, nothing_sound, opening_to}
 
 pub name_sound : Sound (List ℕ) name IsName
 name_sound = record { at = at }

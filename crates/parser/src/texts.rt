@@ -1,15 +1,17 @@
 //! Whole texts of tokens.
 
-ghost use Rattle.std.specs.Prelude.{◌≡◌, ◌≢◌, ◌↔◌, if◌then◌else◌, true, false, IfOk, Some, None, Err};
+ghost use Rattle.std.specs.Prelude.{◌≡◌, ◌⊎◌, ◌↔◌, if◌then◌else◌, true, false, IfOk, IfErr, Some, None, Ok, Err};
 ghost use Rattle.ast.specs.Grammar.{IsText, IsConditionText};
 ghost use Rattle.ast.specs.Nesting.{IsNestedWithin};
 ghost use Rattle.ast.specs.declared.statement.Statement.{Statement};
 ghost use Rattle.ast.specs.declared.tree.Condition.{Condition};
-ghost use Rattle.lexer.specs.declared.refusals.Refusal.TheVariants.{Exceeded};
+ghost use Rattle.lexer.specs.declared.refusals.Reason.TheVariants.{Syntax};
+ghost use Rattle.lexer.specs.declared.refusals.Refusal.TheVariants.{Exceeded, Invalid, Memory};
 ghost use Rattle.lexer.specs.declared.refusals.Limit.TheVariants.{Chain, Nesting};
 ghost use Rattle.productions.specs.Readers.{kinds, GivesAll};
 ghost use Rattle.productions.specs.ReadStatements as statements;
 ghost use Rattle.parser.specs.Shallow.{is_shallow};
+ghost use Rattle.parser.specs.Trees.{HasStatement, HasCondition};
 ghost use Rattle.productions.specs.Levels.{inner_at};
 
 use ast::{Condition, Statement};
@@ -80,8 +82,9 @@ fn condition_text(
 
 /// Why the tokens are no statement with chains within the limit.
 fn statement_refusal(alloc: Global, tokens: &[Token]) -> Refusal
-    ensures chain { result ≡ Exceeded Chain → (x : Statement) × IsText None (kinds tokens.now) x }
-    ensures not_nesting { result ≢ Exceeded Nesting }
+    ensures chain { result ≡ Exceeded Chain → HasStatement None (kinds tokens.now) }
+    ensures syntax { result ≡ Invalid Syntax → is_shallow (kinds tokens.now) 64 ≡ true → ¬ HasStatement None (kinds tokens.now) }
+    ensures refusal { (result ≡ Memory) ⊎ (result ≡ Invalid Syntax) ⊎ (result ≡ Exceeded Chain) }
 {
     let refused = match text(alloc, None, MAXIMUM_NESTING + 1, tokens) {
         Ok(_found) => return Refusal::Exceeded(Limit::Chain),
@@ -95,8 +98,9 @@ fn statement_refusal(alloc: Global, tokens: &[Token]) -> Refusal
 
 /// Why the tokens are no condition with chains within the limit.
 fn condition_refusal(alloc: Global, tokens: &[Token]) -> Refusal
-    ensures chain { result ≡ Exceeded Chain → (x : Condition) × IsConditionText None (kinds tokens.now) x }
-    ensures not_nesting { result ≢ Exceeded Nesting }
+    ensures chain { result ≡ Exceeded Chain → HasCondition None (kinds tokens.now) }
+    ensures syntax { result ≡ Invalid Syntax → is_shallow (kinds tokens.now) 64 ≡ true → ¬ HasCondition None (kinds tokens.now) }
+    ensures refusal { (result ≡ Memory) ⊎ (result ≡ Invalid Syntax) ⊎ (result ≡ Exceeded Chain) }
 {
     let refused = match condition_text(alloc, None, MAXIMUM_NESTING + 1, tokens) {
         Ok(_found) => return Refusal::Exceeded(Limit::Chain),
@@ -116,9 +120,14 @@ fn condition_refusal(alloc: Global, tokens: &[Token]) -> Refusal
 pub fn parse(alloc: Global, tokens: &[Token]) -> Result<Statement, Refusal>
     // What is parsed is in the grammar.
     ensures found { IfOk result (λ x. IsText (Some 64) (kinds tokens.now) x) }
-    // A chain is refused only where the tokens are a statement but for the limit of chains.
-    ensures chain { result ≡ Err (Exceeded Chain) → (x : Statement) × IsText None (kinds tokens.now) x }
+    // What is in the grammar is parsed, so it has no other tree.
+    ensures only { (x : Statement) → IsText (Some 64) (kinds tokens.now) x → (result ≡ Ok x) ⊎ (result ≡ Err Memory) ⊎ (result ≡ Err (Exceeded Nesting)) }
+    // No tree has these tokens, however many operands its chains may have.
+    ensures syntax { result ≡ Err (Invalid Syntax) → (¬ HasStatement (Some 64) (kinds tokens.now)) × (¬ HasStatement None (kinds tokens.now)) }
+    // A tree has them, but none with 64 operands at most in a chain.
+    ensures chain { result ≡ Err (Exceeded Chain) → (¬ HasStatement (Some 64) (kinds tokens.now)) × HasStatement None (kinds tokens.now) }
     ensures nesting { (result ≡ Err (Exceeded Nesting)) ↔ (¬ IsNestedWithin 64 (kinds tokens.now)) }
+    ensures refusal { IfErr result (λ e. (e ≡ Memory) ⊎ (e ≡ Invalid Syntax) ⊎ (e ≡ Exceeded Chain) ⊎ (e ≡ Exceeded Nesting)) }
 {
     if is_nested_deeper(tokens) {
         return Err(Refusal::Exceeded(Limit::Nesting));
@@ -133,8 +142,11 @@ pub fn parse(alloc: Global, tokens: &[Token]) -> Result<Statement, Refusal>
 /// The condition that the tokens are. Refuses as `parse` does.
 pub fn parse_condition(alloc: Global, tokens: &[Token]) -> Result<Condition, Refusal>
     ensures found { IfOk result (λ x. IsConditionText (Some 64) (kinds tokens.now) x) }
-    ensures chain { result ≡ Err (Exceeded Chain) → (x : Condition) × IsConditionText None (kinds tokens.now) x }
+    ensures only { (x : Condition) → IsConditionText (Some 64) (kinds tokens.now) x → (result ≡ Ok x) ⊎ (result ≡ Err Memory) ⊎ (result ≡ Err (Exceeded Nesting)) }
+    ensures syntax { result ≡ Err (Invalid Syntax) → (¬ HasCondition (Some 64) (kinds tokens.now)) × (¬ HasCondition None (kinds tokens.now)) }
+    ensures chain { result ≡ Err (Exceeded Chain) → (¬ HasCondition (Some 64) (kinds tokens.now)) × HasCondition None (kinds tokens.now) }
     ensures nesting { (result ≡ Err (Exceeded Nesting)) ↔ (¬ IsNestedWithin 64 (kinds tokens.now)) }
+    ensures refusal { IfErr result (λ e. (e ≡ Memory) ⊎ (e ≡ Invalid Syntax) ⊎ (e ≡ Exceeded Chain) ⊎ (e ≡ Exceeded Nesting)) }
 {
     if is_nested_deeper(tokens) {
         return Err(Refusal::Exceeded(Limit::Nesting));

@@ -1,13 +1,12 @@
 //! The types of conditions.
 
-use crate::expressions::{TypedExpression, of_type, typed_expression, with_sign};
-use crate::scope::Frame;
-use crate::typed::{Condition, Expression};
+use crate::expressions::{of_type, typed_expression, with_sign};
 use ast::{Comparison, Conjunction, Literal, Negation, Predicate, Test, TruthTest, TruthValue};
 use items::{Boxed, Items};
 use lexer::{Reason, Refusal};
 use sqlval::{CompOp, Truth, Value, ValueType};
 use std::alloc::{AllocError, Global};
+use typing::{Condition, Expression, Frame, TypedExpression};
 
 /// What a condition stands for in one FROM.
 #[cycle(conditions)]

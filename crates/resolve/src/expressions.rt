@@ -1,23 +1,16 @@
 //! The types of expressions.
 
 ghost use Rattle.std.specs.Prelude.{◌≡◌, Ok};
-ghost use Rattle.resolve.specs.Finds.{Finds};
-ghost use Rattle.resolve.specs.Expression.{integer, must_be, product_operator, signed, signed_number, sum_operator};
+ghost use Rattle.typing.specs.Finds.{Finds};
+ghost use Rattle.typing.specs.Expression.{integer, must_be, product_operator, signed, signed_number, sum_operator};
 
-use crate::scope::{Frame, column};
-use crate::typed::{Arithmetic, Expression};
+use crate::scope::column;
 use ast::{AddOperator, Factor, MultiplyOperator, Primary, Sign, Term};
 use items::{Boxed, Items};
 use lexer::{Reason, Refusal};
 use sqlval::{Value, ValueType, negate};
 use std::alloc::Global;
-
-/// An expression and its type.
-#[derive(Drop)]
-pub struct TypedExpression {
-    pub expression: Expression,
-    pub value_type: ValueType,
-}
+use typing::{Arithmetic, Expression, Frame, TypedExpression};
 
 /// What an expression stands for in one FROM.
 #[cycle(expressions)]

@@ -2,14 +2,12 @@
 
 use crate::expressions::{of_type, typed_expression};
 use crate::queries::{table_named, value_type_of};
-use crate::scope::Frame;
-use crate::statement::{Insert, InsertSource};
-use crate::typed::Expression;
 use ast::{InsertRows, StoredSource};
 use items::Items;
 use lexer::{Name, Reason, Refusal};
 use sqlval::{ColumnType, Schema, Table, Value};
 use std::alloc::Global;
+use typing::{Expression, Frame, Insert, InsertSource};
 
 /// What an INSERT stands for over a schema.
 pub fn typed_insert(alloc: Global, tree: &ast::Insert, schema: &Schema) -> Result<Insert, Refusal> {
@@ -94,6 +92,7 @@ fn typed_source(
             let nothing = Frame {
                 tables: Items::new(alloc),
                 columns: Items::new(alloc),
+                key: None,
             };
             let typed = typed_expression(alloc, &nothing, tree)?;
             of_type(typed, value_type_of(column))

@@ -1,16 +1,17 @@
 //! The columns and types of queries.
 
 use crate::conditions::typed_condition;
-use crate::expressions::{TypedExpression, typed_expression};
-use crate::scope::{Frame, Offer};
-use crate::typed::{Expression, Item, OrderedQuery, Query, Select, Source};
+use crate::expressions::typed_expression;
 use ast::{Addend, Operand, SelectItem, TableSource};
 use items::{Boxed, Items, Text};
 use lexer::{Limit, Reason, Refusal};
 use sqlval::{ColumnType, Schema, Table, ValueType};
 use std::alloc::{AllocError, Global};
+use typing::{
+    Expression, Frame, Item, Offer, OrderedQuery, Query, Select, Source, TypedExpression,
+};
 
-/// The greatest number of tables in one FROM.
+/// The greatest number of tables in one FROM, until joins are built.
 const MAXIMUM_TABLES: usize = 1;
 
 /// The greatest number of columns of a result.
@@ -53,7 +54,7 @@ fn typed_select(alloc: Global, tree: &ast::Select, schema: &Schema) -> Result<Se
         return Err(Refusal::Exceeded(Limit::Tables));
     }
     let Some(reference) = tree.from.get(0) else {
-        return Err(Refusal::NotSupported);
+        return Err(Refusal::Invalid(Reason::Syntax));
     };
     let (from, frame) = typed_source(alloc, &reference.first, schema)?;
     let items = match &tree.items {
@@ -114,7 +115,11 @@ pub fn frame_of(alloc: Global, shown: &Text, table: &Table) -> Result<Frame, All
     }
     let mut tables = Items::with_capacity(alloc, 1)?;
     tables.push(shown.copy(alloc)?)?;
-    Ok(Frame { tables, columns })
+    Ok(Frame {
+        tables,
+        columns,
+        key: None,
+    })
 }
 
 /// The type of a column's values.

@@ -2,13 +2,13 @@
 
 use crate::inserts::typed_insert;
 use crate::queries::typed_query;
-use crate::statement::{Change, Typed};
 use crate::support::is_built;
 use crate::tables::typed_table;
 use ast::Statement;
 use lexer::Refusal;
 use sqlval::Schema;
 use std::alloc::Global;
+use typing::{Change, Typed};
 
 /// What a statement stands for over a schema.
 ///

@@ -1,45 +1,11 @@
 //! Which column a name means.
 
-ghost use Rattle.std.specs.Prelude.{◌≡◌, ◌∷◌, []};
-ghost use Rattle.resolve.specs.Scope.{is_meant, meant, as_matches, column_in};
-ghost use Rattle.resolve.specs.Finds.{Finds};
+ghost use Rattle.std.specs.Prelude.{◌≡◌};
+ghost use Rattle.typing.specs.Scope.{is_meant};
 
-use crate::expressions::TypedExpression;
-use crate::typed::Expression;
 use ast::Column;
-use items::{Items, Text};
 use lexer::{Reason, Refusal};
-use sqlval::ValueType;
-
-/// A column that a FROM offers: the name of its table there, its own name if it has one, and its type.
-#[derive(Debug, Drop)]
-pub struct Offer {
-    pub table: Text,
-    pub name: Option<Text>,
-    pub value_type: ValueType,
-}
-
-/// The tables of a FROM, and their columns in order.
-#[derive(Debug, Drop)]
-pub struct Frame {
-    pub tables: Items<Text>,
-    pub columns: Items<Offer>,
-}
-
-/// A column of a FROM, by its place from 0.
-#[derive(Clone, Copy, Debug, PartialEq, Eq)]
-pub struct Found {
-    pub place: usize,
-    pub value_type: ValueType,
-}
-
-/// The columns of a FROM that a name means.
-#[derive(Clone, Copy, Debug, PartialEq, Eq)]
-pub enum Matches {
-    Nothing,
-    One(Found),
-    Several,
-}
+use typing::{Expression, Found, Frame, Matches, Offer, TypedExpression};
 
 /// The column that a name means in one FROM.
 pub fn column(frame: &Frame, column: &Column) -> Result<TypedExpression, Refusal> {
@@ -61,7 +27,7 @@ pub fn column(frame: &Frame, column: &Column) -> Result<TypedExpression, Refusal
 fn matches_in(offers: &[Offer], column: &Column) -> Matches {
     let mut matches = Matches::Nothing;
     for (place, offer) in offers.iter().enumerate() {
-        if offer.is_meant_by(column) {
+        if is_meant_by(offer, column) {
             if matches != Matches::Nothing {
                 return Matches::Several;
             }
@@ -74,19 +40,15 @@ fn matches_in(offers: &[Offer], column: &Column) -> Matches {
     matches
 }
 
-impl Offer {
-    ghost use Rattle.resolve.specs.Scope.{is_meant};
-
-    fn is_meant_by(&self, column: &Column) -> bool
-        ensures { result ≡ is_meant column.now self.now }
-    {
-        let is_of_table = match &column.table {
-            Some(table) => self.table.as_slice() == table.as_text().as_slice(),
-            None => true,
-        };
-        match &self.name {
-            Some(name) => is_of_table && name.as_slice() == column.name.as_text().as_slice(),
-            None => false,
-        }
+fn is_meant_by(offer: &Offer, column: &Column) -> bool
+    ensures { result ≡ is_meant column.now offer.now }
+{
+    let is_of_table = match &column.table {
+        Some(table) => offer.table.as_slice() == table.as_text().as_slice(),
+        None => true,
+    };
+    match &offer.name {
+        Some(name) => is_of_table && name.as_slice() == column.name.as_text().as_slice(),
+        None => false,
     }
 }

@@ -1,11 +1,11 @@
 //! The columns and constraints of CREATE TABLE.
 
-use crate::statement::CreateTable;
 use ast::{ColumnConstraint, ColumnDefinition, ColumnRule, TableElement, TypeName};
 use items::{Items, Text};
 use lexer::{Limit, Name, Reason, Refusal};
 use sqlval::{Column, ColumnType, Constraint, Rule, Schema};
 use std::alloc::Global;
+use typing::CreateTable;
 
 /// The greatest number of columns of a table.
 const MAXIMUM_COLUMNS: usize = 32;

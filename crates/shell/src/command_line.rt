@@ -24,14 +24,14 @@ fn command_line<'a>(alloc: Global) -> Result<Command<'a>, Error> {
     let frames = Arg::new(alloc, "frames")
         .long("frames")
         .value_name("N")
-        .help("Pages that the pool keeps in memory, from 16 to 4096")
+        .help("Frames of the page pool, from 16 to 4096; no effect while tables stand in memory")
         .value_parser(value_parser!(u32).range(16..=4096))
         .default_value("256");
     let run = Command::new(alloc, "run")
         .about("Reads SQL on standard input and prints rows, counts or refusals")
         .arg(frames)?;
     let sqlsh = Command::new(alloc, "sqlsh")
-        .about("A SQL engine whose answers are proved")
+        .about("A SQL engine that is being proved")
         .subcommand_required(true)
         .subcommand(run)?;
     Ok(sqlsh)

@@ -33,6 +33,7 @@ impl Frames {
 
     /// The count.
     pub fn get(self) -> u32
+        ensures value { result ≡ self.count }
         ensures enough { 16 ≤ result }
         ensures bounded { result ≤ 4096 }
     {

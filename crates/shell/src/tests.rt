@@ -3,6 +3,7 @@
 mod command_lines;
 mod depth;
 mod expressions;
+mod faults;
 mod limits;
 mod memory;
 mod pieces;

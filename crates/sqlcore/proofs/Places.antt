@@ -19,11 +19,11 @@ head_is : (b : ℕ) (rest more : List ℕ) (c : ℕ) → b ∷ rest ≡ c ∷ mo
 head_is b rest more c e = ap (λ l. slice_index l 0) e
 
 -- no comment begins with another byte than a minus
-no_comment : (b : ℕ) (rest : List ℕ) → b ≢ minus → BeginsComment (b ∷ rest) → ⊥
+pub no_comment : (b : ℕ) (rest : List ℕ) → b ≢ minus → BeginsComment (b ∷ rest) → ⊥
 no_comment b rest other begins = other (head_is b rest (minus ∷ begins.0) minus begins.1)
 
 -- a minus before another byte begins no comment
-no_comment_yet : (b : ℕ) (rest : List ℕ) → b ≢ minus → BeginsComment (minus ∷ b ∷ rest) → ⊥
+pub no_comment_yet : (b : ℕ) (rest : List ℕ) → b ≢ minus → BeginsComment (minus ∷ b ∷ rest) → ⊥
 no_comment_yet b rest other begins = other (ap (λ l. slice_index l 1) begins.1)
 
 -- a byte that is none of the four goes on
@@ -57,7 +57,7 @@ after_plain place bytes b outside leads no_end no_quote no_minus rest =
     rw (append_assoc bytes (b ∷ []) rest)
     (Passes-trans _ _ _ (reaches place bytes b rest outside leads no_minus) (plain_byte b rest no_end no_quote no_minus))
 
-no_member : (x : ℕ) → Contains [] x → ⊥
+pub no_member : (x : ℕ) → Contains [] x → ⊥
 no_member x c = absurd (omega (arith, c.1))
 
 after_quote : (place : Place) (bytes : List ℕ) → is_outside place ≡ true → LeadsTo place bytes → LeadsTo InString (bytes ++ quote ∷ [])
@@ -98,7 +98,7 @@ grown : (before inside : List ℕ) (front bytes : List ℕ) (b : ℕ) → bytes 
 grown before inside front bytes b e =
     ap (λ l. l ++ b ∷ []) e ∙ append_assoc before (front ++ inside) (b ∷ []) ∙ ap (λ l. before ++ l) (append_assoc front inside (b ∷ []))
 
-still_open : (inside : List ℕ) (b c : ℕ) → (Contains inside c → ⊥) → b ≢ c → Contains (inside ++ b ∷ []) c → ⊥
+pub still_open : (inside : List ℕ) (b c : ℕ) → (Contains inside c → ⊥) → b ≢ c → Contains (inside ++ b ∷ []) c → ⊥
 still_open inside b c unclosed other has =
     elim (Contains-append_cases inside (b ∷ []) c has) [ inl h ↦ unclosed h | inr h ↦ other (only_member b c h) ]
   where

@@ -102,3 +102,8 @@ pub record Asks (piece : List ℕ) (request : Request) : Type 0 where
   pub body : List ℕ
   pub begins : IsBody piece body
   pub asks : BodyAsks body request
+
+-- the piece asks for this, and for nothing else
+pub record AsksFor (piece : List ℕ) (request : Request) : Type 0 where
+  pub asks : Asks piece request
+  pub only : (other : Request) → Asks piece other → other ≡ request

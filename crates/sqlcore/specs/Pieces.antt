@@ -58,9 +58,25 @@ pub record IsFirstPiece (bytes piece rest : List ℕ) : Type 0 where
   pub before : Passes bytes (semicolon ∷ rest)
   pub whole : bytes ≡ piece ++ rest
 
+-- no piece of theirs ends
+pub record EndsNowhere (bytes : List ℕ) : Type 0 where
+  pub unended : IsUnended bytes
+  pub no_piece : (piece rest : List ℕ) → IsFirstPiece bytes piece rest → ⊥
+
 -- the pieces of an input, in order; a last one may lack its semicolon
 abbrev pub ArePieces : List ℕ → List (List ℕ) → Type 0
 ArePieces bytes [] = bytes ≡ []
 ArePieces bytes (piece ∷ pieces) =
     ((rest : List ℕ) × IsFirstPiece bytes piece rest × ArePieces rest pieces)
-    ⊎ (IsUnended bytes × (piece ≡ bytes) × (pieces ≡ []))
+    ⊎ ((bytes ≢ []) × IsUnended bytes × (piece ≡ bytes) × (pieces ≡ []))
+
+-- these pieces, each with its semicolon, stand before `rest`
+abbrev pub StandBefore : List ℕ → List (List ℕ) → List ℕ → Type 0
+StandBefore bytes [] rest = bytes ≡ rest
+StandBefore bytes (piece ∷ pieces) rest = (more : List ℕ) × IsFirstPiece bytes piece more × StandBefore more pieces rest
+
+-- the pieces that end in these bytes, of an input that may go on
+pub record AreEnded (bytes : List ℕ) (pieces : List (List ℕ)) : Type 0 where
+  pub rest : List ℕ
+  pub before : StandBefore bytes pieces rest
+  pub unended : IsUnended rest

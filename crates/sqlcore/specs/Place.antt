@@ -1,5 +1,5 @@
 -- Where the next byte of a piece stands, by what was read of the piece.
-use Rattle.std.specs.Prelude.{◌≡◌, ℕ, ◌==◌, Bool, true, false, if◌then◌else◌, List, [], ◌∷◌, ◌++◌, Contains}
+use Rattle.std.specs.Prelude.{◌≡◌, ℕ, ◌==◌, ◌||◌, Bool, true, false, if◌then◌else◌, List, [], ◌∷◌, ◌++◌, Contains}
 use Rattle.sqlcore.specs.declared.input.place.Place.{Place}
 use Rattle.sqlcore.specs.declared.input.place.Place.TheVariants.{Outside, AfterMinus, InString, InComment}
 use Rattle.sqlcore.specs.Pieces.{quote, minus, newline, Passes}
@@ -49,3 +49,13 @@ LeadsTo Outside bytes = (rest : List ℕ) → Passes (bytes ++ rest) rest
 LeadsTo AfterMinus bytes = IsAfterMinus bytes
 LeadsTo InString bytes = IsInString bytes
 LeadsTo InComment bytes = IsInComment bytes
+
+abbrev pub is_space : ℕ → Bool
+is_space b = b == 32 || (b == 9 || (b == 10 || b == 13))
+
+-- white space and comments up to here go on with this byte: a minus may begin a comment
+abbrev pub goes_on_blank : Place → ℕ → Bool
+goes_on_blank Outside b = b == minus || is_space b
+goes_on_blank AfterMinus b = b == minus
+goes_on_blank InString b = false
+goes_on_blank InComment b = true

@@ -1,11 +1,12 @@
 use crate::reply::Reply;
 use crate::rollback::is_rollback;
-use crate::statements::{answer, carry_out, read_statement};
+use crate::statements::{answer, carry_out_change, read_statement};
 use crate::store::Store;
 use disk::Disk;
 use lexer::{Limit, Refusal};
-use resolve::{Typed, resolve};
+use resolve::resolve;
 use std::alloc::Global;
+use typing::Typed;
 
 /// The greatest number of bytes of a statement.
 pub(crate) const LONGEST_STATEMENT: usize = 65_536;
@@ -71,7 +72,7 @@ impl<D: Disk> Core<D> {
     /// ROLLBACK takes no memory and always succeeds.
     pub fn step(&mut self, session: SessionId, text: &[u8]) -> Reply {
         let _ = session.number;
-        if text.len() <= LONGEST_STATEMENT && is_rollback(text) {
+        if is_rollback(text) {
             self.roll_back();
             return Reply::Done;
         }
@@ -115,7 +116,7 @@ impl<D: Disk> Core<D> {
                 Ok(reply)
             }
             Typed::Change(change) => {
-                let reply = carry_out(self.alloc, &mut self.store, change)?;
+                let reply = carry_out_change(self.alloc, &mut self.store, change)?;
                 self.session = Some(Session::Active { writes: true });
                 Ok(reply)
             }

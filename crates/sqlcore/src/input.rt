@@ -3,5 +3,8 @@
 mod buffer;
 mod cutter;
 mod place;
+mod request;
+mod stage;
 
-pub(crate) use cutter::{Cutter, Request};
+pub(crate) use cutter::Cutter;
+pub(crate) use request::Request;

@@ -3,6 +3,7 @@
 
 mod engine;
 mod input;
+mod laws;
 mod printing;
 mod reply;
 mod rollback;
@@ -11,6 +12,10 @@ mod statements;
 mod store;
 
 pub use engine::{Core, Refused, SessionId};
+pub use laws::{
+    committed_databases_form_one_list, refusals_leave_the_world, runs_are_serializable,
+    scripts_are_runs, sessions_stand_until_they_end, worlds_stay_sound,
+};
 pub use printing::print_reply;
 pub use reply::Reply;
 pub use script::{ScriptFault, run};

@@ -19,7 +19,8 @@ pub enum Reply {
     Lines(Items<Text>),
     /// Any other statement was carried out.
     Done,
-    /// The statement was refused: tables, transaction and sessions are as before.
+    /// The statement was refused: tables, transaction and sessions are as before. But a serialization
+    /// failure has rolled the transaction back, and a refused FETCH has closed its cursor.
     Refused(Refusal),
 }
 

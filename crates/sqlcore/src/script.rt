@@ -78,16 +78,24 @@ fn play<D: Disk, R: Read, W: Write>(
     for _ in 0..u64::MAX {
         let count = read_some(reader, &mut chunk).map_err(ScriptFault::Reader)?;
         if count == 0 {
-            break;
+            return play_last(core, cutter, sessions, writer).map_err(ScriptFault::Writer);
         }
         play_bytes(core, cutter, sessions, &chunk[..count], writer).map_err(ScriptFault::Writer)?;
         writer.flush().map_err(ScriptFault::Writer)?;
     }
+    Err(ScriptFault::Reader(io::Error::from(ErrorKind::TimedOut)))
+}
+
+/// Carries out the last piece, which may lack its semicolon.
+fn play_last<D: Disk, W: Write>(
+    core: &mut Core<D>,
+    cutter: &mut Cutter,
+    sessions: &mut Sessions,
+    writer: &mut W,
+) -> io::Result<()> {
     let last = cutter.finish();
-    let printed = carry_out(core, cutter, sessions, last, writer);
-    printed
-        .and_then(|_| writer.flush())
-        .map_err(ScriptFault::Writer)
+    carry_out_piece(core, cutter, sessions, last, writer)?;
+    writer.flush()
 }
 
 /// Reads at least one byte, or none at the end.
@@ -113,7 +121,7 @@ fn play_bytes<D: Disk, W: Write>(
 ) -> io::Result<()> {
     for byte in bytes {
         if let Some(request) = cutter.take(*byte) {
-            carry_out(core, cutter, sessions, request, writer)?;
+            carry_out_piece(core, cutter, sessions, request, writer)?;
             cutter.clear();
         }
     }
@@ -121,7 +129,7 @@ fn play_bytes<D: Disk, W: Write>(
 }
 
 /// Carries out what a piece asks for, and prints the reply.
-fn carry_out<D: Disk, W: Write>(
+fn carry_out_piece<D: Disk, W: Write>(
     core: &mut Core<D>,
     cutter: &Cutter,
     sessions: &mut Sessions,

@@ -8,9 +8,9 @@ use denote::{Env, Fault, Rows, Stop, broken_not_null, query_rows, rows_to_insert
 use items::Items;
 use lexer::{Limit, Reason, Refusal, first_unsupported, tokens};
 use parser::parse;
-use resolve::{Change, CreateTable, Insert, InsertSource, OrderedQuery};
 use sqlval::Table;
 use std::alloc::Global;
+use typing::{Change, CreateTable, Insert, InsertSource, OrderedQuery};
 
 /// The statement of a text: its length is looked at first, then its tokens, its words and its grammar.
 pub(crate) fn read_statement(alloc: Global, text: &[u8]) -> Result<Statement, Refusal> {
@@ -36,7 +36,7 @@ pub(crate) fn answer(alloc: Global, store: &Store, query: &OrderedQuery) -> Resu
 }
 
 /// Carries out a change of the tables. A refused one leaves them as they were.
-pub(crate) fn carry_out(
+pub(crate) fn carry_out_change(
     alloc: Global,
     store: &mut Store,
     change: Change,

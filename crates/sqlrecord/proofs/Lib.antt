@@ -6,3 +6,4 @@ pub mod PageLemmas
 pub mod BuildLemmas
 pub mod CellLemmas
 pub mod KeyLemmas
+pub mod FitLemmas

@@ -92,7 +92,7 @@ fn total(cells: &[&[u8]]) -> usize
     sum
 }
 
-/// Whether these cells fit into a page.
+/// Whether these cells, each with its slot, fit into a page.
 pub fn fits(cells: &[&[u8]]) -> bool
     ensures { IsTrue result ↔ Fits (lent cells.now) }
 {

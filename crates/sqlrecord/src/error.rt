@@ -32,7 +32,7 @@ pub enum DecodeError {
     #[error("out of memory")]
     OutOfMemory,
     /// The bytes are no code.
-    #[error("the bytes are no code of a row")]
+    #[error("the bytes are no code of a row or a key")]
     Damaged,
 }
 

@@ -1,4 +1,4 @@
-ghost use Rattle.std.specs.Prelude.{◌≡◌, ◌≢◌, ◌<◌, ◌≤◌, ◌+◌, ◌∷◌, ◌^◌, ℕ, List, drop, length, slice_index, IfOk, IfSome, IsNone};
+ghost use Rattle.std.specs.Prelude.{◌≡◌, ◌≢◌, ◌↔◌, ◌<◌, ◌≤◌, ◌+◌, ◌∷◌, ◌^◌, ℕ, List, drop, length, slice_index, IfOk, IfSome, IsNone};
 ghost use Rattle.sqlval.specs.declared.value.Value.{Value as AnyValue};
 ghost use Rattle.sqlrecord.specs.Key.{biased, IsKeyOf, IsKeyPartOf, HasNoKeyPart, index_key_code};
 
@@ -114,10 +114,10 @@ pub fn decode_key(alloc: Global, bytes: &[u8]) -> Result<Items<Value>, DecodeErr
     Ok(key)
 }
 
-/// The row number at the end of an index key; `None` where there are fewer than 8 bytes.
+/// The row number at the end of an index key; `None` just where there are fewer than 8 bytes.
 pub fn row_number_of(bytes: &[u8]) -> Option<u64>
     ensures some { IfSome result (λ number. (key : List AnyValue) (n : ℕ) → n < 2 ^ 64 → bytes.now ≡ index_key_code key n → number ≡ n) }
-    ensures none { IsNone result → length bytes.now < 8 }
+    ensures none { IsNone result ↔ (length bytes.now < 8) }
 {
     if bytes.len() < 8 {
         return None;

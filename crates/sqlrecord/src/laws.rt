@@ -7,6 +7,9 @@ ghost use Rattle.sqlval.specs.CodedLength.{row_length, key_length};
 ghost use Rattle.sqlrecord.specs.Storable.{AllStorable};
 ghost use Rattle.sqlrecord.specs.Row.{row_code};
 ghost use Rattle.sqlrecord.specs.Key.{key_code, index_key_code, byte_order, key_order};
+ghost use Rattle.sqlrecord.specs.declared.kind.PageKind.{PageKind};
+ghost use Rattle.sqlrecord.specs.Page.{cells_of, IsSound};
+ghost use Rattle.sqlrecord.specs.Build.{Fits};
 
 /// Keys compared byte by byte have the order of their values. Of index keys with equal values the row numbers decide.
 pub fn keys_keep_order()
@@ -32,4 +35,9 @@ pub fn codes_have_their_lengths()
     ensures rows { (row : List Value) → length (row_code row) ≡ row_length row }
     ensures keys { (key : List Value) → length (key_code key) ≡ key_length key }
     ensures index_keys { (key : List Value) (n : ℕ) → length (index_key_code key n) ≡ key_length key + 8 }
+{}
+
+/// The cells of a page that is not damaged fit into a page, so a page holds just the lists of cells that `fits` accepts.
+pub fn cells_of_pages_fit()
+    ensures { (page : List ℕ) (kind : PageKind) → IsSound page kind → Fits (cells_of page) }
 {}

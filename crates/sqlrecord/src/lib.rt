@@ -20,7 +20,9 @@ pub use error::{DecodeError, EncodeError};
 pub use key::{MAXIMUM_KEY, encode_index_key, encode_key};
 pub use key_decode::{decode_key, row_number_of};
 pub use kind::PageKind;
-pub use laws::{codes_have_their_lengths, keys_keep_order, keys_tell_apart, rows_tell_apart};
+pub use laws::{
+    cells_of_pages_fit, codes_have_their_lengths, keys_keep_order, keys_tell_apart, rows_tell_apart,
+};
 pub use page::SlotPage;
 pub use row::{MAXIMUM_ROW, decode_row, encode_row};
 

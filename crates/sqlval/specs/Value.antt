@@ -1,5 +1,6 @@
 -- Values: null, integers and texts. Two values are alike if equal or both null, which is to say the same.
--- ISO/IEC 9075:1992, 4.1 to 4.4; that integers have 64 bits and texts at most 1,000 characters is our own choice.
+-- ISO/IEC 9075:1992, 4.1 to 4.4; that integers have 64 bits and texts at most 1,000 characters is our own choice. The
+-- types of the code keep these bounds; the definitions are stated for all integers and all lists of characters.
 use Rattle.std.specs.Prelude.{List, Option, Some, None, Bool, true, false}
 use Rattle.sqlval.specs.declared.value.Value.{Value}
 use Rattle.sqlval.specs.declared.value.Value.TheVariants.{Null, Int, Text}

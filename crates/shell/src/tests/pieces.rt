@@ -45,3 +45,28 @@ fn the_second_session_is_refused(rt: HostRuntime) -> Result<(), Fail> {
         1,
     )
 }
+
+#[test]
+fn what_begins_with_a_minus_is_a_call(rt: HostRuntime) -> Result<(), Fail> {
+    check(
+        &rt,
+        "- COMMIT; -@1; @1 -;",
+        "ERROR 42000 syntax\nERROR 42000 character\nERROR 42000 syntax\n",
+        1,
+    )
+}
+
+#[test]
+fn a_number_of_a_session_ends_before_other_characters(rt: HostRuntime) -> Result<(), Fail> {
+    check(
+        &rt,
+        "@001 COMMIT; @1_; @x ';' ;",
+        "00000\nERROR 42000 session\nERROR 42000 session\n",
+        1,
+    )
+}
+
+#[test]
+fn only_comments_follow_a_flush(rt: HostRuntime) -> Result<(), Fail> {
+    check(&rt, "@flush-; @flush--x", "ERROR 42000 session\n00000\n", 1)
+}

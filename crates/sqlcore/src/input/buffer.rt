@@ -1,4 +1,5 @@
-ghost use Rattle.std.specs.Prelude.{◌≡◌, ◌<◌, ◌≤◌, [], ◌∷◌, ◌++◌, length, IfOk};
+ghost use Rattle.std.specs.Prelude.{◌≡◌, [], ◌∷◌, ◌++◌, IfOk};
+ghost use Rattle.sqlcore.specs.PieceMeaning.{text_of_call};
 
 use std::alloc::{AllocError, Global};
 use std::marker::Model;
@@ -39,8 +40,7 @@ impl TextBuffer {
 
     /// Puts a byte at the end, unless the buffer is full.
     pub(crate) fn push(&mut self, byte: u8)
-        ensures room { length self.old < 65537 → self.new ≡ self.old ++ byte ∷ [] }
-        ensures full { 65537 ≤ length self.old → self.new ≡ self.old }
+        ensures { self.new ≡ text_of_call (self.old ++ byte ∷ []) }
     {
         if self.length < CAPACITY {
             self.bytes[self.length] = byte;
@@ -57,7 +57,7 @@ impl TextBuffer {
 
     /// The bytes.
     pub(crate) fn as_slice(&self) -> &[u8]
-        ensures { result.now ≡ self.now }
+        ensures { result.now ≡ text_of_call self.now }
     {
         &self.bytes[..self.length]
     }

@@ -1,4 +1,5 @@
-ghost use Rattle.std.specs.Prelude.{◌≡◌};
+ghost use Rattle.std.specs.Prelude.{◌≡◌, ◌≢◌, MatchBool};
+ghost use Rattle.sqlcore.specs.Place.{is_space};
 
 /// Where the next byte of a piece stands.
 #[derive(Clone, Copy, Debug, PartialEq, Eq)]
@@ -11,21 +12,8 @@ pub(crate) enum Place {
     InComment,
 }
 
-/// What a byte is to the text around it.
-#[derive(Clone, Copy, Debug, PartialEq, Eq)]
-pub(crate) enum Kind {
-    /// White space, or a part of a comment.
-    Blank,
-    /// A minus: the next byte tells whether a comment begins with it.
-    Minus,
-    /// Any other byte.
-    Firm,
-    /// Any other byte, and the minus before it is none of a comment.
-    FirmAfterMinus,
-}
-
 impl Place {
-    ghost use Rattle.sqlcore.specs.Place.{begun_by, place_after, is_outside};
+    ghost use Rattle.sqlcore.specs.Place.{begun_by, place_after, is_outside, goes_on_blank};
 
     /// The place of the byte after this one.
     pub(crate) fn after(self, byte: u8) -> Place
@@ -59,21 +47,29 @@ impl Place {
         matches!(self, Place::Outside | Place::AfterMinus)
     }
 
-    /// What this byte is.
-    pub(crate) fn kind_of(self, byte: u8) -> Kind {
+    /// Whether a minus stands last, with which a comment may begin.
+    pub(crate) fn is_after_minus(self) -> bool
+        ensures { MatchBool result (self ≡ Place.AfterMinus) (self ≢ Place.AfterMinus) }
+    {
+        matches!(self, Place::AfterMinus)
+    }
+
+    /// Whether white space and comments up to here go on with this byte: a minus may begin a comment.
+    pub(crate) fn goes_on_blank(self, byte: u8) -> bool
+        ensures { result ≡ goes_on_blank self byte }
+    {
         match self {
-            Place::InComment => Kind::Blank,
-            Place::InString => Kind::Firm,
-            Place::AfterMinus if byte == b'-' => Kind::Blank,
-            Place::AfterMinus => Kind::FirmAfterMinus,
-            Place::Outside if byte == b'-' => Kind::Minus,
-            Place::Outside if is_space(byte) => Kind::Blank,
-            Place::Outside => Kind::Firm,
+            Place::InComment => true,
+            Place::InString => false,
+            Place::AfterMinus => byte == b'-',
+            Place::Outside => byte == b'-' || is_space(byte),
         }
     }
 }
 
 /// Space, tab, line feed and carriage return.
-fn is_space(byte: u8) -> bool {
+fn is_space(byte: u8) -> bool
+    ensures { result ≡ is_space byte }
+{
     matches!(byte, b' ' | b'\t' | b'\n' | b'\r')
 }

@@ -5,7 +5,7 @@ use Rattle.denote.specs.Evaluation.{given}
 use Rattle.denote.specs.Meaning.{value_of}
 use Rattle.denote.proofs.GivesLemmas.{Gives-first}
 use Rattle.denote.proofs.InsertLemmas.{given_for-map}
-use Rattle.resolve.specs.declared.typed.Expression.{Expression}
+use Rattle.typing.specs.declared.typed.Expression.{Expression}
 use Rattle.denote.proofs.insert.column_value.Goals as goal
 
 pub returns-in-None : goal.returns-in-None

@@ -1,4 +1,4 @@
-use Rattle.resolve.specs.declared.typed.Condition.{Condition}
+use Rattle.typing.specs.declared.typed.Condition.{Condition}
 use Rattle.std.proofs.lemmas.Result.{err_from_is_err_and}
 use Rattle.denote.specs.Evaluation.{faults_in}
 use Rattle.denote.specs.Database.{check_at}

@@ -1,6 +1,6 @@
 use Rattle.std.proofs.Common.{◌≡◌, drop}
 use Rattle.std.specs.Prelude.{flat_map}
-use Rattle.resolve.specs.declared.typed.Condition.{Condition}
+use Rattle.typing.specs.declared.typed.Condition.{Condition}
 use Rattle.denote.specs.Evaluation.{faults_in}
 use Rattle.denote.specs.Database.{check_at}
 use Rattle.denote.proofs.insert.evaluate_checks.Given as goal

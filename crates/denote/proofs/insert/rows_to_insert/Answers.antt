@@ -1,6 +1,6 @@
 use Rattle.std.proofs.Common.{List, [], map}
 use Rattle.std.proofs.lemmas.Result.{err_from_is_err_and}
-use Rattle.resolve.specs.declared.typed.Expression.{Expression}
+use Rattle.typing.specs.declared.typed.Expression.{Expression}
 use Rattle.denote.specs.Meaning.{value_of}
 use Rattle.denote.specs.Database.{table_of}
 use Rattle.denote.specs.StoredRow.{inserted_row}

@@ -1,5 +1,5 @@
 use Rattle.std.proofs.Common.{◌≡◌, List, [], drop, map}
-use Rattle.resolve.specs.declared.typed.Expression.{Expression}
+use Rattle.typing.specs.declared.typed.Expression.{Expression}
 use Rattle.denote.specs.Evaluation.{together}
 use Rattle.denote.specs.Meaning.{value_of}
 use Rattle.denote.specs.Database.{table_of}

@@ -1,6 +1,6 @@
 use Rattle.std.proofs.Common.{map}
 use Rattle.std.specs.Option.{option_map}
-use Rattle.resolve.specs.declared.typed.Select.{out-Select}
+use Rattle.typing.specs.declared.typed.Select.{out-Select}
 use Rattle.denote.specs.Stop.{env_of}
 use Rattle.denote.specs.Meaning.{truth_at, item_value}
 use Rattle.denote.proofs.Nodes.{select_is, source_table}

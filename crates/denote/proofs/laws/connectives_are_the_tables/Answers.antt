@@ -1,5 +1,0 @@
-use Rattle.denote.proofs.LawLemmas.{and-table, or-table, not-table}
-use Rattle.denote.proofs.laws.connectives_are_the_tables.Goals as goal
-
-pub returns : goal.returns
-returns c = record { and = and-table; or = or-table; not = not-table }

@@ -1,0 +1,4 @@
+pub mod Law
+pub mod Same
+pub mod Sound
+pub mod Changed

@@ -1,0 +1,89 @@
+-- What is printed has the tokens of the tree, and these are parsed to it.
+use Rattle.std.proofs.Common.{◌≡◌, ◌⊎◌, ℕ, List, [], ◌∷◌, ◌++◌, Result, Ok, Err, Some, None, refl, sym, ap, ◌∙◌, subst, inl, inr, append_assoc}
+use Rattle.std.specs.Prelude.{◌↔◌, MatchResult}
+use Rattle.lexer.specs.declared.kinds.Token.{Token}
+use Rattle.lexer.specs.declared.refusals.Refusal.{Refusal}
+use Rattle.lexer.specs.declared.refusals.Refusal.TheVariants.{Memory, Exceeded}
+use Rattle.lexer.specs.declared.refusals.Limit.TheVariants.{Nesting}
+use Rattle.lexer.specs.Printing.{AreUnsigned, HasKinds}
+use Rattle.lexer.specs.Token.{Bytes}
+use Rattle.lexer.specs.Tokens.{AreTokens, kinds_of}
+use Rattle.ast.specs.declared.statement.Statement.{Statement}
+use Rattle.ast.specs.declared.tree.Condition.{Condition}
+use Rattle.ast.specs.Grammar.{IsText, IsConditionText}
+use Rattle.ast.specs.Nesting.{IsNestedWithin}
+use Rattle.ast.specs.Notation.{Tokens}
+use Rattle.ast.specs.Words.{SEMICOLON}
+use Rattle.productions.specs.Readers.{kinds}
+use Rattle.printer.specs.Printed.{IsTextOf, IsConditionTextOf, BeginsWithCondition}
+
+-- the front of tokens nests no deeper than all of them
+nested_front : (ts front_kinds rest : Tokens) → ts ≡ front_kinds ++ rest → IsNestedWithin 64 ts → IsNestedWithin 64 front_kinds
+nested_front ts front_kinds rest e nested front back f =
+    nested front (back ++ rest) (e ∙ ap (λ k. k ++ rest) f ∙ append_assoc front back rest)
+
+-- without the `;` at their end they nest no deeper either
+nested_without : (ts front_kinds : Tokens) → (ts ≡ front_kinds) ⊎ (ts ≡ front_kinds ++ SEMICOLON ∷ []) → IsNestedWithin 64 ts → IsNestedWithin 64 front_kinds
+nested_without ts front_kinds end nested = elim end [
+  | inl e ↦ subst (IsNestedWithin 64) e nested
+  | inr e ↦ nested_front ts front_kinds (SEMICOLON ∷ []) e nested
+]
+
+-- what was parsed is what was printed
+settled : {A : Type 0} (x : A) (result : Result A Refusal) (nested : Type 0) → nested → (result ≡ Ok x) ⊎ (result ≡ Err Memory) ⊎ (result ≡ Err (Exceeded Nesting))
+    → ((result ≡ Err (Exceeded Nesting)) ↔ (nested → ⊥)) → MatchResult result (λ again. again ≡ x) (λ refusal. refusal ≡ Memory)
+settled x result nested is only nesting = elim only [
+  | inl e ↦ rw e refl
+  | inr f ↦ elim f [
+    | inl e ↦ rw e refl
+    | inr e ↦ absurd (nesting.0 e is)
+  ]
+]
+
+-- ---- statements
+
+-- what the tokens of a printed text are
+pub record IsReadable (x : Statement) (found : List Token) : Type 0 where
+  pub tree : IsText (Some 64) (kinds found) x
+  pub nested : IsNestedWithin 64 (kinds found)
+
+pub readable : (x : Statement) (text : Bytes) (ts : Tokens) (found : List Token) (printed : IsTextOf x text) → (unsigned : AreUnsigned ts) → IsNestedWithin 64 ts
+    → (is : IsText (Some 64) ts x) → found ≡ (printed.again (Some 64) ts unsigned is).tokens → IsReadable x found
+readable x text ts found printed unsigned nested is e =
+    let has = printed.again (Some 64) ts unsigned is in
+    let same : kinds_of found ≡ printed.kinds = ap kinds_of e ∙ has.kinds_are in
+    record {
+      tree = subst (λ k. IsText (Some 64) k x) (sym same) (printed.are.again (Some 64) ts is);
+      nested = subst (IsNestedWithin 64) (sym same) (nested_without ts printed.kinds (printed.are.only (Some 64) ts is) nested);
+    }
+
+pub as_it_was : (x : Statement) (found : List Token) (result : Result Statement Refusal) → IsReadable x found
+    → ((y : Statement) → IsText (Some 64) (kinds found) y → (result ≡ Ok y) ⊎ (result ≡ Err Memory) ⊎ (result ≡ Err (Exceeded Nesting)))
+    → ((result ≡ Err (Exceeded Nesting)) ↔ (IsNestedWithin 64 (kinds found) → ⊥))
+    → MatchResult result (λ again. again ≡ x) (λ refusal. refusal ≡ Memory)
+as_it_was x found result readable only nesting =
+    settled x result (IsNestedWithin 64 (kinds found)) readable.nested (only x readable.tree) nesting
+
+-- ---- conditions
+
+-- what the tokens of a printed condition are
+pub record IsReadableCondition (x : Condition) (found : List Token) : Type 0 where
+  pub tree : IsConditionText (Some 64) (kinds found) x
+  pub nested : IsNestedWithin 64 (kinds found)
+
+pub readable_condition : (x : Condition) (text : Bytes) (ts rest : Tokens) (found : List Token) (printed : IsConditionTextOf x text) → (unsigned : AreUnsigned ts) → IsNestedWithin 64 ts
+    → (is : BeginsWithCondition (Some 64) ts x rest) → found ≡ (printed.again (Some 64) ts rest unsigned is).tokens → IsReadableCondition x found
+readable_condition x text ts rest found printed unsigned nested is e =
+    let has = printed.again (Some 64) ts rest unsigned is in
+    let same : kinds_of found ≡ printed.kinds = ap kinds_of e ∙ has.kinds_are in
+    record {
+      tree = subst (λ k. IsConditionText (Some 64) k x) (sym same) (printed.are.again (Some 64) ts rest is);
+      nested = subst (IsNestedWithin 64) (sym same) (nested_front ts printed.kinds rest (printed.are.only (Some 64) ts rest is) nested);
+    }
+
+pub condition_as_it_was : (x : Condition) (found : List Token) (result : Result Condition Refusal) → IsReadableCondition x found
+    → ((y : Condition) → IsConditionText (Some 64) (kinds found) y → (result ≡ Ok y) ⊎ (result ≡ Err Memory) ⊎ (result ≡ Err (Exceeded Nesting)))
+    → ((result ≡ Err (Exceeded Nesting)) ↔ (IsNestedWithin 64 (kinds found) → ⊥))
+    → MatchResult result (λ again. again ≡ x) (λ refusal. refusal ≡ Memory)
+condition_as_it_was x found result readable only nesting =
+    settled x result (IsNestedWithin 64 (kinds found)) readable.nested (only x readable.tree) nesting

@@ -1,0 +1,4 @@
+pub mod Nodes
+mod Examples
+mod FlatChains
+mod Roots

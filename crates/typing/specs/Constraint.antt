@@ -1,0 +1,94 @@
+-- The constraints of a CREATE TABLE (ISO/IEC 9075:1992, 11.4, 11.6, 11.7, 11.9), in the order of the text, those of columns among them.
+use Rattle.std.specs.Prelude.{ℕ, ◌+◌, Bool, true, false, nat_le, List, [], ◌∷◌, ◌++◌, map, filter, length, Option, Some, None, Ok, if◌then◌else◌}
+use Rattle.std.specs.List.{position_from, zip}
+use Rattle.std.specs.Fmt.{decimal}
+use Rattle.sqlval.specs.declared.schema.Constraint.{Constraint}
+use Rattle.sqlval.specs.declared.schema.Rule.{Rule}
+use Rattle.sqlval.specs.declared.schema.Rule.TheVariants as rule
+use Rattle.sqlval.specs.Schema.{same_name}
+use Rattle.lexer.specs.declared.refusals.Limit.TheVariants as limit
+use Rattle.lexer.specs.declared.refusals.Reason.TheVariants.{Duplicate}
+use Rattle.ast.specs.declared.statement.ColumnDefinition.{ColumnDefinition}
+use Rattle.ast.specs.declared.statement.ColumnRule.{ColumnRule}
+use Rattle.ast.specs.declared.statement.ColumnRule.TheVariants as column_rule
+use Rattle.ast.specs.declared.statement.TableElement.{TableElement}
+use Rattle.ast.specs.declared.statement.TableElement.TheVariants as element
+use Rattle.ast.specs.declared.statement.TableRule.{TableRule}
+use Rattle.ast.specs.declared.statement.TableRule.TheVariants as table_rule
+use Rattle.typing.specs.declared.scope.Frame.{Frame}
+use Rattle.typing.specs.Finding.{Finding, ◌>>=◌, also, each, invalid}
+use Rattle.typing.specs.Table.{at_most, as_found, distinct_found}
+use Rattle.typing.specs.Check.{check_rule}
+
+-- a constraint as it is written: its name, whether it is a PRIMARY KEY, whether it owns an index, and what its rule is found to be
+pub record Declared : Type 0 where
+  pub name : Option (List ℕ)
+  pub is_primary_key : Bool
+  pub owns_index : Bool
+  pub rule : Finding Rule
+
+abbrev pub plain : Option (List ℕ) → Finding Rule → Declared
+plain name r = record { name = name; is_primary_key = false; owns_index = false; rule = r }
+
+abbrev pub primary_key : Option (List ℕ) → Finding (List ℕ) → Declared
+primary_key name key = record { name = name; is_primary_key = true; owns_index = true; rule = key >>= (λ places. Ok (rule.PrimaryKey places)) }
+
+abbrev pub unique : Option (List ℕ) → Finding (List ℕ) → Declared
+unique name key = record { name = name; is_primary_key = false; owns_index = true; rule = key >>= (λ places. Ok (rule.Unique places)) }
+
+-- ---- what each is
+
+-- a constraint of the column at this place
+abbrev pub column_rule_at : Frame → ℕ → Option (List ℕ) → ColumnRule → Declared
+column_rule_at frame place name column_rule.NotNull = plain name (Ok (rule.NotNull place))
+column_rule_at frame place name column_rule.PrimaryKey = primary_key name (Ok (place ∷ []))
+column_rule_at frame place name column_rule.Unique = unique name (Ok (place ∷ []))
+column_rule_at frame place name (column_rule.Check condition) = plain name (check_rule frame condition)
+
+-- the place of a column that is defined
+abbrev pub defined_place : List ColumnDefinition → List ℕ → Option ℕ
+defined_place definitions name = position_from (λ definition. same_name definition.column name) 0 definitions
+
+-- at most 4 columns of the table, our own choice, and no column twice
+abbrev pub key_places : List ColumnDefinition → List (List ℕ) → Finding (List ℕ)
+key_places definitions names =
+    also (also (at_most 4 limit.KeyColumns (length names)) (distinct_found names)) (each (map (λ name. as_found (defined_place definitions name)) names)) >>= (λ p. Ok p.1)
+
+abbrev pub table_rule_of : Frame → List ColumnDefinition → Option (List ℕ) → TableRule → Declared
+table_rule_of frame definitions name (table_rule.PrimaryKey names) = primary_key name (key_places definitions names)
+table_rule_of frame definitions name (table_rule.Unique names) = unique name (key_places definitions names)
+table_rule_of frame definitions name (table_rule.Check condition) = plain name (check_rule frame condition)
+
+-- the constraints of these elements, the first column of which has this place
+abbrev pub declared_from : Frame → List ColumnDefinition → ℕ → List TableElement → List Declared
+declared_from frame definitions place [] = []
+declared_from frame definitions place (element.Column definition ∷ elements) =
+    map (λ c. column_rule_at frame place c.name c.rule) definition.constraints ++ declared_from frame definitions (place + 1) elements
+declared_from frame definitions place (element.Constraint c ∷ elements) =
+    table_rule_of frame definitions c.name c.rule ∷ declared_from frame definitions place elements
+
+-- ---- all of them
+
+-- the name given, or `#n` for the n-th of all: our own choice
+abbrev pub constraint_name : ℕ → Option (List ℕ) → List ℕ
+constraint_name number (Some name) = name
+constraint_name number None = 35 ∷ decimal number
+
+abbrev pub names_from : ℕ → List Declared → List (List ℕ)
+names_from number [] = []
+names_from number (c ∷ others) = constraint_name number c.name ∷ names_from (number + 1) others
+
+abbrev pub one_primary_key : List Declared → Finding (Unit {0})
+one_primary_key declared = if nat_le (length (filter (λ c. c.is_primary_key) declared)) 1 then Ok tt else invalid Duplicate
+
+-- at most 32 and at most 8 indexes, our own choice; no two of one name, and one PRIMARY KEY
+abbrev pub are_allowed : List Declared → Finding (Unit {0})
+are_allowed declared =
+    also (also (at_most 32 limit.Constraints (length declared)) (distinct_found (names_from 1 declared)))
+    (also (at_most 8 limit.Indexes (length (filter (λ c. c.owns_index) declared))) (one_primary_key declared)) >>= (λ p. Ok tt)
+
+abbrev pub named : List ℕ × Rule → Constraint
+named (name, r) = record { name = name; rule = r }
+
+abbrev pub constraints_found : List Declared → Finding (List Constraint)
+constraints_found declared = also (are_allowed declared) (each (map (λ c. c.rule) declared)) >>= (λ p. Ok (map named (zip (names_from 1 declared) p.1)))

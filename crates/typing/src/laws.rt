@@ -1,0 +1,51 @@
+//! What follows from the definitions. These functions do nothing: their contracts are the laws.
+
+ghost use Rattle.std.specs.Prelude.{ℕ, ◌≡◌, Bool, true, false, List, [], ◌∷◌, flat_map, Ok, Err};
+ghost use Rattle.std.specs.List.{list_all};
+ghost use Rattle.sqlval.specs.declared.schema.Schema.{Schema};
+ghost use Rattle.sqlval.specs.Schema.{AreSameButForRoots};
+ghost use Rattle.lexer.specs.declared.refusals.Limit.TheVariants.{Tables};
+ghost use Rattle.lexer.specs.declared.refusals.Refusal.TheVariants.{NotSupported};
+ghost use Rattle.ast.specs.declared.statement.Statement.{Statement};
+ghost use Rattle.typing.specs.declared.statement.Typed.{Typed};
+ghost use Rattle.typing.specs.declared.typed.Condition.{Condition as TypedCondition};
+ghost use Rattle.typing.specs.Built.{is_built, has_one_table};
+ghost use Rattle.typing.specs.Condition.{conjuncts, disjuncts, and_of, or_of};
+ghost use Rattle.typing.specs.Flat.{has_flat_and, has_flat_or};
+ghost use Rattle.typing.specs.Finding.{exceeded};
+ghost use Rattle.typing.specs.Known.{table_of, has_index};
+ghost use Rattle.typing.specs.Statement.{statement_found, answered_found};
+
+/// Two schemas in which each name means the same, a table of these columns and so many indexes, or an index, give a
+/// statement the same names and types, whatever else they differ in.
+pub fn names_decide()
+    ensures { (one other : Schema) → ((name : List ℕ) → table_of one name ≡ table_of other name)
+        → ((name : List ℕ) → has_index one name ≡ has_index other name)
+        → (tree : Statement) → statement_found tree one ≡ statement_found tree other }
+{}
+
+/// Where the trees of tables and indexes begin is no matter of names and types.
+pub fn roots_are_not_read()
+    ensures { (one other : Schema) → AreSameButForRoots one other
+        → (tree : Statement) → statement_found tree one ≡ statement_found tree other }
+{}
+
+/// COMMIT and ROLLBACK, with WORK or without, stand for themselves over every schema.
+pub fn transactions_end_over_every_schema()
+    ensures commit { (has_work : Bool) (schema : Schema) → statement_found (Statement.Commit has_work) schema ≡ Ok Typed.Commit }
+    ensures rollback { (has_work : Bool) (schema : Schema) → statement_found (Statement.Rollback has_work) schema ≡ Ok Typed.Rollback }
+{}
+
+/// A form that is not built is refused as such, then a second table in a FROM by the limit of tables; every other
+/// statement is answered as it stands.
+pub fn only_what_is_built_is_answered()
+    ensures built { (tree : Statement) (schema : Schema) → is_built tree ≡ true → has_one_table tree ≡ true → answered_found tree schema ≡ statement_found tree schema }
+    ensures one_table { (tree : Statement) (schema : Schema) → is_built tree ≡ true → has_one_table tree ≡ false → answered_found tree schema ≡ exceeded Tables }
+    ensures not_built { (tree : Statement) (schema : Schema) → is_built tree ≡ false → answered_found tree schema ≡ Err (NotSupported ∷ []) }
+{}
+
+/// An AND of conditions that have no AND directly inside an AND has none there either; likewise for OR.
+pub fn chains_stay_flat()
+    ensures and { (operands : List TypedCondition) → list_all has_flat_and operands ≡ true → has_flat_and (and_of (flat_map conjuncts operands)) ≡ true }
+    ensures or { (operands : List TypedCondition) → list_all has_flat_or operands ≡ true → has_flat_or (or_of (flat_map disjuncts operands)) ≡ true }
+{}
