@@ -1,3 +1,4 @@
+pub mod Fronts
 pub mod Skipping
 pub mod Steps
 pub mod WordSound

@@ -1,5 +1,5 @@
 -- Texts that are nothing but given reserved words: what is read of them are their tokens.
-use Rattle.std.proofs.Common.{◌≡◌, ◌≢◌, ◌⊎◌, ℕ, ◌-◌, ◌≤◌, Bool, true, false, List, [], ◌∷◌, ◌++◌, map, length, take, drop, refl, sym, ap, ◌∙◌, subst, inl, inr, arith, append-nil}
+use Rattle.std.proofs.Common.{◌≡◌, ◌≢◌, ℕ, ◌-◌, ◌≤◌, List, [], ◌∷◌, ◌++◌, map, length, take, drop, refl, sym, ap, ◌∙◌, subst, inl, inr, arith, append-nil}
 use Rattle.std.specs.Prelude.{◌↔◌, IsTrue, ◌==◌}
 use Rattle.std.specs.List.{take_while}
 use Rattle.std.proofs.lemmas.Bool.{eqb-true}
@@ -10,17 +10,17 @@ use Rattle.lexer.specs.declared.kinds.Symbol.TheVariants as symbol
 use Rattle.lexer.specs.declared.kinds.Token.{Token}
 use Rattle.lexer.specs.declared.words.Word.{Word}
 use Rattle.lexer.specs.Words.{word_text}
-use Rattle.lexer.specs.Token.{Bytes, IsGap, folded, is_word_byte, begins_with}
-use Rattle.lexer.specs.Tokens.{IsToken, AreTokens, AreTokensBetween, kinds_of}
-use Rattle.lexer.specs.Reading.{Step, Stop, Reads, next, gap}
+use Rattle.lexer.specs.Token.{Bytes, IsGap, folded, is_word_byte}
+use Rattle.lexer.specs.Tokens.{IsToken, AreTokensBetween, kinds_of}
+use Rattle.lexer.specs.Reading.{Stop, Reads, next, gap}
 use Rattle.lexer.specs.Recognition.{IsMadeOf, Follows, IsNothing, IsEnd}
-use Rattle.lexer.proofs.Skipping.{Skips, IsAtToken, gap_sound}
+use Rattle.lexer.proofs.Skipping.{Skips, gap_sound}
 use Rattle.lexer.proofs.Steps.{Begins, IsStep, IsRun-take_while}
 use Rattle.lexer.proofs.Sound.{next_sound}
 use Rattle.lexer.proofs.WordAgain.{IsWord, IsWord-folded, next_word, take_while-run}
 use Rattle.lexer.proofs.WordTable.{is_identifier-word_text}
 use Rattle.lexer.proofs.Whole.{a_token, what_is_left}
-use Rattle.lexer.proofs.Unique.{IsRead, read, at_end}
+use Rattle.lexer.proofs.Unique.{read, at_end}
 
 -- ---- chains of tokens
 

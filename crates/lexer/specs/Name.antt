@@ -19,9 +19,13 @@ begins_name (code ∷ codes) = is_ascii_uppercase code
 abbrev pub is_identifier : List ℕ → Bool
 is_identifier text = begins_name text && list_all is_name_character text
 
--- a name: such a text of at most 64 characters that is no reserved word
+-- the greatest number of characters of a name
+abbrev pub longest_name : ℕ
+longest_name = 64
+
+-- a name: such a text, not longer than that, which is no reserved word
 abbrev pub is_name : List ℕ → Bool
-is_name text = nat_le (length text) 64 && is_identifier text && is_none (reserved text)
+is_name text = nat_le (length text) longest_name && is_identifier text && is_none (reserved text)
 
 -- the name that this text is, if it is one
 abbrev pub as_name : List ℕ → Option (List ℕ)

@@ -13,7 +13,7 @@ use Rattle.lexer.specs.declared.refusals.Reason.TheVariants as reason
 use Rattle.lexer.specs.declared.refusals.Limit.TheVariants as limit
 use Rattle.lexer.specs.declared.words.Word.{Word}
 use Rattle.lexer.specs.Name.{as_name}
-use Rattle.lexer.specs.Token.{Bytes, begins_with, is_space, is_word_byte, folded, number_of}
+use Rattle.lexer.specs.Token.{Bytes, begins_with, is_space, is_word_byte, folded, greatest_number, longest_text, number_of}
 use Rattle.lexer.specs.Words.{reserved}
 
 -- what a text begins with: nothing more, a token and what follows it, or a fault
@@ -80,7 +80,7 @@ goes_on_as_word bs = begins_with (λ b. is_ascii_alphabetic b || b == 95) bs
 
 unfoldable pub number : ℕ → Bytes → Step
 number b bs =
-    if nat_lt 9223372036854775807 (number_of (b ∷ run is_ascii_digit bs)) || goes_on_as_word (after_run is_ascii_digit bs) then Fails (Invalid reason.Number)
+    if nat_lt greatest_number (number_of (b ∷ run is_ascii_digit bs)) || goes_on_as_word (after_run is_ascii_digit bs) then Fails (Invalid reason.Number)
     else Reads (kind.Number (pos (number_of (b ∷ run is_ascii_digit bs)))) (after_run is_ascii_digit bs)
 
 -- ---- strings, after the first quote. A quote is pending where the last byte was one that may be doubled.
@@ -94,7 +94,7 @@ string_from pending done (b ∷ bs) =
     if pending && not (b == 39) then closed done (b ∷ bs)
     else (if not pending && b == 39 then string_from true done bs
     else (if not (is_character b) then Fails (Invalid reason.Character)
-    else (if nat_le 1000 (length done) then Fails (Exceeded limit.Text)
+    else (if nat_le longest_text (length done) then Fails (Exceeded limit.Text)
     else string_from false (done ++ b ∷ []) bs)))
 
 -- ---- symbols: the longest one

@@ -13,7 +13,7 @@ use Rattle.lexer.specs.declared.refusals.Refusal.{Refusal}
 use Rattle.lexer.specs.declared.refusals.Refusal.TheVariants.{Invalid, Exceeded}
 use Rattle.lexer.specs.declared.refusals.Reason.TheVariants as reason
 use Rattle.lexer.specs.declared.refusals.Limit.TheVariants as limit
-use Rattle.lexer.specs.Name.{is_name}
+use Rattle.lexer.specs.Name.{is_name, longest_name}
 use Rattle.lexer.specs.Words.{word_text}
 
 abbrev pub Bytes : Type 0
@@ -57,8 +57,13 @@ folded = map to_ascii_uppercase
 abbrev pub number_of : Bytes → ℕ
 number_of = fold (λ n digit. 10 * n + (digit - 48)) 0
 
+-- 2 ^ 63 - 1
 abbrev pub greatest_number : ℕ
 greatest_number = 9223372036854775807
+
+-- the greatest number of characters of a string
+abbrev pub longest_text : ℕ
+longest_text = 1000
 
 -- at least one digit, and nothing else
 abbrev pub is_digits : Bytes → Bool
@@ -126,20 +131,27 @@ is_known b = is_space b || is_ascii_alphabetic b || is_ascii_digit b || b == 39
 
 -- In place of a token, the bytes begin with this fault.
 pub data IsFault (bytes : Bytes) (refusal : Refusal) : Type 0 where
+  -- X0003 `name`: a word of more characters than a name may have
   long_name : (word rest : Bytes) → IsRun is_word_byte bytes word rest → begins_with is_ascii_alphabetic bytes ≡ true
-      → 64 < length word → refusal ≡ Exceeded limit.Name → IsFault bytes refusal
+      → longest_name < length word → refusal ≡ Exceeded limit.Name → IsFault bytes refusal
+  -- 42000 `number`: digits of too great a value
   great_number : (digits rest : Bytes) → IsRun is_ascii_digit bytes digits rest → begins_with is_ascii_digit bytes ≡ true
       → greatest_number < number_of digits → refusal ≡ Invalid reason.Number → IsFault bytes refusal
+  -- 42000 `number`: digits with a letter or an underscore directly behind them
   number_before_word : (digits rest : Bytes) → IsRun is_ascii_digit bytes digits rest → begins_with is_ascii_digit bytes ≡ true
       → begins_with is_word_byte rest ≡ true → refusal ≡ Invalid reason.Number → IsFault bytes refusal
+  -- 42000 `text`: a string that no quote ends
   open_string : (characters : Bytes) → bytes ≡ 39 ∷ quoted characters → is_text characters ≡ true
       → refusal ≡ Invalid reason.Text → IsFault bytes refusal
+  -- X0003 `text`: a string in which one character too many stands
   long_string : (characters : Bytes) (c : ℕ) (rest : Bytes) → bytes ≡ 39 ∷ quoted characters ++ (quoted_character c ++ rest)
-      → is_text characters ≡ true → length characters ≡ 1000 → is_character c ≡ true
+      → is_text characters ≡ true → length characters ≡ longest_text → is_character c ≡ true
       → refusal ≡ Exceeded limit.Text → IsFault bytes refusal
+  -- 42000 `character`: a byte in a string that is no character
   wrong_in_string : (characters : Bytes) (b : ℕ) (rest : Bytes) → bytes ≡ 39 ∷ quoted characters ++ (b ∷ rest)
       → is_text characters ≡ true → is_character b ≡ false
       → refusal ≡ Invalid reason.Character → IsFault bytes refusal
+  -- 42000 `character`: a byte with which nothing begins
   wrong_byte : (b : ℕ) (rest : Bytes) → bytes ≡ b ∷ rest → is_known b ≡ false
       → ((symbol : Symbol) (more : Bytes) → bytes ≢ symbol_text symbol ++ more)
       → refusal ≡ Invalid reason.Character → IsFault bytes refusal

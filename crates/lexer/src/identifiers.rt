@@ -46,10 +46,7 @@ fn name_of(text: Vec<u8>) -> Option<Name>
 fn folded(alloc: Global, first: u8, run: &[u8]) -> Result<Vec<u8>, AllocError>
     ensures { IfOk result (λ text. text.items ≡ token.folded (first ∷ run.now)) }
 {
-    let mut text: Vec<u8> = run
-        .iter()
-        .map(|byte| byte.to_ascii_uppercase())
-        .collect(alloc)?;
+    let mut text = run.to_ascii_uppercase(alloc)?;
     text.insert(0, first.to_ascii_uppercase())?;
     Ok(text)
 }

@@ -4,6 +4,8 @@ ghost use Rattle.std.specs.Prelude.{◌≡◌, map};
 ghost use Rattle.lexer.specs.declared.words.TheConstants.{WORDS};
 ghost use Rattle.lexer.specs.Words.{Entry as Line, is_supported, reserved, supports, text_with, word_text, word_with};
 
+use std::fmt;
+
 /// Whether the forms that use a reserved word are built yet.
 #[derive(Clone, Copy, Debug, PartialEq, Eq)]
 pub enum Support {
@@ -15,8 +17,8 @@ pub enum Support {
     Later,
 }
 
-/// A reserved word.
-#[derive(Clone, Copy, Debug, PartialEq, Eq)]
+/// A reserved word. `{:?}` writes its text.
+#[derive(Clone, Copy, PartialEq, Eq)]
 pub enum Word {
     All,
     Alter,
@@ -132,122 +134,122 @@ pub enum Word {
 }
 
 /// A text, its word, and whether the forms that use it are built.
-type Entry = (&'static [u8], Word, Support);
+type Entry = (&'static str, Word, Support);
 
 /// Each reserved word with its text and its support, in the order of `Word`.
 /// A later request edits one line for each word that it brings.
 pub const WORDS: [Entry; 111] = [
-    (b"ALL", Word::All, Support::Now),
-    (b"ALTER", Word::Alter, Support::Later),
-    (b"AND", Word::And, Support::Now),
-    (b"ANY", Word::Any, Support::Later),
-    (b"AS", Word::As, Support::Now),
-    (b"ASC", Word::Asc, Support::Later),
-    (b"ASSERTION", Word::Assertion, Support::Later),
-    (b"AVG", Word::Avg, Support::Later),
-    (b"BETWEEN", Word::Between, Support::Now),
-    (b"BY", Word::By, Support::Later),
-    (b"CASCADE", Word::Cascade, Support::Later),
-    (b"CASE", Word::Case, Support::Later),
-    (b"CAST", Word::Cast, Support::Later),
-    (b"CHAR", Word::Char, Support::Later),
-    (b"CHARACTER", Word::Character, Support::Now),
-    (b"CHECK", Word::Check, Support::Later),
-    (b"CLOSE", Word::Close, Support::Later),
-    (b"COALESCE", Word::Coalesce, Support::Later),
-    (b"COLLATE", Word::Collate, Support::Later),
-    (b"COMMIT", Word::Commit, Support::Now),
-    (b"CONSTRAINT", Word::Constraint, Support::Later),
-    (b"CORRESPONDING", Word::Corresponding, Support::Later),
-    (b"COUNT", Word::Count, Support::Later),
-    (b"CREATE", Word::Create, Support::Now),
-    (b"CROSS", Word::Cross, Support::Later),
-    (b"CURRENT", Word::Current, Support::Later),
-    (b"CURSOR", Word::Cursor, Support::Later),
-    (b"DATE", Word::Date, Support::Later),
-    (b"DECIMAL", Word::Decimal, Support::Later),
-    (b"DECLARE", Word::Declare, Support::Later),
-    (b"DEFAULT", Word::Default, Support::Later),
-    (b"DELETE", Word::Delete, Support::Later),
-    (b"DESC", Word::Desc, Support::Later),
-    (b"DISTINCT", Word::Distinct, Support::Later),
-    (b"DOMAIN", Word::Domain, Support::Later),
-    (b"DROP", Word::Drop, Support::Later),
-    (b"ESCAPE", Word::Escape, Support::Later),
-    (b"EXCEPT", Word::Except, Support::Later),
-    (b"EXISTS", Word::Exists, Support::Later),
-    (b"EXPLAIN", Word::Explain, Support::Later),
-    (b"FALSE", Word::False, Support::Now),
-    (b"FETCH", Word::Fetch, Support::Later),
-    (b"FLOAT", Word::Float, Support::Later),
-    (b"FOR", Word::For, Support::Later),
-    (b"FOREIGN", Word::Foreign, Support::Later),
-    (b"FROM", Word::From, Support::Now),
-    (b"FULL", Word::Full, Support::Later),
-    (b"GRANT", Word::Grant, Support::Later),
-    (b"GROUP", Word::Group, Support::Later),
-    (b"HAVING", Word::Having, Support::Later),
-    (b"IN", Word::In, Support::Now),
-    (b"INDEX", Word::Index, Support::Later),
-    (b"INNER", Word::Inner, Support::Later),
-    (b"INSERT", Word::Insert, Support::Now),
-    (b"INT", Word::Int, Support::Now),
-    (b"INTEGER", Word::Integer, Support::Now),
-    (b"INTERSECT", Word::Intersect, Support::Later),
-    (b"INTERVAL", Word::Interval, Support::Later),
-    (b"INTO", Word::Into, Support::Now),
-    (b"IS", Word::Is, Support::Now),
-    (b"ISOLATION", Word::Isolation, Support::Later),
-    (b"JOIN", Word::Join, Support::Later),
-    (b"KEY", Word::Key, Support::Later),
-    (b"LEFT", Word::Left, Support::Later),
-    (b"LIKE", Word::Like, Support::Now),
-    (b"MAX", Word::Max, Support::Later),
-    (b"MIN", Word::Min, Support::Later),
-    (b"NATURAL", Word::Natural, Support::Later),
-    (b"NOT", Word::Not, Support::Now),
-    (b"NULL", Word::Null, Support::Now),
-    (b"NULLIF", Word::Nullif, Support::Later),
-    (b"NUMERIC", Word::Numeric, Support::Later),
-    (b"ON", Word::On, Support::Later),
-    (b"ONLY", Word::Only, Support::Later),
-    (b"OPEN", Word::Open, Support::Later),
-    (b"OR", Word::Or, Support::Now),
-    (b"ORDER", Word::Order, Support::Later),
-    (b"OUTER", Word::Outer, Support::Later),
-    (b"PRIMARY", Word::Primary, Support::Later),
-    (b"READ", Word::Read, Support::Later),
-    (b"REAL", Word::Real, Support::Later),
-    (b"REFERENCES", Word::References, Support::Later),
-    (b"RESTRICT", Word::Restrict, Support::Later),
-    (b"REVOKE", Word::Revoke, Support::Later),
-    (b"RIGHT", Word::Right, Support::Later),
-    (b"ROLLBACK", Word::Rollback, Support::Now),
-    (b"SAVEPOINT", Word::Savepoint, Support::Later),
-    (b"SCHEMA", Word::Schema, Support::Later),
-    (b"SCROLL", Word::Scroll, Support::Later),
-    (b"SELECT", Word::Select, Support::Now),
-    (b"SET", Word::Set, Support::Later),
-    (b"SMALLINT", Word::Smallint, Support::Later),
-    (b"SOME", Word::Some, Support::Later),
-    (b"SUM", Word::Sum, Support::Later),
-    (b"TABLE", Word::Table, Support::Now),
-    (b"TIME", Word::Time, Support::Later),
-    (b"TIMESTAMP", Word::Timestamp, Support::Later),
-    (b"TRANSACTION", Word::Transaction, Support::Later),
-    (b"TRUE", Word::True, Support::Now),
-    (b"UNION", Word::Union, Support::Later),
-    (b"UNIQUE", Word::Unique, Support::Later),
-    (b"UNKNOWN", Word::Unknown, Support::Now),
-    (b"UPDATE", Word::Update, Support::Later),
-    (b"USING", Word::Using, Support::Later),
-    (b"VALUES", Word::Values, Support::Now),
-    (b"VARCHAR", Word::Varchar, Support::Now),
-    (b"VARYING", Word::Varying, Support::Now),
-    (b"VIEW", Word::View, Support::Later),
-    (b"WHERE", Word::Where, Support::Now),
-    (b"WORK", Word::Work, Support::Now),
-    (b"WRITE", Word::Write, Support::Later),
+    ("ALL", Word::All, Support::Now),
+    ("ALTER", Word::Alter, Support::Later),
+    ("AND", Word::And, Support::Now),
+    ("ANY", Word::Any, Support::Later),
+    ("AS", Word::As, Support::Now),
+    ("ASC", Word::Asc, Support::Later),
+    ("ASSERTION", Word::Assertion, Support::Later),
+    ("AVG", Word::Avg, Support::Later),
+    ("BETWEEN", Word::Between, Support::Now),
+    ("BY", Word::By, Support::Later),
+    ("CASCADE", Word::Cascade, Support::Later),
+    ("CASE", Word::Case, Support::Later),
+    ("CAST", Word::Cast, Support::Later),
+    ("CHAR", Word::Char, Support::Later),
+    ("CHARACTER", Word::Character, Support::Now),
+    ("CHECK", Word::Check, Support::Later),
+    ("CLOSE", Word::Close, Support::Later),
+    ("COALESCE", Word::Coalesce, Support::Later),
+    ("COLLATE", Word::Collate, Support::Later),
+    ("COMMIT", Word::Commit, Support::Now),
+    ("CONSTRAINT", Word::Constraint, Support::Later),
+    ("CORRESPONDING", Word::Corresponding, Support::Later),
+    ("COUNT", Word::Count, Support::Later),
+    ("CREATE", Word::Create, Support::Now),
+    ("CROSS", Word::Cross, Support::Later),
+    ("CURRENT", Word::Current, Support::Later),
+    ("CURSOR", Word::Cursor, Support::Later),
+    ("DATE", Word::Date, Support::Later),
+    ("DECIMAL", Word::Decimal, Support::Later),
+    ("DECLARE", Word::Declare, Support::Later),
+    ("DEFAULT", Word::Default, Support::Later),
+    ("DELETE", Word::Delete, Support::Later),
+    ("DESC", Word::Desc, Support::Later),
+    ("DISTINCT", Word::Distinct, Support::Later),
+    ("DOMAIN", Word::Domain, Support::Later),
+    ("DROP", Word::Drop, Support::Later),
+    ("ESCAPE", Word::Escape, Support::Later),
+    ("EXCEPT", Word::Except, Support::Later),
+    ("EXISTS", Word::Exists, Support::Later),
+    ("EXPLAIN", Word::Explain, Support::Later),
+    ("FALSE", Word::False, Support::Now),
+    ("FETCH", Word::Fetch, Support::Later),
+    ("FLOAT", Word::Float, Support::Later),
+    ("FOR", Word::For, Support::Later),
+    ("FOREIGN", Word::Foreign, Support::Later),
+    ("FROM", Word::From, Support::Now),
+    ("FULL", Word::Full, Support::Later),
+    ("GRANT", Word::Grant, Support::Later),
+    ("GROUP", Word::Group, Support::Later),
+    ("HAVING", Word::Having, Support::Later),
+    ("IN", Word::In, Support::Now),
+    ("INDEX", Word::Index, Support::Later),
+    ("INNER", Word::Inner, Support::Later),
+    ("INSERT", Word::Insert, Support::Now),
+    ("INT", Word::Int, Support::Now),
+    ("INTEGER", Word::Integer, Support::Now),
+    ("INTERSECT", Word::Intersect, Support::Later),
+    ("INTERVAL", Word::Interval, Support::Later),
+    ("INTO", Word::Into, Support::Now),
+    ("IS", Word::Is, Support::Now),
+    ("ISOLATION", Word::Isolation, Support::Later),
+    ("JOIN", Word::Join, Support::Later),
+    ("KEY", Word::Key, Support::Later),
+    ("LEFT", Word::Left, Support::Later),
+    ("LIKE", Word::Like, Support::Now),
+    ("MAX", Word::Max, Support::Later),
+    ("MIN", Word::Min, Support::Later),
+    ("NATURAL", Word::Natural, Support::Later),
+    ("NOT", Word::Not, Support::Now),
+    ("NULL", Word::Null, Support::Now),
+    ("NULLIF", Word::Nullif, Support::Later),
+    ("NUMERIC", Word::Numeric, Support::Later),
+    ("ON", Word::On, Support::Later),
+    ("ONLY", Word::Only, Support::Later),
+    ("OPEN", Word::Open, Support::Later),
+    ("OR", Word::Or, Support::Now),
+    ("ORDER", Word::Order, Support::Later),
+    ("OUTER", Word::Outer, Support::Later),
+    ("PRIMARY", Word::Primary, Support::Later),
+    ("READ", Word::Read, Support::Later),
+    ("REAL", Word::Real, Support::Later),
+    ("REFERENCES", Word::References, Support::Later),
+    ("RESTRICT", Word::Restrict, Support::Later),
+    ("REVOKE", Word::Revoke, Support::Later),
+    ("RIGHT", Word::Right, Support::Later),
+    ("ROLLBACK", Word::Rollback, Support::Now),
+    ("SAVEPOINT", Word::Savepoint, Support::Later),
+    ("SCHEMA", Word::Schema, Support::Later),
+    ("SCROLL", Word::Scroll, Support::Later),
+    ("SELECT", Word::Select, Support::Now),
+    ("SET", Word::Set, Support::Later),
+    ("SMALLINT", Word::Smallint, Support::Later),
+    ("SOME", Word::Some, Support::Later),
+    ("SUM", Word::Sum, Support::Later),
+    ("TABLE", Word::Table, Support::Now),
+    ("TIME", Word::Time, Support::Later),
+    ("TIMESTAMP", Word::Timestamp, Support::Later),
+    ("TRANSACTION", Word::Transaction, Support::Later),
+    ("TRUE", Word::True, Support::Now),
+    ("UNION", Word::Union, Support::Later),
+    ("UNIQUE", Word::Unique, Support::Later),
+    ("UNKNOWN", Word::Unknown, Support::Now),
+    ("UPDATE", Word::Update, Support::Later),
+    ("USING", Word::Using, Support::Later),
+    ("VALUES", Word::Values, Support::Now),
+    ("VARCHAR", Word::Varchar, Support::Now),
+    ("VARYING", Word::Varying, Support::Now),
+    ("VIEW", Word::View, Support::Later),
+    ("WHERE", Word::Where, Support::Now),
+    ("WORK", Word::Work, Support::Now),
+    ("WRITE", Word::Write, Support::Later),
 ];
 
 /// The lines of `WORDS`.
@@ -271,7 +273,7 @@ impl Word {
     pub fn text(self) -> &'static [u8]
         ensures { result.now ≡ word_text self }
     {
-        text_with(lines(), self)
+        text_with(lines(), self).as_bytes()
     }
 
     /// Whether the forms that use the word are built.
@@ -283,11 +285,17 @@ impl Word {
     }
 }
 
+impl fmt::Debug for Word {
+    fn fmt<W: fmt::Write>(&self, f: &mut fmt::Formatter<W>) -> fmt::Result {
+        f.write_str(text_with(lines(), *self))
+    }
+}
+
 fn word_with(mut table: &[Entry], text: &[u8]) -> Option<Word>
     ensures { result ≡ word_with (map (λ entry. (entry.0.now, entry.1, entry.2)) table.entry.now) text.now }
 {
     while let [entry, rest @ ..] = table {
-        if entry.0 == text {
+        if entry.0.as_bytes() == text {
             return Some(entry.1);
         }
         table = rest;
@@ -295,7 +303,7 @@ fn word_with(mut table: &[Entry], text: &[u8]) -> Option<Word>
     None
 }
 
-fn text_with(mut table: &[Entry], word: Word) -> &'static [u8]
+fn text_with(mut table: &[Entry], word: Word) -> &'static str
     ensures { result.now ≡ text_with (map (λ entry. (entry.0.now, entry.1, entry.2)) table.entry.now) word }
 {
     while let [entry, rest @ ..] = table {
@@ -304,7 +312,7 @@ fn text_with(mut table: &[Entry], word: Word) -> &'static [u8]
         }
         table = rest;
     }
-    b""
+    ""
 }
 
 fn supports(mut table: &[Entry], word: Word) -> bool

@@ -1,4 +1,3 @@
-use Rattle.std.proofs.Common.{rules}
 use Rattle.lexer.proofs.Recognized.{made_iff, unmade}
 use Rattle.lexer.proofs.recognition.is_made_of.Goals as goal
 
