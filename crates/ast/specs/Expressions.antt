@@ -1,4 +1,7 @@
--- The grammar of expressions and conditions. (SQL-92, 6.11, 6.12, 8.1 to 8.12, with our own cuts.)
+-- The grammar of expressions and conditions.
+-- ISO/IEC 9075:1992, 6.5 <set function specification>, 6.11 to 6.13 <value expression>, 7.11 <scalar subquery>, 8.1 to 8.6 and 8.8
+-- <predicate>, 8.12 <search condition>. Our own choices: `+ - ||` are one level, the chains have a limit, IN has literals or a query, a row
+-- has one value, and there is no ESCAPE, CASE, CAST, function, ANY and ALL, UNIQUE, MATCH and OVERLAPS.
 use Rattle.std.specs.Prelude.{◌≡◌, ℕ, ◌<◌, List, ◌∷◌, length, Option, Some, None}
 use Rattle.ast.specs.declared.tree.Condition.{Condition, out-Condition}
 use Rattle.ast.specs.declared.tree.Conjunction.{Conjunction, out-Conjunction}

@@ -1,4 +1,7 @@
--- The grammar of queries. (SQL-92, 6.3, 7.3 to 7.10, with our own cuts.)
+-- The grammar of queries.
+-- ISO/IEC 9075:1992, 6.3 <table reference>, 7.3 to 7.9 up to <query specification>, 7.10 <query expression> and 7.11 <subquery>. Our own
+-- choices: no VALUES, TABLE, NATURAL, USING, RIGHT, FULL and CORRESPONDING, no list of columns after an alias, no `table.*`; INTERSECT ALL
+-- and EXCEPT ALL are there; a join is no operand of a join in parentheses.
 use Rattle.std.specs.Prelude.{◌≡◌, ℕ, Bool, true, false, List, [], ◌∷◌, Option, Some, None}
 use Rattle.ast.specs.declared.operator.Column.{Column}
 use Rattle.ast.specs.declared.tree.Condition.{Condition}
@@ -95,4 +98,4 @@ module _ (limit : Option ℕ) (inner : Nested) where
   -- query = select | sum, where sum = addend {(UNION | EXCEPT) [ALL] addend} has a set operator in it
   pub record IsQuery (ts : Tokens) (x : Query) (rest : Tokens) : Type 0 where
     pub is : Chain limit IsAddend (IsSetOperator ⨾ IsAddend) ts ((out-Query x).first, (out-Query x).others) rest
-    pub has_operator : is_lone (out-Addend (out-Query x).first).first (out-Addend (out-Query x).first).others (out-Query x).others ≡ false
+    pub not_lone : is_lone (out-Addend (out-Query x).first).first (out-Addend (out-Query x).first).others (out-Query x).others ≡ false

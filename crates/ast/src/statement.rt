@@ -36,6 +36,7 @@ pub struct OrderedQuery {
     pub order: Items<SortKey>,
 }
 
+/// A key of ORDER BY, with its direction where that is written.
 #[derive(Debug, Drop)]
 pub struct SortKey {
     pub column: SortColumn,
@@ -49,6 +50,7 @@ pub enum SortColumn {
     Position(i64),
 }
 
+/// CREATE TABLE: the table's name and what stands in its parentheses.
 #[derive(Drop)]
 pub struct CreateTable {
     pub table: Name,
@@ -56,12 +58,14 @@ pub struct CreateTable {
     pub elements: Items<TableElement>,
 }
 
+/// A part of a table's definition: a column, or a rule of the table.
 #[derive(Drop)]
 pub enum TableElement {
     Column(ColumnDefinition),
     Constraint(TableConstraint),
 }
 
+/// A column of CREATE TABLE: its name, its type and its rules.
 #[derive(Drop)]
 pub struct ColumnDefinition {
     pub column: Name,
@@ -79,6 +83,7 @@ pub enum TypeName {
     CharacterVarying(i64),
 }
 
+/// A rule that stands behind a column, with a name where that is written.
 #[derive(Drop)]
 pub struct ColumnConstraint {
     /// The name after CONSTRAINT, where that is written.
@@ -86,6 +91,7 @@ pub struct ColumnConstraint {
     pub rule: ColumnRule,
 }
 
+/// What a column's constraint asks of it.
 #[derive(Drop)]
 pub enum ColumnRule {
     NotNull,
@@ -94,6 +100,7 @@ pub enum ColumnRule {
     Check(Condition),
 }
 
+/// A rule of the table, with a name where that is written.
 #[derive(Drop)]
 pub struct TableConstraint {
     /// The name after CONSTRAINT, where that is written.
@@ -109,6 +116,7 @@ pub enum TableRule {
     Check(Condition),
 }
 
+/// CREATE INDEX: the index's name, its table and its columns.
 #[derive(Drop)]
 pub struct CreateIndex {
     pub index: Name,
@@ -117,6 +125,7 @@ pub struct CreateIndex {
     pub columns: Items<Name>,
 }
 
+/// INSERT: the table, the columns that are named, and the rows.
 #[derive(Drop)]
 pub struct Insert {
     pub table: Name,
@@ -125,6 +134,7 @@ pub struct Insert {
     pub rows: InsertRows,
 }
 
+/// Where an INSERT has its rows from.
 #[derive(Drop)]
 pub enum InsertRows {
     /// The rows after VALUES, at least one, each of at least one value.
@@ -139,6 +149,7 @@ pub enum StoredSource {
     Null,
 }
 
+/// UPDATE: the table, what its columns are set to, and the condition after WHERE.
 #[derive(Drop)]
 pub struct Update {
     pub table: Name,
@@ -147,24 +158,28 @@ pub struct Update {
     pub filter: Option<Condition>,
 }
 
+/// A column of an UPDATE, and what is stored into it.
 #[derive(Drop)]
 pub struct Assignment {
     pub column: Name,
     pub source: StoredSource,
 }
 
+/// DELETE: the table, and the condition after WHERE.
 #[derive(Drop)]
 pub struct Delete {
     pub table: Name,
     pub filter: Option<Condition>,
 }
 
+/// What a transaction may do: read, or also write.
 #[derive(Clone, Copy, Debug, PartialEq, Eq)]
 pub enum AccessMode {
     ReadOnly,
     ReadWrite,
 }
 
+/// DECLARE: the cursor's name and its query.
 #[derive(Drop)]
 pub struct DeclareCursor {
     pub cursor: Name,

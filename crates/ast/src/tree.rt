@@ -23,6 +23,7 @@ pub struct Term {
     pub others: Items<(MultiplyOperator, Factor)>,
 }
 
+/// A primary, with a sign where that is written.
 #[cycle(ast)]
 #[derive(Drop)]
 pub struct Factor {
@@ -30,6 +31,7 @@ pub struct Factor {
     pub primary: Primary,
 }
 
+/// The smallest part of an expression.
 #[cycle(ast)]
 #[derive(Drop)]
 pub enum Primary {
@@ -107,6 +109,7 @@ pub struct Addend {
     pub others: Items<(bool, Operand)>,
 }
 
+/// An operand of INTERSECT.
 #[cycle(ast)]
 #[derive(Drop)]
 pub enum Operand {
@@ -115,6 +118,7 @@ pub enum Operand {
     Grouped(Boxed<Query>),
 }
 
+/// One SELECT, up to its HAVING.
 #[cycle(ast)]
 #[derive(Drop)]
 pub struct Select {
@@ -129,6 +133,7 @@ pub struct Select {
     pub having: Option<Boxed<Condition>>,
 }
 
+/// One result column: its value, with a name where that is written.
 #[cycle(ast)]
 #[derive(Drop)]
 pub struct SelectItem {
@@ -144,6 +149,7 @@ pub struct TableReference {
     pub joins: Items<Join>,
 }
 
+/// A table that is joined to those before it.
 #[cycle(ast)]
 #[derive(Drop)]
 pub enum Join {
@@ -154,6 +160,7 @@ pub enum Join {
     Left(bool, TableSource, Boxed<Condition>),
 }
 
+/// One table of a FROM.
 #[cycle(ast)]
 #[derive(Drop)]
 pub enum TableSource {

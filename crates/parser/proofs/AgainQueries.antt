@@ -431,7 +431,7 @@ module _ (limit : Option ℕ) {d : ℕ} {I : Inner} {N : Nested} (known : Known 
   query_again = record {
     passes = λ ts x rest h. chain_of_addends.passes ts ((out-Query x).first, (out-Query x).others) rest h.is;
     at = λ ts x rest h shallow stops.
-        rw (chain_of_addends.at ts ((out-Query x).first, (out-Query x).others) rest h.is shallow stops, h.has_operator) (ap (λ y. Some (y, rest)) (roll-out-Query x));
+        rw (chain_of_addends.at ts ((out-Query x).first, (out-Query x).others) rest h.is shallow stops, h.not_lone) (ap (λ y. Some (y, rest)) (roll-out-Query x));
   }
 
   -- ---- how a query begins
@@ -466,4 +466,4 @@ module _ (limit : Option ℕ) {d : ℕ} {I : Inner} {N : Nested} (known : Known 
       let a = h.is.0.1.is in
       let first = (out-Addend (out-Query x).first).first in
       first_is_query ts (out-Operand first) a.0.0 a.0.1.is
-      (λ grouped. operator_follows first (out-Addend (out-Query x).first).others (out-Query x).others a.0.0 h.is.0.0 rest a.0.2 h.is.0.2 grouped h.has_operator)
+      (λ grouped. operator_follows first (out-Addend (out-Query x).first).others (out-Query x).others a.0.0 h.is.0.0 rest a.0.2 h.is.0.2 grouped h.not_lone)

@@ -158,6 +158,6 @@ module _ (limit : Option ℕ) (some : Within limit 0) (I : Inner) (N : Nested)
         elim (is_lone (out-Addend a.0.0.0).first (out-Addend a.0.0.0).others a.0.0.1) as (λ b. is_lone (out-Addend a.0.0.0).first (out-Addend a.0.0.0).others a.0.0.1 ≡ b
         → cond b None (Some (tree, a.0.1)) ≡ Some x → IsQuery limit N ts x.0 x.1) [
           | true ↦ λ l g. cc
-          | false ↦ λ l g. found (λ y. IsQuery limit N ts y.0 y.1) (tree, a.0.1) x g (record { is = rw out-roll-Query h; has_operator = rw out-roll-Query l })
+          | false ↦ λ l g. found (λ y. IsQuery limit N ts y.0 y.1) (tree, a.0.1) x g (record { is = rw out-roll-Query h; not_lone = rw out-roll-Query l })
         ] refl a.2;
   }

@@ -163,5 +163,5 @@ addend p q = same (with_condition (p ⨟ q)) (λ limit inner ts rest h. h.is) (�
 
 pub query : {x : Query} {old middle new : Tokens} → Prints IsAddend (out-Query x).first old middle
     → Prints (λ limit inner. Many (IsSetOperator ⨾ IsAddend limit inner)) (out-Query x).others middle new → Prints IsQuery x old new
-query p q = same (with_condition (with_condition (p ⨟ q))) (λ limit inner ts rest h. (h.is, h.has_operator))
-    (λ limit inner ts rest h. record { is = h.0; has_operator = h.1 })
+query p q = same (with_condition (with_condition (p ⨟ q))) (λ limit inner ts rest h. (h.is, h.not_lone))
+    (λ limit inner ts rest h. record { is = h.0; not_lone = h.1 })

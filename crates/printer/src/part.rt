@@ -15,6 +15,7 @@ use ast::{
 use lexer::{Kind, Name, Symbol, Word};
 use std::alloc::AllocError;
 
+/// The symbol of an operator between terms.
 pub fn add_symbol(operator: AddOperator) -> Symbol
     ensures { IsWrittenAs IsAddOperator operator (Kind.Symbol result) }
 {
@@ -25,6 +26,7 @@ pub fn add_symbol(operator: AddOperator) -> Symbol
     }
 }
 
+/// The symbol of an operator between factors.
 pub fn multiply_symbol(operator: MultiplyOperator) -> Symbol
     ensures { IsWrittenAs IsMultiplyOperator operator (Kind.Symbol result) }
 {
@@ -34,6 +36,7 @@ pub fn multiply_symbol(operator: MultiplyOperator) -> Symbol
     }
 }
 
+/// The symbol of a comparison.
 pub fn comparison_symbol(comparison: Comparison) -> Symbol
     ensures { IsWrittenAs IsComparison comparison (Kind.Symbol result) }
 {
@@ -47,6 +50,7 @@ pub fn comparison_symbol(comparison: Comparison) -> Symbol
     }
 }
 
+/// The word of a set function.
 pub fn set_function_word(function: SetFunction) -> Word
     ensures { IsWrittenAs IsSetFunction function (Kind.Word result) }
 {
