@@ -80,6 +80,15 @@ pub token_before : {kind : Kind} {after : Tokens → Tokens} {old middle new : T
     → Puts (λ _ _ ts rest. ts ≡ after rest) middle new → Puts (λ _ _ ts rest. ts ≡ kind ∷ after rest) old new
 token_before {kind} {after} p q = same (p ⨟ q) (λ _ _ ts rest h. (after rest, h, refl)) (λ _ _ ts rest h. h.1 ∙ ap (λ a. kind ∷ a) h.2)
 
+-- a part, another, a token, and after them a third part
+pub operand_before : {A B C : Part} {kind : Kind} {old middle new : Tokens}
+    → Puts (λ limit inner ts rest. (between : Tokens) × A limit inner ts between × B limit inner between (kind ∷ rest)) old middle → Puts C middle new
+    → Puts (λ limit inner ts rest. (between : Tokens) × A limit inner ts between
+    × ((next : Tokens) × B limit inner between next × ((after : Tokens) × (next ≡ kind ∷ after) × C limit inner after rest))) old new
+operand_before {B = B} {kind = kind} p q = same (p ⨟ q)
+    (λ limit inner ts rest h. (h.2.2.0, (h.0, h.1, subst (λ next. B limit inner h.0 next) h.2.2.1 h.2.1), h.2.2.2))
+    (λ limit inner ts rest h. (h.1.0, h.1.1, (kind ∷ h.0, h.1.2, (h.0, refl, h.2))))
+
 -- ---- parts one after another, any number of them
 
 split : {A : Type 0} (R : Rule A) (xs : List A) (x : A) (ts rest : Tokens) → Many R ts (xs ++ x ∷ []) rest

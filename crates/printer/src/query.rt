@@ -2,8 +2,9 @@
 
 ghost use Rattle.std.specs.Prelude.{OnOk};
 ghost use Rattle.ast.specs.Expressions.{IsCondition, IsConjunction, IsExpression, IsFactor, IsNegation, IsPredicate, IsPrimary, IsTerm, IsTest, Nested};
-ghost use Rattle.ast.specs.Notation.{◌⊳◌, Listed, Maybe, Parenthesized};
+ghost use Rattle.ast.specs.Notation.{◌⨾◌, ◌⊳◌, ◌⊲◌, Listed, Maybe, Parenthesized, Written};
 ghost use Rattle.ast.specs.Queries.{AreSelectItems, IsAddend, IsJoin, IsOperand, IsQuery, IsSelect, IsSelectItem, IsTableReference, IsTableSource};
+ghost use Rattle.ast.specs.Words.{IS, NOT, NULL};
 ghost use Rattle.printer.specs.Writing.{Prints};
 
 use crate::part::{add_symbol, comparison_symbol, multiply_symbol, set_function_word};
@@ -17,6 +18,7 @@ use lexer::{Kind, Symbol, Word};
 use std::alloc::AllocError;
 
 impl Writer {
+    /// Writes an expression.
     #[cycle(print)]
     pub fn expression(&mut self, expression: &Expression) -> Result<(), AllocError>
         ensures { OnOk result (Prints IsExpression expression.now self.old self.new) }
@@ -84,6 +86,7 @@ impl Writer {
         self.symbol(Symbol::RightParenthesis)
     }
 
+    /// Writes a condition.
     #[cycle(print)]
     pub fn condition(&mut self, condition: &Condition) -> Result<(), AllocError>
         ensures { OnOk result (Prints IsCondition condition.now self.old self.new) }
@@ -129,11 +132,7 @@ impl Writer {
         ensures { OnOk result (Prints IsPredicate predicate.now self.old self.new) }
     {
         match predicate {
-            Predicate::Nested(condition) => {
-                self.symbol(Symbol::LeftParenthesis)?;
-                self.condition(condition.get())?;
-                self.symbol(Symbol::RightParenthesis)
-            }
+            Predicate::Nested(condition) => self.nested(condition),
             Predicate::Compare(left, comparison, right) => {
                 self.expression(left)?;
                 self.symbol(comparison_symbol(*comparison))?;
@@ -148,29 +147,18 @@ impl Writer {
                 self.expression(high)
             }
             Predicate::InList(operand, is_negated, literals) => {
-                self.expression(operand)?;
-                self.word_if(*is_negated, Word::Not)?;
-                self.word(Word::In)?;
+                self.operand_before(operand, *is_negated, Word::In)?;
                 self.list_in_parentheses(literals.as_slice())
             }
             Predicate::InQuery(operand, is_negated, query) => {
-                self.expression(operand)?;
-                self.word_if(*is_negated, Word::Not)?;
-                self.word(Word::In)?;
+                self.operand_before(operand, *is_negated, Word::In)?;
                 self.subquery(query)
             }
             Predicate::Like(operand, is_negated, pattern) => {
-                self.expression(operand)?;
-                self.word_if(*is_negated, Word::Not)?;
-                self.word(Word::Like)?;
+                self.operand_before(operand, *is_negated, Word::Like)?;
                 self.expression(pattern)
             }
-            Predicate::IsNull(operand, is_negated) => {
-                self.expression(operand)?;
-                self.word(Word::Is)?;
-                self.word_if(*is_negated, Word::Not)?;
-                self.word(Word::Null)
-            }
+            Predicate::IsNull(operand, is_negated) => self.null_test(operand, *is_negated),
             Predicate::Exists(query) => {
                 self.word(Word::Exists)?;
                 self.subquery(query)
@@ -178,6 +166,43 @@ impl Writer {
         }
     }
 
+    /// Writes a condition in parentheses.
+    #[cycle(print)]
+    fn nested(&mut self, condition: &Boxed<Condition>) -> Result<(), AllocError>
+        ensures { OnOk result (Prints (λ _ inner. Parenthesized (Nested.condition inner)) condition.now self.old self.new) }
+    {
+        self.symbol(Symbol::LeftParenthesis)?;
+        self.condition(condition.get())?;
+        self.symbol(Symbol::RightParenthesis)
+    }
+
+    /// Writes an operand, perhaps NOT, and a word.
+    #[cycle(print)]
+    fn operand_before(
+        &mut self,
+        operand: &Expression,
+        is_negated: bool,
+        word: Word,
+    ) -> Result<(), AllocError>
+        ensures { OnOk result (Prints (λ limit inner. IsExpression limit inner ⨾ Written NOT ⊲ Kind.Word word) (operand.now, is_negated) self.old self.new) }
+    {
+        self.expression(operand)?;
+        self.word_if(is_negated, Word::Not)?;
+        self.word(word)
+    }
+
+    /// Writes an operand, IS, perhaps NOT, and NULL.
+    #[cycle(print)]
+    fn null_test(&mut self, operand: &Expression, is_negated: bool) -> Result<(), AllocError>
+        ensures { OnOk result (Prints (λ limit inner. IsExpression limit inner ⨾ IS ⊳ Written NOT ⊲ NULL) (operand.now, is_negated) self.old self.new) }
+    {
+        self.expression(operand)?;
+        self.word(Word::Is)?;
+        self.word_if(is_negated, Word::Not)?;
+        self.word(Word::Null)
+    }
+
+    /// Writes a query.
     #[cycle(print)]
     pub fn query(&mut self, query: &Query) -> Result<(), AllocError>
         ensures { OnOk result (Prints IsQuery query.now self.old self.new) }

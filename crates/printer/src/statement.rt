@@ -2,10 +2,10 @@
 
 ghost use Rattle.std.specs.Prelude.{OnOk};
 ghost use Rattle.ast.specs.Expressions.{Nested};
-ghost use Rattle.ast.specs.Notation.{◌⊳◌, MaybeListed, Parenthesized};
+ghost use Rattle.ast.specs.Notation.{◌⊳◌, MaybeListed, Parenthesized, Written};
 ghost use Rattle.ast.specs.Statements.{AreNames, IsConstraintName, IsDirection, IsFilter, IsOrder};
-ghost use Rattle.ast.specs.Terminals.{IsNumber};
-ghost use Rattle.ast.specs.Words.{CHECK};
+ghost use Rattle.ast.specs.Terminals.{IsName, IsNumber};
+ghost use Rattle.ast.specs.Words.{CHECK, WORK};
 ghost use Rattle.printer.specs.Writing.{IsWrittenAs, Prints};
 
 use crate::writer::{Part, Writer};
@@ -84,6 +84,22 @@ impl Writer {
         self.symbol(Symbol::LeftParenthesis)?;
         self.condition(condition)?;
         self.symbol(Symbol::RightParenthesis)
+    }
+
+    /// Writes a word and a name.
+    fn named(&mut self, word: Word, name: &Name) -> Result<(), AllocError>
+        ensures { OnOk result (Prints (λ _ _. Kind.Word word ⊳ IsName) name.now self.old self.new) }
+    {
+        self.word(word)?;
+        self.name(name)
+    }
+
+    /// Writes a word, and WORK where that is written.
+    fn with_work(&mut self, word: Word, has_work: bool) -> Result<(), AllocError>
+        ensures { OnOk result (Prints (λ _ _. Kind.Word word ⊳ Written WORK) has_work self.old self.new) }
+    {
+        self.word(word)?;
+        self.word_if(has_work, Word::Work)
     }
 
     /// Writes a number in parentheses.
@@ -425,44 +441,27 @@ impl Part for Statement {
             Statement::CreateTable(table) => table.write(writer),
             Statement::DropTable(table) => {
                 writer.word(Word::Drop)?;
-                writer.word(Word::Table)?;
-                writer.name(table)
+                writer.named(Word::Table, table)
             }
             Statement::CreateIndex(index) => index.write(writer),
             Statement::DropIndex(index) => {
                 writer.word(Word::Drop)?;
-                writer.word(Word::Index)?;
-                writer.name(index)
+                writer.named(Word::Index, index)
             }
             Statement::Insert(insert) => insert.write(writer),
             Statement::Update(update) => update.write(writer),
             Statement::Delete(delete) => delete.write(writer),
-            Statement::Commit(has_work) => {
-                writer.word(Word::Commit)?;
-                writer.word_if(*has_work, Word::Work)
-            }
-            Statement::Rollback(has_work) => {
-                writer.word(Word::Rollback)?;
-                writer.word_if(*has_work, Word::Work)
-            }
+            Statement::Commit(has_work) => writer.with_work(Word::Commit, *has_work),
+            Statement::Rollback(has_work) => writer.with_work(Word::Rollback, *has_work),
             Statement::SetTransaction(mode) => {
                 writer.word(Word::Set)?;
                 writer.word(Word::Transaction)?;
                 mode.write(writer)
             }
             Statement::DeclareCursor(declaration) => declaration.write(writer),
-            Statement::OpenCursor(cursor) => {
-                writer.word(Word::Open)?;
-                writer.name(cursor)
-            }
-            Statement::Fetch(cursor) => {
-                writer.word(Word::Fetch)?;
-                writer.name(cursor)
-            }
-            Statement::CloseCursor(cursor) => {
-                writer.word(Word::Close)?;
-                writer.name(cursor)
-            }
+            Statement::OpenCursor(cursor) => writer.named(Word::Open, cursor),
+            Statement::Fetch(cursor) => writer.named(Word::Fetch, cursor),
+            Statement::CloseCursor(cursor) => writer.named(Word::Close, cursor),
         }
     }
 }

@@ -70,24 +70,28 @@ impl Writer {
         self.kinds.push(kind)
     }
 
+    /// Writes a word.
     pub fn word(&mut self, word: Word) -> Result<(), AllocError>
         ensures { OnOk result (Puts (λ _ _ ts rest. ts ≡ Kind.Word word ∷ rest) self.old self.new) }
     {
         self.push(Kind::Word(word))
     }
 
+    /// Writes a symbol.
     pub fn symbol(&mut self, symbol: Symbol) -> Result<(), AllocError>
         ensures { OnOk result (Puts (λ _ _ ts rest. ts ≡ Kind.Symbol symbol ∷ rest) self.old self.new) }
     {
         self.push(Kind::Symbol(symbol))
     }
 
+    /// Writes a number, whatever its sign.
     pub fn number(&mut self, number: i64) -> Result<(), AllocError>
         ensures { OnOk result (Puts (λ _ _ ts rest. ts ≡ Kind.Number number ∷ rest) self.old self.new) }
     {
         self.push(Kind::Number(number))
     }
 
+    /// Writes a name.
     pub fn name(&mut self, name: &Name) -> Result<(), AllocError>
         ensures { OnOk result (Puts (λ _ _ ts rest. ts ≡ Kind.Name name.now ∷ rest) self.old self.new) }
     {
@@ -95,6 +99,7 @@ impl Writer {
         self.push(Kind::Name(name))
     }
 
+    /// Writes a string.
     pub fn text(&mut self, text: &Text) -> Result<(), AllocError>
         ensures { OnOk result (Puts (λ _ _ ts rest. ts ≡ Kind.Text text.now ∷ rest) self.old self.new) }
     {

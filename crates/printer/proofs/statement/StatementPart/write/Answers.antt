@@ -10,14 +10,14 @@ returns-in_ok-word-in-Explain c = rw c.in-Explain.is (done c.write-in-Explain.re
 pub returns-in-CreateTable : goal.returns-in-CreateTable
 returns-in-CreateTable c = rw c.in-CreateTable.is c.write-in-CreateTable.ensures
 
-pub returns-in_ok-word-in-DropTable-2 : goal.returns-in_ok-word-in-DropTable-2
-returns-in_ok-word-in-DropTable-2 c = rw c.in-DropTable.is (done c.name.result (λ last. c.in_ok-word-in-DropTable.ensures ⨟ c.in_ok-word-in-DropTable-2.ensures ⨟ last) c.name.ensures)
+pub returns-in_ok-word-in-DropTable : goal.returns-in_ok-word-in-DropTable
+returns-in_ok-word-in-DropTable c = rw c.in-DropTable.is (done c.named.result (λ last. c.in_ok-word-in-DropTable.ensures ⨟ last) c.named.ensures)
 
 pub returns-in-CreateIndex : goal.returns-in-CreateIndex
 returns-in-CreateIndex c = rw c.in-CreateIndex.is c.write-in-CreateIndex.ensures
 
-pub returns-in_ok-word-in-DropIndex-2 : goal.returns-in_ok-word-in-DropIndex-2
-returns-in_ok-word-in-DropIndex-2 c = rw c.in-DropIndex.is (done c.name-in-DropIndex.result (λ last. c.in_ok-word-in-DropIndex.ensures ⨟ c.in_ok-word-in-DropIndex-2.ensures ⨟ last) c.name-in-DropIndex.ensures)
+pub returns-in_ok-word-in-DropIndex : goal.returns-in_ok-word-in-DropIndex
+returns-in_ok-word-in-DropIndex c = rw c.in-DropIndex.is (done c.named-in-DropIndex.result (λ last. c.in_ok-word-in-DropIndex.ensures ⨟ last) c.named-in-DropIndex.ensures)
 
 pub returns-in-Insert : goal.returns-in-Insert
 returns-in-Insert c = rw c.in-Insert.is c.write-in-Insert.ensures
@@ -28,11 +28,11 @@ returns-in-Update c = rw c.in-Update.is c.write-in-Update.ensures
 pub returns-in-Delete : goal.returns-in-Delete
 returns-in-Delete c = rw c.in-Delete.is c.write-in-Delete.ensures
 
-pub returns-in_ok-word-in-Commit : goal.returns-in_ok-word-in-Commit
-returns-in_ok-word-in-Commit c = rw c.in-Commit.is (done c.word_if.result (λ last. c.in_ok-word-in-Commit.ensures ⨟ last) c.word_if.ensures)
+pub returns-in-Commit : goal.returns-in-Commit
+returns-in-Commit c = rw c.in-Commit.is c.with_work.ensures
 
-pub returns-in_ok-word-in-Rollback : goal.returns-in_ok-word-in-Rollback
-returns-in_ok-word-in-Rollback c = rw c.in-Rollback.is (done c.word_if-in-Rollback.result (λ last. c.in_ok-word-in-Rollback.ensures ⨟ last) c.word_if-in-Rollback.ensures)
+pub returns-in-Rollback : goal.returns-in-Rollback
+returns-in-Rollback c = rw c.in-Rollback.is c.with_work-in-Rollback.ensures
 
 pub returns-in_ok-word-in-SetTransaction-2 : goal.returns-in_ok-word-in-SetTransaction-2
 returns-in_ok-word-in-SetTransaction-2 c = rw c.in-SetTransaction.is (done c.write-in-SetTransaction.result (λ last. c.in_ok-word-in-SetTransaction.ensures ⨟ c.in_ok-word-in-SetTransaction-2.ensures ⨟ last) c.write-in-SetTransaction.ensures)
@@ -40,11 +40,11 @@ returns-in_ok-word-in-SetTransaction-2 c = rw c.in-SetTransaction.is (done c.wri
 pub returns-in-DeclareCursor : goal.returns-in-DeclareCursor
 returns-in-DeclareCursor c = rw c.in-DeclareCursor.is c.write-in-DeclareCursor.ensures
 
-pub returns-in_ok-word-in-OpenCursor : goal.returns-in_ok-word-in-OpenCursor
-returns-in_ok-word-in-OpenCursor c = rw c.in-OpenCursor.is (done c.name-in-OpenCursor.result (λ last. c.in_ok-word-in-OpenCursor.ensures ⨟ last) c.name-in-OpenCursor.ensures)
+pub returns-in-OpenCursor : goal.returns-in-OpenCursor
+returns-in-OpenCursor c = rw c.in-OpenCursor.is c.named-in-OpenCursor.ensures
 
-pub returns-in_ok-word-in-Fetch : goal.returns-in_ok-word-in-Fetch
-returns-in_ok-word-in-Fetch c = rw c.in-Fetch.is (done c.name-in-Fetch.result (λ last. c.in_ok-word-in-Fetch.ensures ⨟ last) c.name-in-Fetch.ensures)
+pub returns-in-Fetch : goal.returns-in-Fetch
+returns-in-Fetch c = rw c.in-Fetch.is c.named-in-Fetch.ensures
 
-pub returns-in_ok-word-in-CloseCursor : goal.returns-in_ok-word-in-CloseCursor
-returns-in_ok-word-in-CloseCursor c = rw c.in-CloseCursor.is (done c.name-in-CloseCursor.result (λ last. c.in_ok-word-in-CloseCursor.ensures ⨟ last) c.name-in-CloseCursor.ensures)
+pub returns-in-CloseCursor : goal.returns-in-CloseCursor
+returns-in-CloseCursor c = rw c.in-CloseCursor.is c.named-in-CloseCursor.ensures

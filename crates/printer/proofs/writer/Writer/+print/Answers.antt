@@ -17,7 +17,7 @@ use Rattle.ast.specs.Queries.{AreGroups, AreSelectItems, IsAddend, IsJoin, IsOpe
 use Rattle.ast.specs.Terminals.{IsAddOperator, IsLiteral, IsMultiplyOperator, IsSetOperator}
 use Rattle.ast.specs.Words.{ALL, AND, COMMA, INTERSECT, OR}
 use Rattle.printer.specs.Writing.{Prints}
-use Rattle.printer.proofs.Parts.{◌⨟◌, ◌⨠◌, done, ended, turn, written}
+use Rattle.printer.proofs.Parts.{◌⨟◌, ◌⨠◌, done, ended, operand_before, turn, written}
 use Rattle.printer.proofs.Productions.{addend, condition, condition_inside, conjunction, expression, expression_inside, factor, join, listed, negation, operand, predicate, primary, query, query_inside, select, select_item, table_reference, table_source, term, test}
 use Rattle.printer.proofs.writer.Writer.+print.Goals as goal
 
@@ -114,10 +114,9 @@ pub test-returns : goal.test-returns
 test-returns t c =
     done c.maybe.result (test c.in_ok-predicate.ensures) c.maybe.ensures
 
-pub predicate-returns-in_ok-condition-in-Nested : goal.predicate-returns-in_ok-condition-in-Nested
-predicate-returns-in_ok-condition-in-Nested t c =
-    done c.symbol-in-Nested.result (λ last. predicate (ap out-Predicate c.in-Nested.is ∙ outs-Nested _) (
-    c.in_ok-symbol-in-Nested.ensures ⨟ condition_inside (rw c.get.ensures at c.in_ok-condition-in-Nested.ensures) ⨠ last)) c.symbol-in-Nested.ensures
+pub predicate-returns-in-Nested : goal.predicate-returns-in-Nested
+predicate-returns-in-Nested t c =
+    done c.nested.result (λ last. predicate (ap out-Predicate c.in-Nested.is ∙ outs-Nested _) last) c.nested.ensures
 
 pub predicate-returns-in_ok-symbol-in-Compare : goal.predicate-returns-in_ok-symbol-in-Compare
 predicate-returns-in_ok-symbol-in-Compare t c =
@@ -130,30 +129,42 @@ predicate-returns-in_ok-word-in-Between-2 t c =
     c.in_ok-expression-in-Between.ensures ⨟ c.in_ok-word_if-in-Between.ensures ⨟
     (c.in_ok-word-in-Between.ensures ⨟ c.in_ok-expression-in-Between-2.ensures) ⨟ c.in_ok-word-in-Between-2.ensures ⨟ last)) c.expression-in-Between-3.ensures
 
-pub predicate-returns-in_ok-word-in-InList : goal.predicate-returns-in_ok-word-in-InList
-predicate-returns-in_ok-word-in-InList t c =
-    done c.list_in_parentheses.result (λ last. predicate (ap out-Predicate c.in-InList.is ∙ outs-InList _ _ _) (
-    c.in_ok-expression-in-InList.ensures ⨟ c.in_ok-word_if-in-InList.ensures ⨟ c.in_ok-word-in-InList.ensures ⨟ (rw c.as_slice.ensures at last))) c.list_in_parentheses.ensures
+pub predicate-returns-in_ok-operand_before-in-InList : goal.predicate-returns-in_ok-operand_before-in-InList
+predicate-returns-in_ok-operand_before-in-InList t c =
+    done c.list_in_parentheses.result (λ last. predicate (ap out-Predicate c.in-InList.is ∙ outs-InList _ _ _)
+    (operand_before c.in_ok-operand_before-in-InList.ensures (rw c.as_slice.ensures at last))) c.list_in_parentheses.ensures
 
-pub predicate-returns-in_ok-word-in-InQuery : goal.predicate-returns-in_ok-word-in-InQuery
-predicate-returns-in_ok-word-in-InQuery t c =
-    done c.subquery.result (λ last. predicate (ap out-Predicate c.in-InQuery.is ∙ outs-InQuery _ _ _) (
-    c.in_ok-expression-in-InQuery.ensures ⨟ c.in_ok-word_if-in-InQuery.ensures ⨟ c.in_ok-word-in-InQuery.ensures ⨟ last)) c.subquery.ensures
+pub predicate-returns-in_ok-operand_before-in-InQuery : goal.predicate-returns-in_ok-operand_before-in-InQuery
+predicate-returns-in_ok-operand_before-in-InQuery t c =
+    done c.subquery.result (λ last. predicate (ap out-Predicate c.in-InQuery.is ∙ outs-InQuery _ _ _)
+    (operand_before c.in_ok-operand_before-in-InQuery.ensures last)) c.subquery.ensures
 
-pub predicate-returns-in_ok-word-in-Like : goal.predicate-returns-in_ok-word-in-Like
-predicate-returns-in_ok-word-in-Like t c =
-    done c.expression-in-Like-2.result (λ last. predicate (ap out-Predicate c.in-Like.is ∙ outs-Like _ _ _) (
-    c.in_ok-expression-in-Like.ensures ⨟ c.in_ok-word_if-in-Like.ensures ⨟ c.in_ok-word-in-Like.ensures ⨟ last)) c.expression-in-Like-2.ensures
+pub predicate-returns-in_ok-operand_before-in-Like : goal.predicate-returns-in_ok-operand_before-in-Like
+predicate-returns-in_ok-operand_before-in-Like t c =
+    done c.expression-in-Like.result (λ last. predicate (ap out-Predicate c.in-Like.is ∙ outs-Like _ _ _)
+    (operand_before c.in_ok-operand_before-in-Like.ensures last)) c.expression-in-Like.ensures
 
-pub predicate-returns-in_ok-word_if-in-IsNull : goal.predicate-returns-in_ok-word_if-in-IsNull
-predicate-returns-in_ok-word_if-in-IsNull t c =
-    done c.word-in-IsNull-2.result (λ last. predicate (ap out-Predicate c.in-IsNull.is ∙ outs-IsNull _ _) (
-    c.in_ok-expression-in-IsNull.ensures ⨟ c.in_ok-word-in-IsNull.ensures ⨟ c.in_ok-word_if-in-IsNull.ensures ⨠ last)) c.word-in-IsNull-2.ensures
+pub predicate-returns-in-IsNull : goal.predicate-returns-in-IsNull
+predicate-returns-in-IsNull t c =
+    done c.null_test.result (λ last. predicate (ap out-Predicate c.in-IsNull.is ∙ outs-IsNull _ _) last) c.null_test.ensures
 
 pub predicate-returns-in_ok-word-in-Exists : goal.predicate-returns-in_ok-word-in-Exists
 predicate-returns-in_ok-word-in-Exists t c =
     done c.subquery-in-Exists.result (λ last. predicate (ap out-Predicate c.in-Exists.is ∙ outs-Exists _) (
     c.in_ok-word-in-Exists.ensures ⨟ last)) c.subquery-in-Exists.ensures
+
+pub nested-returns : goal.nested-returns
+nested-returns t c =
+    done c.symbol-2.result (λ last. c.in_ok-symbol.ensures ⨟ condition_inside (rw c.get.ensures at c.in_ok-condition.ensures) ⨠ last) c.symbol-2.ensures
+
+pub operand_before-returns : goal.operand_before-returns
+operand_before-returns t c =
+    done c.word.result (λ last. c.in_ok-expression.ensures ⨟ c.in_ok-word_if.ensures ⨠ last) c.word.ensures
+
+pub null_test-returns : goal.null_test-returns
+null_test-returns t c =
+    done c.word-2.result
+    (λ last. c.in_ok-expression.ensures ⨟ c.in_ok-word.ensures ⨟ c.in_ok-word_if.ensures ⨠ last) c.word-2.ensures
 
 -- ---- queries
 
