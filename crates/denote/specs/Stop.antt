@@ -6,7 +6,7 @@ use Rattle.sqlval.specs.Value.{Row}
 use Rattle.denote.specs.declared.fault.Fault.TheVariants as raised
 use Rattle.denote.specs.declared.fault.Fault.{Fault as Raised}
 use Rattle.denote.specs.declared.fault.Stop.{Stop}
-use Rattle.denote.specs.declared.fault.Stop.TheVariants.{Memory, Fault}
+use Rattle.denote.specs.declared.fault.Stop.TheVariants.{Memory, NotBuilt, Fault}
 use Rattle.denote.specs.declared.tables.Env as lent
 use Rattle.denote.specs.Evaluation.{Env, Evaluation, faults_in}
 use Rattle.denote.specs.Outcome.{Outcome}
@@ -22,9 +22,10 @@ abbrev pub env_of : lent.Env → Env
 env_of lent.Outermost = []
 env_of (lent.Inside' row p outer) = row.now ∷ env_of outer
 
--- a stop names one of these faults, unless memory was wanting
+-- a stop names one of these faults, unless memory was wanting or a form is not evaluated yet
 abbrev pub IsFaultOf : List Raised → Stop → Type 0
 IsFaultOf faults Memory = Unit {0}
+IsFaultOf faults NotBuilt = Unit {0}
 IsFaultOf faults (Fault fault) = Contains faults fault
 
 -- the value, or one of the faults

@@ -23,6 +23,12 @@ use sqlval::{
 use std::alloc::{AllocError, Global};
 use typing::{Condition, Expression};
 
+/// The most bytes that a row takes, coded.
+const LONGEST_RECORD: usize = 1_000;
+
+/// The most bytes that a key takes, coded with its row number.
+const LONGEST_KEY: usize = 600;
+
 /// Where a place stands among these columns first.
 fn position_of(place: usize, columns: &[usize]) -> Option<usize>
     ensures { result ≡ position (λ column. column == place) columns.now }
@@ -117,7 +123,7 @@ fn measure_keys(alloc: Global, indexes: &[Index], row: &[Value]) -> Result<(), S
 {
     for index in indexes {
         let key = copied_key(alloc, index.columns.as_slice(), row)?;
-        if coded_index_key_length(key.as_slice()) > 600 {
+        if coded_index_key_length(key.as_slice()) > LONGEST_KEY {
             return Err(Stop::Fault(Fault::Key));
         }
     }
@@ -129,7 +135,7 @@ fn admit(alloc: Global, table: &Table, checks: &[Condition], row: &[Value]) -> R
     ensures { Passes result (row_faults checks.now (table_of table.now []) row.now) }
 {
     evaluate_checks(alloc, checks, row)?;
-    if coded_row_length(row) > 1000 {
+    if coded_row_length(row) > LONGEST_RECORD {
         return Err(Stop::Fault(Fault::Record));
     }
     measure_keys(alloc, table.indexes.as_slice(), row)

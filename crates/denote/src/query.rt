@@ -63,8 +63,7 @@ fn picked_rows<S: Tables>(
     Ok(found)
 }
 
-/// The rows of a SELECT from one table, without DISTINCT and groups. Other forms are not evaluated yet: they are answered as
-/// want of memory.
+/// The rows of a SELECT from one table, without DISTINCT and groups. Other forms are not evaluated yet.
 #[tactic(auto, using(crate::proofs::Nodes::row_nodes))]
 fn select_rows<S: Tables>(
     alloc: Global,
@@ -75,10 +74,10 @@ fn select_rows<S: Tables>(
     ensures { GivesRows result (select_outcome (S.rows_of tables.now) select.now (env_of env.now)) }
 {
     if select.distinct {
-        return Err(Stop::Memory);
+        return Err(Stop::NotBuilt);
     }
     match &select.grouping {
-        Some(_) => Err(Stop::Memory),
+        Some(_) => Err(Stop::NotBuilt),
         None => match &select.from {
             Source::Table(name) => picked_rows(
                 alloc,
@@ -88,7 +87,7 @@ fn select_rows<S: Tables>(
                 select.items.as_slice(),
                 tables.rows(name),
             ),
-            _ => Err(Stop::Memory),
+            _ => Err(Stop::NotBuilt),
         },
     }
 }
@@ -105,6 +104,6 @@ pub fn query_rows<S: Tables>(
 {
     match query {
         Query::Select(select) => select_rows(alloc, tables, env, select.get()),
-        Query::Combined(_, _) => Err(Stop::Memory),
+        Query::Combined(_, _) => Err(Stop::NotBuilt),
     }
 }

@@ -19,3 +19,5 @@ pub mod Serializable
 pub mod Live
 pub mod Played
 pub mod Rollbacks
+pub mod Stored
+pub mod KnownSessions

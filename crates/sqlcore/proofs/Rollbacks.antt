@@ -1,11 +1,10 @@
 -- ROLLBACK is a statement of one or two reserved words.
-use Rattle.std.proofs.Common.{◌≡◌, ◌⊎◌, ℕ, ◌+◌, ◌≤◌, ◌<◌, Bool, true, false, List, [], ◌∷◌, ◌++◌, map, length, length-append, append-nil, refl, sym, ap, ◌∙◌, subst, inl, inr, arith, Some, None}
+use Rattle.std.proofs.Common.{◌≡◌, ◌⊎◌, ◌+◌, ◌≤◌, ◌<◌, Bool, true, false, List, [], ◌∷◌, ◌++◌, map, length, length-append, append-nil, refl, sym, ap, ◌∙◌, subst, inl, inr, arith, Some, None}
 use Rattle.std.specs.Prelude.{◌↔◌}
 use Rattle.lexer.specs.declared.kinds.Kind.{Kind}
 use Rattle.lexer.specs.declared.kinds.Kind.TheVariants as kind
 use Rattle.lexer.specs.declared.kinds.Symbol.TheVariants as symbol
 use Rattle.lexer.specs.declared.kinds.Token.{Token}
-use Rattle.lexer.specs.declared.words.Word.{Word}
 use Rattle.lexer.specs.declared.words.Word.TheVariants.{Rollback, Work}
 use Rattle.lexer.specs.Recognition.{IsMadeOf}
 use Rattle.lexer.specs.Support.{first_unsupported, unsupported_word}
@@ -13,11 +12,11 @@ use Rattle.lexer.specs.Token.{Bytes}
 use Rattle.lexer.specs.Tokens.{AreTokens, kinds_of}
 use Rattle.lexer.specs.Words.{is_supported}
 use Rattle.ast.specs.declared.statement.Statement.TheVariants as asks
-use Rattle.ast.specs.Grammar.{IsText, nested_at}
-use Rattle.ast.specs.Nesting.{left_of, right_of, lefts, rights, IsNestedWithin}
+use Rattle.ast.specs.Grammar.{IsText}
+use Rattle.ast.specs.Nesting.{left_of, lefts, IsNestedWithin}
 use Rattle.ast.specs.Notation.{Tokens, Written}
 use Rattle.ast.specs.Words.{ROLLBACK, WORK, SEMICOLON}
-use Rattle.sqlcore.specs.Reading.{IsRead, IsSpelled, deepest, longest_chain, longest_statement}
+use Rattle.sqlcore.specs.Reading.{IsRead, deepest, longest_chain, longest_statement}
 use Rattle.sqlcore.specs.Step.{IsRollback, rollback_words}
 
 -- ---- few tokens nest no deeper than the limit

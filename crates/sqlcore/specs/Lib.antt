@@ -3,6 +3,8 @@ pub mod PieceMeaning
 pub mod Printed
 pub mod Writes
 pub mod Store
+pub mod Contents
+pub mod Held
 pub mod Place
 pub mod Cutter
 pub mod World

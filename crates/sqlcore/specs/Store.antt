@@ -3,7 +3,7 @@ use Rattle.std.specs.Prelude.{ℕ, List, [], Option, Some, None, slice_get}
 use Rattle.sqlval.specs.Schema.{table_place}
 use Rattle.sqlval.specs.Value.{Row}
 use Rattle.sqlcore.specs.declared.store.Store.{Store}
-use Rattle.sqlcore.specs.declared.store.TableRows.{TableRows}
+use Rattle.sqlcore.specs.declared.table_rows.TableRows.{TableRows}
 
 abbrev pub rows_of : Option TableRows → List Row
 rows_of None = []

@@ -1,9 +1,12 @@
+//! A core and its calls.
+ghost use Rattle.std.specs.Prelude.{◌≡◌, ◌≢◌, ◌↔◌, ◌<◌, ◌-◌, ◌^◌, IsOk, IfOk, IfErr, MatchBool, MatchResult};
+
 use crate::reply::Reply;
 use crate::rollback::is_rollback;
 use crate::statements::{answer, carry_out_change, read_statement};
 use crate::store::Store;
 use disk::Disk;
-use lexer::{Limit, Refusal};
+use lexer::{Limit, Reason, Refusal};
 use resolve::resolve;
 use std::alloc::Global;
 use typing::Typed;
@@ -11,69 +14,87 @@ use typing::Typed;
 /// The greatest number of bytes of a statement.
 pub(crate) const LONGEST_STATEMENT: usize = 65_536;
 
-/// A session of a `Core`, from `new_session` to `end_session`.
+/// A session of a `Core`, from `new_session` to `end_session`. No two sessions of a core have the same.
 #[derive(Clone, Copy, Debug, PartialEq, Eq)]
 pub struct SessionId {
-    number: usize,
-}
-
-/// What a session does between two of its calls.
-#[derive(Clone, Copy, Debug, PartialEq, Eq)]
-enum Session {
-    /// No transaction.
-    Idle,
-    /// A transaction, which `writes` where it has changed tables.
-    Active { writes: bool },
+    number: u64,
 }
 
 /// A refusal, and what the call was given.
 #[derive(Drop)]
 pub struct Refused<T> {
+    /// Why the call was refused.
     pub refusal: Refusal,
+    /// What it was given.
     pub value: T,
 }
 
 /// Tables over a device, and the sessions that read and change them.
+///
+/// There is one session at a time, and at most one transaction: that of the session, which begins by itself.
 #[derive(Drop)]
 pub struct Core<D: Disk> {
     alloc: Global,
     disk: D,
     store: Store,
-    session: Option<Session>,
+    session: Option<SessionId>,
+    made: u64,
 }
 
 impl<D: Disk> Core<D> {
+    ghost use Rattle.lexer.specs.declared.refusals.Limit.TheVariants.{Sessions};
+    ghost use Rattle.lexer.specs.declared.refusals.Reason.TheVariants as reason;
+    ghost use Rattle.lexer.specs.declared.refusals.Refusal.TheVariants.{Exceeded, Invalid};
+    ghost use Rattle.sqlcore.specs.Held.{session_of, sessions_made, device_of, IsNew, HasMade, HasEnded, HasRolledBack, IsUnchanged, Leaves};
+    ghost use Rattle.sqlcore.specs.Step.{IsRollback};
+
     /// A new database on a device of length 0, without tables and sessions, over a pool of `frames` pages.
     ///
-    /// So far the tables stand in memory, and the device is neither read nor written.
-    pub fn open(alloc: Global, disk: D, frames: usize) -> Result<Core<D>, Refused<D>> {
+    /// So far the tables stand in memory, the device is neither read nor written, and nothing is refused.
+    pub fn open(alloc: Global, disk: D, frames: usize) -> Result<Core<D>, Refused<D>>
+        ensures accepted { IsOk result }
+        ensures new { IfOk result (λ core. IsNew disk core) }
+    {
         let _ = frames;
         Ok(Core {
             alloc,
             disk,
             store: Store::new(alloc),
             session: None,
+            made: 0,
         })
     }
 
-    /// A new session without a transaction. Refuses with the limit `sessions` where one stands already,
-    /// and nothing changes then.
-    pub fn new_session(&mut self) -> Result<SessionId, Refusal> {
-        if self.session.is_some() {
+    /// A new session without a transaction. Refuses with the limit `sessions` where one stands already, or
+    /// 2^64 - 1 were made, and nothing changes then.
+    pub fn new_session(&mut self) -> Result<SessionId, Refusal>
+        ensures accepted { IsOk result ↔ ((session_of self.old ≡ None) × (sessions_made self.old < 2 ^ 64 - 1)) }
+        ensures made { IfOk result (λ session. HasMade self.old session self.new) }
+        ensures refused { IfErr result (λ refusal. (refusal ≡ Exceeded Sessions) × IsUnchanged self.old self.new) }
+    {
+        if self.session.is_some() || self.made == u64::MAX {
             return Err(Refusal::Exceeded(Limit::Sessions));
         }
-        self.session = Some(Session::Idle);
-        Ok(SessionId { number: 0 })
+        let session = SessionId { number: self.made };
+        self.made += 1;
+        self.session = Some(session);
+        Ok(session)
     }
 
     /// Carries out a statement of this session, and answers its reply. After a refusal tables, transaction
-    /// and session are as before.
+    /// and session are as before. A call of a session that has ended is refused by `session`.
     ///
     /// ROLLBACK takes no memory and always succeeds.
-    pub fn step(&mut self, session: SessionId, text: &[u8]) -> Reply {
-        let _ = session.number;
+    pub fn step(&mut self, session: SessionId, text: &[u8]) -> Reply
+        ensures leaves { Leaves self.old result self.new }
+        ensures rolled_back { IsRollback text.now → session_of self.old ≡ Some session → (result ≡ Reply.Done) × HasRolledBack self.old self.new }
+        ensures ended { session_of self.old ≢ Some session → result ≡ Reply.Refused (Invalid reason.Session) }
+    {
+        if !self.is_standing(session) {
+            return Reply::Refused(Refusal::Invalid(Reason::Session));
+        }
         if is_rollback(text) {
-            self.roll_back();
+            self.store.roll_back();
             return Reply::Done;
         }
         match self.execute(text) {
@@ -84,68 +105,66 @@ impl<D: Disk> Core<D> {
 
     /// Writes pages that are committed and not yet on the device, and answers how many are left: none, while
     /// the tables stand in memory.
-    pub fn flush(&mut self) -> Result<u32, Refusal> {
+    pub fn flush(&mut self) -> Result<u32, Refusal>
+        ensures none_left { result ≡ Ok 0 }
+        ensures unchanged { IsUnchanged self.old self.new }
+    {
         Ok(0)
     }
 
-    /// Rolls back the session's transaction, and ends the session. Takes no memory.
-    pub fn end_session(&mut self, session: SessionId) {
-        let _ = session.number;
-        self.roll_back();
-        self.session = None;
+    /// Rolls back the session's transaction, and ends the session. Takes no memory. Where the session has
+    /// ended already, nothing changes.
+    pub fn end_session(&mut self, session: SessionId)
+        ensures ended { session_of self.old ≡ Some session → HasEnded self.old self.new }
+        ensures unchanged { session_of self.old ≢ Some session → IsUnchanged self.old self.new }
+    {
+        if self.is_standing(session) {
+            self.store.roll_back();
+            self.session = None;
+        }
     }
 
     /// Ends all sessions, and hands back the device.
-    pub fn close(self) -> Result<D, Refused<Core<D>>> {
+    pub fn close(self) -> Result<D, Refused<Core<D>>>
+        ensures { result ≡ Ok (device_of self) }
+    {
         let Core {
             alloc: _,
             disk,
             store: _,
             session: _,
+            made: _,
         } = self;
         Ok(disk)
     }
 
+    /// Whether this session has not ended.
+    fn is_standing(&self, session: SessionId) -> bool
+        ensures { MatchBool result (session_of self.now ≡ Some session) (session_of self.now ≢ Some session) }
+    {
+        match self.session {
+            Some(standing) => standing.number == session.number,
+            None => false,
+        }
+    }
+
     /// The reply of any statement but ROLLBACK.
-    fn execute(&mut self, text: &[u8]) -> Result<Reply, Refusal> {
+    fn execute(&mut self, text: &[u8]) -> Result<Reply, Refusal>
+        ensures { MatchResult result (λ reply. Leaves self.old reply self.new) (λ _. IsUnchanged self.old self.new) }
+    {
         let statement = read_statement(self.alloc, text)?;
         match resolve(self.alloc, statement, self.store.schema())? {
-            Typed::Query(query) => {
-                let reply = answer(self.alloc, &self.store, &query)?;
-                self.begin();
-                Ok(reply)
-            }
-            Typed::Change(change) => {
-                let reply = carry_out_change(self.alloc, &mut self.store, change)?;
-                self.session = Some(Session::Active { writes: true });
-                Ok(reply)
-            }
+            Typed::Query(query) => answer(self.alloc, &self.store, &query),
+            Typed::Change(change) => carry_out_change(self.alloc, &mut self.store, change),
             Typed::Commit => {
-                self.commit();
+                self.store.commit();
                 Ok(Reply::Done)
             }
             Typed::Rollback => {
-                self.roll_back();
+                self.store.roll_back();
                 Ok(Reply::Done)
             }
             _ => Err(Refusal::NotSupported),
         }
-    }
-
-    /// Begins a transaction in a session that has none.
-    fn begin(&mut self) {
-        if self.session == Some(Session::Idle) {
-            self.session = Some(Session::Active { writes: false });
-        }
-    }
-
-    fn commit(&mut self) {
-        self.store.commit();
-        self.session = Some(Session::Idle);
-    }
-
-    fn roll_back(&mut self) {
-        self.store.roll_back();
-        self.session = Some(Session::Idle);
     }
 }

@@ -2,6 +2,7 @@
 #![tactic(auto)]
 
 mod engine;
+mod every_table;
 mod input;
 mod laws;
 mod printing;
@@ -10,6 +11,7 @@ mod rollback;
 mod script;
 mod statements;
 mod store;
+mod table_rows;
 
 pub use engine::{Core, Refused, SessionId};
 pub use laws::{

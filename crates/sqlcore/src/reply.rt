@@ -25,8 +25,13 @@ pub enum Reply {
 }
 
 impl Reply {
+    ghost use Rattle.std.specs.Prelude.{◌≡◌};
+    ghost use Rattle.sqlcore.specs.Script.{is_refused};
+
     /// Whether it is a refusal.
-    pub fn is_refused(&self) -> bool {
+    pub fn is_refused(&self) -> bool
+        ensures { result ≡ is_refused (Some self.now) }
+    {
         matches!(self, Reply::Refused(_))
     }
 }

@@ -1,5 +1,6 @@
 //! A script: the pieces of an input, carried out in order.
-ghost use Rattle.std.specs.Prelude.{◌≤◌, length, IfOk};
+ghost use Rattle.std.specs.Prelude.{◌≡◌, ◌≤◌, length, IfOk};
+ghost use Rattle.sqlcore.specs.Held.{IsUnchanged, IsSettled, Knows};
 
 use crate::engine::{Core, SessionId};
 use crate::input::{Cutter, Request};
@@ -21,10 +22,13 @@ const CHUNK: usize = 4_096;
 /// What ended a script before its end.
 #[derive(Debug, Drop, Error)]
 pub enum ScriptFault {
+    /// There was no memory for the text of a statement.
     #[error("no memory for the text of a statement")]
     Memory,
+    /// The reader refused.
     #[error("the input was refused: {0}")]
     Reader(io::Error),
+    /// The writer refused.
     #[error("the output was refused: {0}")]
     Writer(io::Error),
 }
@@ -47,13 +51,16 @@ struct Sessions {
 /// Reads a script, makes the calls of its pieces in order and prints each reply; then ends its sessions.
 ///
 /// The answer tells whether a reply was a refusal. After a fault of the reader only the pieces that ended
-/// before it were carried out, and after one of the writer no later piece.
+/// before it were carried out, and after one of the writer no later piece. However it ends, what is not committed
+/// is rolled back.
 pub fn run<D: Disk, R: Read, W: Write>(
     alloc: Global,
     core: &mut Core<D>,
     reader: &mut R,
     writer: &mut W,
-) -> Result<bool, ScriptFault> {
+) -> Result<bool, ScriptFault>
+    ensures { IsSettled core.old → IsSettled core.new }
+{
     let mut cutter = Cutter::new(alloc)?;
     let mut sessions = Sessions {
         standing: [None; SESSIONS],
@@ -73,7 +80,9 @@ fn play<D: Disk, R: Read, W: Write>(
     sessions: &mut Sessions,
     reader: &mut R,
     writer: &mut W,
-) -> Result<(), ScriptFault> {
+) -> Result<(), ScriptFault>
+    ensures { Knows sessions.old.standing core.old → Knows sessions.new.standing core.new }
+{
     let mut chunk = [0u8; CHUNK];
     for _ in 0..u64::MAX {
         let count = read_some(reader, &mut chunk).map_err(ScriptFault::Reader)?;
@@ -92,7 +101,9 @@ fn play_last<D: Disk, W: Write>(
     cutter: &mut Cutter,
     sessions: &mut Sessions,
     writer: &mut W,
-) -> io::Result<()> {
+) -> io::Result<()>
+    ensures { Knows sessions.old.standing core.old → Knows sessions.new.standing core.new }
+{
     let last = cutter.finish();
     carry_out_piece(core, cutter, sessions, last, writer)?;
     writer.flush()
@@ -118,7 +129,9 @@ fn play_bytes<D: Disk, W: Write>(
     sessions: &mut Sessions,
     bytes: &[u8],
     writer: &mut W,
-) -> io::Result<()> {
+) -> io::Result<()>
+    ensures { Knows sessions.old.standing core.old → Knows sessions.new.standing core.new }
+{
     for byte in bytes {
         if let Some(request) = cutter.take(*byte) {
             carry_out_piece(core, cutter, sessions, request, writer)?;
@@ -128,35 +141,55 @@ fn play_bytes<D: Disk, W: Write>(
     Ok(())
 }
 
-/// Carries out what a piece asks for, and prints the reply.
+/// Carries out what a piece asks for, and prints the reply where there is one.
 fn carry_out_piece<D: Disk, W: Write>(
     core: &mut Core<D>,
     cutter: &Cutter,
     sessions: &mut Sessions,
     request: Request,
     writer: &mut W,
-) -> io::Result<()> {
-    let reply = match request {
-        Request::Nothing => return Ok(()),
+) -> io::Result<()>
+    ensures { Knows sessions.old.standing core.old → Knows sessions.new.standing core.new }
+{
+    match reply_to(core, cutter, sessions, request) {
+        None => Ok(()),
+        Some(reply) => {
+            sessions.refused = sessions.refused || reply.is_refused();
+            print_reply(&reply, writer)
+        }
+    }
+}
+
+/// Carries out what a piece asks for; a choice of a session alone has no reply.
+fn reply_to<D: Disk>(
+    core: &mut Core<D>,
+    cutter: &Cutter,
+    sessions: &mut Sessions,
+    request: Request,
+) -> Option<Reply>
+    ensures { Knows sessions.old.standing core.old → Knows sessions.new.standing core.new }
+{
+    match request {
+        Request::Nothing => None,
         Request::Chooses(session) => {
             sessions.choose(session);
-            return Ok(());
+            None
         }
-        Request::Calls(session) => {
-            if let Some(session) = session {
-                sessions.choose(session);
-            }
-            sessions.call(core, cutter.text())
+        Request::Calls(None) => Some(sessions.call(core, cutter.text())),
+        Request::Calls(Some(session)) => {
+            sessions.choose(session);
+            Some(sessions.call(core, cutter.text()))
         }
-        Request::Flushes => flush_all(core),
-        Request::Wrong => Reply::Refused(Refusal::Invalid(Reason::Session)),
-    };
-    sessions.refused = sessions.refused || reply.is_refused();
-    print_reply(&reply, writer)
+        Request::Flushes => Some(flush_all(core)),
+        Request::Wrong => Some(Reply::Refused(Refusal::Invalid(Reason::Session))),
+    }
 }
 
 /// Flushes until no page is left.
-fn flush_all<D: Disk>(core: &mut Core<D>) -> Reply {
+#[tactic(auto, using(crate::proofs::KnownSessions::unchanged_same, crate::proofs::KnownSessions::unchanged_then))]
+fn flush_all<D: Disk>(core: &mut Core<D>) -> Reply
+    ensures { IsUnchanged core.old core.new }
+{
     for _ in 0..u64::MAX {
         match core.flush() {
             Ok(0) => return Reply::Done,
@@ -169,13 +202,17 @@ fn flush_all<D: Disk>(core: &mut Core<D>) -> Reply {
 
 impl Sessions {
     /// Chooses the session of this number, from 1 to 64.
-    fn choose(&mut self, session: usize) {
+    fn choose(&mut self, session: usize)
+        ensures { self.new.standing ≡ self.old.standing }
+    {
         self.chosen = session.saturating_sub(1);
     }
 
     /// Calls the chosen session, which is made where it does not stand; where that is refused, the refusal
     /// is the reply.
-    fn call<D: Disk>(&mut self, core: &mut Core<D>, text: &[u8]) -> Reply {
+    fn call<D: Disk>(&mut self, core: &mut Core<D>, text: &[u8]) -> Reply
+        ensures { Knows self.old.standing core.old → Knows self.new.standing core.new }
+    {
         match self.session(core) {
             Ok(session) => core.step(session, text),
             Err(refusal) => Reply::Refused(refusal),
@@ -183,7 +220,9 @@ impl Sessions {
     }
 
     /// The chosen session.
-    fn session<D: Disk>(&mut self, core: &mut Core<D>) -> Result<SessionId, Refusal> {
+    fn session<D: Disk>(&mut self, core: &mut Core<D>) -> Result<SessionId, Refusal>
+        ensures { Knows self.old.standing core.old → Knows self.new.standing core.new }
+    {
         if self.chosen >= SESSIONS {
             return Err(Refusal::Invalid(Reason::Session));
         }
@@ -196,10 +235,13 @@ impl Sessions {
     }
 
     /// Ends all sessions.
-    fn end<D: Disk>(&mut self, core: &mut Core<D>) {
-        for session in self.standing.iter().flatten() {
-            core.end_session(*session);
+    fn end<D: Disk>(&self, core: &mut Core<D>)
+        ensures { Knows self.now.standing core.old → IsSettled core.new }
+    {
+        for slot in &self.standing {
+            if let Some(session) = slot {
+                core.end_session(*session);
+            }
         }
-        self.standing = [None; SESSIONS];
     }
 }

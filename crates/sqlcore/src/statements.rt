@@ -1,4 +1,6 @@
 //! A statement's way from its text to its reply.
+ghost use Rattle.std.specs.Prelude.{MatchResult};
+ghost use Rattle.sqlcore.specs.Held.{SameTables, LeavesTables};
 
 use crate::engine::LONGEST_STATEMENT;
 use crate::reply::Reply;
@@ -40,7 +42,9 @@ pub(crate) fn carry_out_change(
     alloc: Global,
     store: &mut Store,
     change: Change,
-) -> Result<Reply, Refusal> {
+) -> Result<Reply, Refusal>
+    ensures { MatchResult result (λ reply. LeavesTables store.old reply store.new) (λ _. SameTables store.old store.new) }
+{
     match change {
         Change::CreateTable(table) => create_table(alloc, store, table),
         Change::Insert(insert) => insert_rows(alloc, store, &insert),
@@ -48,7 +52,9 @@ pub(crate) fn carry_out_change(
     }
 }
 
-fn create_table(alloc: Global, store: &mut Store, table: CreateTable) -> Result<Reply, Refusal> {
+fn create_table(alloc: Global, store: &mut Store, table: CreateTable) -> Result<Reply, Refusal>
+    ensures { MatchResult result (λ reply. LeavesTables store.old reply store.new) (λ _. SameTables store.old store.new) }
+{
     let CreateTable {
         name,
         columns,
@@ -64,7 +70,9 @@ fn create_table(alloc: Global, store: &mut Store, table: CreateTable) -> Result<
     Ok(Reply::Done)
 }
 
-fn insert_rows(alloc: Global, store: &mut Store, insert: &Insert) -> Result<Reply, Refusal> {
+fn insert_rows(alloc: Global, store: &mut Store, insert: &Insert) -> Result<Reply, Refusal>
+    ensures { MatchResult result (λ reply. LeavesTables store.old reply store.new) (λ _. SameTables store.old store.new) }
+{
     let Some(place) = store.schema().find_table(insert.table.as_slice()) else {
         return Err(Refusal::Invalid(Reason::Name));
     };
@@ -96,6 +104,7 @@ fn new_rows(alloc: Global, store: &Store, place: usize, insert: &Insert) -> Resu
 fn refusal_of(stop: Stop) -> Refusal {
     match stop {
         Stop::Memory => Refusal::Memory,
+        Stop::NotBuilt => Refusal::NotSupported,
         Stop::Fault(Fault::ManyRows) => Refusal::ManyRows,
         Stop::Fault(Fault::TextTooLong) => Refusal::TextTooLong,
         Stop::Fault(Fault::OutOfRange) => Refusal::OutOfRange,

@@ -1,14 +1,13 @@
+//! The tables in memory.
+ghost use Rattle.std.specs.Prelude.{◌≡◌, ◌≤◌, length, OnOk, OnErr};
+
+use crate::every_table::{commit_each, roll_back_each};
+use crate::table_rows::TableRows;
 use denote::{Row, Rows, Tables};
 use items::{Items, Text};
+use lexer::{Reason, Refusal};
 use sqlval::{Schema, Table};
 use std::alloc::{AllocError, Global};
-
-/// The rows of a table, of which the first `committed` are.
-#[derive(Drop)]
-struct TableRows {
-    rows: Rows,
-    committed: usize,
-}
 
 /// The tables in memory. What the open transaction added stands at the ends of the lists.
 #[derive(Drop)]
@@ -18,11 +17,18 @@ pub(crate) struct Store {
     /// Those of the tables of the schema, in their order.
     rows: Items<TableRows>,
     committed: usize,
+    ghost paired: { length schema.tables ≡ length rows },
+    ghost within: { committed ≤ length rows },
 }
 
 impl Store {
+    ghost use Rattle.sqlcore.specs.Contents.{no_contents, contents, kept, with_table, HasAppended};
+
     /// No tables.
-    pub(crate) fn new(alloc: Global) -> Store {
+    pub(crate) fn new(alloc: Global) -> Store
+        ensures contents { contents result ≡ no_contents }
+        ensures kept { kept result ≡ no_contents }
+    {
         Store {
             alloc,
             schema: Schema {
@@ -34,17 +40,20 @@ impl Store {
     }
 
     /// The tables' declarations.
-    pub(crate) fn schema(&self) -> &Schema {
+    pub(crate) fn schema(&self) -> &Schema
+        ensures { result.now ≡ self.now.schema }
+    {
         &self.schema
     }
 
     /// Adds a table without rows. Refuses for want of memory alone: the tables then stay as they were.
-    pub(crate) fn create(&mut self, table: Table) -> Result<(), AllocError> {
+    pub(crate) fn create(&mut self, table: Table) -> Result<(), AllocError>
+        ensures added { OnOk result (contents self.new ≡ with_table (contents self.old) table) }
+        ensures refused { OnErr result (contents self.new ≡ contents self.old) }
+        ensures kept { kept self.new ≡ kept self.old }
+    {
         self.schema.tables.push(table)?;
-        let added = self.rows.push(TableRows {
-            rows: Items::new(self.alloc),
-            committed: 0,
-        });
+        let added = self.rows.push(TableRows::new(self.alloc));
         if added.is_err() {
             let tables = self.rows.len();
             self.schema.tables.truncate(tables);
@@ -52,34 +61,36 @@ impl Store {
         added
     }
 
-    /// Puts rows at the end of the table at this place. Refuses for want of memory alone: the table
-    /// then stays as it was.
-    pub(crate) fn append(&mut self, place: usize, rows: Rows) -> Result<(), AllocError> {
+    /// Puts rows at the end of the table at this place. Refuses for want of memory, and by `name` where no table
+    /// is there: the tables then stay as they were.
+    pub(crate) fn append(&mut self, place: usize, rows: Rows) -> Result<(), Refusal>
+        ensures added { OnOk result (HasAppended (contents self.old) place rows (contents self.new)) }
+        ensures refused { OnErr result (contents self.new ≡ contents self.old) }
+        ensures kept { kept self.new ≡ kept self.old }
+    {
         match self.rows.get_mut(place) {
-            Some(table) => table.rows.append(rows),
-            None => Ok(()),
+            Some(table) => table.append(rows),
+            None => Err(Refusal::Invalid(Reason::Name)),
         }
     }
 
     /// Makes what the transaction added permanent.
-    pub(crate) fn commit(&mut self) {
+    pub(crate) fn commit(&mut self)
+        ensures contents { contents self.new ≡ contents self.old }
+        ensures kept { kept self.new ≡ contents self.old }
+    {
         self.committed = self.schema.tables.len();
-        for place in 0..self.rows.len() {
-            if let Some(table) = self.rows.get_mut(place) {
-                table.committed = table.rows.len();
-            }
-        }
+        commit_each(&mut self.rows);
     }
 
     /// Cuts off what the transaction added. Takes no memory.
-    pub(crate) fn roll_back(&mut self) {
+    pub(crate) fn roll_back(&mut self)
+        ensures contents { contents self.new ≡ kept self.old }
+        ensures kept { kept self.new ≡ kept self.old }
+    {
         self.schema.tables.truncate(self.committed);
         self.rows.truncate(self.committed);
-        for place in 0..self.rows.len() {
-            if let Some(table) = self.rows.get_mut(place) {
-                table.rows.truncate(table.committed);
-            }
-        }
+        roll_back_each(&mut self.rows);
     }
 }
 
@@ -91,7 +102,7 @@ impl Tables for Store {
     fn rows(&self, name: &Text) -> &[Row] {
         match self.schema.find_table(name.as_slice()) {
             Some(place) => match self.rows.get(place) {
-                Some(table) => table.rows.as_slice(),
+                Some(table) => table.rows(),
                 None => &[],
             },
             None => &[],

@@ -1,37 +1,18 @@
-use Rattle.std.proofs.Common.{rules}
 use Rattle.std.proofs.lemmas.Result.{err_from_is_err_and}
 use Rattle.denote.specs.Stop.{env_of}
-use Rattle.denote.specs.Meaning.{value_of, truth_at}
-use Rattle.denote.proofs.Nodes.{truth_compare, truth_between, truth_like}
-use Rattle.denote.proofs.GivesLemmas.{Gives-second, Gives-between_low, Gives-between_high, Gives-conjunction_operand, Gives-disjunction_operand}
+use Rattle.denote.specs.Meaning.{truth_at}
+use Rattle.denote.proofs.Nodes.{truth_between, truth_like}
+use Rattle.denote.proofs.GivesLemmas.{Gives-second, Gives-conjunction_operand, Gives-disjunction_operand}
 use Rattle.denote.proofs.evaluate.+conditions.Goals as goal
-
-pub condition_truth-returns-in_err-y-in-Compare : goal.condition_truth-returns-in_err-y-in-Compare
-condition_truth-returns-in_err-y-in-Compare g t c =
-    let p = err_from_is_err_and c.from_residual-in_err-y-in-Compare.result c.from_residual-in_err-y-in-Compare.ensures.1 in
-    rw (p.1, p.2, c.in-Compare.is, truth_compare) (Gives-second _ _ _ _ _ (rw c.get-in-Compare.ensures at c.in_ok-x-in-Compare.ensures.ok) (rw c.get-in-Compare-2.ensures at c.in_err-y-in-Compare.ensures))
 
 pub condition_truth-returns-in_err-y-in-Like : goal.condition_truth-returns-in_err-y-in-Like
 condition_truth-returns-in_err-y-in-Like g t c =
     let p = err_from_is_err_and c.from_residual-in_err-y-in-Like.result c.from_residual-in_err-y-in-Like.ensures.1 in
     rw (p.1, p.2, c.in-Like.is, truth_like) (Gives-second _ _ _ _ _ (rw c.get-in-Like.ensures at c.in_ok-x-in-Like.ensures.ok) (rw c.get-in-Like-2.ensures at c.in_err-y-in-Like.ensures))
 
-pub condition_truth-returns-in_err-bound-in-Between : goal.condition_truth-returns-in_err-bound-in-Between
-condition_truth-returns-in_err-bound-in-Between g t c =
-    let p = err_from_is_err_and c.from_residual-in_err-bound-in-Between.result c.from_residual-in_err-bound-in-Between.ensures.1 in
-    let value = value_of (g.S.Tables.rows_of c.args.tables.now) in
-    rw (p.1, p.2, c.in-Between.is, truth_between)
-    (Gives-between_low _ (value c.in-Between.operand) (value c.in-Between.low) (value c.in-Between.high) (env_of c.args.env.now) c.in_ok-x-in-Between.x
-    (rw c.get-in-Between.ensures at c.in_ok-x-in-Between.ensures.ok) (rw c.get-in-Between-2.ensures at c.in_err-bound-in-Between.ensures))
-
-pub condition_truth-returns-in_err-bound-in-Between-2 : goal.condition_truth-returns-in_err-bound-in-Between-2
-condition_truth-returns-in_err-bound-in-Between-2 g t c =
-    let p = err_from_is_err_and c.from_residual-in_err-bound-in-Between-2.result c.from_residual-in_err-bound-in-Between-2.ensures.1 in
-    let value = value_of (g.S.Tables.rows_of c.args.tables.now) in
-    rw (p.1, p.2, c.in-Between.is, truth_between)
-    (Gives-between_high _ (value c.in-Between.operand) (value c.in-Between.low) (value c.in-Between.high) (env_of c.args.env.now) c.in_ok-x-in-Between.x c.in_ok-bound-in-Between.bound
-    (rw c.get-in-Between.ensures at c.in_ok-x-in-Between.ensures.ok) (rw c.get-in-Between-2.ensures at c.in_ok-bound-in-Between.ensures.ok)
-    (search rules) (rw c.get-in-Between-3.ensures at c.in_err-bound-in-Between-2.ensures))
+pub condition_truth-returns-in-Between : goal.condition_truth-returns-in-Between
+condition_truth-returns-in-Between g t c =
+    rw (c.in-Between.is, truth_between, ← c.get-in-Between.ensures, ← c.get-in-Between-2.ensures, ← c.get-in-Between-3.ensures) c.between_truth.ensures
 
 pub conjunction_truth-returns-in_err-condition_truth : goal.conjunction_truth-returns-in_err-condition_truth
 conjunction_truth-returns-in_err-condition_truth g t c =
