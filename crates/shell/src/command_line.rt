@@ -1,6 +1,6 @@
 //! Command lines.
 
-use crate::options::{DEFAULT_FRAMES, Frames, Settings};
+use crate::options::{DEFAULT_FRAMES, Frames, GREATEST_FRAMES, LEAST_FRAMES, Settings};
 use clap::error::ErrorKind;
 use clap::{Arg, ArgMatches, Command, Error, value_parser};
 use std::alloc::Global;
@@ -25,7 +25,9 @@ fn command_line<'a>(alloc: Global) -> Result<Command<'a>, Error> {
         .long("frames")
         .value_name("N")
         .help("Frames of the page pool, from 16 to 4096; no effect while tables stand in memory")
-        .value_parser(value_parser!(u32).range(16..=4096))
+        .value_parser(value_parser!(u32).range(
+            i64::from(LEAST_FRAMES)..=i64::from(GREATEST_FRAMES),
+        ))
         .default_value("256");
     let run = Command::new(alloc, "run")
         .about("Reads SQL on standard input and prints rows, counts or refusals")

@@ -1,3 +1,6 @@
+ghost use Rattle.std.specs.Prelude.{◌≡◌, ◌⊎◌};
+ghost use Rattle.shell.specs.Status.{IsStatus};
+
 use crate::command_line::settings;
 use crate::run::run_on;
 use disk::MemDisk;
@@ -10,7 +13,9 @@ use std::{env, io};
 const WRONG_WORDS: u8 = 2;
 
 /// Does what the command line of `sqlsh` asks for, and answers the exit status.
-pub fn sqlsh<R: Env + Input + Print + Eprint + AllocGlobal>(rt: &R) -> u8 {
+pub fn sqlsh<R: Env + Input + Print + Eprint + AllocGlobal>(rt: &R) -> u8
+    ensures { (result ≡ 2) ⊎ IsStatus result }
+{
     let alloc = rt.alloc();
     let Ok(words) = words(rt, alloc) else {
         return WRONG_WORDS;
@@ -18,9 +23,11 @@ pub fn sqlsh<R: Env + Input + Print + Eprint + AllocGlobal>(rt: &R) -> u8 {
     let settings = match settings(alloc, words.as_slice()) {
         Ok(settings) => settings,
         Err(error) => {
-            let status = if error.use_stderr() { WRONG_WORDS } else { 0 };
             let _ = error.print(rt);
-            return status;
+            if error.use_stderr() {
+                return WRONG_WORDS;
+            }
+            return 0;
         }
     };
     let disk = MemDisk::new(alloc);

@@ -1,3 +1,6 @@
+ghost use Rattle.std.specs.Prelude.{◌≡◌};
+ghost use Rattle.shell.specs.Status.{IsStatus};
+
 use crate::options::Settings;
 use disk::Disk;
 use lexer::Refusal;
@@ -21,26 +24,43 @@ pub fn run_on<D: Disk + Drop, R: Read, W: Write>(
     disk: D,
     reader: &mut R,
     writer: &mut W,
-) -> u8 {
+) -> u8
+    ensures { IsStatus result }
+{
     let frames = settings.frames.get() as usize;
     let mut core = match Core::open(alloc, disk, frames) {
         Ok(core) => core,
         Err(refused) => return fail(refused.refusal, writer),
     };
-    let status = match run(alloc, &mut core, reader, writer) {
-        Ok(true) => REFUSED,
-        Ok(false) => 0,
-        Err(ScriptFault::Memory) => fail(Refusal::Memory, writer),
-        Err(ScriptFault::Reader(_) | ScriptFault::Writer(_)) => fail(Refusal::Disk, writer),
-    };
+    let status = carry_out(alloc, &mut core, reader, writer);
     match core.close() {
         Ok(_disk) => status,
         Err(refused) => fail(refused.refusal, writer),
     }
 }
 
+/// Carries out the script, and answers the exit status.
+fn carry_out<D: Disk, R: Read, W: Write>(
+    alloc: Global,
+    core: &mut Core<D>,
+    reader: &mut R,
+    writer: &mut W,
+) -> u8
+    ensures { IsStatus result }
+{
+    match run(alloc, core, reader, writer) {
+        Ok(true) => REFUSED,
+        Ok(false) => 0,
+        Err(ScriptFault::Memory) => fail(Refusal::Memory, writer),
+        Err(ScriptFault::Reader(_)) => fail(Refusal::Disk, writer),
+        Err(ScriptFault::Writer(_)) => fail(Refusal::Disk, writer),
+    }
+}
+
 /// Says that the program failed, where it can be written.
-fn fail<W: Write>(refusal: Refusal, writer: &mut W) -> u8 {
+fn fail<W: Write>(refusal: Refusal, writer: &mut W) -> u8
+    ensures { result ≡ 3 }
+{
     let _ = print_reply(&Reply::Refused(refusal), writer);
     let _ = writer.flush();
     FAILED

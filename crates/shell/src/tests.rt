@@ -8,6 +8,7 @@ mod limits;
 mod memory;
 mod pieces;
 mod refusals;
+mod sessions;
 
 use crate::{Settings, run_on};
 use clap::Error;

@@ -1,4 +1,4 @@
-use crate::settings;
+use crate::{settings, sqlsh};
 use std::test::Fail;
 
 #[test]
@@ -33,5 +33,12 @@ fn other_words_are_faults(rt: HostRuntime) -> Result<(), Fail> {
     assert!(rt; settings(alloc, &["sqlsh", "walk"]).is_err());
     assert!(rt; settings(alloc, &["sqlsh", "run", "FILE"]).is_err());
     assert!(rt; settings(alloc, &["sqlsh", "run", "--pieces", "2"]).is_err());
+    Ok(())
+}
+
+/// The words of a test's own command line ask for nothing that there is.
+#[test]
+fn a_wrong_command_line_is_status_2(rt: HostRuntime) -> Result<(), Fail> {
+    assert!(rt; sqlsh(&rt) == 2);
     Ok(())
 }

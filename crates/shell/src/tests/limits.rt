@@ -69,7 +69,7 @@ fn parentheses_nest_64_deep(rt: HostRuntime) -> Result<(), Fail> {
 #[test]
 fn chains_have_64_operands(rt: HostRuntime) -> Result<(), Fail> {
     let alloc = rt.alloc();
-    for (operator, shown) in [(" + ", "64"), (" * ", "1"), (" - ", "-62")] {
+    for (operator, shown) in [(" + ", "64"), (" * ", "1"), (" - ", "-62"), (" / ", "1")] {
         let chain = repeated(alloc, "A", operator, 64)?;
         let within = format!(in alloc; "SELECT {chain} FROM T")?;
         let beyond = format!(in alloc; "SELECT {chain}{operator}A FROM T")?;
@@ -93,6 +93,22 @@ fn chains_have_64_operands(rt: HostRuntime) -> Result<(), Fail> {
         )?;
     }
     Ok(())
+}
+
+#[test]
+fn concatenations_have_64_operands(rt: HostRuntime) -> Result<(), Fail> {
+    let alloc = rt.alloc();
+    let chain = repeated(alloc, "B", " || ", 64)?;
+    let text = repeated(alloc, "b", "", 64)?;
+    let within = format!(in alloc; "SELECT {chain} FROM T")?;
+    let beyond = format!(in alloc; "SELECT {chain} || B FROM T")?;
+    let shown = format!(in alloc; "'{text}'\n(1 rows)")?;
+    check_limit(
+        &rt,
+        (within.as_str(), shown.as_str()),
+        beyond.as_str(),
+        "chain",
+    )
 }
 
 #[test]
