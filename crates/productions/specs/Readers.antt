@@ -155,6 +155,10 @@ listed item ts = item ts >>= (λ x. many None (symbol s.Comma) (λ _. item) (x.0
 abbrev pub both : {A B : Type 0} → Reader A → Reader B → Reader (A × B)
 both first second ts = first ts >>= (λ x. second x.1 >>= (λ y. Some ((x.0, y.0), y.1)))
 
+-- what stood before, with what is read next
+abbrev pub paired : {A B : Type 0} → A → Outcome B → Outcome (A × B)
+paired x next = next >>= (λ y. Some ((x, y.0), y.1))
+
 -- what follows a token
 abbrev pub after : {A : Type 0} → Reader (Unit {0}) → Reader A → Reader A
 after token item ts = token ts >>= (λ x. item x.1)

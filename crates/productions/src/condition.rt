@@ -4,11 +4,12 @@ ghost use Rattle.productions.specs.Readers.{kinds, Gives};
 ghost use Rattle.productions.specs.Readers as read;
 ghost use Rattle.productions.specs.ReadTerminals as terminals;
 ghost use Rattle.productions.specs.ReadExpressions as expressions;
+ghost use Rattle.lexer.specs.declared.words.Word.TheVariants as w;
 ghost use Rattle.productions.specs.Levels.{inner_at, Nests};
 
 use crate::cursor::{after_word, eat_word, word};
 use crate::error::ParseError;
-use crate::lists::{listed, many, parenthesized};
+use crate::lists::{listed, many, paired, parenthesized};
 use crate::rules::Rules;
 use crate::terminals::{and, comparison, literal, opens_condition, opens_subquery, or, truth_test};
 use ast::{
@@ -17,6 +18,16 @@ use ast::{
 use items::{Boxed, Items};
 use lexer::{Token, Word};
 use std::alloc::Global;
+
+/// `[NOT] NULL`
+#[tactic(auto, unfolding(crate::specs::Readers::word))]
+fn null_test(tokens: &[Token]) -> Result<(bool, &[Token]), ParseError>
+    ensures { Gives result (read.before (read.written w.Not) (read.word w.Null) (kinds tokens.now)) }
+{
+    let (is_negated, rest) = eat_word(Word::Not, tokens);
+    let rest = word(Word::Null, rest)?;
+    Ok((is_negated, rest))
+}
 
 impl<
     E: Fn(Global, Option<usize>, usize, &[Token]) -> Result<(Expression, &[Token]), ParseError>,
@@ -34,7 +45,7 @@ impl<
         requires { Nests self.now.limit self.now.depth (E.pre self.now.expression) (E.post self.now.expression) (C.pre self.now.condition) (C.post self.now.condition) (Q.pre self.now.query) (Q.post self.now.query) }
         ensures { Gives result (expressions.compare self.now.limit (inner_at self.now.limit self.now.depth) left operator (kinds tokens.now)) }
     {
-        let (right, rest) = self.expression(tokens)?;
+        let ((left, right), rest) = paired(left, self.expression(tokens))?;
         Ok((Predicate::Compare(left, operator, right), rest))
     }
 
@@ -48,9 +59,30 @@ impl<
         requires { Nests self.now.limit self.now.depth (E.pre self.now.expression) (E.post self.now.expression) (C.pre self.now.condition) (C.post self.now.condition) (Q.pre self.now.query) (Q.post self.now.query) }
         ensures { Gives result (expressions.is_null self.now.limit (inner_at self.now.limit self.now.depth) left (kinds tokens.now)) }
     {
-        let (is_negated, rest) = eat_word(Word::Not, tokens);
-        let rest = word(Word::Null, rest)?;
+        let ((left, is_negated), rest) = paired(left, null_test(tokens))?;
         Ok((Predicate::IsNull(left, is_negated), rest))
+    }
+
+    /// `AND expr`
+    #[tactic(auto, unfolding(crate::specs::Readers::word))]
+    fn upper_bound<'a>(&self, tokens: &'a [Token]) -> Result<(Expression, &'a [Token]), ParseError>
+        requires { Nests self.now.limit self.now.depth (E.pre self.now.expression) (E.post self.now.expression) (C.pre self.now.condition) (C.post self.now.condition) (Q.pre self.now.query) (Q.post self.now.query) }
+        ensures { Gives result (read.after (read.word w.And) (expressions.expression self.now.limit (inner_at self.now.limit self.now.depth)) (kinds tokens.now)) }
+    {
+        let rest = word(Word::And, tokens)?;
+        self.expression(rest)
+    }
+
+    /// `expr AND expr`
+    fn bounds<'a>(
+        &self,
+        tokens: &'a [Token],
+    ) -> Result<((Expression, Expression), &'a [Token]), ParseError>
+        requires { Nests self.now.limit self.now.depth (E.pre self.now.expression) (E.post self.now.expression) (C.pre self.now.condition) (C.post self.now.condition) (Q.pre self.now.query) (Q.post self.now.query) }
+        ensures { Gives result (read.both (expressions.expression self.now.limit (inner_at self.now.limit self.now.depth)) (read.after (read.word w.And) (expressions.expression self.now.limit (inner_at self.now.limit self.now.depth))) (kinds tokens.now)) }
+    {
+        let (low, rest) = self.expression(tokens)?;
+        paired(low, self.upper_bound(rest))
     }
 
     /// What follows BETWEEN.
@@ -64,9 +96,7 @@ impl<
         requires { Nests self.now.limit self.now.depth (E.pre self.now.expression) (E.post self.now.expression) (C.pre self.now.condition) (C.post self.now.condition) (Q.pre self.now.query) (Q.post self.now.query) }
         ensures { Gives result (expressions.between self.now.limit (inner_at self.now.limit self.now.depth) left is_negated (kinds tokens.now)) }
     {
-        let (low, rest) = self.expression(tokens)?;
-        let rest = word(Word::And, rest)?;
-        let (high, rest) = self.expression(rest)?;
+        let ((left, (low, high)), rest) = paired(left, self.bounds(tokens))?;
         Ok((Predicate::Between(left, is_negated, low, high), rest))
     }
 
@@ -89,13 +119,23 @@ impl<
         ensures { Gives result (expressions.is_in self.now.limit (inner_at self.now.limit self.now.depth) left is_negated (kinds tokens.now)) }
     {
         if opens_subquery(tokens) {
-            let (query, rest) = parenthesized(|at| self.inner_query(at), tokens)?;
-            let query = Boxed::new(self.alloc, query)?;
+            let ((left, query), rest) = paired(left, self.query_in_parentheses(tokens))?;
             Ok((Predicate::InQuery(left, is_negated, query), rest))
         } else {
-            let (list, rest) = parenthesized(|at| self.literals(at), tokens)?;
+            let list = parenthesized(|at| self.literals(at), tokens);
+            let ((left, list), rest) = paired(left, list)?;
             Ok((Predicate::InList(left, is_negated, list), rest))
         }
+    }
+
+    /// `LIKE expr`
+    #[tactic(auto, unfolding(crate::specs::Readers::word))]
+    fn pattern<'a>(&self, tokens: &'a [Token]) -> Result<(Expression, &'a [Token]), ParseError>
+        requires { Nests self.now.limit self.now.depth (E.pre self.now.expression) (E.post self.now.expression) (C.pre self.now.condition) (C.post self.now.condition) (Q.pre self.now.query) (Q.post self.now.query) }
+        ensures { Gives result (read.after (read.word w.Like) (expressions.expression self.now.limit (inner_at self.now.limit self.now.depth)) (kinds tokens.now)) }
+    {
+        let rest = word(Word::Like, tokens)?;
+        self.expression(rest)
     }
 
     /// LIKE and what follows it.
@@ -109,8 +149,7 @@ impl<
         requires { Nests self.now.limit self.now.depth (E.pre self.now.expression) (E.post self.now.expression) (C.pre self.now.condition) (C.post self.now.condition) (Q.pre self.now.query) (Q.post self.now.query) }
         ensures { Gives result (expressions.like self.now.limit (inner_at self.now.limit self.now.depth) left is_negated (kinds tokens.now)) }
     {
-        let rest = word(Word::Like, tokens)?;
-        let (pattern, rest) = self.expression(rest)?;
+        let ((left, pattern), rest) = paired(left, self.pattern(tokens))?;
         Ok((Predicate::Like(left, is_negated, pattern), rest))
     }
 
@@ -160,8 +199,8 @@ impl<
         requires { Nests self.now.limit self.now.depth (E.pre self.now.expression) (E.post self.now.expression) (C.pre self.now.condition) (C.post self.now.condition) (Q.pre self.now.query) (Q.post self.now.query) }
         ensures { Gives result (expressions.exists self.now.limit (inner_at self.now.limit self.now.depth) (kinds tokens.now)) }
     {
-        let (query, rest) = parenthesized(|at| self.inner_query(at), tokens)?;
-        Ok((Predicate::Exists(Boxed::new(self.alloc, query)?), rest))
+        let (query, rest) = self.query_in_parentheses(tokens)?;
+        Ok((Predicate::Exists(query), rest))
     }
 
     /// `( cond )`
@@ -197,7 +236,7 @@ impl<
         ensures { Gives result (expressions.test_ self.now.limit (inner_at self.now.limit self.now.depth) (kinds tokens.now)) }
     {
         let (predicate, rest) = self.predicate(tokens)?;
-        let (truth, rest) = truth_test(rest)?;
+        let ((predicate, truth), rest) = paired(predicate, truth_test(rest))?;
         Ok((Test { predicate, truth }, rest))
     }
 
@@ -220,7 +259,8 @@ impl<
     {
         let (first, rest) = self.negation(tokens)?;
         let found = Items::new(self.alloc);
-        let (others, rest) = many(self.limit, and, |_, at| self.negation(at), found, rest)?;
+        let others = many(self.limit, and, |_, at| self.negation(at), found, rest);
+        let ((first, others), rest) = paired(first, others)?;
         Ok((Conjunction { first, others }, rest))
     }
 
@@ -232,7 +272,8 @@ impl<
     {
         let (first, rest) = self.conjunction(tokens)?;
         let found = Items::new(self.alloc);
-        let (others, rest) = many(self.limit, or, |_, at| self.conjunction(at), found, rest)?;
+        let others = many(self.limit, or, |_, at| self.conjunction(at), found, rest);
+        let ((first, others), rest) = paired(first, others)?;
         Ok((Condition { first, others }, rest))
     }
 }

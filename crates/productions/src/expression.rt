@@ -6,7 +6,7 @@ ghost use Rattle.productions.specs.Levels.{inner_at, Nests};
 
 use crate::cursor::{next_is_symbol, number, symbol};
 use crate::error::ParseError;
-use crate::lists::{many, parenthesized};
+use crate::lists::{many, paired, parenthesized};
 use crate::rules::Rules;
 use crate::terminals::{
     add_operator, column, count_rows, may_quantifier, may_sign, multiply_operator, next_is_number,
@@ -61,8 +61,8 @@ impl<
         ensures { Gives result (expressions.in_parentheses self.now.limit (inner_at self.now.limit self.now.depth) (kinds tokens.now)) }
     {
         if opens_query(tokens) {
-            let (query, rest) = parenthesized(|at| self.inner_query(at), tokens)?;
-            Ok((Primary::Subquery(Boxed::new(self.alloc, query)?), rest))
+            let (query, rest) = self.query_in_parentheses(tokens)?;
+            Ok((Primary::Subquery(query), rest))
         } else {
             let (inside, rest) = parenthesized(|at| self.inner_expression(at), tokens)?;
             Ok((
@@ -143,13 +143,14 @@ impl<
         ensures { Gives result (expressions.term self.now.limit (inner_at self.now.limit self.now.depth) (kinds tokens.now)) }
     {
         let (first, rest) = self.factor(tokens)?;
-        let (others, rest) = many(
+        let others = many(
             self.limit,
             multiply_operator,
             |operator, at| self.multiplied(operator, at),
             Items::new(self.alloc),
             rest,
-        )?;
+        );
+        let ((first, others), rest) = paired(first, others)?;
         Ok((Term { first, others }, rest))
     }
 
@@ -177,13 +178,14 @@ impl<
         ensures { Gives result (expressions.expression self.now.limit (inner_at self.now.limit self.now.depth) (kinds tokens.now)) }
     {
         let (first, rest) = self.term(tokens)?;
-        let (others, rest) = many(
+        let others = many(
             self.limit,
             add_operator,
             |operator, at| self.added(operator, at),
             Items::new(self.alloc),
             rest,
-        )?;
+        );
+        let ((first, others), rest) = paired(first, others)?;
         Ok((Expression { first, others }, rest))
     }
 }

@@ -1,7 +1,7 @@
-//! Parts that are repeated.
+//! How parts are joined, and parts that are repeated.
 
-ghost use Rattle.std.specs.Prelude.{◌≡◌, nat_le, ◌-◌};
-ghost use Rattle.productions.specs.Readers.{kinds, Reader, ReadsBy, ReadsAfter, FindsBy, Gives, Finds};
+ghost use Rattle.std.specs.Prelude.{◌≡◌, nat_le, ◌-◌, if◌then◌else◌, Some, None};
+ghost use Rattle.productions.specs.Readers.{kinds, Outcome, Reader, ReadsBy, ReadsAfter, FindsBy, Gives, Finds};
 ghost use Rattle.productions.specs.Readers as read;
 ghost use Rattle.lexer.specs.declared.kinds.Symbol.TheVariants as s;
 
@@ -86,9 +86,36 @@ pub fn names(alloc: Global, tokens: &[Token]) -> Result<(Items<Name>, &[Token]),
     listed(alloc, |at| name(alloc, at), tokens)
 }
 
+/// What was read before, with what was read next. A caller that owned a tree over a `?` would drop it there, part by
+/// part, and be slow to prove; here what is dropped is any `A`.
+pub fn paired<'a, A: Drop, B: Drop>(
+    before: A,
+    next: Result<(B, &'a [Token]), ParseError>,
+) -> Result<((A, B), &'a [Token]), ParseError>
+    ensures { (outcome : Outcome B) → Gives next.entry outcome → Gives result (read.paired before outcome) }
+{
+    let (after, rest) = next?;
+    Ok(((before, after), rest))
+}
+
+/// A tree and what follows it, where that may follow.
+pub fn only_if<T: Drop>(
+    may_follow: bool,
+    tree: T,
+    rest: &[Token],
+) -> Result<(T, &[Token]), ParseError>
+    ensures { Gives result (if may_follow then Some (tree, kinds rest.now) else None) }
+{
+    if may_follow {
+        Ok((tree, rest))
+    } else {
+        Err(ParseError::Syntax)
+    }
+}
+
 /// What `inside` reads, between parentheses.
 #[tactic(auto, unfolding(crate::specs::Readers::symbol))]
-pub fn parenthesized<'a, T: Drop, F: Fn(&[Token]) -> Result<(T, &[Token]), ParseError>>(
+pub fn parenthesized<'a, T: Drop, F: FnOnce(&[Token]) -> Result<(T, &[Token]), ParseError>>(
     inside: F,
     tokens: &'a [Token],
 ) -> Result<(T, &'a [Token]), ParseError>

@@ -9,7 +9,7 @@ ghost use Rattle.productions.specs.Levels.{inner_at, Nests};
 
 use crate::cursor::{after_word, next_is_symbol, word};
 use crate::error::ParseError;
-use crate::lists::{listed, many, parenthesized};
+use crate::lists::{listed, many, paired};
 use crate::rules::Rules;
 use crate::terminals::{column, intersect, may_quantifier, set_operator};
 use ast::{
@@ -127,8 +127,7 @@ impl<
         ensures { Gives result (queries.tables self.now.limit (inner_at self.now.limit self.now.depth) (kinds tokens.now)) }
     {
         let (from, rest) = listed(self.alloc, |at| self.table_reference(at), tokens)?;
-        let (clauses, rest) = self.clauses(rest)?;
-        Ok(((from, clauses), rest))
+        paired(from, self.clauses(rest))
     }
 
     /// What follows SELECT and ALL or DISTINCT.
@@ -184,8 +183,8 @@ impl<
         ensures { Gives result (queries.operand self.now.limit (inner_at self.now.limit self.now.depth) (kinds tokens.now)) }
     {
         if next_is_symbol(Symbol::LeftParenthesis, tokens) {
-            let (query, rest) = parenthesized(|at| self.inner_query(at), tokens)?;
-            Ok((Operand::Grouped(Boxed::new(self.alloc, query)?), rest))
+            let (query, rest) = self.query_in_parentheses(tokens)?;
+            Ok((Operand::Grouped(query), rest))
         } else {
             let (select, rest) = self.select(tokens)?;
             Ok((Operand::Select(Boxed::new(self.alloc, select)?), rest))
@@ -214,13 +213,14 @@ impl<
     {
         let (first, rest) = self.operand(tokens)?;
         let found = Items::new(self.alloc);
-        let (others, rest) = many(
+        let others = many(
             self.limit,
             intersect,
             |all, at| self.intersected(all, at),
             found,
             rest,
-        )?;
+        );
+        let ((first, others), rest) = paired(first, others)?;
         Ok((Addend { first, others }, rest))
     }
 
@@ -246,13 +246,14 @@ impl<
     {
         let (first, rest) = self.addend(tokens)?;
         let found = Items::new(self.alloc);
-        let (others, rest) = many(
+        let others = many(
             self.limit,
             set_operator,
             |operator, at| self.united(operator, at),
             found,
             rest,
-        )?;
+        );
+        let ((first, others), rest) = paired(first, others)?;
         if is_lone(&first, &others) {
             return Err(ParseError::Syntax);
         }

@@ -1,10 +1,13 @@
 //! The rules of the grammar over function values that read what stands between parentheses.
 
 ghost use Rattle.productions.specs.Readers.{kinds, Gives};
+ghost use Rattle.productions.specs.Readers as read;
 ghost use Rattle.productions.specs.Levels.{inner_at, Nests};
 
 use crate::error::ParseError;
+use crate::lists::parenthesized;
 use ast::{Condition, Expression, Query};
+use items::Boxed;
 use lexer::Token;
 use std::alloc::Global;
 
@@ -53,5 +56,17 @@ impl<
         ensures { Gives result ((inner_at self.now.limit self.now.depth).query (kinds tokens.now)) }
     {
         (self.query)(self.alloc, self.limit, self.depth, tokens)
+    }
+
+    /// A query and its parentheses.
+    pub fn query_in_parentheses<'a>(
+        &self,
+        tokens: &'a [Token],
+    ) -> Result<(Boxed<Query>, &'a [Token]), ParseError>
+        requires { Nests self.now.limit self.now.depth (E.pre self.now.expression) (E.post self.now.expression) (C.pre self.now.condition) (C.post self.now.condition) (Q.pre self.now.query) (Q.post self.now.query) }
+        ensures { Gives result (read.parenthesized (inner_at self.now.limit self.now.depth).query (kinds tokens.now)) }
+    {
+        let (query, rest) = parenthesized(|at| self.inner_query(at), tokens)?;
+        Ok((Boxed::new(self.alloc, query)?, rest))
     }
 }

@@ -9,7 +9,7 @@ ghost use Rattle.productions.specs.Levels.{inner_at};
 use crate::cursor::{after_word, eat_word, is_symbol, name, next_is_word, word};
 use crate::entry;
 use crate::error::ParseError;
-use crate::lists::listed;
+use crate::lists::{listed, only_if, paired};
 use crate::sort::sort_key;
 use ast::{
     AccessMode, Condition, DeclareCursor, Expression, OrderedQuery, Query, SortKey, Statement,
@@ -124,7 +124,7 @@ impl Statements {
         ensures { Gives result (statements.ordered_query (inner_at self.now.limit self.now.depth) (kinds tokens.now)) }
     {
         let (query, rest) = self.query(tokens)?;
-        let (order, rest) = self.order(rest)?;
+        let ((query, order), rest) = paired(query, self.order(rest))?;
         Ok((OrderedQuery { query, order }, rest))
     }
 
@@ -312,11 +312,7 @@ impl Statements {
         ensures { Gives result (statements.text (inner_at self.now.limit self.now.depth) (kinds tokens.now)) }
     {
         let (statement, rest) = self.statement(tokens)?;
-        if is_end(rest) {
-            Ok((statement, rest))
-        } else {
-            Err(ParseError::Syntax)
-        }
+        only_if(is_end(rest), statement, rest)
     }
 
     /// One condition, and nothing after it.
@@ -328,10 +324,6 @@ impl Statements {
         ensures { Gives result (statements.condition_text (inner_at self.now.limit self.now.depth) (kinds tokens.now)) }
     {
         let (condition, rest) = self.condition(tokens)?;
-        if is_nothing(rest) {
-            Ok((condition, rest))
-        } else {
-            Err(ParseError::Syntax)
-        }
+        only_if(is_nothing(rest), condition, rest)
     }
 }

@@ -7,7 +7,7 @@ ghost use Rattle.productions.specs.Levels.{inner_at, Nests};
 
 use crate::cursor::{after_symbol, after_word, eat_word, name, next_is_symbol, next_is_word, word};
 use crate::error::ParseError;
-use crate::lists::{listed, many, parenthesized};
+use crate::lists::{listed, many, paired};
 use crate::rules::Rules;
 use crate::terminals::{alias, may_alias};
 use ast::{Condition, Expression, Join, Query, SelectItem, TableReference, TableSource};
@@ -49,15 +49,12 @@ impl<
         ensures { Gives result (queries.table_source self.now.limit (inner_at self.now.limit self.now.depth) (kinds tokens.now)) }
     {
         if next_is_symbol(Symbol::LeftParenthesis, tokens) {
-            let (query, rest) = parenthesized(|at| self.inner_query(at), tokens)?;
-            let (alias, rest) = alias(self.alloc, rest)?;
-            Ok((
-                TableSource::Derived(Boxed::new(self.alloc, query)?, alias),
-                rest,
-            ))
+            let (query, rest) = self.query_in_parentheses(tokens)?;
+            let ((query, alias), rest) = paired(query, alias(self.alloc, rest))?;
+            Ok((TableSource::Derived(query, alias), rest))
         } else {
             let (table, rest) = name(self.alloc, tokens)?;
-            let (alias, rest) = may_alias(self.alloc, rest)?;
+            let ((table, alias), rest) = paired(table, may_alias(self.alloc, rest))?;
             Ok((TableSource::Table(table, alias), rest))
         }
     }
@@ -84,8 +81,7 @@ impl<
     {
         let rest = word(Word::Join, tokens)?;
         let (source, rest) = self.table_source(rest)?;
-        let (condition, rest) = self.on(rest)?;
-        Ok(((source, condition), rest))
+        paired(source, self.on(rest))
     }
 
     /// What follows CROSS.
@@ -147,7 +143,8 @@ impl<
     {
         let (first, rest) = self.table_source(tokens)?;
         let found = Items::new(self.alloc);
-        let (joins, rest) = many(None, join_ahead, |_, at| self.join(at), found, rest)?;
+        let joins = many(None, join_ahead, |_, at| self.join(at), found, rest);
+        let ((first, joins), rest) = paired(first, joins)?;
         Ok((TableReference { first, joins }, rest))
     }
 
@@ -158,7 +155,7 @@ impl<
         ensures { Gives result (queries.select_item self.now.limit (inner_at self.now.limit self.now.depth) (kinds tokens.now)) }
     {
         let (value, rest) = self.expression(tokens)?;
-        let (alias, rest) = may_alias(self.alloc, rest)?;
+        let ((value, alias), rest) = paired(value, may_alias(self.alloc, rest))?;
         Ok((SelectItem { value, alias }, rest))
     }
 
