@@ -1,5 +1,5 @@
 -- A list that is taken apart by the pattern `[first, rest @ ..]`.
-use Rattle.std.proofs.Common.{◌≡◌, Bool, not, false, ◌≤◌, ◌-◌, List, [], ◌∷◌, length, take, drop, get_or, refl, sym, ap, arith}
+use Rattle.std.proofs.Common.{◌≡◌, Bool, not, false, ◌≤◌, ◌<◌, ◌-◌, List, [], ◌∷◌, length, take, drop, get_or, refl, sym, ap, arith}
 use Rattle.std.specs.Prelude.{◌==◌, if◌then◌else◌}
 use Rattle.std.proofs.lemmas.List.{take_rest}
 use Rattle.lexer.specs.Token.{Bytes}
@@ -8,6 +8,10 @@ use Rattle.lexer.specs.Reading.{ends_gap, gap_from}
 pub split : {A : Type 0} (xs : List A) (d : A) → 1 ≤ length xs → xs ≡ get_or xs 0 d ∷ take (length xs - 1) (drop 1 xs)
 split [] d within = absurd (omega (arith, within))
 split (x ∷ xs) d within = ap (λ rest. x ∷ rest) (sym (take_rest (x ∷ xs) 1))
+
+pub empty : {A : Type 0} (xs : List A) → length xs < 1 → xs ≡ []
+empty [] below = refl
+empty (x ∷ xs) below = absurd (omega (arith, below))
 
 pub shorter : (bytes : Bytes) → length (take (length bytes - 1) (drop 1 bytes)) ≡ length bytes - 1
 shorter [] = refl

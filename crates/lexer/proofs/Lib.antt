@@ -1,4 +1,5 @@
 pub mod Fronts
+pub mod Lines
 pub mod Skipping
 pub mod Steps
 pub mod WordSound
