@@ -1,7 +1,7 @@
 -- The grammar of queries.
 -- ISO/IEC 9075:1992, 6.3 <table reference>, 7.3 to 7.9 up to <query specification>, 7.10 <query expression> and 7.11 <subquery>. Our own
--- choices: no VALUES, TABLE, NATURAL, USING, RIGHT, FULL and CORRESPONDING, no list of columns after an alias, no `table.*`; INTERSECT ALL
--- and EXCEPT ALL are there; a join is no operand of a join in parentheses.
+-- choices: no VALUES, TABLE, NATURAL, USING, RIGHT, FULL and CORRESPONDING, no list of columns after an alias, no `table.*`, no
+-- parentheses round joins; chains have a limit.
 use Rattle.std.specs.Prelude.{◌≡◌, ℕ, Bool, true, false, List, [], ◌∷◌, Option, Some, None}
 use Rattle.ast.specs.declared.operator.Column.{Column}
 use Rattle.ast.specs.declared.tree.Condition.{Condition}
