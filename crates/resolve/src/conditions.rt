@@ -1,24 +1,49 @@
 //! The types of conditions.
 
+ghost use Rattle.std.specs.Prelude.{◌≡◌, ◌∷◌, ◌++◌, map, None, Ok, IfOk, OnOk};
+ghost use Rattle.typing.specs.Condition.{and_of, between, compared, conjunction, conjuncts, disjunction, disjuncts, in_list, like, literal_of, negated, null_test, operator_of, or_of, tested, truth_asked};
+ghost use Rattle.typing.specs.Finding.{each};
+ghost use Rattle.typing.specs.Finds.{Finds};
+ghost use Rattle.resolve.specs.Here.{condition_found, conjunction_found, expression_found, negation_found, predicate_found, test_found};
+
 use crate::expressions::{of_type, typed_expression, with_sign};
 use ast::{Comparison, Conjunction, Literal, Negation, Predicate, Test, TruthTest, TruthValue};
 use items::{Boxed, Items};
 use lexer::{Reason, Refusal};
 use sqlval::{CompOp, Truth, Value, ValueType};
 use std::alloc::{AllocError, Global};
-use typing::{Condition, Expression, Frame, TypedExpression};
+use typing::{Condition, Frame, TypedExpression};
 
-/// What a condition stands for in one FROM.
+/// What a condition without queries and set functions stands for in one FROM.
 #[cycle(conditions)]
 pub fn typed_condition(
     alloc: Global,
     frame: &Frame,
     tree: &ast::Condition,
-) -> Result<Condition, Refusal> {
+) -> Result<Condition, Refusal>
+    requires ungrouped { frame.now.key ≡ None }
+    ensures { Finds result (condition_found frame.now tree.now) }
+{
+    let first = typed_conjunction(alloc, frame, &tree.first)?;
+    typed_disjunction(alloc, frame, tree.others.as_slice(), first)
+}
+
+#[cycle(conditions)]
+#[tactic(auto, using(crate::proofs::ConditionSteps::flat_steps))]
+fn typed_disjunction(
+    alloc: Global,
+    frame: &Frame,
+    others: &[Conjunction],
+    first: Condition,
+) -> Result<Condition, Refusal>
+    requires ungrouped { frame.now.key ≡ None }
+    ensures { Finds result (disjunction (Ok first ∷ map (conjunction_found frame.now) others.now)) }
+{
     let mut operands = Items::new(alloc);
-    add_disjunct(&mut operands, typed_conjunction(alloc, frame, &tree.first)?)?;
-    for other in tree.others.as_slice() {
-        add_disjunct(&mut operands, typed_conjunction(alloc, frame, other)?)?;
+    add_disjunct(&mut operands, first)?;
+    for other in others {
+        let operand = typed_conjunction(alloc, frame, other)?;
+        add_disjunct(&mut operands, operand)?;
     }
     Ok(or_of(operands))
 }
@@ -28,60 +53,86 @@ fn typed_conjunction(
     alloc: Global,
     frame: &Frame,
     tree: &Conjunction,
-) -> Result<Condition, Refusal> {
+) -> Result<Condition, Refusal>
+    requires ungrouped { frame.now.key ≡ None }
+    ensures { Finds result (conjunction_found frame.now tree.now) }
+{
+    let first = typed_negation(alloc, frame, &tree.first)?;
+    typed_negations(alloc, frame, tree.others.as_slice(), first)
+}
+
+#[cycle(conditions)]
+#[tactic(auto, using(crate::proofs::ConditionSteps::flat_steps))]
+fn typed_negations(
+    alloc: Global,
+    frame: &Frame,
+    others: &[Negation],
+    first: Condition,
+) -> Result<Condition, Refusal>
+    requires ungrouped { frame.now.key ≡ None }
+    ensures { Finds result (conjunction (Ok first ∷ map (negation_found frame.now) others.now)) }
+{
     let mut operands = Items::new(alloc);
-    add_conjunct(&mut operands, typed_negation(alloc, frame, &tree.first)?)?;
-    for other in tree.others.as_slice() {
-        add_conjunct(&mut operands, typed_negation(alloc, frame, other)?)?;
+    add_conjunct(&mut operands, first)?;
+    for other in others {
+        let operand = typed_negation(alloc, frame, other)?;
+        add_conjunct(&mut operands, operand)?;
     }
     Ok(and_of(operands))
 }
 
 #[cycle(conditions)]
-fn typed_negation(alloc: Global, frame: &Frame, tree: &Negation) -> Result<Condition, Refusal> {
+#[tactic(auto, using(crate::proofs::ConditionSteps::node_steps))]
+fn typed_negation(alloc: Global, frame: &Frame, tree: &Negation) -> Result<Condition, Refusal>
+    requires ungrouped { frame.now.key ≡ None }
+    ensures { Finds result (negation_found frame.now tree.now) }
+{
     let condition = typed_test(alloc, frame, &tree.test)?;
     Ok(negated(alloc, tree.is_negated, condition)?)
 }
 
 #[cycle(conditions)]
-fn typed_test(alloc: Global, frame: &Frame, tree: &Test) -> Result<Condition, Refusal> {
+#[tactic(auto, using(crate::proofs::ConditionSteps::node_steps))]
+fn typed_test(alloc: Global, frame: &Frame, tree: &Test) -> Result<Condition, Refusal>
+    requires ungrouped { frame.now.key ≡ None }
+    ensures { Finds result (test_found frame.now tree.now) }
+{
     let condition = typed_predicate(alloc, frame, &tree.predicate)?;
     Ok(tested(alloc, tree.truth, condition)?)
 }
 
 #[cycle(conditions)]
-fn typed_predicate(alloc: Global, frame: &Frame, tree: &Predicate) -> Result<Condition, Refusal> {
+fn typed_predicate(alloc: Global, frame: &Frame, tree: &Predicate) -> Result<Condition, Refusal>
+    requires ungrouped { frame.now.key ≡ None }
+    ensures { Finds result (predicate_found frame.now tree.now) }
+{
     match tree {
         Predicate::Nested(inner) => typed_condition(alloc, frame, inner.get()),
         Predicate::Compare(x, operator, y) => compared(alloc, frame, x, *operator, y),
         Predicate::Between(x, is_negated, low, high) => {
-            let condition = between(alloc, frame, x, low, high)?;
-            Ok(negated(alloc, *is_negated, condition)?)
+            between(alloc, frame, x, *is_negated, low, high)
         }
         Predicate::InList(x, is_negated, literals) => {
-            let condition = in_list(alloc, frame, x, literals.as_slice())?;
-            Ok(negated(alloc, *is_negated, condition)?)
+            in_list(alloc, frame, x, *is_negated, literals.as_slice())
         }
-        Predicate::Like(x, is_negated, pattern) => {
-            let condition = like(alloc, frame, x, pattern)?;
-            Ok(negated(alloc, *is_negated, condition)?)
-        }
-        Predicate::IsNull(x, is_negated) => {
-            let x = typed_expression(alloc, frame, x)?;
-            let condition = Condition::IsNull(Boxed::new(alloc, x.expression)?);
-            Ok(negated(alloc, *is_negated, condition)?)
-        }
-        Predicate::InQuery(_, _, _) | Predicate::Exists(_) => Err(Refusal::NotSupported),
+        Predicate::Like(x, is_negated, pattern) => like(alloc, frame, x, *is_negated, pattern),
+        Predicate::IsNull(x, is_negated) => null_test(alloc, frame, x, *is_negated),
+        Predicate::InQuery(_, _, _) => Err(Refusal::Invalid(Reason::Check)),
+        Predicate::Exists(_) => Err(Refusal::Invalid(Reason::Check)),
     }
 }
 
+#[tactic(auto, using(crate::proofs::ConditionSteps::compared_steps))]
 fn compared(
     alloc: Global,
     frame: &Frame,
     x: &ast::Expression,
     operator: Comparison,
     y: &ast::Expression,
-) -> Result<Condition, Refusal> {
+) -> Result<Condition, Refusal>
+    requires ungrouped { frame.now.key ≡ None }
+    ensures { Finds result (compared operator (expression_found frame.now x.now) (expression_found frame.now y.now)) }
+{
     let x = typed_expression(alloc, frame, x)?;
     let y = typed_expression(alloc, frame, y)?;
     let y = of_type(y, x.value_type)?;
@@ -89,52 +140,104 @@ fn compared(
     Ok(Condition::Compare(operator_of(operator), x, Boxed::new(alloc, y)?))
 }
 
+#[tactic(auto, using(crate::proofs::ConditionSteps::between_steps))]
 fn between(
     alloc: Global,
     frame: &Frame,
     x: &ast::Expression,
+    is_negated: bool,
     low: &ast::Expression,
     high: &ast::Expression,
-) -> Result<Condition, Refusal> {
+) -> Result<Condition, Refusal>
+    requires ungrouped { frame.now.key ≡ None }
+    ensures { Finds result (between is_negated (expression_found frame.now x.now) (expression_found frame.now low.now) (expression_found frame.now high.now)) }
+{
     let x = typed_expression(alloc, frame, x)?;
-    let low = of_type(typed_expression(alloc, frame, low)?, x.value_type)?;
-    let high = of_type(typed_expression(alloc, frame, high)?, x.value_type)?;
+    let low = typed_expression(alloc, frame, low)?;
+    let low = of_type(low, x.value_type)?;
+    let high = typed_expression(alloc, frame, high)?;
+    let high = of_type(high, x.value_type)?;
     let x = Boxed::new(alloc, x.expression)?;
     let low = Boxed::new(alloc, low)?;
-    Ok(Condition::Between(x, low, Boxed::new(alloc, high)?))
+    let condition = Condition::Between(x, low, Boxed::new(alloc, high)?);
+    Ok(negated(alloc, is_negated, condition)?)
 }
 
+#[tactic(auto, using(crate::proofs::ConditionSteps::list_steps))]
 fn in_list(
     alloc: Global,
     frame: &Frame,
     x: &ast::Expression,
+    is_negated: bool,
     literals: &[Literal],
-) -> Result<Condition, Refusal> {
+) -> Result<Condition, Refusal>
+    requires ungrouped { frame.now.key ≡ None }
+    ensures { Finds result (in_list is_negated (expression_found frame.now x.now) literals.now) }
+{
     let TypedExpression {
         expression,
         value_type,
     } = typed_expression(alloc, frame, x)?;
-    let mut values = Items::new(alloc);
-    for literal in literals {
-        values.push(literal_of(alloc, value_type, literal)?)?;
-    }
-    Ok(Condition::InList(Boxed::new(alloc, expression)?, values))
+    let values = literals_of(alloc, value_type, literals)?;
+    let condition = Condition::InList(Boxed::new(alloc, expression)?, values);
+    Ok(negated(alloc, is_negated, condition)?)
 }
 
+#[tactic(auto, using(crate::proofs::ConditionSteps::like_steps))]
 fn like(
     alloc: Global,
     frame: &Frame,
     x: &ast::Expression,
+    is_negated: bool,
     pattern: &ast::Expression,
-) -> Result<Condition, Refusal> {
-    let x = of_type(typed_expression(alloc, frame, x)?, ValueType::Text)?;
-    let pattern = of_type(typed_expression(alloc, frame, pattern)?, ValueType::Text)?;
+) -> Result<Condition, Refusal>
+    requires ungrouped { frame.now.key ≡ None }
+    ensures { Finds result (like is_negated (expression_found frame.now x.now) (expression_found frame.now pattern.now)) }
+{
+    let x = typed_expression(alloc, frame, x)?;
+    let x = of_type(x, ValueType::Text)?;
+    let pattern = typed_expression(alloc, frame, pattern)?;
+    let pattern = of_type(pattern, ValueType::Text)?;
     let x = Boxed::new(alloc, x)?;
-    Ok(Condition::Like(x, Boxed::new(alloc, pattern)?))
+    let condition = Condition::Like(x, Boxed::new(alloc, pattern)?);
+    Ok(negated(alloc, is_negated, condition)?)
+}
+
+#[tactic(auto, using(crate::proofs::ConditionSteps::null_steps))]
+fn null_test(
+    alloc: Global,
+    frame: &Frame,
+    x: &ast::Expression,
+    is_negated: bool,
+) -> Result<Condition, Refusal>
+    requires ungrouped { frame.now.key ≡ None }
+    ensures { Finds result (null_test is_negated (expression_found frame.now x.now)) }
+{
+    let x = typed_expression(alloc, frame, x)?;
+    let condition = Condition::IsNull(Boxed::new(alloc, x.expression)?);
+    Ok(negated(alloc, is_negated, condition)?)
+}
+
+/// Literals, all of the type asked for.
+#[tactic(auto, using(crate::proofs::FindsLemmas::each_steps))]
+fn literals_of(
+    alloc: Global,
+    wanted: ValueType,
+    literals: &[Literal],
+) -> Result<Items<Value>, Refusal>
+    ensures { Finds result (each (map (literal_of wanted) literals.now)) }
+{
+    let mut values = Items::new(alloc);
+    for literal in literals {
+        values.push(literal_of(alloc, wanted, literal)?)?;
+    }
+    Ok(values)
 }
 
 /// A literal of the type asked for.
-fn literal_of(alloc: Global, wanted: ValueType, literal: &Literal) -> Result<Value, Refusal> {
+fn literal_of(alloc: Global, wanted: ValueType, literal: &Literal) -> Result<Value, Refusal>
+    ensures { Finds result (literal_of wanted literal.now) }
+{
     match (wanted, literal) {
         (ValueType::Integer, Literal::Number(sign, number)) => with_sign(*sign, *number),
         (ValueType::Text, Literal::Text(text)) => Ok(Value::Text(text.copy(alloc)?)),
@@ -143,21 +246,27 @@ fn literal_of(alloc: Global, wanted: ValueType, literal: &Literal) -> Result<Val
 }
 
 /// Parentheses round an OR inside an OR change nothing: its parts are disjuncts of the whole.
-fn add_disjunct(operands: &mut Items<Condition>, condition: Condition) -> Result<(), AllocError> {
+fn add_disjunct(operands: &mut Items<Condition>, condition: Condition) -> Result<(), AllocError>
+    ensures { OnOk result (operands.new ≡ operands.old ++ disjuncts condition) }
+{
     match condition {
         Condition::Or(parts) => operands.append(parts),
         other => operands.push(other),
     }
 }
 
-fn add_conjunct(operands: &mut Items<Condition>, condition: Condition) -> Result<(), AllocError> {
+fn add_conjunct(operands: &mut Items<Condition>, condition: Condition) -> Result<(), AllocError>
+    ensures { OnOk result (operands.new ≡ operands.old ++ conjuncts condition) }
+{
     match condition {
         Condition::And(parts) => operands.append(parts),
         other => operands.push(other),
     }
 }
 
-fn or_of(operands: Items<Condition>) -> Condition {
+fn or_of(operands: Items<Condition>) -> Condition
+    ensures { result ≡ or_of operands }
+{
     let mut operands = operands;
     if operands.len() == 1 {
         if let Some(only) = operands.pop() {
@@ -167,7 +276,9 @@ fn or_of(operands: Items<Condition>) -> Condition {
     Condition::Or(operands)
 }
 
-fn and_of(operands: Items<Condition>) -> Condition {
+fn and_of(operands: Items<Condition>) -> Condition
+    ensures { result ≡ and_of operands }
+{
     let mut operands = operands;
     if operands.len() == 1 {
         if let Some(only) = operands.pop() {
@@ -178,7 +289,9 @@ fn and_of(operands: Items<Condition>) -> Condition {
 }
 
 /// NOT, where it is written.
-fn negated(alloc: Global, is_negated: bool, condition: Condition) -> Result<Condition, AllocError> {
+fn negated(alloc: Global, is_negated: bool, condition: Condition) -> Result<Condition, AllocError>
+    ensures { IfOk result (λ c. c ≡ negated is_negated condition) }
+{
     if is_negated {
         Ok(Condition::Not(Boxed::new(alloc, condition)?))
     } else {
@@ -191,7 +304,9 @@ fn tested(
     alloc: Global,
     test: Option<TruthTest>,
     condition: Condition,
-) -> Result<Condition, AllocError> {
+) -> Result<Condition, AllocError>
+    ensures { IfOk result (λ c. c ≡ tested test condition) }
+{
     match test {
         None => Ok(condition),
         Some(test) => {
@@ -202,7 +317,9 @@ fn tested(
     }
 }
 
-fn truth_asked(value: TruthValue) -> Truth {
+fn truth_asked(value: TruthValue) -> Truth
+    ensures { result ≡ truth_asked value }
+{
     match value {
         TruthValue::True => Truth::True,
         TruthValue::False => Truth::False,
@@ -210,7 +327,9 @@ fn truth_asked(value: TruthValue) -> Truth {
     }
 }
 
-fn operator_of(operator: Comparison) -> CompOp {
+fn operator_of(operator: Comparison) -> CompOp
+    ensures { result ≡ operator_of operator }
+{
     match operator {
         Comparison::Equal => CompOp::Equal,
         Comparison::NotEqual => CompOp::NotEqual,

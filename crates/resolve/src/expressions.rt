@@ -1,8 +1,10 @@
 //! The types of expressions.
 
-ghost use Rattle.std.specs.Prelude.{◌≡◌, Ok};
+ghost use Rattle.std.specs.Prelude.{◌≡◌, map, None, Ok};
+ghost use Rattle.typing.specs.Finding.{each};
 ghost use Rattle.typing.specs.Finds.{Finds};
-ghost use Rattle.typing.specs.Expression.{integer, must_be, product_operator, signed, signed_number, sum_operator};
+ghost use Rattle.typing.specs.Expression.{calculation, concatenation, integer, leading_operator, must_be, must_concatenate, product_operator, signed, signed_number, sum_operator, text};
+ghost use Rattle.resolve.specs.Here.{expression_found, factor_found, joined_text, multiplier, primary_found, summand, term_found};
 
 use crate::scope::column;
 use ast::{AddOperator, Factor, MultiplyOperator, Primary, Sign, Term};
@@ -12,31 +14,55 @@ use sqlval::{Value, ValueType, negate};
 use std::alloc::Global;
 use typing::{Arithmetic, Expression, Frame, TypedExpression};
 
-/// What an expression stands for in one FROM.
+/// What an expression without queries and set functions stands for in one FROM.
 #[cycle(expressions)]
+#[tactic(auto, using(crate::proofs::Chains::expression_steps))]
 pub fn typed_expression(
     alloc: Global,
     frame: &Frame,
     tree: &ast::Expression,
-) -> Result<TypedExpression, Refusal> {
+) -> Result<TypedExpression, Refusal>
+    requires ungrouped { frame.now.key ≡ None }
+    ensures { Finds result (expression_found frame.now tree.now) }
+{
     let first = typed_term(alloc, frame, &tree.first)?;
-    match tree.others.get(0) {
-        None => Ok(first),
-        Some((AddOperator::Concatenate, _)) => {
+    let Some(operator) = first_operator(tree.others.as_slice()) else {
+        return Ok(first);
+    };
+    match operator {
+        AddOperator::Concatenate => {
             typed_concatenation(alloc, frame, first, tree.others.as_slice())
         }
-        Some(_) => typed_sum(alloc, frame, first, tree.others.as_slice()),
+        _ => typed_sum(alloc, frame, first, tree.others.as_slice()),
     }
 }
 
 #[cycle(expressions)]
+#[tactic(auto, using(crate::proofs::Chains::expression_steps))]
 fn typed_sum(
     alloc: Global,
     frame: &Frame,
     first: TypedExpression,
     others: &[(AddOperator, Term)],
-) -> Result<TypedExpression, Refusal> {
+) -> Result<TypedExpression, Refusal>
+    requires ungrouped { frame.now.key ≡ None }
+    ensures { Finds result (calculation (Ok first) (each (map (summand frame.now) others.now))) }
+{
     let first = of_type(first, ValueType::Integer)?;
+    let operands = summands(alloc, frame, others)?;
+    calculated(alloc, first, operands)
+}
+
+#[cycle(expressions)]
+#[tactic(auto, using(crate::proofs::Chains::expression_steps))]
+fn summands(
+    alloc: Global,
+    frame: &Frame,
+    others: &[(AddOperator, Term)],
+) -> Result<Items<(Arithmetic, Expression)>, Refusal>
+    requires ungrouped { frame.now.key ≡ None }
+    ensures { Finds result (each (map (summand frame.now) others.now)) }
+{
     let mut operands = Items::new(alloc);
     for (operator, term) in others {
         let operator = operator_in_sum(*operator)?;
@@ -44,33 +70,51 @@ fn typed_sum(
         let operand = of_type(operand, ValueType::Integer)?;
         operands.push((operator, operand))?;
     }
-    calculated(alloc, first, operands)
+    Ok(operands)
 }
 
 #[cycle(expressions)]
+#[tactic(auto, using(crate::proofs::Chains::expression_steps))]
 fn typed_concatenation(
     alloc: Global,
     frame: &Frame,
     first: TypedExpression,
     others: &[(AddOperator, Term)],
-) -> Result<TypedExpression, Refusal> {
+) -> Result<TypedExpression, Refusal>
+    requires ungrouped { frame.now.key ≡ None }
+    ensures { Finds result (concatenation (Ok first) (each (map (joined_text frame.now) others.now))) }
+{
     let first = of_type(first, ValueType::Text)?;
-    let mut operands = Items::new(alloc);
-    for (operator, term) in others {
-        if *operator != AddOperator::Concatenate {
-            return Err(Refusal::Invalid(Reason::DataType));
-        }
-        let operand = typed_term(alloc, frame, term)?;
-        operands.push(of_type(operand, ValueType::Text)?)?;
-    }
-    Ok(TypedExpression {
-        expression: Expression::Concatenation(Boxed::new(alloc, first)?, operands),
-        value_type: ValueType::Text,
-    })
+    let operands = joined_texts(alloc, frame, others)?;
+    concatenated(alloc, first, operands)
 }
 
 #[cycle(expressions)]
-fn typed_term(alloc: Global, frame: &Frame, tree: &Term) -> Result<TypedExpression, Refusal> {
+#[tactic(auto, using(crate::proofs::Chains::expression_steps))]
+fn joined_texts(
+    alloc: Global,
+    frame: &Frame,
+    others: &[(AddOperator, Term)],
+) -> Result<Items<Expression>, Refusal>
+    requires ungrouped { frame.now.key ≡ None }
+    ensures { Finds result (each (map (joined_text frame.now) others.now)) }
+{
+    let mut operands = Items::new(alloc);
+    for (operator, term) in others {
+        only_concatenation(*operator)?;
+        let operand = typed_term(alloc, frame, term)?;
+        let operand = of_type(operand, ValueType::Text)?;
+        operands.push(operand)?;
+    }
+    Ok(operands)
+}
+
+#[cycle(expressions)]
+#[tactic(auto, using(crate::proofs::Chains::expression_steps))]
+fn typed_term(alloc: Global, frame: &Frame, tree: &Term) -> Result<TypedExpression, Refusal>
+    requires ungrouped { frame.now.key ≡ None }
+    ensures { Finds result (term_found frame.now tree.now) }
+{
     let first = typed_factor(alloc, frame, &tree.first)?;
     if tree.others.is_empty() {
         return Ok(first);
@@ -79,34 +123,60 @@ fn typed_term(alloc: Global, frame: &Frame, tree: &Term) -> Result<TypedExpressi
 }
 
 #[cycle(expressions)]
+#[tactic(auto, using(crate::proofs::Chains::expression_steps))]
 fn typed_product(
     alloc: Global,
     frame: &Frame,
     first: TypedExpression,
     others: &[(MultiplyOperator, Factor)],
-) -> Result<TypedExpression, Refusal> {
+) -> Result<TypedExpression, Refusal>
+    requires ungrouped { frame.now.key ≡ None }
+    ensures { Finds result (calculation (Ok first) (each (map (multiplier frame.now) others.now))) }
+{
     let first = of_type(first, ValueType::Integer)?;
+    let operands = multipliers(alloc, frame, others)?;
+    calculated(alloc, first, operands)
+}
+
+#[cycle(expressions)]
+#[tactic(auto, using(crate::proofs::Chains::expression_steps))]
+fn multipliers(
+    alloc: Global,
+    frame: &Frame,
+    others: &[(MultiplyOperator, Factor)],
+) -> Result<Items<(Arithmetic, Expression)>, Refusal>
+    requires ungrouped { frame.now.key ≡ None }
+    ensures { Finds result (each (map (multiplier frame.now) others.now)) }
+{
     let mut operands = Items::new(alloc);
     for (operator, factor) in others {
         let operand = typed_factor(alloc, frame, factor)?;
         let operand = of_type(operand, ValueType::Integer)?;
         operands.push((operator_in_product(*operator), operand))?;
     }
-    calculated(alloc, first, operands)
+    Ok(operands)
 }
 
 #[cycle(expressions)]
-fn typed_factor(alloc: Global, frame: &Frame, tree: &Factor) -> Result<TypedExpression, Refusal> {
+#[tactic(auto, using(crate::proofs::Chains::expression_steps))]
+fn typed_factor(alloc: Global, frame: &Frame, tree: &Factor) -> Result<TypedExpression, Refusal>
+    requires ungrouped { frame.now.key ≡ None }
+    ensures { Finds result (factor_found frame.now tree.now) }
+{
     typed_primary(alloc, frame, tree.sign, &tree.primary)
 }
 
 #[cycle(expressions)]
+#[tactic(auto, using(crate::proofs::Chains::expression_steps))]
 fn typed_primary(
     alloc: Global,
     frame: &Frame,
     sign: Option<Sign>,
     tree: &Primary,
-) -> Result<TypedExpression, Refusal> {
+) -> Result<TypedExpression, Refusal>
+    requires ungrouped { frame.now.key ≡ None }
+    ensures { Finds result (primary_found frame.now sign tree.now) }
+{
     match tree {
         Primary::Number(number) => {
             let number = with_sign(sign, *number)?;
@@ -127,9 +197,9 @@ fn typed_primary(
             let inner = typed_expression(alloc, frame, inner.get())?;
             after_sign(alloc, sign, inner)
         }
-        Primary::CountRows | Primary::Aggregate(_, _, _) | Primary::Subquery(_) => {
-            Err(Refusal::NotSupported)
-        }
+        Primary::CountRows => Err(Refusal::Invalid(Reason::Check)),
+        Primary::Aggregate(_, _, _) => Err(Refusal::Invalid(Reason::Check)),
+        Primary::Subquery(_) => Err(Refusal::Invalid(Reason::Check)),
     }
 }
 
@@ -192,6 +262,19 @@ fn calculated(
     })
 }
 
+fn concatenated(
+    alloc: Global,
+    first: Expression,
+    operands: Items<Expression>,
+) -> Result<TypedExpression, Refusal>
+    ensures { Finds result (Ok (text (Expression.Concatenation first operands))) }
+{
+    Ok(TypedExpression {
+        expression: Expression::Concatenation(Boxed::new(alloc, first)?, operands),
+        value_type: ValueType::Text,
+    })
+}
+
 fn operator_in_sum(operator: AddOperator) -> Result<Arithmetic, Refusal>
     ensures { Finds result (sum_operator operator) }
 {
@@ -199,6 +282,25 @@ fn operator_in_sum(operator: AddOperator) -> Result<Arithmetic, Refusal>
         AddOperator::Plus => Ok(Arithmetic::Add),
         AddOperator::Minus => Ok(Arithmetic::Subtract),
         AddOperator::Concatenate => Err(Refusal::Invalid(Reason::DataType)),
+    }
+}
+
+/// The operator of a chain that says whether it is a sum or a concatenation; `None` where there is no chain.
+fn first_operator(others: &[(AddOperator, Term)]) -> Option<AddOperator>
+    ensures { result ≡ leading_operator others.now }
+{
+    match others.first() {
+        Some((operator, _)) => Some(*operator),
+        None => None,
+    }
+}
+
+fn only_concatenation(operator: AddOperator) -> Result<AddOperator, Refusal>
+    ensures { Finds result (must_concatenate operator) }
+{
+    match operator {
+        AddOperator::Concatenate => Ok(operator),
+        _ => Err(Refusal::Invalid(Reason::DataType)),
     }
 }
 

@@ -1,91 +1,182 @@
 //! The columns and types of INSERT.
 
+ghost use Rattle.std.specs.Prelude.{◌≡◌, true, length, map, IfOk};
+ghost use Rattle.std.specs.List.{list_all, zip};
+ghost use Rattle.typing.specs.Built.{rows_built, stored_built};
+ghost use Rattle.typing.specs.Finding.{each};
+ghost use Rattle.typing.specs.Finds.{Finds};
+ghost use Rattle.typing.specs.Insert.{insert_found, row_stored, target_named, targets_found, targets_from};
+ghost use Rattle.typing.specs.Known.{known, nothing_known};
+ghost use Rattle.resolve.specs.Rows.{source_stored, stored_found};
+
 use crate::expressions::{of_type, typed_expression};
+use crate::names::are_distinct;
 use crate::queries::{table_named, value_type_of};
 use ast::{InsertRows, StoredSource};
-use items::Items;
+use items::{Items, Text};
 use lexer::{Name, Reason, Refusal};
-use sqlval::{ColumnType, Schema, Table, Value};
-use std::alloc::Global;
+use sqlval::{Column, Schema, Table, Value, ValueType};
+use std::alloc::{AllocError, Global};
 use typing::{Expression, Frame, Insert, InsertSource};
 
 /// What an INSERT stands for over a schema.
-pub fn typed_insert(alloc: Global, tree: &ast::Insert, schema: &Schema) -> Result<Insert, Refusal> {
+#[tactic(auto, using(crate::proofs::InsertSteps::insert_steps))]
+pub fn typed_insert(alloc: Global, tree: &ast::Insert, schema: &Schema) -> Result<Insert, Refusal>
+    requires built { rows_built tree.now.rows ≡ true }
+    ensures { Finds result (insert_found (known schema.now) tree.now) }
+{
     let InsertRows::Values(rows) = &tree.rows else {
         return Err(Refusal::NotSupported);
     };
     let table = table_named(schema, tree.table.as_text())?;
-    let columns = if tree.columns.is_empty() {
-        all_places(alloc, table)?
-    } else {
-        places_of(alloc, table, tree.columns.as_slice())?
-    };
-    let types = types_at(alloc, table, columns.as_slice())?;
-    let mut typed_rows = Items::with_capacity(alloc, rows.len())?;
-    for row in rows.as_slice() {
-        typed_rows.push(typed_row(alloc, types.as_slice(), row.as_slice())?)?;
+    let targets = targets_of(alloc, table, tree.columns.as_slice())?;
+    let names = texts_of(alloc, tree.columns.as_slice())?;
+    if !are_distinct(names.as_slice()) {
+        return Err(Refusal::Invalid(Reason::Duplicate));
     }
+    let typed = typed_rows(alloc, targets.as_slice(), rows.as_slice())?;
     Ok(Insert {
         table: tree.table.as_text().copy(alloc)?,
-        columns,
-        source: InsertSource::Values(typed_rows),
+        columns: places_of(alloc, targets.as_slice())?,
+        source: InsertSource::Values(typed),
     })
 }
 
-fn all_places(alloc: Global, table: &Table) -> Result<Items<usize>, Refusal> {
-    let mut places = Items::with_capacity(alloc, table.columns.len())?;
-    for place in 0..table.columns.len() {
-        places.push(place)?;
-    }
-    Ok(places)
-}
-
-/// The places of these columns of a table, no column twice.
-pub fn places_of(alloc: Global, table: &Table, names: &[Name]) -> Result<Items<usize>, Refusal> {
-    let mut places = Items::with_capacity(alloc, names.len())?;
+fn texts_of(alloc: Global, names: &[Name]) -> Result<Items<Text>, AllocError>
+    ensures { IfOk result (λ texts. texts ≡ names.now) }
+{
+    let mut texts = Items::with_capacity(alloc, names.len())?;
     for name in names {
-        let Some(place) = table.find_column(name.as_text().as_slice()) else {
-            return Err(Refusal::Invalid(Reason::Name));
-        };
-        if places.as_slice().contains(&place) {
-            return Err(Refusal::Invalid(Reason::Duplicate));
-        }
-        places.push(place)?;
+        texts.push(name.as_text().copy(alloc)?)?;
+    }
+    Ok(texts)
+}
+
+/// The places and types of the columns that get a value: those named, or all in order.
+#[tactic(auto, using(crate::proofs::InsertSteps::target_steps))]
+fn targets_of(
+    alloc: Global,
+    table: &Table,
+    names: &[Name],
+) -> Result<Items<(usize, ValueType)>, Refusal>
+    ensures { Finds result (targets_found table.now.columns names.now) }
+{
+    if names.is_empty() {
+        Ok(all_targets(alloc, table.columns.as_slice())?)
+    } else {
+        named_targets(alloc, table, names)
+    }
+}
+
+fn all_targets(
+    alloc: Global,
+    columns: &[Column],
+) -> Result<Items<(usize, ValueType)>, AllocError>
+    ensures { IfOk result (λ targets. targets ≡ targets_from 0 columns.now) }
+{
+    let mut targets = Items::with_capacity(alloc, columns.len())?;
+    for (place, column) in columns.iter().enumerate() {
+        targets.push((place, value_type_of(column.column_type)))?;
+    }
+    Ok(targets)
+}
+
+#[tactic(auto, using(crate::proofs::FindsLemmas::each_steps))]
+fn named_targets(
+    alloc: Global,
+    table: &Table,
+    names: &[Name],
+) -> Result<Items<(usize, ValueType)>, Refusal>
+    ensures { Finds result (each (map (target_named table.now.columns) names.now)) }
+{
+    let mut targets = Items::new(alloc);
+    for name in names {
+        targets.push(target_named(table, name)?)?;
+    }
+    Ok(targets)
+}
+
+fn target_named(table: &Table, name: &Name) -> Result<(usize, ValueType), Refusal>
+    ensures { Finds result (target_named table.now.columns name.now) }
+{
+    let Some(place) = table.find_column(name.as_text().as_slice()) else {
+        return Err(Refusal::Invalid(Reason::Name));
+    };
+    match table.columns.get(place) {
+        Some(column) => Ok((place, value_type_of(column.column_type))),
+        None => Err(Refusal::Invalid(Reason::Name)),
+    }
+}
+
+fn places_of(alloc: Global, targets: &[(usize, ValueType)]) -> Result<Items<usize>, AllocError>
+    ensures { IfOk result (λ places. places ≡ map (λ target. target.0) targets.now) }
+{
+    let mut places = Items::with_capacity(alloc, targets.len())?;
+    for (place, _) in targets {
+        places.push(*place)?;
     }
     Ok(places)
 }
 
-fn types_at(alloc: Global, table: &Table, places: &[usize]) -> Result<Items<ColumnType>, Refusal> {
-    let mut types = Items::with_capacity(alloc, places.len())?;
-    for place in places {
-        if let Some(column) = table.columns.get(*place) {
-            types.push(column.column_type)?;
-        }
+#[tactic(auto, using(crate::proofs::InsertSteps::rows_steps))]
+fn typed_rows(
+    alloc: Global,
+    targets: &[(usize, ValueType)],
+    rows: &[Items<StoredSource>],
+) -> Result<Items<Items<Expression>>, Refusal>
+    requires built { list_all (list_all stored_built) rows.now ≡ true }
+    ensures { Finds result (each (map (row_stored nothing_known targets.now) rows.now)) }
+{
+    let mut typed = Items::new(alloc);
+    for row in rows {
+        typed.push(typed_row(alloc, targets, row.as_slice())?)?;
     }
-    Ok(types)
+    Ok(typed)
 }
 
+#[tactic(auto, using(crate::proofs::InsertSteps::row_steps))]
 fn typed_row(
     alloc: Global,
-    types: &[ColumnType],
+    targets: &[(usize, ValueType)],
     sources: &[StoredSource],
-) -> Result<Items<Expression>, Refusal> {
-    if types.len() != sources.len() {
+) -> Result<Items<Expression>, Refusal>
+    requires built { list_all stored_built sources.now ≡ true }
+    ensures { Finds result (row_stored nothing_known targets.now sources.now) }
+{
+    if targets.len() != sources.len() {
         return Err(Refusal::Invalid(Reason::Columns));
     }
-    let mut row = Items::with_capacity(alloc, sources.len())?;
+    typed_sources(alloc, targets, sources)
+}
+
+#[tactic(auto, using(crate::proofs::InsertSteps::zip_steps))]
+fn typed_sources(
+    alloc: Global,
+    targets: &[(usize, ValueType)],
+    sources: &[StoredSource],
+) -> Result<Items<Expression>, Refusal>
+    requires built { list_all stored_built sources.now ≡ true }
+    requires same_length { length targets.now ≡ length sources.now }
+    ensures { Finds result (each (map stored_found (zip targets.now sources.now))) }
+{
+    let mut row = Items::new(alloc);
     for (at, source) in sources.iter().enumerate() {
-        row.push(typed_source(alloc, types[at], source)?)?;
+        let (_, wanted) = targets[at];
+        row.push(typed_source(alloc, wanted, source)?)?;
     }
     Ok(row)
 }
 
 /// A source of VALUES, which sees no column, for a column of this type.
+#[tactic(auto, using(crate::proofs::InsertSteps::source_steps))]
 fn typed_source(
     alloc: Global,
-    column: ColumnType,
+    wanted: ValueType,
     source: &StoredSource,
-) -> Result<Expression, Refusal> {
+) -> Result<Expression, Refusal>
+    requires built { stored_built source.now ≡ true }
+    ensures { Finds result (source_stored wanted source.now) }
+{
     match source {
         StoredSource::Null => Ok(Expression::Constant(Value::Null)),
         StoredSource::Value(tree) => {
@@ -95,7 +186,7 @@ fn typed_source(
                 key: None,
             };
             let typed = typed_expression(alloc, &nothing, tree)?;
-            of_type(typed, value_type_of(column))
+            of_type(typed, wanted)
         }
     }
 }

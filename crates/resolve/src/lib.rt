@@ -4,6 +4,7 @@
 mod conditions;
 mod expressions;
 mod inserts;
+mod names;
 mod queries;
 mod resolving;
 mod scope;

@@ -1,14 +1,18 @@
 //! Which column a name means.
 
-ghost use Rattle.std.specs.Prelude.{◌≡◌};
-ghost use Rattle.typing.specs.Scope.{is_meant};
+ghost use Rattle.std.specs.Prelude.{◌≡◌, [], ◌∷◌, None};
+ghost use Rattle.typing.specs.Finds.{Finds};
+ghost use Rattle.typing.specs.Scope.{as_matches, column_in, is_meant, meant};
 
 use ast::Column;
 use lexer::{Reason, Refusal};
 use typing::{Expression, Found, Frame, Matches, Offer, TypedExpression};
 
 /// The column that a name means in one FROM.
-pub fn column(frame: &Frame, column: &Column) -> Result<TypedExpression, Refusal> {
+pub fn column(frame: &Frame, column: &Column) -> Result<TypedExpression, Refusal>
+    requires ungrouped { frame.now.key ≡ None }
+    ensures { Finds result (column_in column.now (frame.now ∷ [])) }
+{
     match matches_in(frame.columns.as_slice(), column) {
         Matches::One(found) => {
             Ok(TypedExpression {
@@ -24,20 +28,25 @@ pub fn column(frame: &Frame, column: &Column) -> Result<TypedExpression, Refusal
     }
 }
 
-fn matches_in(offers: &[Offer], column: &Column) -> Matches {
-    let mut matches = Matches::Nothing;
+fn matches_in(offers: &[Offer], column: &Column) -> Matches
+    ensures { result ≡ as_matches (meant column.now 0 offers.now) }
+{
+    let mut first = None;
     for (place, offer) in offers.iter().enumerate() {
         if is_meant_by(offer, column) {
-            if matches != Matches::Nothing {
+            if first.is_some() {
                 return Matches::Several;
             }
-            matches = Matches::One(Found {
+            first = Some(Found {
                 place,
                 value_type: offer.value_type,
             });
         }
     }
-    matches
+    match first {
+        Some(found) => Matches::One(found),
+        None => Matches::Nothing,
+    }
 }
 
 fn is_meant_by(offer: &Offer, column: &Column) -> bool

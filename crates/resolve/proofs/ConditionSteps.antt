@@ -1,0 +1,307 @@
+-- What is found at each node of a condition, in one FROM, and refusals inside it.
+use Rattle.std.proofs.Common.{◌≡◌, ℕ, suc, ◌+◌, ◌<◌, ◌≤◌, Bool, List, [], ◌∷◌, ◌++◌, map, length, get_or, drop, drop-cons, add-one, append_assoc, Option, Some, None, Ok, Err, refl, sym, ◌∙◌, ap, arith, rules}
+use Rattle.std.specs.Prelude.{flat_map}
+use Rattle.std.proofs.lemmas.List.{append-nil, drop_all}
+use Rattle.sqlval.specs.declared.value.Value.{Value}
+use Rattle.sqlval.specs.declared.value.ValueType.{ValueType}
+use Rattle.sqlval.specs.declared.value.ValueType.TheVariants.{Integer, Text}
+use Rattle.lexer.specs.declared.refusals.Reason.TheVariants as reason
+use Rattle.lexer.specs.declared.refusals.Refusal.{Refusal}
+use Rattle.lexer.specs.declared.refusals.Refusal.TheVariants.{Invalid}
+use Rattle.ast.specs.declared.operator.Comparison.{Comparison}
+use Rattle.ast.specs.declared.operator.Literal.{Literal}
+use Rattle.ast.specs.declared.tree.Condition.{Condition as Tree, out-Condition as out_tree}
+use Rattle.ast.specs.declared.tree.Conjunction.{Conjunction, out-Conjunction}
+use Rattle.ast.specs.declared.tree.Expression.{Expression}
+use Rattle.ast.specs.declared.tree.Negation.{Negation, out-Negation}
+use Rattle.ast.specs.declared.tree.Predicate.{Predicate}
+use Rattle.ast.specs.declared.tree.Predicate.TheVariants as p
+use Rattle.ast.specs.declared.tree.Query.{Query}
+use Rattle.ast.specs.declared.tree.Test.{Test, out-Test}
+use Rattle.typing.specs.declared.typed.Expression.{Expression as Typed}
+use Rattle.typing.specs.declared.typed.Condition.{Condition, Condition-F, out-Condition, the_lemmas}
+use Rattle.typing.specs.declared.typed.Condition.TheVariants as condition
+use Rattle.typing.specs.declared.scope.Frame.{Frame}
+use Rattle.typing.specs.declared.scope.TypedExpression.{TypedExpression}
+use Rattle.typing.specs.Finding.{Finding, ◌>>=◌, also, before, each, invalid}
+use Rattle.typing.specs.Finds.{Finds}
+use Rattle.typing.specs.Known.{nothing_known}
+use Rattle.typing.specs.Part.{Part}
+use Rattle.typing.specs.Condition.{ConditionLayer, alike, and_of, between, compared, conjunction, conjuncts, conjuncts_at, disjunction, disjuncts, disjuncts_at, in_list, like, literal_of, negated, null_test, operator_of, or_of, tested}
+use Rattle.typing.specs.Expression.{must_be}
+use Rattle.typing.specs.SetOperator.{in_query}
+use Rattle.typing.specs.Typing.{conjunction_part, negation_part}
+use Rattle.typing.proofs.Nodes as node
+use Rattle.resolve.specs.Here.{here, expression_found, condition_found, conjunction_found, negation_found, predicate_found, test_found}
+use Rattle.resolve.proofs.FindsLemmas.{Finds-then_err, Finds-also_first, Finds-also_second, Finds-each_item, Finds-before_first, Finds-before_others, Finds-invalid}
+use Rattle.resolve.proofs.Nodes.{in_turn-here}
+
+-- ---- the nodes
+
+found-each : {A B : Type 0} (f : A → Part B) (frame : Frame) (xs : List A) → map (λ x. x.found (here frame)) (map f xs) ≡ map (λ x. (f x).found (here frame)) xs
+found-each f frame [] = refl
+found-each f frame (x ∷ xs) = ap (λ rest. (f x).found (here frame) ∷ rest) (found-each f frame xs)
+
+module _ (frame : Frame) where
+  pub condition_is : (tree : Tree) → condition_found frame tree ≡ disjunction (conjunction_found frame (out_tree tree).first ∷ map (conjunction_found frame) (out_tree tree).others)
+  condition_is tree =
+      ap (λ part. part.found (here frame)) (node.condition_is nothing_known tree)
+      ∙ ap disjunction (in_turn-here frame (conjunction_part nothing_known (out_tree tree).first ∷ map (conjunction_part nothing_known) (out_tree tree).others)
+      ∙ ap (λ rest. conjunction_found frame (out_tree tree).first ∷ rest) (found-each (conjunction_part nothing_known) frame (out_tree tree).others))
+
+  pub conjunction_is : (tree : Conjunction) → conjunction_found frame tree ≡ conjunction (negation_found frame (out-Conjunction tree).first ∷ map (negation_found frame) (out-Conjunction tree).others)
+  conjunction_is tree =
+      ap (λ part. part.found (here frame)) (node.conjunction_is nothing_known tree)
+      ∙ ap conjunction (in_turn-here frame (negation_part nothing_known (out-Conjunction tree).first ∷ map (negation_part nothing_known) (out-Conjunction tree).others)
+      ∙ ap (λ rest. negation_found frame (out-Conjunction tree).first ∷ rest) (found-each (negation_part nothing_known) frame (out-Conjunction tree).others))
+
+  pub negation_is : (tree : Negation) → negation_found frame tree ≡ (test_found frame (out-Negation tree).test >>= (λ c. Ok (negated (out-Negation tree).is_negated c)))
+  negation_is tree = ap (λ part. part.found (here frame)) (node.negation_is nothing_known tree)
+
+  pub test_is : (tree : Test) → test_found frame tree ≡ (predicate_found frame (out-Test tree).predicate >>= (λ c. Ok (tested (out-Test tree).truth c)))
+  test_is tree = ap (λ part. part.found (here frame)) (node.test_is nothing_known tree)
+
+  pub predicate_nested : (c : Tree) → predicate_found frame (p.Nested c) ≡ condition_found frame c
+  predicate_nested c = ap (λ part. part.found (here frame)) (node.predicate_nested nothing_known c)
+
+  pub predicate_compare : (x : Expression) (operator : Comparison) (y : Expression) → predicate_found frame (p.Compare x operator y) ≡ compared operator (expression_found frame x) (expression_found frame y)
+  predicate_compare x operator y = ap (λ part. part.found (here frame)) (node.predicate_compare nothing_known x operator y)
+
+  pub predicate_between : (x : Expression) (n : Bool) (low high : Expression) →
+    predicate_found frame (p.Between x n low high) ≡ between n (expression_found frame x) (expression_found frame low) (expression_found frame high)
+  predicate_between x n low high = ap (λ part. part.found (here frame)) (node.predicate_between nothing_known x n low high)
+
+  pub predicate_in_list : (x : Expression) (n : Bool) (literals : List Literal) → predicate_found frame (p.InList x n literals) ≡ in_list n (expression_found frame x) literals
+  predicate_in_list x n literals = ap (λ part. part.found (here frame)) (node.predicate_in_list nothing_known x n literals)
+
+  pub predicate_like : (x : Expression) (n : Bool) (pattern : Expression) → predicate_found frame (p.Like x n pattern) ≡ like n (expression_found frame x) (expression_found frame pattern)
+  predicate_like x n pattern = ap (λ part. part.found (here frame)) (node.predicate_like nothing_known x n pattern)
+
+  pub predicate_is_null : (x : Expression) (n : Bool) → predicate_found frame (p.IsNull x n) ≡ null_test n (expression_found frame x)
+  predicate_is_null x n = ap (λ part. part.found (here frame)) (node.predicate_is_null nothing_known x n)
+
+  pub predicate_exists : (query : Query) → predicate_found frame (p.Exists query) ≡ invalid reason.Check
+  predicate_exists query = ap (λ part. part.found (here frame)) (node.predicate_exists nothing_known query)
+
+  pub predicate_in_query : (x : Expression) (n : Bool) (query : Query) → predicate_found frame (p.InQuery x n query) ≡ in_query n (expression_found frame x) (invalid reason.Check)
+  predicate_in_query x n query = ap (λ part. part.found (here frame)) (node.predicate_in_query nothing_known x n query)
+
+  pub in_query_refused : (x : Expression) (n : Bool) (query : Query) → Finds (Err (Invalid reason.Check)) (predicate_found frame (p.InQuery x n query))
+  in_query_refused x n query =
+      rw (predicate_in_query x n query)
+      (Finds-then_err (Invalid reason.Check) (also (expression_found frame x) (invalid reason.Check)) (λ q. must_be (q.1).1 q.0 >>= (λ operand. Ok (negated n (condition.InQuery operand (q.1).0))))
+      (Finds-also_second (Invalid reason.Check) (expression_found frame x) (invalid reason.Check) (Finds-invalid reason.Check)))
+
+-- ---- AND and OR
+
+-- the parts found so far, and then those of the rest
+abbrev pub flattened : (Condition → List Condition) → List Condition → Finding (List Condition) → Finding (List Condition)
+flattened parts done found = found >>= (λ cs. Ok (done ++ flat_map parts cs))
+
+flattened-before : (parts : Condition → List Condition) (done : List Condition) (c : Condition) (rest : Finding (List Condition)) →
+  flattened parts (done ++ parts c) rest ≡ flattened parts done (before (Ok c) rest)
+flattened-before parts done c (Ok cs) = ap Ok (append_assoc done (parts c) (flat_map parts cs))
+flattened-before parts done c (Err reasons) = refl
+
+pub flattened-next : {X : Type 0} (parts : Condition → List Condition) (f : X → Finding Condition) (items : List X) (i : ℕ) (item : X) (done : List Condition) (c : Condition) →
+  i < length items → item ≡ get_or items i item → f item ≡ Ok c →
+  flattened parts (done ++ parts c) (each (map f (drop (i + 1) items))) ≡ flattened parts done (each (map f (drop i items)))
+flattened-next parts f items i item done c below is e =
+    let split : drop i items ≡ item ∷ drop (suc i) items = drop-cons items i item below ∙ ap (λ x. x ∷ drop (suc i) items) (sym is) in
+    rw (split, add-one, e) (flattened-before parts done c (each (map f (drop (suc i) items))))
+
+-- an operator over all parts
+over_parts : (parts : Condition → List Condition) (made : List Condition → Condition) (found : Finding (List Condition)) →
+  (found >>= (λ cs. Ok (made (flat_map parts cs)))) ≡ (flattened parts [] found >>= (λ all. Ok (made all)))
+over_parts parts made (Ok cs) = refl
+over_parts parts made (Err reasons) = refl
+
+pub flattened-done : {X : Type 0} (parts : Condition → List Condition) (made : List Condition → Condition) (f : X → Finding Condition) (items : List X) (i : ℕ) (done : List Condition) (all : Finding (List Condition)) →
+  length items ≤ i → flattened parts done (each (map f (drop i items))) ≡ flattened parts [] all → (all >>= (λ cs. Ok (made (flat_map parts cs)))) ≡ Ok (made done)
+flattened-done parts made f items i done all past e =
+    let none : drop i items ≡ [] = drop_all i items past in
+    let whole : flattened parts [] all ≡ Ok done = sym (rw none at e) ∙ ap Ok (append-nil done) in
+    rw (over_parts parts made all, whole) refl
+
+pub disjunction-done : {X : Type 0} (f : X → Finding Condition) (first : Condition) (items : List X) (i : ℕ) (done : List Condition) →
+  length items ≤ i → flattened disjuncts done (each (map f (drop i items))) ≡ flattened disjuncts [] (each (Ok first ∷ map f items)) → disjunction (Ok first ∷ map f items) ≡ Ok (or_of done)
+disjunction-done f first items i done past e = flattened-done disjuncts or_of f items i done (each (Ok first ∷ map f items)) past e
+
+pub conjunction-done : {X : Type 0} (f : X → Finding Condition) (first : Condition) (items : List X) (i : ℕ) (done : List Condition) →
+  length items ≤ i → flattened conjuncts done (each (map f (drop i items))) ≡ flattened conjuncts [] (each (Ok first ∷ map f items)) → conjunction (Ok first ∷ map f items) ≡ Ok (and_of done)
+conjunction-done f first items i done past e = flattened-done conjuncts and_of f items i done (each (Ok first ∷ map f items)) past e
+
+pub flattened-start : (parts : Condition → List Condition) (first : Condition) (rest : Finding (List Condition)) → flattened parts (parts first) rest ≡ flattened parts [] (before (Ok first) rest)
+flattened-start parts first rest = flattened-before parts [] first rest
+
+pub disjunct_refused : {X : Type 0} (r : Refusal) (f : X → Finding Condition) (first : Condition) (items : List X) (i : ℕ) (item : X) → i < length items → item ≡ get_or items i item →
+  Finds (Err r) (f item) → Finds (Err r) (disjunction (Ok first ∷ map f items))
+disjunct_refused r f first items i item below is h =
+    Finds-then_err r (each (Ok first ∷ map f items)) (λ found. Ok (or_of (flat_map disjuncts found))) (Finds-before_others r (Ok first) (each (map f items)) (Finds-each_item r f items i item below is h))
+
+pub conjunct_refused : {X : Type 0} (r : Refusal) (f : X → Finding Condition) (first : Condition) (items : List X) (i : ℕ) (item : X) → i < length items → item ≡ get_or items i item →
+  Finds (Err r) (f item) → Finds (Err r) (conjunction (Ok first ∷ map f items))
+conjunct_refused r f first items i item below is h =
+    Finds-then_err r (each (Ok first ∷ map f items)) (λ found. Ok (and_of (flat_map conjuncts found))) (Finds-before_others r (Ok first) (each (map f items)) (Finds-each_item r f items i item below is h))
+
+-- the first operand is refused
+pub disjunction_refused : (r : Refusal) (first : Finding Condition) (rest : List (Finding Condition)) → Finds (Err r) first → Finds (Err r) (disjunction (first ∷ rest))
+disjunction_refused r first rest h = Finds-then_err r (each (first ∷ rest)) (λ found. Ok (or_of (flat_map disjuncts found))) (Finds-before_first r first (each rest) h)
+
+pub conjunction_refused : (r : Refusal) (first : Finding Condition) (rest : List (Finding Condition)) → Finds (Err r) first → Finds (Err r) (conjunction (first ∷ rest))
+conjunction_refused r first rest h = Finds-then_err r (each (first ∷ rest)) (λ found. Ok (and_of (flat_map conjuncts found))) (Finds-before_first r first (each rest) h)
+
+-- ---- what an OR and an AND are made of
+
+or-out : (parts : List Condition) → out-Condition (condition.Or parts) ≡ Condition-F.Or parts
+or-out parts = search (rules, the_lemmas)
+
+and-out : (parts : List Condition) → out-Condition (condition.And parts) ≡ Condition-F.And parts
+and-out parts = search (rules, the_lemmas)
+
+pub disjuncts-or : (parts : List Condition) → disjuncts (condition.Or parts) ≡ parts
+disjuncts-or parts = rw (or-out parts) refl
+
+pub conjuncts-and : (parts : List Condition) → conjuncts (condition.And parts) ≡ parts
+conjuncts-and parts = rw (and-out parts) refl
+
+pub or_of-one : (xs front : List Condition) (last : Condition) → length xs ≡ 1 → xs ≡ front ++ last ∷ [] → or_of xs ≡ last
+or_of-one [] front last h e = absurd (omega (arith, h))
+or_of-one (x ∷ []) [] last h e = ap (λ cs. get_or cs 0 x) e
+or_of-one (x ∷ []) (y ∷ front) last h e = absurd (omega (arith, ap length e, length-last front last))
+  where
+    length-last : (front : List Condition) (last : Condition) → 1 ≤ length (front ++ last ∷ [])
+    length-last [] last = omega arith
+    length-last (y ∷ front) last = omega arith
+or_of-one (x ∷ y ∷ xs) front last h e = absurd (omega (arith, h))
+
+pub or_of-more : (xs : List Condition) → (length xs ≡ 1 → ⊥) → or_of xs ≡ condition.Or xs
+or_of-more [] n = refl
+or_of-more (x ∷ []) n = absurd (n refl)
+or_of-more (x ∷ y ∷ xs) n = refl
+
+pub and_of-one : (xs front : List Condition) (last : Condition) → length xs ≡ 1 → xs ≡ front ++ last ∷ [] → and_of xs ≡ last
+and_of-one [] front last h e = absurd (omega (arith, h))
+and_of-one (x ∷ []) [] last h e = ap (λ cs. get_or cs 0 x) e
+and_of-one (x ∷ []) (y ∷ front) last h e = absurd (omega (arith, ap length e, length-last front last))
+  where
+    length-last : (front : List Condition) (last : Condition) → 1 ≤ length (front ++ last ∷ [])
+    length-last [] last = omega arith
+    length-last (y ∷ front) last = omega arith
+and_of-one (x ∷ y ∷ xs) front last h e = absurd (omega (arith, h))
+
+pub and_of-more : (xs : List Condition) → (length xs ≡ 1 → ⊥) → and_of xs ≡ condition.And xs
+and_of-more [] n = refl
+and_of-more (x ∷ []) n = absurd (n refl)
+and_of-more (x ∷ y ∷ xs) n = refl
+
+-- ---- predicates
+
+module _ (r : Refusal) where
+  alike_first : (x y : Finding TypedExpression) → Finds (Err r) x → Finds (Err r) (alike x y)
+  alike_first x y h = Finds-then_err r (also x y) (λ q. must_be (q.0).value_type q.1 >>= (λ second. Ok ((q.0).expression, second))) (Finds-also_first r x y h)
+
+  alike_second : (x y : Finding TypedExpression) → Finds (Err r) y → Finds (Err r) (alike x y)
+  alike_second x y h = Finds-then_err r (also x y) (λ q. must_be (q.0).value_type q.1 >>= (λ second. Ok ((q.0).expression, second))) (Finds-also_second r x y h)
+
+  alike_type : (x y : Finding TypedExpression) (v w : TypedExpression) → x ≡ Ok v → y ≡ Ok w → Finds (Err r) (must_be v.value_type w) → Finds (Err r) (alike x y)
+  alike_type x y v w e f h = rw (e, f) (Finds-then_err r (must_be v.value_type w) (λ second. Ok (v.expression, second)) h)
+
+  of_alike : (operator : Comparison) (x y : Finding TypedExpression) → Finds (Err r) (alike x y) → Finds (Err r) (compared operator x y)
+  of_alike operator x y h = Finds-then_err r (alike x y) (λ q. Ok (condition.Compare (operator_of operator) q.0 q.1)) h
+
+  pub compared_first : (operator : Comparison) (x y : Finding TypedExpression) → Finds (Err r) x → Finds (Err r) (compared operator x y)
+  compared_first operator x y h = of_alike operator x y (alike_first x y h)
+
+  pub compared_second : (operator : Comparison) (x y : Finding TypedExpression) → Finds (Err r) y → Finds (Err r) (compared operator x y)
+  compared_second operator x y h = of_alike operator x y (alike_second x y h)
+
+  pub compared_type : (operator : Comparison) (x y : Finding TypedExpression) (v w : TypedExpression) → x ≡ Ok v → y ≡ Ok w → Finds (Err r) (must_be v.value_type w) → Finds (Err r) (compared operator x y)
+  compared_type operator x y v w e f h = of_alike operator x y (alike_type x y v w e f h)
+
+  module _ (n : Bool) (x low high : Finding TypedExpression) where
+    of_low : Finds (Err r) (alike x low) → Finds (Err r) (between n x low high)
+    of_low h = Finds-then_err r (also (alike x low) (alike x high)) (λ q. Ok (negated n (condition.Between (q.0).0 (q.0).1 (q.1).1))) (Finds-also_first r (alike x low) (alike x high) h)
+
+    of_high : Finds (Err r) (alike x high) → Finds (Err r) (between n x low high)
+    of_high h = Finds-then_err r (also (alike x low) (alike x high)) (λ q. Ok (negated n (condition.Between (q.0).0 (q.0).1 (q.1).1))) (Finds-also_second r (alike x low) (alike x high) h)
+
+    pub between_operand : Finds (Err r) x → Finds (Err r) (between n x low high)
+    between_operand h = of_low (alike_first x low h)
+
+    pub between_low : Finds (Err r) low → Finds (Err r) (between n x low high)
+    between_low h = of_low (alike_second x low h)
+
+    pub between_low_type : (v w : TypedExpression) → x ≡ Ok v → low ≡ Ok w → Finds (Err r) (must_be v.value_type w) → Finds (Err r) (between n x low high)
+    between_low_type v w e f h = of_low (alike_type x low v w e f h)
+
+    pub between_high : Finds (Err r) high → Finds (Err r) (between n x low high)
+    between_high h = of_high (alike_second x high h)
+
+    pub between_high_type : (v w : TypedExpression) → x ≡ Ok v → high ≡ Ok w → Finds (Err r) (must_be v.value_type w) → Finds (Err r) (between n x low high)
+    between_high_type v w e f h = of_high (alike_type x high v w e f h)
+
+  module _ (n : Bool) (x pattern : Finding TypedExpression) where
+    pub like_text : Finds (Err r) (x >>= must_be Text) → Finds (Err r) (like n x pattern)
+    like_text h = Finds-then_err r (also (x >>= must_be Text) (pattern >>= must_be Text)) (λ q. Ok (negated n (condition.Like q.0 q.1))) (Finds-also_first r (x >>= must_be Text) (pattern >>= must_be Text) h)
+
+    pub like_pattern : Finds (Err r) (pattern >>= must_be Text) → Finds (Err r) (like n x pattern)
+    like_pattern h = Finds-then_err r (also (x >>= must_be Text) (pattern >>= must_be Text)) (λ q. Ok (negated n (condition.Like q.0 q.1))) (Finds-also_second r (x >>= must_be Text) (pattern >>= must_be Text) h)
+
+  pub in_list_operand : (n : Bool) (x : Finding TypedExpression) (literals : List Literal) → Finds (Err r) x → Finds (Err r) (in_list n x literals)
+  in_list_operand n x literals h = Finds-then_err r x (λ v. each (map (literal_of v.value_type) literals) >>= (λ values. Ok (negated n (condition.InList v.expression values)))) h
+
+  pub in_list_literals : (n : Bool) (x : Finding TypedExpression) (v : TypedExpression) (literals : List Literal) → x ≡ Ok v → Finds (Err r) (each (map (literal_of v.value_type) literals)) → Finds (Err r) (in_list n x literals)
+  in_list_literals n x v literals e h = rw e (Finds-then_err r (each (map (literal_of v.value_type) literals)) (λ values. Ok (negated n (condition.InList v.expression values))) h)
+
+  pub null_test_operand : (n : Bool) (x : Finding TypedExpression) → Finds (Err r) x → Finds (Err r) (null_test n x)
+  null_test_operand n x h = Finds-then_err r x (λ v. Ok (negated n (condition.IsNull v.expression))) h
+
+-- what all parts are found to be
+pub compared-ok : (operator : Comparison) (x y : Finding TypedExpression) (v w : TypedExpression) (second : Typed) →
+  x ≡ Ok v → y ≡ Ok w → must_be v.value_type w ≡ Ok second → compared operator x y ≡ Ok (condition.Compare (operator_of operator) v.expression second)
+compared-ok operator x y v w second e f g = rw (e, f, g) refl
+
+pub between-ok : (n : Bool) (x low high : Finding TypedExpression) (v w u : TypedExpression) (from to : Typed) →
+  x ≡ Ok v → low ≡ Ok w → must_be v.value_type w ≡ Ok from → high ≡ Ok u → must_be v.value_type u ≡ Ok to → between n x low high ≡ Ok (negated n (condition.Between v.expression from to))
+between-ok n x low high v w u from to e f g h k = rw (e, f, g, h, k) refl
+
+pub like-ok : (n : Bool) (x pattern : Finding TypedExpression) (v w : TypedExpression) (a b : Typed) →
+  x ≡ Ok v → must_be Text v ≡ Ok a → pattern ≡ Ok w → must_be Text w ≡ Ok b → like n x pattern ≡ Ok (negated n (condition.Like a b))
+like-ok n x pattern v w a b e f g h = rw (e, f, g, h) refl
+
+pub in_list-ok : (n : Bool) (x : Finding TypedExpression) (v : TypedExpression) (literals : List Literal) (values : List Value) →
+  x ≡ Ok v → each (map (literal_of v.value_type) literals) ≡ Ok values → in_list n x literals ≡ Ok (negated n (condition.InList v.expression values))
+in_list-ok n x v literals values e f = rw (e, f) refl
+
+pub null_test-ok : (n : Bool) (x : Finding TypedExpression) (v : TypedExpression) → x ≡ Ok v → null_test n x ≡ Ok (negated n (condition.IsNull v.expression))
+null_test-ok n x v e = rw e refl
+
+-- the exits as they stand in the code
+pub like_operand : (r : Refusal) (n : Bool) (x pattern : Finding TypedExpression) → Finds (Err r) x → Finds (Err r) (like n x pattern)
+like_operand r n x pattern h = like_text r n x pattern (Finds-then_err r x (must_be Text) h)
+
+pub like_operand_type : (r : Refusal) (n : Bool) (x pattern : Finding TypedExpression) (v : TypedExpression) → x ≡ Ok v → Finds (Err r) (must_be Text v) → Finds (Err r) (like n x pattern)
+like_operand_type r n x pattern v e h = like_text r n x pattern (rw e h)
+
+pub like_second : (r : Refusal) (n : Bool) (x pattern : Finding TypedExpression) → Finds (Err r) pattern → Finds (Err r) (like n x pattern)
+like_second r n x pattern h = like_pattern r n x pattern (Finds-then_err r pattern (must_be Text) h)
+
+pub like_second_type : (r : Refusal) (n : Bool) (x pattern : Finding TypedExpression) (w : TypedExpression) → pattern ≡ Ok w → Finds (Err r) (must_be Text w) → Finds (Err r) (like n x pattern)
+like_second_type r n x pattern w e h = like_pattern r n x pattern (rw e h)
+
+pub then_refused : {A B : Type 0} (r : Refusal) (x : Finding A) (f : A → B) → Finds (Err r) x → Finds (Err r) (x >>= (λ v. Ok (f v)))
+then_refused r x f h = Finds-then_err r x (λ v. Ok (f v)) h
+
+pub ruleset node_steps = (negation_is, test_is, then_refused)
+pub ruleset flat_steps = (flattened-next, flattened-start)
+pub ruleset compared_steps = (compared_first, compared_second, compared_type, compared-ok)
+pub ruleset between_steps = (between_operand, between_low, between_low_type, between_high, between_high_type, between-ok)
+pub ruleset like_steps = (like_operand, like_operand_type, like_second, like_second_type, like-ok)
+pub ruleset list_steps = (in_list_operand, in_list_literals, in_list-ok)
+pub ruleset null_steps = (null_test_operand, null_test-ok)
+
+pub then_change : {A B C : Type 0} (r : Refusal) (x : Finding A) (f : A → B) (g : B → C) → Finds (Err r) x → Finds (Err r) (x >>= (λ v. Ok (f v)) >>= (λ w. Ok (g w)))
+then_change r x f g h = Finds-then_err r (x >>= (λ v. Ok (f v))) (λ w. Ok (g w)) (Finds-then_err r x (λ v. Ok (f v)) h)
+
+pub ruleset then_steps = (then_refused, then_change)

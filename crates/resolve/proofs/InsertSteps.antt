@@ -1,0 +1,206 @@
+-- INSERT of VALUES of built forms: its rows, and the whole.
+use Rattle.std.proofs.Common.{◌≡◌, refl, sym, ap, ◌∙◌, ℕ, zero, suc, ◌+◌, ◌<◌, ◌≤◌, Bool, true, false, ◌&&◌, List, [], ◌∷◌, ◌++◌, map, length, get_or, drop, drop-cons, Option, Some, None, Result, Ok, Err, arith, add-one, append_assoc}
+use Rattle.std.specs.Prelude.{if◌then◌else◌, ◌==◌, not}
+use Rattle.std.specs.List.{list_all, list_any, zip}
+use Rattle.std.proofs.lemmas.List.{append-nil, drop_all}
+use Rattle.sqlval.specs.declared.schema.Column.{Column as Defined}
+use Rattle.sqlval.specs.declared.value.ValueType.{ValueType}
+use Rattle.lexer.specs.declared.refusals.Reason.TheVariants.{Columns}
+use Rattle.lexer.specs.declared.refusals.Refusal.{Refusal}
+use Rattle.lexer.specs.declared.refusals.Refusal.TheVariants.{Invalid}
+use Rattle.ast.specs.declared.operator.Column.{Column}
+use Rattle.ast.specs.declared.statement.Insert.{Insert as Tree}
+use Rattle.ast.specs.declared.statement.InsertRows.TheVariants as rows
+use Rattle.ast.specs.declared.statement.StoredSource.{StoredSource}
+use Rattle.ast.specs.declared.statement.StoredSource.TheVariants as written
+use Rattle.ast.specs.declared.tree.Expression.{Expression}
+use Rattle.typing.specs.declared.typed.Expression.{Expression as Typed}
+use Rattle.typing.specs.declared.statement.Insert.{Insert}
+use Rattle.typing.specs.declared.statement.InsertSource.TheVariants as from
+use Rattle.typing.specs.declared.scope.Frame.{Frame}
+use Rattle.typing.specs.declared.scope.TypedExpression.{TypedExpression}
+use Rattle.typing.specs.Finding.{Finding, reasons_in, ◌>>=◌, also, before, each, misplaced}
+use Rattle.typing.specs.Finds.{Finds}
+use Rattle.typing.specs.Known.{Known, KnownTable, nothing_known}
+use Rattle.typing.specs.Part.{Plain}
+use Rattle.typing.specs.Scope.{column_in}
+use Rattle.typing.specs.Expression.{must_be}
+use Rattle.typing.specs.Insert.{Target, insert_found, row_stored, rows_stored, source_found, sources_found, stored_as, target_named, targets_found, targets_from, values_stored}
+use Rattle.typing.specs.Table.{are_distinct, distinct_found, table_found}
+use Rattle.typing.specs.Typing.{expression_part}
+use Rattle.typing.specs.Built.{expression_built, rows_built, stored_built}
+use Rattle.resolve.specs.Here.{expression_found}
+use Rattle.resolve.specs.Rows.{source_stored, stored_found}
+use Rattle.resolve.proofs.Everywhere.{expressions-same}
+use Rattle.resolve.proofs.FindsLemmas.{after, Finds-then_err, Finds-also_first, Finds-also_second, Finds-each_item, each-next, each-finds, IsReasonOf-left, Finds-before_first, Finds-before_others}
+use Rattle.resolve.proofs.Plain.{left, right}
+
+-- ---- sources, which see no column
+
+abbrev pub no_columns : Frame
+no_columns = record { tables = []; columns = []; key = None }
+
+nothing_named : (table : Option (List ℕ)) (name : List ℕ) → column_in (record { table = table; name = name }) [] ≡ column_in (record { table = table; name = name }) (no_columns ∷ [])
+nothing_named None name = refl
+nothing_named (Some table) name = refl
+
+value_here : (k : Known) (tree : Expression) → expression_built tree ≡ true → source_found k [] (written.Value tree) ≡ (expression_found no_columns tree >>= (λ x. Ok (Some x)))
+value_here k tree h =
+    ap (λ found. found >>= (λ x. Ok (Some x)))
+    ((expressions-same k tree h).found no_columns (record { scope = []; clause = Plain }) (λ column. nothing_named column.table column.name))
+
+pub value_refused : (r : Refusal) (wanted : ValueType) (tree : Expression) → expression_built tree ≡ true → Finds (Err r) (expression_found no_columns tree) →
+  Finds (Err r) (source_found nothing_known [] (written.Value tree) >>= stored_as wanted)
+value_refused r wanted tree h f =
+    rw (value_here nothing_known tree h)
+    (Finds-then_err r (expression_found no_columns tree >>= (λ x. Ok (Some x))) (stored_as wanted) (Finds-then_err r (expression_found no_columns tree) (λ x. Ok (Some x)) f))
+
+pub value_typed : (wanted : ValueType) (tree : Expression) (x : TypedExpression) (r : Result Typed Refusal) → expression_built tree ≡ true → expression_found no_columns tree ≡ Ok x →
+  Finds r (must_be wanted x) → Finds r (source_found nothing_known [] (written.Value tree) >>= stored_as wanted)
+value_typed wanted tree x r h e f = rw (value_here nothing_known tree h, e) f
+
+same_source : (k : Known) (s : StoredSource) → stored_built s ≡ true → source_found k [] s ≡ source_found nothing_known [] s
+same_source k (written.Value tree) h = value_here k tree h ∙ sym (value_here nothing_known tree h)
+same_source k written.Null h = refl
+
+-- ---- rows
+
+module _ (k : Known) where
+  same_sources : (row : List StoredSource) → list_all stored_built row ≡ true → map (source_found k []) row ≡ map (source_found nothing_known []) row
+  same_sources [] h = refl
+  same_sources (s ∷ row) h =
+      rw (same_source k s (left (stored_built s) (list_all stored_built row) h), same_sources row (right (stored_built s) (list_all stored_built row) h)) refl
+
+  same_pairs : (targets : List Target) (row : List StoredSource) → list_all stored_built row ≡ true →
+    map (λ p. source_found k [] p.1 >>= stored_as (p.0).1) (zip targets row) ≡ map stored_found (zip targets row)
+  same_pairs [] row h = refl
+  same_pairs (t ∷ targets) [] h = refl
+  same_pairs (t ∷ targets) (s ∷ row) h =
+      rw (same_source k s (left (stored_built s) (list_all stored_built row) h), same_pairs targets row (right (stored_built s) (list_all stored_built row) h)) refl
+
+  same_row : (targets : List Target) (row : List StoredSource) → list_all stored_built row ≡ true → row_stored k targets row ≡ row_stored nothing_known targets row
+  same_row targets row h = rw (same_sources row h, same_pairs targets row h) refl
+
+  same_rows : (targets : List Target) (values : List (List StoredSource)) → list_all (list_all stored_built) values ≡ true → map (row_stored k targets) values ≡ map (row_stored nothing_known targets) values
+  same_rows targets [] h = refl
+  same_rows targets (row ∷ values) h =
+      rw (same_row targets row (left (list_all stored_built row) (list_all (list_all stored_built) values) h),
+      same_rows targets values (right (list_all stored_built row) (list_all (list_all stored_built) values) h)) refl
+
+pub all-item : {X : Type 0} (p : X → Bool) (xs : List X) (i : ℕ) (x : X) → i < length xs → x ≡ get_or xs i x → list_all p xs ≡ true → p x ≡ true
+all-item p [] i x below is h = absurd (omega arith)
+all-item p (y ∷ ys) zero x below is h = rw is (left (p y) (list_all p ys) h)
+all-item p (y ∷ ys) (suc i) x below is h = all-item p ys i x (omega arith) is (right (p y) (list_all p ys) h)
+
+-- a row of another length
+pub row_refused : (targets : List Target) (row : List StoredSource) → (length targets == length row) ≡ false → Finds (Err (Invalid Columns)) (row_stored nothing_known targets row)
+row_refused targets row n = rw n (record { ok = tt; err = (0, omega arith, refl) })
+
+pub row_is : (targets : List Target) (row : List StoredSource) → (length targets == length row) ≡ true → row_stored nothing_known targets row ≡ each (map stored_found (zip targets row))
+row_is targets row e = rw e refl
+
+-- ---- two lists side by side
+
+found-before : {A : Type 0} (found : List A) (x : Finding A) (y : A) (xs : Finding (List A)) → x ≡ Ok y → after found (before x xs) ≡ after (found ++ y ∷ []) xs
+found-before found x y (Ok xs) e = rw e (ap Ok (sym (append_assoc found (y ∷ []) xs)))
+found-before found x y (Err reasons) e = rw e refl
+
+pub zip-next : (f : Target × StoredSource → Finding Typed) (xs : List Target) (ys : List StoredSource) (i : ℕ) (x : Target) (y : StoredSource) (found : List Typed) (v : Typed) →
+  i < length xs → i < length ys → x ≡ get_or xs i x → y ≡ get_or ys i y → f (x, y) ≡ Ok v →
+  after (found ++ v ∷ []) (each (map f (zip (drop (i + 1) xs) (drop (i + 1) ys)))) ≡ after found (each (map f (zip (drop i xs) (drop i ys))))
+zip-next f xs ys i x y found v a b p q e =
+    let one : drop i xs ≡ x ∷ drop (suc i) xs = drop-cons xs i x a ∙ ap (λ z. z ∷ drop (suc i) xs) (sym p) in
+    let two : drop i ys ≡ y ∷ drop (suc i) ys = drop-cons ys i y b ∙ ap (λ z. z ∷ drop (suc i) ys) (sym q) in
+    rw (one, two, add-one) (sym (found-before found (f (x, y)) v (each (map f (zip (drop (suc i) xs) (drop (suc i) ys)))) e))
+
+pub zip-item : (f : Target × StoredSource → Finding Typed) (r : Refusal) (xs : List Target) (ys : List StoredSource) (i : ℕ) (x : Target) (y : StoredSource) →
+  i < length xs → i < length ys → x ≡ get_or xs i x → y ≡ get_or ys i y → Finds (Err r) (f (x, y)) → Finds (Err r) (each (map f (zip xs ys)))
+zip-item f r [] ys i x y a b p q h = absurd (omega arith)
+zip-item f r (z ∷ xs) [] i x y a b p q h = absurd (omega arith)
+zip-item f r (z ∷ xs) (w ∷ ys) zero x y a b p q h = Finds-before_first r (f (z, w)) (each (map f (zip xs ys))) (rw (p, q) at h)
+zip-item f r (z ∷ xs) (w ∷ ys) (suc i) x y a b p q h =
+    Finds-before_others r (f (z, w)) (each (map f (zip xs ys))) (zip-item f r xs ys i x y (omega arith) (omega arith) p q h)
+
+same_at : {X : Type 0} (xs : List X) (i : ℕ) (d e : X) → i < length xs → get_or xs i d ≡ get_or xs i e
+same_at [] i d e below = absurd (omega arith)
+same_at (x ∷ xs) zero d e below = refl
+same_at (x ∷ xs) (suc i) d e below = same_at xs i d e (omega arith)
+
+-- the same, where the first list is read
+pub zip-item-at : (r : Refusal) (xs : List Target) (ys : List StoredSource) (i : ℕ) (d : Target) (y : StoredSource) → i < length xs → i < length ys → y ≡ get_or ys i y →
+  Finds (Err r) (source_stored (get_or xs i d).1 y) → Finds (Err r) (each (map stored_found (zip xs ys)))
+zip-item-at r xs ys i d y a b q h = zip-item stored_found r xs ys i (get_or xs i d) y a b (same_at xs i d (get_or xs i d) a) q h
+
+pub zip-next-at : (xs : List Target) (ys : List StoredSource) (i : ℕ) (d : Target) (y : StoredSource) (found : List Typed) (v : Typed) → i < length xs → i < length ys → y ≡ get_or ys i y →
+  source_stored (get_or xs i d).1 y ≡ Ok v →
+  after (found ++ v ∷ []) (each (map stored_found (zip (drop (i + 1) xs) (drop (i + 1) ys)))) ≡ after found (each (map stored_found (zip (drop i xs) (drop i ys))))
+zip-next-at xs ys i d y found v a b q e = zip-next stored_found xs ys i (get_or xs i d) y found v a b (same_at xs i d (get_or xs i d) a) q e
+
+pub zip-finds : (f : Target × StoredSource → Finding Typed) (xs : List Target) (ys : List StoredSource) (i : ℕ) (found : List Typed) → length xs ≤ i → 
+  after found (each (map f (zip (drop i xs) (drop i ys)))) ≡ each (map f (zip xs ys)) → Finds (Ok found) (each (map f (zip xs ys)))
+zip-finds f xs ys i found past e =
+    let none : drop i xs ≡ [] = drop_all i xs past in
+    record { ok = sym (rw none at e) ∙ ap Ok (append-nil found); err = tt }
+
+-- ---- the whole
+
+module _ (k : Known) (tree : Tree) where
+  abbrev targets_of : Finding (List Target)
+  targets_of = table_found k tree.table >>= (λ table. targets_found table.columns tree.columns)
+
+  values_refused : (r : Refusal) (values : List (List StoredSource)) (targets : Finding (List Target)) → Finds (Err r) targets → Finds (Err r) (values_stored k targets values)
+  values_refused r values (Ok targets) h = record { ok = tt; err = IsReasonOf-left r [] (reasons_in (values_stored k (Ok targets) values)) h.err }
+  values_refused r values (Err reasons) h = record { ok = tt; err = IsReasonOf-left r reasons (reasons_in (each (map (sources_found k) values))) h.err }
+
+  module _ (values : List (List StoredSource)) (is : tree.rows ≡ rows.Values values) where
+    insert_refused : (r : Refusal) → Finds (Err r) (values_stored k targets_of values) → Finds (Err r) (insert_found k tree)
+    insert_refused r h =
+        rw is (Finds-then_err r (also (distinct_found tree.columns) (values_stored k targets_of values))
+        (λ p. Ok (record { table = tree.table; columns = map (λ target. target.0) (p.1).0; source = (p.1).1 }))
+        (Finds-also_second r (distinct_found tree.columns) (values_stored k targets_of values) h))
+
+    pub insert_missing : (r : Refusal) → Finds (Err r) (table_found k tree.table) → Finds (Err r) (insert_found k tree)
+    insert_missing r h = insert_refused r (values_refused r values targets_of (Finds-then_err r (table_found k tree.table) (λ table. targets_found table.columns tree.columns) h))
+
+    pub insert_targets : (r : Refusal) (t : KnownTable) → table_found k tree.table ≡ Ok t → Finds (Err r) (targets_found t.columns tree.columns) → Finds (Err r) (insert_found k tree)
+    insert_targets r t e h = insert_refused r (values_refused r values targets_of (rw e h))
+
+    pub insert_twice : (r : Refusal) → Finds (Err r) (distinct_found tree.columns) → Finds (Err r) (insert_found k tree)
+    insert_twice r h =
+        rw is (Finds-then_err r (also (distinct_found tree.columns) (values_stored k targets_of values))
+        (λ p. Ok (record { table = tree.table; columns = map (λ target. target.0) (p.1).0; source = (p.1).1 }))
+        (Finds-also_first r (distinct_found tree.columns) (values_stored k targets_of values) h))
+
+    module _ (t : KnownTable) (targets : List Target) (there : table_found k tree.table ≡ Ok t) (found : targets_found t.columns tree.columns ≡ Ok targets)
+        (h : list_all (list_all stored_built) values ≡ true) where
+      targets_are : targets_of ≡ Ok targets
+      targets_are = rw there found
+
+      pub insert_rows : (r : Refusal) → Finds (Err r) (each (map (row_stored nothing_known targets) values)) → Finds (Err r) (insert_found k tree)
+      insert_rows r f =
+          insert_refused r (rw (targets_are, same_rows k targets values h)
+          (Finds-then_err r (each (map (row_stored nothing_known targets) values)) (λ stored. Ok (targets, from.Values stored)) f))
+
+      pub insert_all : (stored : List (List Typed)) → are_distinct tree.columns ≡ true → each (map (row_stored nothing_known targets) values) ≡ Ok stored →
+        insert_found k tree ≡ Ok (record { table = tree.table; columns = map (λ target. target.0) targets; source = from.Values stored })
+      insert_all stored distinct e = rw (is, targets_are, distinct, same_rows k targets values h, e) refl
+
+      pub insert_finds : (stored : List (List Typed)) → are_distinct tree.columns ≡ true → each (map (row_stored nothing_known targets) values) ≡ Ok stored →
+        Finds (Ok (record { table = tree.table; columns = map (λ target. target.0) targets; source = from.Values stored })) (insert_found k tree)
+      insert_finds stored distinct e = record { ok = insert_all stored distinct e; err = tt }
+
+-- ---- targets
+
+pub targets_none : (columns : List Defined) (names : List (List ℕ)) → names ≡ [] → targets_found columns names ≡ Ok (targets_from 0 columns)
+targets_none columns names e = rw e refl
+
+pub targets_some : (columns : List Defined) (names : List (List ℕ)) → (names ≡ [] → ⊥) → targets_found columns names ≡ each (map (target_named columns) names)
+targets_some columns [] n = absurd (n refl)
+targets_some columns (name ∷ names) n = refl
+
+pub ruleset insert_steps = (insert_missing, insert_targets, insert_twice, insert_rows, insert_finds)
+pub ruleset target_steps = (targets_none, targets_some)
+pub ruleset rows_steps = (all-item, Finds-each_item, each-next, each-finds)
+pub ruleset row_steps = (row_refused, row_is)
+pub ruleset zip_steps = (all-item, zip-finds)
+pub ruleset source_steps = (value_refused, value_typed)

@@ -1,0 +1,14 @@
+pub mod BuiltSteps
+pub mod Chains
+pub mod ColumnNames
+pub mod ConditionSteps
+pub mod Everywhere
+pub mod FindsLemmas
+pub mod InsertSteps
+pub mod NameLists
+pub mod Nodes
+pub mod Plain
+pub mod Rolled
+pub mod Selects
+pub mod Statements
+pub mod TableSteps
