@@ -251,8 +251,13 @@ two-nil false b c = refl
 query_built_in : (tree : Query) → query_built tree
     ≡ (is_nil (out-Query tree).others && is_nil (out-Addend (out-Query tree).first).others && built_in (out-Operand (out-Addend (out-Query tree).first).first))
 query_built_in tree =
-    rw (query_layer tree, nil-map {B = SetOperator × Bool} (λ o. (o.0, addend_built o.1)) (out-Query tree).others, addend_layer (out-Query tree).first,
-    nil-map {B = Bool × Bool} (λ o. (o.0, operand_built o.1)) (out-Addend (out-Query tree).first).others, operand_layer (out-Addend (out-Query tree).first).first)
+    rw (
+      query_layer tree,
+      nil-map {B = SetOperator × Bool} (λ o. (o.0, addend_built o.1)) (out-Query tree).others,
+      addend_layer (out-Query tree).first,
+      nil-map {B = Bool × Bool} (λ o. (o.0, operand_built o.1)) (out-Addend (out-Query tree).first).others,
+      operand_layer (out-Addend (out-Query tree).first).first,
+    )
     (sym (two-nil (is_nil (out-Query tree).others) (is_nil (out-Addend (out-Query tree).first).others) (built_in (out-Operand (out-Addend (out-Query tree).first).first))))
 
 abbrev if_select : Option Select → Bool
@@ -311,10 +316,17 @@ other_built (statement.Rollback w) a b c d e = absurd (e w refl)
 other_built s a b c d e = refl
 
 pub ruleset all_steps = (all-false, all-next, all-done)
+
 pub ruleset item_steps = (all-false, all-next, all-done, all_mapped, item_built_is, reference_built-table, reference_built-derived)
+
 pub ruleset expression_steps = (expression_built_is, term_built_is, factor_built_is, number_built, text_built, column_built, count_built, aggregate_built, parenthesized_built, subquery_built)
+
 pub ruleset condition_steps = (condition_built_is, conjunction_built_is, negation_built_is, nested_built, compare_built, between_built, in_list_built, in_query_built, like_built, null_built, exists_built)
+
 pub ruleset query_steps = (query_built-some, query_built-none, tells-nil)
+
 pub ruleset nil_steps = (tells-nil)
+
 pub ruleset select_steps = (select_built_is)
+
 pub ruleset statement_steps = (other_built)

@@ -74,7 +74,7 @@ module _ (r : Refusal) where
     summand_type item x e h = Finds-also_second r (sum_operator item.0) (term_found frame item.1 >>= must_be Integer) (rw e h)
 
     pub sum_refused : (first : Finding TypedExpression) (others : List (AddOperator × Term)) (i : ℕ) (item : AddOperator × Term) → i < length others → item ≡ get_or others i item →
-      Finds (Err r) (summand frame item) → Finds (Err r) (calculation first (each (map (summand frame) others)))
+        Finds (Err r) (summand frame item) → Finds (Err r) (calculation first (each (map (summand frame) others)))
     sum_refused first others i item below is h =
         Finds-calculation_others first (each (map (summand frame) others)) (Finds-each_item r (summand frame) others i item below is h)
 
@@ -87,7 +87,7 @@ module _ (r : Refusal) where
         Finds-then_err r (factor_found frame item.1 >>= must_be Integer) (λ x. Ok (product_operator item.0, x)) (rw e h)
 
     pub product_refused : (first : Finding TypedExpression) (others : List (MultiplyOperator × Factor)) (i : ℕ) (item : MultiplyOperator × Factor) → i < length others → item ≡ get_or others i item →
-      Finds (Err r) (multiplier frame item) → Finds (Err r) (calculation first (each (map (multiplier frame) others)))
+        Finds (Err r) (multiplier frame item) → Finds (Err r) (calculation first (each (map (multiplier frame) others)))
     product_refused first others i item below is h =
         Finds-calculation_others first (each (map (multiplier frame) others)) (Finds-each_item r (multiplier frame) others i item below is h)
 
@@ -107,17 +107,17 @@ module _ (r : Refusal) where
         (Finds-also_second r (must_concatenate item.0) (term_found frame item.1 >>= must_be Text) (rw e h))
 
     pub concatenation_refused : (first : Finding TypedExpression) (others : List (AddOperator × Term)) (i : ℕ) (item : AddOperator × Term) → i < length others → item ≡ get_or others i item →
-      Finds (Err r) (joined_text frame item) → Finds (Err r) (concatenation first (each (map (joined_text frame) others)))
+        Finds (Err r) (joined_text frame item) → Finds (Err r) (concatenation first (each (map (joined_text frame) others)))
     concatenation_refused first others i item below is h =
         Finds-concatenation_others first (each (map (joined_text frame) others)) (Finds-each_item r (joined_text frame) others i item below is h)
 
 -- a chain of which all is found
 pub calculation-ok : (x : TypedExpression) (first : Typed) (others : Finding (List (Arithmetic × Typed))) (operands : List (Arithmetic × Typed)) →
-  must_be Integer x ≡ Ok first → others ≡ Ok operands → calculation (Ok x) others ≡ Ok (integer (expression.Calculation first operands))
+    must_be Integer x ≡ Ok first → others ≡ Ok operands → calculation (Ok x) others ≡ Ok (integer (expression.Calculation first operands))
 calculation-ok x first others operands e f = rw (e, f) refl
 
 pub concatenation-ok : (x : TypedExpression) (first : Typed) (others : Finding (List Typed)) (operands : List Typed) →
-  must_be Text x ≡ Ok first → others ≡ Ok operands → concatenation (Ok x) others ≡ Ok (text (expression.Concatenation first operands))
+    must_be Text x ≡ Ok first → others ≡ Ok operands → concatenation (Ok x) others ≡ Ok (text (expression.Concatenation first operands))
 concatenation-ok x first others operands e f = rw (e, f) refl
 
 -- what the functions of the cycle need

@@ -22,12 +22,12 @@ use Rattle.typing.proofs.Nodes as node
 use Rattle.resolve.specs.Select.{column_name, term_column, factor_column}
 
 chain_alone : {O T A : Type 0} (made : Finding A → List (O × Finding A) → Finding A) (first : Part A) (part : T → Part A) (others : List (O × T)) → others ≡ [] →
-  (if_chain made first (map {B = O × Part A} (λ o. (o.0, part o.1)) others)).name ≡ first.name
+    (if_chain made first (map {B = O × Part A} (λ o. (o.0, part o.1)) others)).name ≡ first.name
 chain_alone made first part [] e = refl
 chain_alone made first part (x ∷ others) e = absurd (cc e)
 
 chain_longer : {O T A : Type 0} (made : Finding A → List (O × Finding A) → Finding A) (first : Part A) (part : T → Part A) (others : List (O × T)) → (others ≡ [] → ⊥) →
-  (if_chain made first (map {B = O × Part A} (λ o. (o.0, part o.1)) others)).name ≡ None
+    (if_chain made first (map {B = O × Part A} (λ o. (o.0, part o.1)) others)).name ≡ None
 chain_longer made first part [] n = absurd (n refl)
 chain_longer made first part (x ∷ others) n = refl
 
@@ -90,4 +90,5 @@ module _ (tree : Factor) where
       ∙ ap (λ part. part.name) (node.primary_subquery nothing_known (out-Factor tree).sign query) ∙ no_name (out-Factor tree).sign _ refl
 
 pub ruleset name_steps = (expression_alone, expression_longer, term_alone, term_longer)
+
 pub ruleset factor_steps = (column_alone, column_signed, number_alone, text_alone, count_alone, aggregate_alone, parenthesized_alone, subquery_alone)

@@ -68,7 +68,7 @@ module _ (frame : Frame) where
   predicate_compare x operator y = ap (λ part. part.found (here frame)) (node.predicate_compare nothing_known x operator y)
 
   pub predicate_between : (x : Expression) (n : Bool) (low high : Expression) →
-    predicate_found frame (p.Between x n low high) ≡ between n (expression_found frame x) (expression_found frame low) (expression_found frame high)
+      predicate_found frame (p.Between x n low high) ≡ between n (expression_found frame x) (expression_found frame low) (expression_found frame high)
   predicate_between x n low high = ap (λ part. part.found (here frame)) (node.predicate_between nothing_known x n low high)
 
   pub predicate_in_list : (x : Expression) (n : Bool) (literals : List Literal) → predicate_found frame (p.InList x n literals) ≡ in_list n (expression_found frame x) literals
@@ -99,48 +99,48 @@ abbrev pub flattened : (Condition → List Condition) → List Condition → Fin
 flattened parts done found = found >>= (λ cs. Ok (done ++ flat_map parts cs))
 
 flattened-before : (parts : Condition → List Condition) (done : List Condition) (c : Condition) (rest : Finding (List Condition)) →
-  flattened parts (done ++ parts c) rest ≡ flattened parts done (before (Ok c) rest)
+    flattened parts (done ++ parts c) rest ≡ flattened parts done (before (Ok c) rest)
 flattened-before parts done c (Ok cs) = ap Ok (append_assoc done (parts c) (flat_map parts cs))
 flattened-before parts done c (Err reasons) = refl
 
 pub flattened-next : {X : Type 0} (parts : Condition → List Condition) (f : X → Finding Condition) (items : List X) (i : ℕ) (item : X) (done : List Condition) (c : Condition) →
-  i < length items → item ≡ get_or items i item → f item ≡ Ok c →
-  flattened parts (done ++ parts c) (each (map f (drop (i + 1) items))) ≡ flattened parts done (each (map f (drop i items)))
+    i < length items → item ≡ get_or items i item → f item ≡ Ok c →
+    flattened parts (done ++ parts c) (each (map f (drop (i + 1) items))) ≡ flattened parts done (each (map f (drop i items)))
 flattened-next parts f items i item done c below is e =
     let split : drop i items ≡ item ∷ drop (suc i) items = drop-cons items i item below ∙ ap (λ x. x ∷ drop (suc i) items) (sym is) in
     rw (split, add-one, e) (flattened-before parts done c (each (map f (drop (suc i) items))))
 
 -- an operator over all parts
 over_parts : (parts : Condition → List Condition) (made : List Condition → Condition) (found : Finding (List Condition)) →
-  (found >>= (λ cs. Ok (made (flat_map parts cs)))) ≡ (flattened parts [] found >>= (λ all. Ok (made all)))
+    (found >>= (λ cs. Ok (made (flat_map parts cs)))) ≡ (flattened parts [] found >>= (λ all. Ok (made all)))
 over_parts parts made (Ok cs) = refl
 over_parts parts made (Err reasons) = refl
 
 pub flattened-done : {X : Type 0} (parts : Condition → List Condition) (made : List Condition → Condition) (f : X → Finding Condition) (items : List X) (i : ℕ) (done : List Condition) (all : Finding (List Condition)) →
-  length items ≤ i → flattened parts done (each (map f (drop i items))) ≡ flattened parts [] all → (all >>= (λ cs. Ok (made (flat_map parts cs)))) ≡ Ok (made done)
+    length items ≤ i → flattened parts done (each (map f (drop i items))) ≡ flattened parts [] all → (all >>= (λ cs. Ok (made (flat_map parts cs)))) ≡ Ok (made done)
 flattened-done parts made f items i done all past e =
     let none : drop i items ≡ [] = drop_all i items past in
     let whole : flattened parts [] all ≡ Ok done = sym (rw none at e) ∙ ap Ok (append-nil done) in
     rw (over_parts parts made all, whole) refl
 
 pub disjunction-done : {X : Type 0} (f : X → Finding Condition) (first : Condition) (items : List X) (i : ℕ) (done : List Condition) →
-  length items ≤ i → flattened disjuncts done (each (map f (drop i items))) ≡ flattened disjuncts [] (each (Ok first ∷ map f items)) → disjunction (Ok first ∷ map f items) ≡ Ok (or_of done)
+    length items ≤ i → flattened disjuncts done (each (map f (drop i items))) ≡ flattened disjuncts [] (each (Ok first ∷ map f items)) → disjunction (Ok first ∷ map f items) ≡ Ok (or_of done)
 disjunction-done f first items i done past e = flattened-done disjuncts or_of f items i done (each (Ok first ∷ map f items)) past e
 
 pub conjunction-done : {X : Type 0} (f : X → Finding Condition) (first : Condition) (items : List X) (i : ℕ) (done : List Condition) →
-  length items ≤ i → flattened conjuncts done (each (map f (drop i items))) ≡ flattened conjuncts [] (each (Ok first ∷ map f items)) → conjunction (Ok first ∷ map f items) ≡ Ok (and_of done)
+    length items ≤ i → flattened conjuncts done (each (map f (drop i items))) ≡ flattened conjuncts [] (each (Ok first ∷ map f items)) → conjunction (Ok first ∷ map f items) ≡ Ok (and_of done)
 conjunction-done f first items i done past e = flattened-done conjuncts and_of f items i done (each (Ok first ∷ map f items)) past e
 
 pub flattened-start : (parts : Condition → List Condition) (first : Condition) (rest : Finding (List Condition)) → flattened parts (parts first) rest ≡ flattened parts [] (before (Ok first) rest)
 flattened-start parts first rest = flattened-before parts [] first rest
 
 pub disjunct_refused : {X : Type 0} (r : Refusal) (f : X → Finding Condition) (first : Condition) (items : List X) (i : ℕ) (item : X) → i < length items → item ≡ get_or items i item →
-  Finds (Err r) (f item) → Finds (Err r) (disjunction (Ok first ∷ map f items))
+    Finds (Err r) (f item) → Finds (Err r) (disjunction (Ok first ∷ map f items))
 disjunct_refused r f first items i item below is h =
     Finds-then_err r (each (Ok first ∷ map f items)) (λ found. Ok (or_of (flat_map disjuncts found))) (Finds-before_others r (Ok first) (each (map f items)) (Finds-each_item r f items i item below is h))
 
 pub conjunct_refused : {X : Type 0} (r : Refusal) (f : X → Finding Condition) (first : Condition) (items : List X) (i : ℕ) (item : X) → i < length items → item ≡ get_or items i item →
-  Finds (Err r) (f item) → Finds (Err r) (conjunction (Ok first ∷ map f items))
+    Finds (Err r) (f item) → Finds (Err r) (conjunction (Ok first ∷ map f items))
 conjunct_refused r f first items i item below is h =
     Finds-then_err r (each (Ok first ∷ map f items)) (λ found. Ok (and_of (flat_map conjuncts found))) (Finds-before_others r (Ok first) (each (map f items)) (Finds-each_item r f items i item below is h))
 
@@ -259,19 +259,19 @@ module _ (r : Refusal) where
 
 -- what all parts are found to be
 pub compared-ok : (operator : Comparison) (x y : Finding TypedExpression) (v w : TypedExpression) (second : Typed) →
-  x ≡ Ok v → y ≡ Ok w → must_be v.value_type w ≡ Ok second → compared operator x y ≡ Ok (condition.Compare (operator_of operator) v.expression second)
+    x ≡ Ok v → y ≡ Ok w → must_be v.value_type w ≡ Ok second → compared operator x y ≡ Ok (condition.Compare (operator_of operator) v.expression second)
 compared-ok operator x y v w second e f g = rw (e, f, g) refl
 
 pub between-ok : (n : Bool) (x low high : Finding TypedExpression) (v w u : TypedExpression) (from to : Typed) →
-  x ≡ Ok v → low ≡ Ok w → must_be v.value_type w ≡ Ok from → high ≡ Ok u → must_be v.value_type u ≡ Ok to → between n x low high ≡ Ok (negated n (condition.Between v.expression from to))
+    x ≡ Ok v → low ≡ Ok w → must_be v.value_type w ≡ Ok from → high ≡ Ok u → must_be v.value_type u ≡ Ok to → between n x low high ≡ Ok (negated n (condition.Between v.expression from to))
 between-ok n x low high v w u from to e f g h k = rw (e, f, g, h, k) refl
 
 pub like-ok : (n : Bool) (x pattern : Finding TypedExpression) (v w : TypedExpression) (a b : Typed) →
-  x ≡ Ok v → must_be Text v ≡ Ok a → pattern ≡ Ok w → must_be Text w ≡ Ok b → like n x pattern ≡ Ok (negated n (condition.Like a b))
+    x ≡ Ok v → must_be Text v ≡ Ok a → pattern ≡ Ok w → must_be Text w ≡ Ok b → like n x pattern ≡ Ok (negated n (condition.Like a b))
 like-ok n x pattern v w a b e f g h = rw (e, f, g, h) refl
 
 pub in_list-ok : (n : Bool) (x : Finding TypedExpression) (v : TypedExpression) (literals : List Literal) (values : List Value) →
-  x ≡ Ok v → each (map (literal_of v.value_type) literals) ≡ Ok values → in_list n x literals ≡ Ok (negated n (condition.InList v.expression values))
+    x ≡ Ok v → each (map (literal_of v.value_type) literals) ≡ Ok values → in_list n x literals ≡ Ok (negated n (condition.InList v.expression values))
 in_list-ok n x v literals values e f = rw (e, f) refl
 
 pub null_test-ok : (n : Bool) (x : Finding TypedExpression) (v : TypedExpression) → x ≡ Ok v → null_test n x ≡ Ok (negated n (condition.IsNull v.expression))
@@ -294,11 +294,17 @@ pub then_refused : {A B : Type 0} (r : Refusal) (x : Finding A) (f : A → B) �
 then_refused r x f h = Finds-then_err r x (λ v. Ok (f v)) h
 
 pub ruleset node_steps = (negation_is, test_is, then_refused)
+
 pub ruleset flat_steps = (flattened-next, flattened-start)
+
 pub ruleset compared_steps = (compared_first, compared_second, compared_type, compared-ok)
+
 pub ruleset between_steps = (between_operand, between_low, between_low_type, between_high, between_high_type, between-ok)
+
 pub ruleset like_steps = (like_operand, like_operand_type, like_second, like_second_type, like-ok)
+
 pub ruleset list_steps = (in_list_operand, in_list_literals, in_list-ok)
+
 pub ruleset null_steps = (null_test_operand, null_test-ok)
 
 pub then_change : {A B C : Type 0} (r : Refusal) (x : Finding A) (f : A → B) (g : B → C) → Finds (Err r) x → Finds (Err r) (x >>= (λ v. Ok (f v)) >>= (λ w. Ok (g w)))

@@ -101,23 +101,23 @@ module _ (k : Known) where
   -- ---- expressions
 
   expression_same : (y : Parts Expression-F) → built.expression_step (expression_judged (expression_of y)) ≡ true →
-    IsSame (expression_step (expression_meant k (expression_of y))) (expression_step (expression_meant nothing_known (expression_of y)))
+      IsSame (expression_step (expression_meant k (expression_of y))) (expression_step (expression_meant nothing_known (expression_of y)))
   expression_same y h =
       same-chain term_built (term_part k) (term_part nothing_known) sum_chain (term_part k y.first.0) (term_part nothing_known y.first.0) y.others
       (y.first.1 (left (term_built y.first.0) _ h)) (right (term_built y.first.0) _ h)
 
   term_same : (y : Parts Term-F) → built.term_step (term_judged (term_of y)) ≡ true →
-    IsSame (term_step (term_meant k (term_of y))) (term_step (term_meant nothing_known (term_of y)))
+      IsSame (term_step (term_meant k (term_of y))) (term_step (term_meant nothing_known (term_of y)))
   term_same y h =
       same-chain factor_built (factor_part k) (factor_part nothing_known) product_chain (factor_part k y.first.0) (factor_part nothing_known y.first.0) y.others
       (y.first.1 (left (factor_built y.first.0) _ h)) (right (factor_built y.first.0) _ h)
 
   factor_same : (y : Parts Factor-F) → built.factor_step (factor_judged (factor_of y)) ≡ true →
-    IsSame (factor_step (factor_meant k (factor_of y))) (factor_step (factor_meant nothing_known (factor_of y)))
+      IsSame (factor_step (factor_meant k (factor_of y))) (factor_step (factor_meant nothing_known (factor_of y)))
   factor_same y h = y.primary.1 h y.sign
 
   primary_same : (y : Parts Primary-F) → built.primary_step (primary_judged (primary_of y)) ≡ true → (sign : Option Sign) →
-    IsSame (primary_step (primary_meant k (primary_of y)) sign) (primary_step (primary_meant nothing_known (primary_of y)) sign)
+      IsSame (primary_step (primary_meant k (primary_of y)) sign) (primary_step (primary_meant nothing_known (primary_of y)) sign)
   primary_same (Primary-F.Number number) h sign = record { name = refl; none = refl; found = λ frame view s. refl }
   primary_same (Primary-F.Text codes) h sign = same-sign sign _ _ (record { name = refl; none = refl; found = λ frame view s. refl })
   primary_same (Primary-F.Column column) h sign = same-sign sign _ _ (record { name = refl; none = refl; found = λ frame view s. s column })
@@ -131,7 +131,7 @@ module _ (k : Known) where
   -- ---- conditions
 
   predicate_same : (y : Parts Predicate-F) → built.predicate_step (predicate_judged (predicate_of y)) ≡ true →
-    IsSame (predicate_step (predicate_meant k (predicate_of y))) (predicate_step (predicate_meant nothing_known (predicate_of y)))
+      IsSame (predicate_step (predicate_meant k (predicate_of y))) (predicate_step (predicate_meant nothing_known (predicate_of y)))
   predicate_same (Predicate-F.Nested c) h = c.1 h
   predicate_same (Predicate-F.Compare a operator b) h =
       same-two (compared operator) (expression_part k a.0) (expression_part nothing_known a.0) (expression_part k b.0) (expression_part nothing_known b.0)
@@ -151,19 +151,19 @@ module _ (k : Known) where
   predicate_same (Predicate-F.Exists query) h = absurd (cc h)
 
   test_same : (y : Parts Test-F) → built.test_step (test_judged (test_of y)) ≡ true →
-    IsSame (test_step (test_meant k (test_of y))) (test_step (test_meant nothing_known (test_of y)))
+      IsSame (test_step (test_meant k (test_of y))) (test_step (test_meant nothing_known (test_of y)))
   test_same y h = same-one (λ found. found >>= (λ c. Ok (tested y.truth c))) (predicate_part k y.predicate.0) (predicate_part nothing_known y.predicate.0) (y.predicate.1 h)
 
   negation_same : (y : Parts Negation-F) → built.negation_step (negation_judged (negation_of y)) ≡ true →
-    IsSame (negation_step (negation_meant k (negation_of y))) (negation_step (negation_meant nothing_known (negation_of y)))
+      IsSame (negation_step (negation_meant k (negation_of y))) (negation_step (negation_meant nothing_known (negation_of y)))
   negation_same y h = same-one (λ found. found >>= (λ c. Ok (negated y.is_negated c))) (test_part k y.test.0) (test_part nothing_known y.test.0) (y.test.1 h)
 
   conjunction_same : (y : Parts Conjunction-F) → built.conjunction_step (conjunction_judged (conjunction_of y)) ≡ true →
-    IsSame (conjunction_step (conjunction_meant k (conjunction_of y))) (conjunction_step (conjunction_meant nothing_known (conjunction_of y)))
+      IsSame (conjunction_step (conjunction_meant k (conjunction_of y))) (conjunction_step (conjunction_meant nothing_known (conjunction_of y)))
   conjunction_same y h = same-all negation_built (negation_part k) (negation_part nothing_known) conjunction y.first y.others h
 
   condition_same : (y : Parts Condition-F) → built.condition_step (condition_judged (condition_of y)) ≡ true →
-    IsSame (condition_step (condition_meant k (condition_of y))) (condition_step (condition_meant nothing_known (condition_of y)))
+      IsSame (condition_step (condition_meant k (condition_of y))) (condition_step (condition_meant nothing_known (condition_of y)))
   condition_same y h = same-all conjunction_built (conjunction_part k) (conjunction_part nothing_known) disjunction y.first y.others h
 
   -- ---- the trees

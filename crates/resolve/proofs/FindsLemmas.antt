@@ -62,7 +62,7 @@ Finds-before_others {A = A} r x xs h = record { ok = tt; err = at x xs h.err }
 
 -- a refusal of one of many is one of all
 pub Finds-each_item : {X A : Type 0} (r : Refusal) (f : X → Finding A) (items : List X) (i : ℕ) (item : X) →
-  i < length items → item ≡ get_or items i item → Finds (Err r) (f item) → Finds (Err r) (each (map f items))
+    i < length items → item ≡ get_or items i item → Finds (Err r) (f item) → Finds (Err r) (each (map f items))
 Finds-each_item r f [] i item below is h = absurd (omega arith)
 Finds-each_item r f (x ∷ items) zero item below is h = Finds-before_first r (f x) (each (map f items)) (rw is at h)
 Finds-each_item r f (x ∷ items) (suc i) item below is h =
@@ -74,21 +74,21 @@ after found (Ok xs) = Ok (found ++ xs)
 after found (Err reasons) = Err reasons
 
 after-before : {A : Type 0} (found : List A) (x : Finding A) (y : A) (xs : Finding (List A)) → x ≡ Ok y →
-  after found (before x xs) ≡ after (found ++ y ∷ []) xs
+    after found (before x xs) ≡ after (found ++ y ∷ []) xs
 after-before found x y (Ok xs) e = rw e (ap Ok (sym (append_assoc found (y ∷ []) xs)))
 after-before found x y (Err reasons) e = rw e refl
 
 -- one more of many: what is found so far, and then what the rest gives
 pub each-next : {X A : Type 0} (f : X → Finding A) (items : List X) (i : ℕ) (item : X) (found : List A) (y : A) →
-  i < length items → item ≡ get_or items i item → f item ≡ Ok y →
-  after (found ++ y ∷ []) (each (map f (drop (i + 1) items))) ≡ after found (each (map f (drop i items)))
+    i < length items → item ≡ get_or items i item → f item ≡ Ok y →
+    after (found ++ y ∷ []) (each (map f (drop (i + 1) items))) ≡ after found (each (map f (drop i items)))
 each-next f items i item found y below is e =
     let split : drop i items ≡ item ∷ drop (suc i) items = drop-cons items i item below ∙ ap (λ x. x ∷ drop (suc i) items) (sym is) in
     rw (split, add-one) (sym (after-before found (f item) y (each (map f (drop (suc i) items))) e))
 
 -- nothing is left
 pub each-done : {X A : Type 0} (f : X → Finding A) (items : List X) (i : ℕ) (found : List A) →
-  length items ≤ i → after found (each (map f (drop i items))) ≡ each (map f items) → each (map f items) ≡ Ok found
+    length items ≤ i → after found (each (map f (drop i items))) ≡ each (map f items) → each (map f items) ≡ Ok found
 each-done f items i found past e =
     let none : drop i items ≡ [] = drop_all i items past in
     sym (rw none at e) ∙ ap Ok (append-nil found)
@@ -105,7 +105,7 @@ pub Finds-memory : {A : Type 0} (x : Finding A) → Finds {A = A} (Err Memory) x
 Finds-memory x = record { ok = tt; err = tt }
 
 pub each-finds : {X A : Type 0} (f : X → Finding A) (items : List X) (i : ℕ) (found : List A) →
-  length items ≤ i → after found (each (map f (drop i items))) ≡ each (map f items) → Finds (Ok found) (each (map f items))
+    length items ≤ i → after found (each (map f (drop i items))) ≡ each (map f items) → Finds (Ok found) (each (map f items))
 each-finds f items i found past e = record { ok = each-done f items i found past e; err = tt }
 
 -- what a loop needs that finds each of many

@@ -50,13 +50,13 @@ value_here k tree h =
     ((expressions-same k tree h).found no_columns (record { scope = []; clause = Plain }) (λ column. nothing_named column.table column.name))
 
 pub value_refused : (r : Refusal) (wanted : ValueType) (tree : Expression) → expression_built tree ≡ true → Finds (Err r) (expression_found no_columns tree) →
-  Finds (Err r) (source_found nothing_known [] (written.Value tree) >>= stored_as wanted)
+    Finds (Err r) (source_found nothing_known [] (written.Value tree) >>= stored_as wanted)
 value_refused r wanted tree h f =
     rw (value_here nothing_known tree h)
     (Finds-then_err r (expression_found no_columns tree >>= (λ x. Ok (Some x))) (stored_as wanted) (Finds-then_err r (expression_found no_columns tree) (λ x. Ok (Some x)) f))
 
 pub value_typed : (wanted : ValueType) (tree : Expression) (x : TypedExpression) (r : Result Typed Refusal) → expression_built tree ≡ true → expression_found no_columns tree ≡ Ok x →
-  Finds r (must_be wanted x) → Finds r (source_found nothing_known [] (written.Value tree) >>= stored_as wanted)
+    Finds r (must_be wanted x) → Finds r (source_found nothing_known [] (written.Value tree) >>= stored_as wanted)
 value_typed wanted tree x r h e f = rw (value_here nothing_known tree h, e) f
 
 same_source : (k : Known) (s : StoredSource) → stored_built s ≡ true → source_found k [] s ≡ source_found nothing_known [] s
@@ -72,7 +72,7 @@ module _ (k : Known) where
       rw (same_source k s (left (stored_built s) (list_all stored_built row) h), same_sources row (right (stored_built s) (list_all stored_built row) h)) refl
 
   same_pairs : (targets : List Target) (row : List StoredSource) → list_all stored_built row ≡ true →
-    map (λ p. source_found k [] p.1 >>= stored_as (p.0).1) (zip targets row) ≡ map stored_found (zip targets row)
+      map (λ p. source_found k [] p.1 >>= stored_as (p.0).1) (zip targets row) ≡ map stored_found (zip targets row)
   same_pairs [] row h = refl
   same_pairs (t ∷ targets) [] h = refl
   same_pairs (t ∷ targets) (s ∷ row) h =
@@ -84,8 +84,10 @@ module _ (k : Known) where
   same_rows : (targets : List Target) (values : List (List StoredSource)) → list_all (list_all stored_built) values ≡ true → map (row_stored k targets) values ≡ map (row_stored nothing_known targets) values
   same_rows targets [] h = refl
   same_rows targets (row ∷ values) h =
-      rw (same_row targets row (left (list_all stored_built row) (list_all (list_all stored_built) values) h),
-      same_rows targets values (right (list_all stored_built row) (list_all (list_all stored_built) values) h)) refl
+      rw (
+        same_row targets row (left (list_all stored_built row) (list_all (list_all stored_built) values) h),
+        same_rows targets values (right (list_all stored_built row) (list_all (list_all stored_built) values) h),
+      ) refl
 
 pub all-item : {X : Type 0} (p : X → Bool) (xs : List X) (i : ℕ) (x : X) → i < length xs → x ≡ get_or xs i x → list_all p xs ≡ true → p x ≡ true
 all-item p [] i x below is h = absurd (omega arith)
@@ -106,15 +108,15 @@ found-before found x y (Ok xs) e = rw e (ap Ok (sym (append_assoc found (y ∷ [
 found-before found x y (Err reasons) e = rw e refl
 
 pub zip-next : (f : Target × StoredSource → Finding Typed) (xs : List Target) (ys : List StoredSource) (i : ℕ) (x : Target) (y : StoredSource) (found : List Typed) (v : Typed) →
-  i < length xs → i < length ys → x ≡ get_or xs i x → y ≡ get_or ys i y → f (x, y) ≡ Ok v →
-  after (found ++ v ∷ []) (each (map f (zip (drop (i + 1) xs) (drop (i + 1) ys)))) ≡ after found (each (map f (zip (drop i xs) (drop i ys))))
+    i < length xs → i < length ys → x ≡ get_or xs i x → y ≡ get_or ys i y → f (x, y) ≡ Ok v →
+    after (found ++ v ∷ []) (each (map f (zip (drop (i + 1) xs) (drop (i + 1) ys)))) ≡ after found (each (map f (zip (drop i xs) (drop i ys))))
 zip-next f xs ys i x y found v a b p q e =
     let one : drop i xs ≡ x ∷ drop (suc i) xs = drop-cons xs i x a ∙ ap (λ z. z ∷ drop (suc i) xs) (sym p) in
     let two : drop i ys ≡ y ∷ drop (suc i) ys = drop-cons ys i y b ∙ ap (λ z. z ∷ drop (suc i) ys) (sym q) in
     rw (one, two, add-one) (sym (found-before found (f (x, y)) v (each (map f (zip (drop (suc i) xs) (drop (suc i) ys)))) e))
 
 pub zip-item : (f : Target × StoredSource → Finding Typed) (r : Refusal) (xs : List Target) (ys : List StoredSource) (i : ℕ) (x : Target) (y : StoredSource) →
-  i < length xs → i < length ys → x ≡ get_or xs i x → y ≡ get_or ys i y → Finds (Err r) (f (x, y)) → Finds (Err r) (each (map f (zip xs ys)))
+    i < length xs → i < length ys → x ≡ get_or xs i x → y ≡ get_or ys i y → Finds (Err r) (f (x, y)) → Finds (Err r) (each (map f (zip xs ys)))
 zip-item f r [] ys i x y a b p q h = absurd (omega arith)
 zip-item f r (z ∷ xs) [] i x y a b p q h = absurd (omega arith)
 zip-item f r (z ∷ xs) (w ∷ ys) zero x y a b p q h = Finds-before_first r (f (z, w)) (each (map f (zip xs ys))) (rw (p, q) at h)
@@ -128,16 +130,16 @@ same_at (x ∷ xs) (suc i) d e below = same_at xs i d e (omega arith)
 
 -- the same, where the first list is read
 pub zip-item-at : (r : Refusal) (xs : List Target) (ys : List StoredSource) (i : ℕ) (d : Target) (y : StoredSource) → i < length xs → i < length ys → y ≡ get_or ys i y →
-  Finds (Err r) (source_stored (get_or xs i d).1 y) → Finds (Err r) (each (map stored_found (zip xs ys)))
+    Finds (Err r) (source_stored (get_or xs i d).1 y) → Finds (Err r) (each (map stored_found (zip xs ys)))
 zip-item-at r xs ys i d y a b q h = zip-item stored_found r xs ys i (get_or xs i d) y a b (same_at xs i d (get_or xs i d) a) q h
 
 pub zip-next-at : (xs : List Target) (ys : List StoredSource) (i : ℕ) (d : Target) (y : StoredSource) (found : List Typed) (v : Typed) → i < length xs → i < length ys → y ≡ get_or ys i y →
-  source_stored (get_or xs i d).1 y ≡ Ok v →
-  after (found ++ v ∷ []) (each (map stored_found (zip (drop (i + 1) xs) (drop (i + 1) ys)))) ≡ after found (each (map stored_found (zip (drop i xs) (drop i ys))))
+    source_stored (get_or xs i d).1 y ≡ Ok v →
+    after (found ++ v ∷ []) (each (map stored_found (zip (drop (i + 1) xs) (drop (i + 1) ys)))) ≡ after found (each (map stored_found (zip (drop i xs) (drop i ys))))
 zip-next-at xs ys i d y found v a b q e = zip-next stored_found xs ys i (get_or xs i d) y found v a b (same_at xs i d (get_or xs i d) a) q e
 
-pub zip-finds : (f : Target × StoredSource → Finding Typed) (xs : List Target) (ys : List StoredSource) (i : ℕ) (found : List Typed) → length xs ≤ i → 
-  after found (each (map f (zip (drop i xs) (drop i ys)))) ≡ each (map f (zip xs ys)) → Finds (Ok found) (each (map f (zip xs ys)))
+pub zip-finds : (f : Target × StoredSource → Finding Typed) (xs : List Target) (ys : List StoredSource) (i : ℕ) (found : List Typed) → length xs ≤ i →
+    after found (each (map f (zip (drop i xs) (drop i ys)))) ≡ each (map f (zip xs ys)) → Finds (Ok found) (each (map f (zip xs ys)))
 zip-finds f xs ys i found past e =
     let none : drop i xs ≡ [] = drop_all i xs past in
     record { ok = sym (rw none at e) ∙ ap Ok (append-nil found); err = tt }
@@ -182,11 +184,11 @@ module _ (k : Known) (tree : Tree) where
           (Finds-then_err r (each (map (row_stored nothing_known targets) values)) (λ stored. Ok (targets, from.Values stored)) f))
 
       pub insert_all : (stored : List (List Typed)) → are_distinct tree.columns ≡ true → each (map (row_stored nothing_known targets) values) ≡ Ok stored →
-        insert_found k tree ≡ Ok (record { table = tree.table; columns = map (λ target. target.0) targets; source = from.Values stored })
+          insert_found k tree ≡ Ok (record { table = tree.table; columns = map (λ target. target.0) targets; source = from.Values stored })
       insert_all stored distinct e = rw (is, targets_are, distinct, same_rows k targets values h, e) refl
 
       pub insert_finds : (stored : List (List Typed)) → are_distinct tree.columns ≡ true → each (map (row_stored nothing_known targets) values) ≡ Ok stored →
-        Finds (Ok (record { table = tree.table; columns = map (λ target. target.0) targets; source = from.Values stored })) (insert_found k tree)
+          Finds (Ok (record { table = tree.table; columns = map (λ target. target.0) targets; source = from.Values stored })) (insert_found k tree)
       insert_finds stored distinct e = record { ok = insert_all stored distinct e; err = tt }
 
 -- ---- targets
@@ -199,8 +201,13 @@ targets_some columns [] n = absurd (n refl)
 targets_some columns (name ∷ names) n = refl
 
 pub ruleset insert_steps = (insert_missing, insert_targets, insert_twice, insert_rows, insert_finds)
+
 pub ruleset target_steps = (targets_none, targets_some)
+
 pub ruleset rows_steps = (all-item, Finds-each_item, each-next, each-finds)
+
 pub ruleset row_steps = (row_refused, row_is)
+
 pub ruleset zip_steps = (all-item, zip-finds)
+
 pub ruleset source_steps = (value_refused, value_typed)

@@ -30,4 +30,5 @@ pub distinct-next : (xs : List (List ℕ)) (name : List ℕ) (others : List (Lis
 distinct-next xs name others e h = rw (e, h) refl
 
 pub ruleset any_steps = (any-true, any-next, any-done)
+
 pub ruleset distinct_steps = (distinct-not, distinct-next)

@@ -36,13 +36,13 @@ in_turn-here frame (x ∷ xs) = ap (λ rest. x.found (here frame) ∷ rest) (in_
 
 -- a chain of parts, each as it is found
 zipped : {O A : Type 0} (frame : Frame) (others : List (O × Part A)) →
-  zip (map (λ other. other.0) others) (in_turn (map (λ other. other.1) others) (here frame)) ≡ map (λ other. (other.0, (other.1).found (here frame))) others
+    zip (map (λ other. other.0) others) (in_turn (map (λ other. other.1) others) (here frame)) ≡ map (λ other. (other.0, (other.1).found (here frame))) others
 zipped frame [] = refl
 zipped frame (other ∷ others) = ap (λ rest. (other.0, (other.1).found (here frame)) ∷ rest) (zipped frame others)
 
 chain-here : {O A : Type 0} (made : Finding A → List (O × Finding A) → Finding A) (frame : Frame) (first : Part A) (others : List (O × Part A)) →
-  ((x : Finding A) → made x [] ≡ x) →
-  (if_chain made first others).found (here frame) ≡ made (first.found (here frame)) (map (λ other. (other.0, (other.1).found (here frame))) others)
+    ((x : Finding A) → made x [] ≡ x) →
+    (if_chain made first others).found (here frame) ≡ made (first.found (here frame)) (map (λ other. (other.0, (other.1).found (here frame))) others)
 chain-here made frame first [] alone = sym (alone (first.found (here frame)))
 chain-here made frame first (other ∷ others) alone = ap (λ rest. made (first.found (here frame)) rest) (zipped frame (other ∷ others))
 
@@ -125,17 +125,17 @@ module _ (frame : Frame) where
   expression_alone tree e = rw (expression_is tree, leading-terms (out-Expression tree).others, e) refl
 
   pub expression_concatenation : (tree : Expression) → leading_operator (out-Expression tree).others ≡ Some add.Concatenate →
-    expression_found frame tree ≡ concatenation (term_found frame (out-Expression tree).first) (each (map (joined_text frame) (out-Expression tree).others))
+      expression_found frame tree ≡ concatenation (term_found frame (out-Expression tree).first) (each (map (joined_text frame) (out-Expression tree).others))
   expression_concatenation tree e = rw (expression_is tree, leading-terms (out-Expression tree).others, e, joined_texts (out-Expression tree).others) refl
 
   chain-sum : (operator : AddOperator) (first : Finding TypedExpression) (others : List (AddOperator × Finding TypedExpression)) → operator ≢ add.Concatenate →
-    chain_led_by (Some operator) first others ≡ calculation first (each (map sum_operand others))
+      chain_led_by (Some operator) first others ≡ calculation first (each (map sum_operand others))
   chain-sum add.Plus first others n = refl
   chain-sum add.Minus first others n = refl
   chain-sum add.Concatenate first others n = absurd (n refl)
 
   pub expression_sum : (tree : Expression) (operator : AddOperator) → leading_operator (out-Expression tree).others ≡ Some operator → operator ≢ add.Concatenate →
-    expression_found frame tree ≡ calculation (term_found frame (out-Expression tree).first) (each (map (summand frame) (out-Expression tree).others))
+      expression_found frame tree ≡ calculation (term_found frame (out-Expression tree).first) (each (map (summand frame) (out-Expression tree).others))
   expression_sum tree operator e n =
       rw (expression_is tree, leading-terms (out-Expression tree).others, e)
       (chain-sum operator (term_found frame (out-Expression tree).first) (terms_found frame (out-Expression tree).others) n
@@ -145,10 +145,10 @@ module _ (frame : Frame) where
   term_alone tree e = rw (term_is tree, e) refl
 
   chain-product : (first : Finding TypedExpression) (others : List (MultiplyOperator × Factor)) → (others ≡ [] → ⊥) →
-    product_chain first (factors_found frame others) ≡ calculation first (each (map (multiplier frame) others))
+      product_chain first (factors_found frame others) ≡ calculation first (each (map (multiplier frame) others))
   chain-product first [] n = absurd (n refl)
   chain-product first (other ∷ others) n = ap (λ operands. calculation first (each operands)) (multipliers (other ∷ others))
 
   pub term_product : (tree : Term) → ((out-Term tree).others ≡ [] → ⊥) →
-    term_found frame tree ≡ calculation (factor_found frame (out-Term tree).first) (each (map (multiplier frame) (out-Term tree).others))
+      term_found frame tree ≡ calculation (factor_found frame (out-Term tree).first) (each (map (multiplier frame) (out-Term tree).others))
   term_product tree n = term_is tree ∙ chain-product (factor_found frame (out-Term tree).first) (out-Term tree).others n

@@ -47,7 +47,7 @@ same-two made a a' b b' h k = record {
 }
 
 pub same-three : {A B C D : Type 0} (made : Finding A → Finding B → Finding C → Finding D) (a a' : Part A) (b b' : Part B) (c c' : Part C) →
-  IsSame a a' → IsSame b b' → IsSame c c' → IsSame (of_three made a b c) (of_three made a' b' c')
+    IsSame a a' → IsSame b b' → IsSame c c' → IsSame (of_three made a b c) (of_three made a' b' c')
 same-three made a a' b b' c c' h k l = record {
   name = refl;
   none = no_two (a.functions ++ b.functions) c.functions (no_two a.functions b.functions h.none k.none) l.none;
@@ -82,7 +82,7 @@ module _ {T A : Type 0} (built : T → Bool) (part part' : T → Part A) where
       (all-none ys (right (built y.0) (list_all (λ b. b) (map built (map (λ o. o.0) ys))) h))
 
   pub all-found : (ys : List Known-same) → list_all (λ b. b) (map built (map (λ o. o.0) ys)) ≡ true → (frame : Frame) (view : View) → Sees frame view →
-    in_turn (map part (map (λ o. o.0) ys)) view ≡ in_turn (map part' (map (λ o. o.0) ys)) (here frame)
+      in_turn (map part (map (λ o. o.0) ys)) view ≡ in_turn (map part' (map (λ o. o.0) ys)) (here frame)
   all-found [] h frame view s = refl
   all-found (y ∷ ys) h frame view s =
       let first = (y.1 (left (built y.0) (list_all (λ b. b) (map built (map (λ o. o.0) ys))) h)).found frame view s in
@@ -90,8 +90,8 @@ module _ {T A : Type 0} (built : T → Bool) (part part' : T → Part A) where
       rw (first, rest) refl
 
   pub same-all : {B : Type 0} (made : List (Finding A) → Finding B) (y : Known-same) (ys : List Known-same) →
-    list_all (λ b. b) (built y.0 ∷ map built (map (λ o. o.0) ys)) ≡ true →
-    IsSame (of_all made (part y.0 ∷ map part (map (λ o. o.0) ys))) (of_all made (part' y.0 ∷ map part' (map (λ o. o.0) ys)))
+      list_all (λ b. b) (built y.0 ∷ map built (map (λ o. o.0) ys)) ≡ true →
+      IsSame (of_all made (part y.0 ∷ map part (map (λ o. o.0) ys))) (of_all made (part' y.0 ∷ map part' (map (λ o. o.0) ys)))
   same-all made y ys h = record {
     name = refl;
     none = all-none (y ∷ ys) h;
@@ -115,8 +115,8 @@ module _ {T A : Type 0} (built : T → Bool) (part part' : T → Part A) where
         ((y.1).1 (left (built (y.1).0) (are_built ys) h)).none (operands-none ys (right (built (y.1).0) (are_built ys) h))
 
     operands-found : (ys : List (O × Known-same)) → are_built ys ≡ true → (frame : Frame) (view : View) → Sees frame view →
-      zip (map (λ o. o.0) (parts part ys)) (in_turn (map (λ o. o.1) (parts part ys)) view)
-      ≡ zip (map (λ o. o.0) (parts part' ys)) (in_turn (map (λ o. o.1) (parts part' ys)) (here frame))
+        zip (map (λ o. o.0) (parts part ys)) (in_turn (map (λ o. o.1) (parts part ys)) view)
+        ≡ zip (map (λ o. o.0) (parts part' ys)) (in_turn (map (λ o. o.1) (parts part' ys)) (here frame))
     operands-found [] h frame view s = refl
     operands-found (y ∷ ys) h frame view s =
         let first = ((y.1).1 (left (built (y.1).0) (are_built ys) h)).found frame view s in
@@ -124,7 +124,7 @@ module _ {T A : Type 0} (built : T → Bool) (part part' : T → Part A) where
         rw (first, rest) refl
 
     pub same-chain : (made : Finding A → List (O × Finding A) → Finding A) (first first' : Part A) (ys : List (O × Known-same)) → IsSame first first' → are_built ys ≡ true →
-      IsSame (if_chain made first (parts part ys)) (if_chain made first' (parts part' ys))
+        IsSame (if_chain made first (parts part ys)) (if_chain made first' (parts part' ys))
     same-chain made first first' [] f h = f
     same-chain made first first' (y ∷ ys) f h = record {
       name = refl;

@@ -153,4 +153,3 @@ test_judged d = map-Test _ _ _ _ _ _ _ _ _ _ _ _ _ _ _ _ _ _ _ _ _ _ _ _ _ _ _ _
 pub test_built_rolled : (d : Node Test-F) → test_built (roll-Test d) ≡ built.test_step (test_judged d)
 unfolding join_built operand_built predicate_built primary_built source_built addend_built condition_built conjunction_built expression_built factor_built negation_built query_built select_built item_built reference_built term_built test_built
 test_built_rolled d = fold-roll-Test _ _ _ _ _ _ _ _ _ _ _ _ _ _ _ _ _ built.join_step built.operand_step built.predicate_step built.primary_step built.source_step built.addend_step built.condition_step built.conjunction_step built.expression_step built.factor_step built.negation_step built.query_step built.select_step built.item_step built.reference_step built.term_step built.test_step d
-

@@ -80,23 +80,25 @@ module _ (k : Known) where
       rw (item_none i (left (item_built i) (built.all (map item_built items)) h), items_none items (right (item_built i) (built.all (map item_built items)) h)) refl
 
   items_same : (items : List SelectItem) → built.all (map item_built items) ≡ true → (frame : Frame) (view : View) → Sees frame view →
-    in_turn (map (item_part k) items) view ≡ map (item_found frame) items
+      in_turn (map (item_part k) items) view ≡ map (item_found frame) items
   items_same [] h frame view s = refl
   items_same (i ∷ items) h frame view s =
-      rw (item_same i (left (item_built i) (built.all (map item_built items)) h) frame view s,
-      items_same items (right (item_built i) (built.all (map item_built items)) h) frame (past (item_part k i) view) (sees-past (item_part k i) frame view s)) refl
+      rw (
+        item_same i (left (item_built i) (built.all (map item_built items)) h) frame view s,
+        items_same items (right (item_built i) (built.all (map item_built items)) h) frame (past (item_part k i) view) (sees-past (item_part k i) frame view s),
+      ) refl
 
   list_none : (items : Option (List SelectItem)) → built.items_built (option_map (map item_built) items) ≡ true → (select_list (option_map (map (item_part k)) items)).functions ≡ []
   list_none None h = refl
   list_none (Some items) h = items_none items h
 
   list_same : (items : Option (List SelectItem)) → built.items_built (option_map (map item_built) items) ≡ true → (frame : Frame) → frame.key ≡ None →
-    (select_list (option_map (map (item_part k)) items)).found (record { scope = frame ∷ []; clause = Shown 0 }) ≡ items_found frame items
+      (select_list (option_map (map (item_part k)) items)).found (record { scope = frame ∷ []; clause = Shown 0 }) ≡ items_found frame items
   list_same None h frame e = rw e refl
   list_same (Some items) h frame e = ap limited (items_same items h frame (record { scope = frame ∷ []; clause = Shown 0 }) (λ column. refl))
 
   filter_same : (filter : Option Tree) → built.if_any (option_map condition_built filter) ≡ true → (frame : Frame) →
-    (if_written (option_map (condition_part k) filter)).found (record { scope = frame ∷ []; clause = Plain }) ≡ filter_found frame filter
+      (if_written (option_map (condition_part k) filter)).found (record { scope = frame ∷ []; clause = Plain }) ≡ filter_found frame filter
   filter_same None h frame = refl
   filter_same (Some c) h frame =
       ap (λ found. found >>= (λ a. Ok (Some a))) ((conditions-same k c h).found frame (record { scope = frame ∷ []; clause = Plain }) (λ column. refl))
@@ -114,25 +116,25 @@ module _ (k : Known) where
   }
 
   finish : (C : Clauses) → C.is_distinct ≡ false → (from : Source) (F : Finding (Option Condition)) (G : Finding (List ShownItem)) →
-    ((also {A = Unit {0} × Unit {0}} (Ok (tt, tt)) (also (Ok from) (also F (also (Ok []) (also G (Ok None) >>= (λ p. Ok (record { key = None; items = p.0; having = p.1 })))))) >>= (λ p.
-    Ok (typed_select C (p.1).0 ((p.1).1).0 (((p.1).1).1).0 (((p.1).1).1).1))) >>= (λ q. Ok q.query))
-    ≡ (also F G >>= (λ p. Ok (made_select (map typed_item p.1) from p.0)))
+      ((also {A = Unit {0} × Unit {0}} (Ok (tt, tt)) (also (Ok from) (also F (also (Ok []) (also G (Ok None) >>= (λ p. Ok (record { key = None; items = p.0; having = p.1 })))))) >>= (λ p.
+      Ok (typed_select C (p.1).0 ((p.1).1).0 (((p.1).1).1).0 (((p.1).1).1).1))) >>= (λ q. Ok q.query))
+      ≡ (also F G >>= (λ p. Ok (made_select (map typed_item p.1) from p.0)))
   finish C e from (Ok f) (Ok items) = rw e refl
   finish C e from (Ok f) (Err reasons) = ap Err (append-nil reasons)
   finish C e from (Err reasons) (Ok items) = refl
   finish C e from (Err reasons) (Err more) = ap (λ rest. Err (reasons ++ rest)) (append-nil more)
 
   clauses-here : (name shown : List ℕ) (items : Option (List (Part ShownItem))) (filter : Option (Part Condition)) (t : KnownTable) → k.table name ≡ Some t → (select_list items).functions ≡ [] →
-    (clauses_found (plain_clauses name shown items filter) [] >>= (λ q. Ok q.query))
-    ≡ (also ((if_written filter).found (record { scope = frame_of shown t.columns ∷ []; clause = Plain }))
-    ((select_list items).found (record { scope = frame_of shown t.columns ∷ []; clause = Shown 0 })) >>= (λ p. Ok (made_select (map typed_item p.1) (source.Table name) p.0)))
+      (clauses_found (plain_clauses name shown items filter) [] >>= (λ q. Ok q.query))
+      ≡ (also ((if_written filter).found (record { scope = frame_of shown t.columns ∷ []; clause = Plain }))
+      ((select_list items).found (record { scope = frame_of shown t.columns ∷ []; clause = Shown 0 })) >>= (λ p. Ok (made_select (map typed_item p.1) (source.Table name) p.0)))
   clauses-here name shown items filter t e none =
       rw (e, none)
       (finish (plain_clauses name shown items filter) refl (source.Table name) ((if_written filter).found (record { scope = frame_of shown t.columns ∷ []; clause = Plain }))
       ((select_list items).found (record { scope = frame_of shown t.columns ∷ []; clause = Shown 0 })))
 
   clauses-missing : (name shown : List ℕ) (items : Option (List (Part ShownItem))) (filter : Option (Part Condition)) → k.table name ≡ None →
-    (clauses_found (plain_clauses name shown items filter) [] >>= (λ q. Ok q.query)) ≡ Err (Invalid reason.Name ∷ Invalid reason.Name ∷ [])
+      (clauses_found (plain_clauses name shown items filter) [] >>= (λ q. Ok q.query)) ≡ Err (Invalid reason.Name ∷ Invalid reason.Name ∷ [])
   clauses-missing name shown items filter e = rw e refl
 
   -- ---- a SELECT whose forms are built
@@ -151,7 +153,7 @@ module _ (k : Known) where
   none_same (Some x) h = absurd (cc h)
 
   source_same : (reference : TableReference) (name : List ℕ) (alias : Option Alias) → reference_built reference ≡ true → (out-TableReference reference).first ≡ stored.Table name alias →
-    reference_part k reference ≡ stored_table (λ n. table_found k n >>= (λ table. Ok table.columns)) name (shown_name name alias)
+      reference_part k reference ≡ stored_table (λ n. table_found k n >>= (λ table. Ok table.columns)) name (shown_name name alias)
   source_same reference name alias h e =
       let joins = nil_same (out-TableReference reference).joins (sym (reference_built-table reference name alias e) ∙ h) in
       node.reference_is k reference ∙ rw (joins, e) (node.source_table k name alias)
@@ -171,8 +173,8 @@ module _ (k : Known) where
       refl refl refl refl refl refl (sym (select_built_is tree) ∙ h)
     where
       parts : (a b c d e f : Bool) → not (built.is_distinct (out-Select tree).quantifier) ≡ a → built.is_nil (out-Select tree).groups ≡ b → is_none (out-Select tree).having ≡ c
-        → built.items_built (option_map (map item_built) (out-Select tree).items) ≡ d → built.all (map reference_built (out-Select tree).from) ≡ e
-        → built.if_any (option_map condition_built (out-Select tree).filter) ≡ f → ((a && b && c) && d && e && f) ≡ true → Settled tree
+          → built.items_built (option_map (map item_built) (out-Select tree).items) ≡ d → built.all (map reference_built (out-Select tree).from) ≡ e
+          → built.if_any (option_map condition_built (out-Select tree).filter) ≡ f → ((a && b && c) && d && e && f) ≡ true → Settled tree
       parts true true true true true true p q r s t u z = record {
         distinct = distinct_same (out-Select tree).quantifier p;
         groups = nil_same (out-Select tree).groups q;
@@ -198,34 +200,39 @@ module _ (k : Known) where
   only_one (y ∷ z ∷ xs) x h e = absurd (omega (arith, h))
 
   select_is : (tree : Select) (reference : TableReference) (name : List ℕ) (alias : Option Alias) → select_built tree ≡ true → (out-Select tree).from ≡ reference ∷ [] →
-    (out-TableReference reference).first ≡ stored.Table name alias →
-    select_found k tree [] ≡ clauses_found (plain_clauses name (shown_name name alias) (option_map (map (item_part k)) (out-Select tree).items) (option_map (condition_part k) (out-Select tree).filter)) []
+      (out-TableReference reference).first ≡ stored.Table name alias →
+      select_found k tree [] ≡ clauses_found (plain_clauses name (shown_name name alias) (option_map (map (item_part k)) (out-Select tree).items) (option_map (condition_part k) (out-Select tree).filter)) []
   select_is tree reference name alias h one e =
       let s = settled tree h in
       let one_built : reference_built reference ≡ true = left (reference_built reference) true (rw one at s.from) in
       node.select_at k tree [] ∙ rw (s.distinct, s.groups, s.having, one, source_same reference name alias one_built e) refl
 
   pub from_table : (tree : Select) (reference : TableReference) (name : List ℕ) (alias : Option Alias) → select_built tree ≡ true → length (out-Select tree).from ≤ 1 →
-    slice_get (out-Select tree).from 0 ≡ Some reference → (out-TableReference reference).first ≡ stored.Table name alias →
-    (r : Result Typed Refusal) → Finds r (stored_select k name alias tree) → Finds r (select_answered k tree)
+      slice_get (out-Select tree).from 0 ≡ Some reference → (out-TableReference reference).first ≡ stored.Table name alias →
+      (r : Result Typed Refusal) → Finds r (stored_select k name alias tree) → Finds r (select_answered k tree)
   from_table tree reference name alias h short first e r found =
       let one = only_one (out-Select tree).from reference short first in
       rw (one, select_is tree reference name alias h one e) (go (k.table name) refl r found)
     where
       shown : List ℕ
       shown = shown_name name alias
+
       twice : (r : Result Typed Refusal) → Finds r (invalid reason.Name) → Finds r (Err (Invalid reason.Name ∷ Invalid reason.Name ∷ []))
       twice (Ok x) f = absurd (cc f.ok)
       twice (Err refusal) f = record { ok = tt; err = IsReasonOf-left refusal (Invalid reason.Name ∷ []) (Invalid reason.Name ∷ []) f.err }
+
       go : (found_table : Option KnownTable) → k.table name ≡ found_table → (r : Result Typed Refusal) → Finds r (stored_select k name alias tree) →
-        Finds r (clauses_found (plain_clauses name shown (option_map (map (item_part k)) (out-Select tree).items) (option_map (condition_part k) (out-Select tree).filter)) [] >>= (λ q. Ok q.query))
+          Finds r (clauses_found (plain_clauses name shown (option_map (map (item_part k)) (out-Select tree).items) (option_map (condition_part k) (out-Select tree).filter)) [] >>= (λ q. Ok q.query))
       go None missing r f =
           rw (clauses-missing name shown (option_map (map (item_part k)) (out-Select tree).items) (option_map (condition_part k) (out-Select tree).filter) missing) (twice r (rw missing at f))
       go (Some t) there r f =
           let s = settled tree h in
-          rw (clauses-here name shown (option_map (map (item_part k)) (out-Select tree).items) (option_map (condition_part k) (out-Select tree).filter) t there
-          (list_none (out-Select tree).items s.items), filter_same (out-Select tree).filter s.filter (frame_of shown t.columns),
-          list_same (out-Select tree).items s.items (frame_of shown t.columns) refl) (rw there at f)
+          rw (
+            clauses-here name shown (option_map (map (item_part k)) (out-Select tree).items) (option_map (condition_part k) (out-Select tree).filter) t there
+                (list_none (out-Select tree).items s.items),
+            filter_same (out-Select tree).filter s.filter (frame_of shown t.columns),
+            list_same (out-Select tree).items s.items (frame_of shown t.columns) refl,
+          ) (rw there at f)
 
   pub from_nothing : (tree : Select) → slice_get (out-Select tree).from 0 ≡ None → Finds (Err (Invalid reason.Syntax)) (select_answered k tree)
   from_nothing tree e =
@@ -240,7 +247,7 @@ module _ (k : Known) where
   from_many tree more = rw (not_within (length (out-Select tree).from) 1 more) (Finds-exceeded limit.Tables)
 
   pub from_query : (tree : Select) (reference : TableReference) (query : Query) (alias : Alias) → select_built tree ≡ true → length (out-Select tree).from ≤ 1 →
-    slice_get (out-Select tree).from 0 ≡ Some reference → (out-TableReference reference).first ≡ stored.Derived query alias → ⊥
+      slice_get (out-Select tree).from 0 ≡ Some reference → (out-TableReference reference).first ≡ stored.Derived query alias → ⊥
   from_query tree reference query alias h short first e =
       let one = only_one (out-Select tree).from reference short first in
       let one_built : reference_built reference ≡ true = left (reference_built reference) true (rw one at (settled tree h).from) in
@@ -264,11 +271,13 @@ module _ (k : Known) where
     where
       first : Addend
       first = (out-Query tree).first
+
       of_some : Select → Option Select → Select
       of_some s None = s
       of_some s (Some t) = t
+
       by : (others : List (SetOperator × Addend)) (more : List (Bool × Operand)) (layer : OperandLayer) → (out-Query tree).others ≡ others → (out-Addend first).others ≡ more → out-Operand (out-Addend first).first ≡ layer →
-        (if built.is_nil others && built.is_nil more then select_in layer else None) ≡ Some select → (query_found k tree [] ≡ select_found k select []) × (references tree ≡ (out-Select select).from)
+          (if built.is_nil others && built.is_nil more then select_in layer else None) ≡ Some select → (query_found k tree [] ≡ select_found k select []) × (references tree ≡ (out-Select select).from)
       by [] [] (Operand-F.Select s) a b c e =
           let same : s ≡ select = ap (λ o. of_some s o) e in
           (node.query_at k tree [] ∙ rw a (node.addend_at k first [] ∙ rw b (operand_is (out-Addend first).first [] ∙ rw (c, same) refl)), rw (c, same) refl)
@@ -277,14 +286,14 @@ module _ (k : Known) where
       by (x ∷ others) more layer a b c e = absurd (cc (rw (not-nil x others) at e))
 
   pub query_is : (tree : OrderedTree) (select : Select) → tree.order ≡ [] → only_select tree.query ≡ Some select →
-    query_answered k tree ≡ (select_answered k select >>= (λ q. Ok (ordered q)))
+      query_answered k tree ≡ (select_answered k select >>= (λ q. Ok (ordered q)))
   query_is tree select plain e =
       let a = alone tree.query select e in
       rw (plain, a.0, a.1) (go (nat_le (length (out-Select select).from) 1) (select_found k select []))
     where
       go : (b : Bool) (found : Finding TypedQuery) →
-        (if b then (found >>= (λ q. Ok (record { query = q.query; keys = [] }))) else exceeded limit.Tables)
-        ≡ ((if b then (found >>= (λ q. Ok q.query)) else exceeded limit.Tables) >>= (λ q. Ok (ordered q)))
+          (if b then (found >>= (λ q. Ok (record { query = q.query; keys = [] }))) else exceeded limit.Tables)
+          ≡ ((if b then (found >>= (λ q. Ok q.query)) else exceeded limit.Tables) >>= (λ q. Ok (ordered q)))
       go true (Ok q) = refl
       go true (Err reasons) = refl
       go false found = refl
@@ -376,7 +385,7 @@ module _ (frame : Frame) (from : Source) (tree : Select) where
       (Finds-also_second r (filter_found frame (out-Select tree).filter) (items_found frame (out-Select tree).items) (made_refused r (map typed_item) (items_found frame (out-Select tree).items) h))
 
   pub over_all : (filter : Option Condition) (items : List Item) → filter_found frame (out-Select tree).filter ≡ Ok filter → typed_items (items_found frame (out-Select tree).items) ≡ Ok items →
-    select_over frame from tree ≡ Ok (made_select items from filter)
+      select_over frame from tree ≡ Ok (made_select items from filter)
   over_all filter items e f = rw e (go (items_found frame (out-Select tree).items)) ∙ ap (λ found. found >>= (λ ys. Ok (made_select ys from filter))) f
     where
       go : (x : Finding (List ShownItem)) → (also {A = Option Condition} (Ok filter) x >>= (λ p. Ok (made_of p))) ≡ (typed_items x >>= (λ ys. Ok (made_select ys from filter)))
@@ -384,12 +393,15 @@ module _ (frame : Frame) (from : Source) (tree : Select) where
       go (Err reasons) = refl
 
   pub over_found : (filter : Option Condition) (items : List Item) → filter_found frame (out-Select tree).filter ≡ Ok filter → typed_items (items_found frame (out-Select tree).items) ≡ Ok items →
-    Finds (Ok (made_select items from filter)) (select_over frame from tree)
+      Finds (Ok (made_select items from filter)) (select_over frame from tree)
   over_found filter items e f = record { ok = over_all filter items e f; err = tt }
 
 pub ruleset over_steps = (over_filter, over_items, over_found)
+
 pub ruleset star_steps = (star_refused, star_found)
+
 pub ruleset listed_steps = (listed_refused, listed_is)
 
 pub ruleset query_steps = (query_not, query_selects, query_refused, query_finds)
+
 pub ruleset from_steps = (from_table, from_nothing, from_many, from_query)

@@ -34,16 +34,16 @@ module _ (schema : Schema) where
   query_built_is q h = rw h (go (nat_le (length (references q.query)) 1) (ordered_found (known schema) q))
     where
       go : (b : Bool) (found : Finding Ordered) →
-        (if b then (found >>= (λ t. Ok (typed.Query t))) else exceeded Tables) ≡ ((if b then found else exceeded Tables) >>= (λ t. Ok (typed.Query t)))
+          (if b then (found >>= (λ t. Ok (typed.Query t))) else exceeded Tables) ≡ ((if b then found else exceeded Tables) >>= (λ t. Ok (typed.Query t)))
       go true found = refl
       go false found = refl
 
   pub create_built_is : (t : CreateTable) → is_built (statement.CreateTable t) ≡ true →
-    answered_found (statement.CreateTable t) schema ≡ changes (create_found (known schema) t >>= (λ c. Ok (change.CreateTable c)))
+      answered_found (statement.CreateTable t) schema ≡ changes (create_found (known schema) t >>= (λ c. Ok (change.CreateTable c)))
   create_built_is t h = rw h refl
 
   pub insert_built_is : (i : Insert) → is_built (statement.Insert i) ≡ true →
-    answered_found (statement.Insert i) schema ≡ changes (insert_found (known schema) i >>= (λ c. Ok (change.Insert c)))
+      answered_found (statement.Insert i) schema ≡ changes (insert_found (known schema) i >>= (λ c. Ok (change.Insert c)))
   insert_built_is i h = rw h refl
 
 pub ruleset answer_steps = (not_built, query_built_is, create_built_is, insert_built_is, other_built)

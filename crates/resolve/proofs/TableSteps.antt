@@ -61,7 +61,7 @@ names_found [] (c ∷ cs) e = absurd (cc e)
 names_found (d ∷ ds) cs e = go (names_found ds) (column_found d) (each (map column_found ds)) cs refl refl e
   where
     go : ((rest : List Column) → each (map column_found ds) ≡ Ok rest → map (λ c. c.name) rest ≡ map (λ d. d.column) ds) → (x : Finding Column) (xs : Finding (List Column)) (cs : List Column) →
-      column_found d ≡ x → each (map column_found ds) ≡ xs → before x xs ≡ Ok cs → map (λ c. c.name) cs ≡ map (λ d. d.column) (d ∷ ds)
+        column_found d ≡ x → each (map column_found ds) ≡ xs → before x xs ≡ Ok cs → map (λ c. c.name) cs ≡ map (λ d. d.column) (d ∷ ds)
     go others (Ok c) (Ok rest) [] p q e = absurd (cc e)
     go others (Ok c) (Ok rest) (y ∷ ys) p q e =
         let one : c ≡ y = cc e in
@@ -118,7 +118,7 @@ abbrev declared_as : NotNull → Declared
 declared_as x = plain x.1 (Ok (rule.NotNull x.0))
 
 rules_are : (frame : Frame) (place : ℕ) (cs : List ColumnConstraint) → list_all (λ c. is_not_null c.rule) cs ≡ true →
-  map (λ c. column_rule_at frame place c.name c.rule) cs ≡ map declared_as (map {B = NotNull} (λ c. (place, c.name)) cs)
+    map (λ c. column_rule_at frame place c.name c.rule) cs ≡ map declared_as (map {B = NotNull} (λ c. (place, c.name)) cs)
 rules_are frame place [] h = refl
 rules_are frame place (c ∷ cs) h =
     rw (rule_is c.rule (left (is_not_null c.rule) (list_all (λ c. is_not_null c.rule) cs) h), rules_are frame place cs (right (is_not_null c.rule) (list_all (λ c. is_not_null c.rule) cs) h)) refl
@@ -130,11 +130,13 @@ rules_are frame place (c ∷ cs) h =
     rule_is (column_rule.Check condition) h = absurd (cc h)
 
 declared_are : (frame : Frame) (columns : List ColumnDefinition) (place : ℕ) (elements : List TableElement) → list_all element_built elements ≡ true →
-  declared_from frame columns place elements ≡ map declared_as (not_nulls_from place elements)
+    declared_from frame columns place elements ≡ map declared_as (not_nulls_from place elements)
 declared_are frame columns place [] h = refl
 declared_are frame columns place (element.Column d ∷ elements) h =
-    rw (rules_are frame place d.constraints (left (element_built (element.Column d)) (list_all element_built elements) h),
-    declared_are frame columns (place + 1) elements (right (element_built (element.Column d)) (list_all element_built elements) h))
+    rw (
+      rules_are frame place d.constraints (left (element_built (element.Column d)) (list_all element_built elements) h),
+      declared_are frame columns (place + 1) elements (right (element_built (element.Column d)) (list_all element_built elements) h),
+    )
     (sym (map-append declared_as (map {B = NotNull} (λ c. (place, c.name)) d.constraints) (not_nulls_from (place + 1) elements)))
 declared_are frame columns place (element.Constraint c ∷ elements) h = absurd (cc h)
 
@@ -169,8 +171,8 @@ constraints_are xs =
     (go (at_most 32 limit.Constraints (length xs)) (distinct_found (names_from 1 (map declared_as xs))))
   where
     go : (x y : Finding (Unit {0})) →
-      (also {A = Unit {0}} (also (also x y) (also {A = Unit {0}} {B = Unit {0}} (Ok tt) (Ok tt)) >>= (λ p. Ok tt)) (Ok (map (λ x. rule.NotNull x.0) xs)) >>= (λ p. Ok (map named (zip (names_from 1 (map declared_as xs)) p.1))))
-      ≡ (also x y >>= (λ p. Ok (numbered 1 xs)))
+        (also {A = Unit {0}} (also (also x y) (also {A = Unit {0}} {B = Unit {0}} (Ok tt) (Ok tt)) >>= (λ p. Ok tt)) (Ok (map (λ x. rule.NotNull x.0) xs)) >>= (λ p. Ok (map named (zip (names_from 1 (map declared_as xs)) p.1))))
+        ≡ (also x y >>= (λ p. Ok (numbered 1 xs)))
     go (Ok a) (Ok b) = ap Ok (named_are 1 xs)
     go (Ok a) (Err s) = ap Err (append-nil (s ++ []) ∙ append-nil s)
     go (Err r) y = ap Err (append-nil ((r ++ reasons_in y) ++ []) ∙ append-nil (r ++ reasons_in y))
@@ -203,7 +205,7 @@ module _ (elements : List TableElement) where
 
 -- a loop over the elements
 pub nulls-column : (elements : List TableElement) (i : ℕ) (e : TableElement) (d : ColumnDefinition) (place : ℕ) (done : List NotNull) → i < length elements → e ≡ get_or elements i e → e ≡ element.Column d →
-  (done ++ map (λ c. (place, c.name)) d.constraints) ++ not_nulls_from (place + 1) (drop (i + 1) elements) ≡ done ++ not_nulls_from place (drop i elements)
+    (done ++ map (λ c. (place, c.name)) d.constraints) ++ not_nulls_from (place + 1) (drop (i + 1) elements) ≡ done ++ not_nulls_from place (drop i elements)
 nulls-column elements i e d place done below is column =
     let split : drop i elements ≡ e ∷ drop (suc i) elements = drop-cons elements i e below ∙ ap (λ x. x ∷ drop (suc i) elements) (sym is) in
     let next : i + 1 ≡ suc i = add-one i in
@@ -214,7 +216,7 @@ not_column (element.Column d) rest place n = absurd (n d refl)
 not_column (element.Constraint c) rest place n = refl
 
 pub nulls-other : (elements : List TableElement) (i : ℕ) (e : TableElement) (place : ℕ) → i < length elements → e ≡ get_or elements i e → ((d : ColumnDefinition) → e ≡ element.Column d → ⊥) →
-  not_nulls_from place (drop (i + 1) elements) ≡ not_nulls_from place (drop i elements)
+    not_nulls_from place (drop (i + 1) elements) ≡ not_nulls_from place (drop i elements)
 nulls-other elements i e place below is n =
     let split : drop i elements ≡ e ∷ drop (suc i) elements = drop-cons elements i e below ∙ ap (λ x. x ∷ drop (suc i) elements) (sym is) in
     rw (split, add-one) (sym (not_column e (drop (suc i) elements) place n))
@@ -250,7 +252,7 @@ module _ (k : Known) (tree : Tree) (h : list_all element_built tree.elements ≡
       (Finds-also_second r (columns_found (definitions tree.elements)) (not_nulls_found tree.elements) f))
 
   pub create_all : (columns : List Column) (constraints : List Constraint) → has_table k tree.table ≡ false → columns_found (definitions tree.elements) ≡ Ok columns →
-    not_nulls_found tree.elements ≡ Ok constraints → Finds (Ok (record { name = tree.table; columns = columns; constraints = constraints })) (create_found k tree)
+      not_nulls_found tree.elements ≡ Ok constraints → Finds (Ok (record { name = tree.table; columns = columns; constraints = constraints })) (create_found k tree)
   create_all columns constraints free e f = record { ok = create_is ∙ rw (free, e, f) refl; err = tt }
 
 -- ---- numbers
@@ -265,7 +267,11 @@ two_digits n low high =
     rw (step, front) refl
 
 pub ruleset create_steps = (create_taken, create_columns, create_constraints, create_all)
+
 pub ruleset column_steps = (columns_refused, columns_many, columns_twice, columns_all)
+
 pub ruleset null_steps = (nulls_many, nulls_twice, nulls_all, length-numbered)
+
 pub ruleset element_steps = (nulls-column, nulls-other)
+
 pub ruleset digit_steps = (one_digit, two_digits)

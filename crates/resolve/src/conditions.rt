@@ -49,11 +49,7 @@ fn typed_disjunction(
 }
 
 #[cycle(conditions)]
-fn typed_conjunction(
-    alloc: Global,
-    frame: &Frame,
-    tree: &Conjunction,
-) -> Result<Condition, Refusal>
+fn typed_conjunction(alloc: Global, frame: &Frame, tree: &Conjunction) -> Result<Condition, Refusal>
     requires ungrouped { frame.now.key ≡ None }
     ensures { Finds result (conjunction_found frame.now tree.now) }
 {

@@ -68,10 +68,7 @@ fn targets_of(
     }
 }
 
-fn all_targets(
-    alloc: Global,
-    columns: &[Column],
-) -> Result<Items<(usize, ValueType)>, AllocError>
+fn all_targets(alloc: Global, columns: &[Column]) -> Result<Items<(usize, ValueType)>, AllocError>
     ensures { IfOk result (λ targets. targets ≡ targets_from 0 columns.now) }
 {
     let mut targets = Items::with_capacity(alloc, columns.len())?;

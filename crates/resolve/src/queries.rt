@@ -250,11 +250,7 @@ fn copied_name(alloc: Global, name: &Option<Text>) -> Result<Option<Text>, Alloc
 }
 
 #[tactic(auto, using(crate::proofs::Selects::listed_steps))]
-fn listed_items(
-    alloc: Global,
-    frame: &Frame,
-    trees: &[SelectItem],
-) -> Result<Items<Item>, Refusal>
+fn listed_items(alloc: Global, frame: &Frame, trees: &[SelectItem]) -> Result<Items<Item>, Refusal>
     requires ungrouped { frame.now.key ≡ None }
     ensures { Finds result (typed_items (limited (map (item_found frame.now) trees.now))) }
 {

@@ -72,11 +72,7 @@ fn resolve_query(
 }
 
 #[tactic(auto, using(crate::proofs::ConditionSteps::then_steps))]
-fn resolve_table(
-    alloc: Global,
-    table: &ast::CreateTable,
-    schema: &Schema,
-) -> Result<Typed, Refusal>
+fn resolve_table(alloc: Global, table: &ast::CreateTable, schema: &Schema) -> Result<Typed, Refusal>
     requires built { list_all element_built table.now.elements ≡ true }
     ensures { Finds result (of_table (create_found (known schema.now) table.now)) }
 {

@@ -135,10 +135,7 @@ fn varchar_of(length: i64) -> Result<ColumnType, Refusal>
 
 /// The constraints, each a NOT NULL of a column.
 #[tactic(auto, using(crate::proofs::TableSteps::null_steps))]
-fn typed_constraints(
-    alloc: Global,
-    elements: &[TableElement],
-) -> Result<Items<Constraint>, Refusal>
+fn typed_constraints(alloc: Global, elements: &[TableElement]) -> Result<Items<Constraint>, Refusal>
     ensures { Finds result (not_nulls_found elements.now) }
 {
     let not_nulls = not_nulls_of(alloc, elements)?;

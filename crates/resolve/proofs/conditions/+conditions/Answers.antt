@@ -11,7 +11,7 @@ use Rattle.resolve.proofs.conditions.+conditions.Goals as goal
 pub typed_condition-returns-in_err-first : goal.typed_condition-returns-in_err-first
 typed_condition-returns-in_err-first t c =
     let p = err_from_is_err_and c.from_residual.result c.from_residual.ensures.1 in
-    rw (p.1, p.2, condition_is c.args.frame.now c.args.tree.now) 
+    rw (p.1, p.2, condition_is c.args.frame.now c.args.tree.now)
     (disjunction_refused _ _ (map (conjunction_found c.args.frame.now) (out-Condition c.args.tree.now).others) c.in_err-first.ensures)
 
 pub typed_condition-returns : goal.typed_condition-returns
@@ -21,7 +21,7 @@ typed_condition-returns t c =
 pub typed_conjunction-returns-in_err-first : goal.typed_conjunction-returns-in_err-first
 typed_conjunction-returns-in_err-first t c =
     let p = err_from_is_err_and c.from_residual.result c.from_residual.ensures.1 in
-    rw (p.1, p.2, conjunction_is c.args.frame.now c.args.tree.now) 
+    rw (p.1, p.2, conjunction_is c.args.frame.now c.args.tree.now)
     (conjunction_refused _ _ (map (negation_found c.args.frame.now) (out-Conjunction c.args.tree.now).others) c.in_err-first.ensures)
 
 pub typed_conjunction-returns : goal.typed_conjunction-returns

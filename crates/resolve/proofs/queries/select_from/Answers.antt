@@ -12,7 +12,7 @@ use Rattle.resolve.specs.Select.{select_over, stored_select}
 use Rattle.resolve.proofs.queries.select_from.Goals as goal
 
 stored : (k : Known) (name : List ℕ) (alias : Option Alias) (tree : Select) (t : KnownTable) (r : Result Query Refusal) → table_found k name ≡ Ok t →
-  Finds r (select_over (frame_of (shown_name name alias) t.columns) (Table name) tree) → Finds r (stored_select k name alias tree)
+    Finds r (select_over (frame_of (shown_name name alias) t.columns) (Table name) tree) → Finds r (stored_select k name alias tree)
 stored k name alias tree t r e f = rw e f
 
 pub returns : goal.returns
