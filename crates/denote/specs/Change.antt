@@ -1,6 +1,6 @@
 -- What a statement that changes tables makes of a database (ISO/IEC 9075:1992, 11.3, 11.18, 13.7, 13.8, 13.10).
 -- All its expressions see the database before the statement. First come the faults of evaluation, of every row; only where there
--- are none, the violated constraints of the database that would be: our own choice.
+-- are none, the violated constraints of the database that would be: our own choice. So are indexes, which the standard does not know.
 use Rattle.std.specs.Prelude.{ℕ, ◌≡◌, Contains, Bool, true, false, not, List, [], ◌∷◌, ◌++◌, map, filter, flat_map, count_by, length, Option, Some, None, Ok, Err}
 use Rattle.std.specs.List.{filter_map}
 use Rattle.std.specs.FinMap.{get, insert, remove, entries, from_entries}

@@ -23,7 +23,7 @@ use Rattle.denote.specs.Meaning.{truth_at}
 abbrev pub Name : Type 0
 Name = List ℕ
 
--- an index that PRIMARY KEY or UNIQUE owns has no name
+-- An index, which the standard does not know: our own choice. One that PRIMARY KEY or UNIQUE owns has no name.
 pub record IndexDeclaration : Type 0 where
   pub name : Option Name
   pub columns : List ℕ
@@ -87,7 +87,7 @@ abbrev pub has_twins : List ℕ → List Row → Bool
 has_twins columns [] = false
 has_twins columns (row ∷ rows) = list_any (matches columns (key_of columns row)) rows || has_twins columns rows
 
--- Whether a table violates a rule. A CHECK is violated only where it is false (4.10.1). PRIMARY KEY is UNIQUE and NOT NULL in one: our own choice.
+-- Whether a table violates a rule. A CHECK is violated only where it is false (4.10.2). PRIMARY KEY is UNIQUE and NOT NULL in one: our own choice.
 abbrev pub is_violated : CheckReading → Name → Table → Rule → Bool
 is_violated reading name table (NotNull column) = has_null (column ∷ []) table.rows
 is_violated reading name table (PrimaryKey columns) = has_null columns table.rows || has_twins columns table.rows
@@ -98,7 +98,7 @@ is_violated reading name table (Check text) = list_any (λ row. is_false (check_
 abbrev pub violated_by : CheckReading → Name → Table → List Name
 violated_by reading name table = map (λ c. c.name) (filter (λ c. is_violated reading name table c.rule) table.constraints)
 
--- whether some of these rows violate a rule that is a NOT NULL
+-- For the contract of what is built so far, and no part of any meaning: whether some of these rows violate a rule that is a NOT NULL.
 abbrev pub breaks_not_null : List Row → Rule → Bool
 breaks_not_null rows (NotNull column) = has_null (column ∷ []) rows
 breaks_not_null rows (PrimaryKey columns) = false

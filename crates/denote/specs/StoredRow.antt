@@ -41,7 +41,7 @@ abbrev pub row_faults : List Condition → Table → Row → List Fault
 row_faults checks table row =
     flat_map (λ check. faults_in (check_at check row)) checks ++ (record_faults row ++ flat_map (λ index. key_faults row index.columns) table.indexes)
 
--- a row that a table is to hold, if nothing faults in it; where its values fault, nothing else is looked at
+-- a row that a table is to hold, if nothing faults in it; where its values fault, nothing else is looked at: our own choice
 abbrev pub admitted : List Condition → Table → Evaluation Row → Evaluation Row
 admitted checks table row = row >>= (λ r. unless (row_faults checks table r) r)
 

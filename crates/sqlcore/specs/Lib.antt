@@ -19,6 +19,7 @@ pub mod Step
 pub mod Run
 pub mod Serial
 pub mod Script
+pub mod Engine
 pub mod Sound
 pub mod Left
 pub mod WorldCode

@@ -13,7 +13,7 @@ use Rattle.typing.specs.Statement.{answered_found}
 use Rattle.denote.specs.Bag.{Permutes}
 use Rattle.denote.specs.Database.{Table, Database, IndexDeclaration, CheckReading}
 
--- What a statement stands for over a schema, or all reasons against it that hold; and the condition that a CHECK's text stands for.
+-- What a statement stands for over a schema, or the reasons that are found against it; and the condition that a CHECK's text stands for.
 pub record Rules : Type 0 where
   pub statement : Schema → Statement → Result Typed (List Refusal)
   pub check : CheckReading

@@ -15,7 +15,8 @@ use Rattle.sqlcore.specs.Rules.{Rules}
 use Rattle.sqlcore.specs.Step.{Call}
 use Rattle.sqlcore.specs.World.{Session, World, is_live, is_writer, new_session, opened, with_session}
 
--- An event, with its reply. Of a call its effect is told too: text, reply and world determine it up to the order of rows and of faults.
+-- An event, with its reply. Of a call its effect is told too: text, reply and world do not always determine it (a FETCH that is refused for want of memory
+-- may have closed its cursor or not).
 pub data Event : Type 0 where
   Makes : (made : Result ℕ Refusal) → Event
   Calls : (session : ℕ) → (text : Bytes) → (reply : Reply) → (effect : Effect) → Event

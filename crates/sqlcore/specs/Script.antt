@@ -90,3 +90,16 @@ pub record IsPlayed (rules : Rules) (old : World) (pieces : List (List ℕ)) (pr
   pub carried_out : ArePlayed rules (first_scene old) pieces replies scene
   pub text : printed ≡ printed_replies replies
   pub ended : EndsSessions scene.world (values scene.standing) new
+
+-- A script whose writer refused: the pieces up to one are carried out, and no later one; a beginning of what they print was written, and at the end the sessions that
+-- were made end.
+pub record IsStopped (rules : Rules) (old : World) (pieces : List (List ℕ)) (written : List ℕ) (new : World) : Type 0 where
+  pub done : List (List ℕ)
+  pub later : List (List ℕ)
+  pub in_order : pieces ≡ done ++ later
+  pub scene : Scene
+  pub replies : List (Option Reply)
+  pub carried_out : ArePlayed rules (first_scene old) done replies scene
+  pub unwritten : List ℕ
+  pub beginning : printed_replies replies ≡ written ++ unwritten
+  pub ended : EndsSessions scene.world (values scene.standing) new

@@ -32,7 +32,7 @@ use Rattle.sqlcore.specs.World.{Cursor, Transaction, Session}
 
 -- ---- queries
 
--- A query (13.5, 20.1): its rows, over the working database. It begins a transaction, but not where it is refused.
+-- A query (20.2): its rows, over the working database. It begins a transaction, but not where it is refused.
 pub data Queries (rules : Rules) (session : Session) (t : Transaction) (x : OrderedQuery) (reply : Reply) (effect : Effect) : Type 0 where
   wrong : (refusal : Refusal) → IsReason rules t.working (asks.Query x) refusal
       → Refuses refusal reply effect → Queries rules session t x reply effect
@@ -96,11 +96,12 @@ SetsMode session (Some t) mode reply effect = Refuses TransactionState reply eff
 
 -- ---- cursors
 
--- the greatest number of queries that a session has declared
+-- the greatest number of queries that a session has declared: our own choice
 abbrev pub most_cursors : ℕ
 most_cursors = 8
 
--- DECLARE (13.1): the session keeps the query, in place of one of that name whose cursor is not open. It begins no transaction.
+-- DECLARE (13.1): the session keeps the query. That it takes the place of one of that name whose cursor is not open, and is 24000 where it is open, is our
+-- own choice. It begins no transaction.
 pub data Declares (session : Session) (t : Transaction) (x : DeclareCursor) (reply : Reply) (effect : Effect) : Type 0 where
   open_already : is_open t x.cursor ≡ true → Refuses CursorState reply effect → Declares session t x reply effect
   too_many : is_open t x.cursor ≡ false → contains_key session.declared x.cursor ≡ false → most_cursors ≤ len session.declared

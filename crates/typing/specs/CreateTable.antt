@@ -21,7 +21,7 @@ use Rattle.typing.specs.Finding.{Finding, ◌>>=◌, also, each, invalid}
 use Rattle.typing.specs.Table.{at_most, distinct_found, is_new}
 use Rattle.typing.specs.Constraint.{declared_from, constraints_found}
 
--- VARCHAR(n) has n from 1 to 255
+-- VARCHAR(n) has n from 1 to 255: our own choice
 abbrev pub varchar : ℤ → Finding ColumnType
 varchar (pos n) = if nat_le 1 n && nat_le n 255 then Ok (Varchar n) else invalid DataType
 varchar (negsuc n) = invalid DataType

@@ -1,5 +1,6 @@
 -- What a part of a statement is found to be: what it stands for where nothing is wrong with it, and else what is wrong.
--- Where several things are wrong, each that is found is a reason; which one is shown is left open.
+-- Where several things are wrong, each that is found is a reason; which one is shown is left open. What depends on a part that is wrong is not looked at
+-- (`>>=`), and parts beside each other all are (`also`, `each`). All of this is our own choice.
 use Rattle.std.specs.Prelude.{List, [], ◌∷◌, ◌++◌, Result, Ok, Err}
 use Rattle.lexer.specs.declared.refusals.Reason.{Reason}
 use Rattle.lexer.specs.declared.refusals.Limit.{Limit}

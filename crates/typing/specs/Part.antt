@@ -1,4 +1,5 @@
--- Where an expression or a condition stands in a statement, and what is found of it there.
+-- Where an expression or a condition stands in a statement, and what is found of it there (ISO/IEC 9075:1992, 6.5, 7.6 and 7.8, for where a set function
+-- may stand).
 use Rattle.std.specs.Prelude.{ℕ, ◌+◌, List, [], ◌∷◌, ◌++◌, map, flat_map, length, Option, Some, None, Ok}
 use Rattle.std.specs.List.{zip}
 use Rattle.typing.specs.declared.typed.SetFunction.{SetFunction}

@@ -1,4 +1,4 @@
--- The tokens of each node, and the printed text of a condition.
+-- The tokens of each node, and the printed text of a condition. Our own choice.
 use Rattle.std.specs.Prelude.{ℕ, List, [], ◌∷◌, ◌++◌, map, Option, Some, None}
 use Rattle.lexer.specs.declared.kinds.Kind.TheVariants as kind
 use Rattle.lexer.specs.Printing.{text_of}

@@ -33,7 +33,7 @@ column_part column = record { name = Some column.name; functions = []; found = �
 
 -- ---- queries inside
 
--- neither the argument of a set function nor a CHECK has one: our own choice; a CHECK, which sees no other table, is not looked into further
+-- The argument of a set function has none (6.5). A CHECK has none either, which is our own choice: it sees no other table, and is not looked into further.
 abbrev pub query_seen : {A : Type 0} → Clause → Finding A → Finding A
 query_seen (Shown first) query = query
 query_seen Plain query = query

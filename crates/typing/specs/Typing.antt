@@ -39,7 +39,7 @@ use Rattle.typing.specs.SetOperator.{operation, intersection, set_chain, of_one_
 abbrev pub ExpressionPart : Type 0
 ExpressionPart = Part TypedExpression
 
--- what stands after a sign: the sign belongs to a number, and is an operator before anything else
+-- what stands after a sign: the sign belongs to a number, and is an operator before anything else: our own choice
 abbrev pub SignedPart : Type 0
 SignedPart = Option Sign → ExpressionPart
 
