@@ -28,8 +28,8 @@ use Rattle.ast.specs.Notation.{Tokens, Rule, ◌⨾◌, ◌⊲◌, Parenthesized
 use Rattle.ast.specs.Terminals.{IsName, IsAddOperator, IsMultiplyOperator, IsQuantifier, IsSetFunction, IsSign}
 use Rattle.ast.specs.Words.{LEFT_PARENTHESIS, RIGHT_PARENTHESIS}
 use Rattle.ast.specs.Expressions.{Nested, IsPrimary, IsPrimaryLayer, IsFactor, IsTerm, IsExpression}
-use Rattle.productions.specs.Readers.{next_is, is_symbol, rest_of, skip, word, symbol, after, parenthesized, made, optional}
-use Rattle.productions.specs.ReadTerminals.{quantifier, set_function, count_rows, column, is_set_word, is_operator, begins_query, opens_query}
+use Rattle.terminals.specs.Readers.{next_is, is_symbol, rest_of, skip, word, symbol, after, parenthesized, made, optional}
+use Rattle.terminals.specs.ReadTerminals.{quantifier, set_function, count_rows, column, is_set_word, is_operator, begins_query, opens_query}
 use Rattle.productions.specs.ReadExpressions.{Inner, argument, aggregate, in_parentheses, constant_or_column, primary, factor, multiplied, term, added, expression}
 use Rattle.parser.specs.Shallow.{is_shallow}
 use Rattle.parser.proofs.Steps.{not_word, not_symbol}

@@ -7,8 +7,8 @@ use Rattle.ast.specs.declared.tree.Condition.{Condition}
 use Rattle.ast.specs.Notation.{Tokens, Rule}
 use Rattle.ast.specs.Words.{RIGHT_PARENTHESIS, SEMICOLON}
 use Rattle.ast.specs.Grammar.{nested_at, IsText, IsConditionText}
-use Rattle.productions.specs.Readers.{Reader}
-use Rattle.productions.specs.ReadStatements.{text, condition_text, is_end}
+use Rattle.terminals.specs.Readers.{Reader}
+use Rattle.statements.specs.ReadStatements.{text, condition_text, is_end}
 use Rattle.productions.specs.Levels.{inner_at}
 use Rattle.parser.specs.Shallow.{is_shallow}
 use Rattle.parser.specs.Trees.{HasStatement, HasCondition}

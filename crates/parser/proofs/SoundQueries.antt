@@ -26,8 +26,8 @@ use Rattle.ast.specs.Queries.{is_lone, IsTableSource, IsJoin, IsTableReference, 
 use Rattle.ast.specs.Terminals.{IsSetOperator}
 use Rattle.ast.specs.Words.{CROSS, FROM, JOIN, LEFT, ON}
 use Rattle.productions.specs.declared.query.Clauses.{Clauses}
-use Rattle.productions.specs.Readers.{next_is, is_symbol, both, many}
-use Rattle.productions.specs.ReadTerminals.{set_operator}
+use Rattle.terminals.specs.Readers.{next_is, is_symbol, both, many}
+use Rattle.terminals.specs.ReadTerminals.{set_operator}
 use Rattle.productions.specs.ReadExpressions.{Inner}
 use Rattle.productions.specs.ReadQueries.{begins_join, join_ahead, table_source, on, joined, crossed, left, inner_join, join, table_reference, select_item, select_items, filter, groups, having, clauses, tables, selected, select, operand, intersected, addend, united, query}
 use Rattle.parser.proofs.Steps.{bind_some, found}

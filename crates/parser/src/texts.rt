@@ -8,16 +8,17 @@ ghost use Rattle.ast.specs.declared.tree.Condition.{Condition};
 ghost use Rattle.lexer.specs.declared.refusals.Reason.TheVariants.{Syntax};
 ghost use Rattle.lexer.specs.declared.refusals.Refusal.TheVariants.{Exceeded, Invalid, Memory};
 ghost use Rattle.lexer.specs.declared.refusals.Limit.TheVariants.{Chain, Nesting};
-ghost use Rattle.productions.specs.Readers.{kinds, GivesAll};
-ghost use Rattle.productions.specs.ReadStatements as statements;
+ghost use Rattle.terminals.specs.Readers.{kinds, GivesAll};
+ghost use Rattle.statements.specs.ReadStatements as statements;
 ghost use Rattle.parser.specs.Shallow.{is_shallow};
 ghost use Rattle.parser.specs.Trees.{HasStatement, HasCondition};
 ghost use Rattle.productions.specs.Levels.{inner_at};
 
 use ast::{Condition, Statement};
 use lexer::{Limit, Reason, Refusal, Symbol, Token};
-use productions::{ParseError, Statements, is_symbol};
+use statements::Statements;
 use std::alloc::Global;
+use terminals::{ParseError, is_symbol};
 
 /// How many parentheses may be open at once.
 pub const MAXIMUM_NESTING: usize = 64;

@@ -7,8 +7,8 @@ use Rattle.std.specs.Prelude.{List}
 use Rattle.ast.specs.declared.tree.Condition.{Condition}
 use Rattle.ast.specs.declared.tree.Expression.{Expression}
 use Rattle.ast.specs.declared.tree.Query.{Query}
-use Rattle.productions.specs.declared.error.ParseError.{ParseError}
-use Rattle.productions.specs.Readers.{Reader, ReadsBy}
+use Rattle.terminals.specs.declared.error.ParseError.{ParseError}
+use Rattle.terminals.specs.Readers.{ReadsBy}
 use Rattle.productions.specs.ReadExpressions.{Inner, expression, condition}
 use Rattle.productions.specs.ReadQueries.{query}
 

@@ -1,6 +1,5 @@
 -- How expressions and conditions are read.
-use Rattle.std.specs.Prelude.{ℕ, Bool, if◌then◌else◌, List, [], ◌∷◌, Option, Some, None}
-use Rattle.lexer.specs.declared.kinds.Kind.TheVariants as kind
+use Rattle.std.specs.Prelude.{ℕ, Bool, if◌then◌else◌, [], Option, Some}
 use Rattle.lexer.specs.declared.kinds.Symbol.TheVariants as s
 use Rattle.lexer.specs.declared.words.Word.TheVariants as w
 use Rattle.ast.specs.declared.operator.AddOperator.{AddOperator}
@@ -20,9 +19,9 @@ use Rattle.ast.specs.declared.tree.Primary.TheVariants as primary_of
 use Rattle.ast.specs.declared.tree.Query.{Query}
 use Rattle.ast.specs.declared.tree.Term.{Term, roll-Term}
 use Rattle.ast.specs.declared.tree.Test.{Test, roll-Test}
-use Rattle.productions.specs.Readers.{Outcome, Reader, ◌>>=◌, if_next, is_word, is_symbol, next_is, word, symbol, eat_word, both, after, before, parenthesized, made, many, listed, optional, written}
-use Rattle.productions.specs.ReadTerminals.{add_operator, multiply_operator, sign, comparison, quantifier, set_function, count_rows, truth_test, is_string, is_number, string, literal, column, opens_query, opens_subquery, opens_condition}
-use Rattle.productions.specs.Readers.{number}
+use Rattle.terminals.specs.Readers.{Reader, ◌>>=◌, if_next, is_symbol, next_is, word, eat_word, both, after, before, parenthesized, made, many, listed, optional, written}
+use Rattle.terminals.specs.ReadTerminals.{add_operator, multiply_operator, sign, comparison, quantifier, set_function, count_rows, truth_test, is_string, is_number, string, literal, column, opens_query, opens_subquery, opens_condition}
+use Rattle.terminals.specs.Readers.{number}
 
 -- the readers of what stands between parentheses
 pub record Inner : Type 0 where

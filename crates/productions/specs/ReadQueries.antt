@@ -2,7 +2,6 @@
 use Rattle.std.specs.Prelude.{ℕ, Bool, ◌||◌, if◌then◌else◌, List, [], Option, Some, None}
 use Rattle.lexer.specs.declared.kinds.Symbol.TheVariants as s
 use Rattle.lexer.specs.declared.words.Word.TheVariants as w
-use Rattle.ast.specs.declared.operator.Alias.{Alias}
 use Rattle.ast.specs.declared.operator.Column.{Column}
 use Rattle.ast.specs.declared.operator.SetOperator.{SetOperator}
 use Rattle.ast.specs.declared.tree.Addend.{Addend, roll-Addend, out-Addend}
@@ -20,8 +19,8 @@ use Rattle.ast.specs.declared.tree.TableSource.TheVariants as source_of
 use Rattle.productions.specs.declared.query.Clauses.{Clauses}
 use Rattle.ast.specs.Notation.{Tokens}
 use Rattle.ast.specs.Queries.{is_lone}
-use Rattle.productions.specs.Readers.{Outcome, Reader, ◌>>=◌, if_next, is_word, is_symbol, next_is, word, symbol, name, both, after, parenthesized, made, many, listed, optional, maybe, maybe_listed, written}
-use Rattle.productions.specs.ReadTerminals.{quantifier, set_operator, intersect, column, alias, may_alias}
+use Rattle.terminals.specs.Readers.{Reader, ◌>>=◌, if_next, is_word, is_symbol, next_is, word, symbol, name, both, after, parenthesized, made, many, listed, optional, maybe, maybe_listed, written}
+use Rattle.terminals.specs.ReadTerminals.{quantifier, set_operator, intersect, column, alias, may_alias}
 use Rattle.productions.specs.ReadExpressions.{Inner, expression, condition}
 
 -- whether a join comes next

@@ -1,32 +1,46 @@
 //! Conditions.
 
-ghost use Rattle.productions.specs.Readers.{kinds, Gives};
-ghost use Rattle.productions.specs.Readers as read;
-ghost use Rattle.productions.specs.ReadTerminals as terminals;
+ghost use Rattle.terminals.specs.Readers.{kinds, Finds, Gives};
+ghost use Rattle.terminals.specs.Readers as read;
+ghost use Rattle.terminals.specs.ReadTerminals as terminals;
 ghost use Rattle.productions.specs.ReadExpressions as expressions;
 ghost use Rattle.lexer.specs.declared.words.Word.TheVariants as w;
 ghost use Rattle.productions.specs.Levels.{inner_at, Nests};
 
-use crate::cursor::{after_word, eat_word, word};
-use crate::error::ParseError;
-use crate::lists::{listed, many, paired, parenthesized};
 use crate::rules::Rules;
-use crate::terminals::{and, comparison, literal, opens_condition, opens_subquery, or, truth_test};
 use ast::{
     Comparison, Condition, Conjunction, Expression, Literal, Negation, Predicate, Query, Test,
 };
-use items::{Boxed, Items};
+use items::Items;
 use lexer::{Token, Word};
 use std::alloc::Global;
+use terminals::{
+    ParseError, after_word, boxed, comparison, eat_word, listed, literal, many, opens_condition,
+    opens_subquery, paired, parenthesized, truth_test, word,
+};
 
 /// `[NOT] NULL`
-#[tactic(auto, unfolding(crate::specs::Readers::word))]
+#[tactic(auto, unfolding(terminals::specs::Readers::word))]
 fn null_test(tokens: &[Token]) -> Result<(bool, &[Token]), ParseError>
     ensures { Gives result (read.before (read.written w.Not) (read.word w.Null) (kinds tokens.now)) }
 {
     let (is_negated, rest) = eat_word(Word::Not, tokens);
     let rest = word(Word::Null, rest)?;
     Ok((is_negated, rest))
+}
+
+/// What follows AND, if it comes next.
+fn and(tokens: &[Token]) -> Option<((), &[Token])>
+    ensures { Finds result (read.word w.And (kinds tokens.now)) }
+{
+    after_word(Word::And, tokens).map(|rest| ((), rest))
+}
+
+/// What follows OR, if it comes next.
+fn or(tokens: &[Token]) -> Option<((), &[Token])>
+    ensures { Finds result (read.word w.Or (kinds tokens.now)) }
+{
+    after_word(Word::Or, tokens).map(|rest| ((), rest))
 }
 
 impl<
@@ -64,7 +78,7 @@ impl<
     }
 
     /// `AND expr`
-    #[tactic(auto, unfolding(crate::specs::Readers::word))]
+    #[tactic(auto, unfolding(terminals::specs::Readers::word))]
     fn upper_bound<'a>(&self, tokens: &'a [Token]) -> Result<(Expression, &'a [Token]), ParseError>
         requires { Nests self.now.limit self.now.depth (E.pre self.now.expression) (E.post self.now.expression) (C.pre self.now.condition) (C.post self.now.condition) (Q.pre self.now.query) (Q.post self.now.query) }
         ensures { Gives result (read.after (read.word w.And) (expressions.expression self.now.limit (inner_at self.now.limit self.now.depth)) (kinds tokens.now)) }
@@ -129,7 +143,7 @@ impl<
     }
 
     /// `LIKE expr`
-    #[tactic(auto, unfolding(crate::specs::Readers::word))]
+    #[tactic(auto, unfolding(terminals::specs::Readers::word))]
     fn pattern<'a>(&self, tokens: &'a [Token]) -> Result<(Expression, &'a [Token]), ParseError>
         requires { Nests self.now.limit self.now.depth (E.pre self.now.expression) (E.post self.now.expression) (C.pre self.now.condition) (C.post self.now.condition) (Q.pre self.now.query) (Q.post self.now.query) }
         ensures { Gives result (read.after (read.word w.Like) (expressions.expression self.now.limit (inner_at self.now.limit self.now.depth)) (kinds tokens.now)) }
@@ -209,8 +223,9 @@ impl<
         requires { Nests self.now.limit self.now.depth (E.pre self.now.expression) (E.post self.now.expression) (C.pre self.now.condition) (C.post self.now.condition) (Q.pre self.now.query) (Q.post self.now.query) }
         ensures { Gives result (expressions.nested self.now.limit (inner_at self.now.limit self.now.depth) (kinds tokens.now)) }
     {
-        let (inside, rest) = parenthesized(|at| self.inner_condition(at), tokens)?;
-        Ok((Predicate::Nested(Boxed::new(self.alloc, inside)?), rest))
+        let inside = parenthesized(|at| self.inner_condition(at), tokens);
+        let (inside, rest) = boxed(self.alloc, inside)?;
+        Ok((Predicate::Nested(inside), rest))
     }
 
     /// `( cond ) | predicate`

@@ -1,15 +1,16 @@
 //! The three rules that recursion goes through.
 
-ghost use Rattle.productions.specs.Readers.{kinds, Gives};
+ghost use Rattle.terminals.specs.Readers.{kinds, Gives};
 ghost use Rattle.productions.specs.Levels.{inner_at};
 
-use crate::error::ParseError;
 use crate::rules::Rules;
 use ast::{Condition, Expression, Query};
 use lexer::Token;
 use std::alloc::Global;
+use terminals::ParseError;
 
-/// An expression with parentheses nested less than `depth` deep, and at most `limit` operands in a chain.
+/// An expression with parentheses nested less than `depth` deep, and at most `limit` operands in a chain. Refuses
+/// tokens that begin with none such, and for want of memory.
 #[cycle(parser)]
 pub fn expression(
     alloc: Global,
@@ -33,7 +34,8 @@ pub fn expression(
     rules.expression(tokens)
 }
 
-/// A condition with parentheses nested less than `depth` deep, and at most `limit` operands in a chain.
+/// A condition with parentheses nested less than `depth` deep, and at most `limit` operands in a chain. Refuses
+/// tokens that begin with none such, and for want of memory.
 #[cycle(parser)]
 pub fn condition(
     alloc: Global,
@@ -57,7 +59,8 @@ pub fn condition(
     rules.condition(tokens)
 }
 
-/// A query with parentheses nested less than `depth` deep, and at most `limit` operands in a chain.
+/// A query with parentheses nested less than `depth` deep, and at most `limit` operands in a chain. Refuses
+/// tokens that begin with none such, and for want of memory.
 #[cycle(parser)]
 pub fn query(
     alloc: Global,

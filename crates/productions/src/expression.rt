@@ -1,17 +1,10 @@
 //! Expressions.
 
-ghost use Rattle.productions.specs.Readers.{kinds, Gives};
+ghost use Rattle.terminals.specs.Readers.{kinds, Gives};
 ghost use Rattle.productions.specs.ReadExpressions as expressions;
 ghost use Rattle.productions.specs.Levels.{inner_at, Nests};
 
-use crate::cursor::{next_is_symbol, number, symbol};
-use crate::error::ParseError;
-use crate::lists::{many, paired, parenthesized};
 use crate::rules::Rules;
-use crate::terminals::{
-    add_operator, column, count_rows, may_quantifier, may_sign, multiply_operator, next_is_number,
-    next_is_string, opens_query, set_function, string,
-};
 use ast::{
     AddOperator, Condition, Expression, Factor, MultiplyOperator, Primary, Quantifier, Query,
     SetFunction, Term,
@@ -19,6 +12,11 @@ use ast::{
 use items::{Boxed, Items};
 use lexer::{Symbol, Token};
 use std::alloc::Global;
+use terminals::{
+    ParseError, add_operator, boxed, column, count_rows, many, may_quantifier, may_sign,
+    multiply_operator, next_is_number, next_is_string, next_is_symbol, number, opens_query, paired,
+    parenthesized, set_function, string, symbol,
+};
 
 impl<
     E: Fn(Global, Option<usize>, usize, &[Token]) -> Result<(Expression, &[Token]), ParseError>,
@@ -30,13 +28,13 @@ impl<
     fn argument<'a>(
         &self,
         tokens: &'a [Token],
-    ) -> Result<((Option<Quantifier>, Expression), &'a [Token]), ParseError>
+    ) -> Result<((Option<Quantifier>, Boxed<Expression>), &'a [Token]), ParseError>
         requires { Nests self.now.limit self.now.depth (E.pre self.now.expression) (E.post self.now.expression) (C.pre self.now.condition) (C.post self.now.condition) (Q.pre self.now.query) (Q.post self.now.query) }
         ensures { Gives result (expressions.argument self.now.limit (inner_at self.now.limit self.now.depth) (kinds tokens.now)) }
     {
         let (quantifier, rest) = may_quantifier(tokens);
-        let (argument, rest) = self.inner_expression(rest)?;
-        Ok(((quantifier, argument), rest))
+        let argument = boxed(self.alloc, self.inner_expression(rest));
+        paired(quantifier, argument)
     }
 
     /// What follows a set function's name.
@@ -50,7 +48,6 @@ impl<
         ensures { Gives result (expressions.aggregate self.now.limit (inner_at self.now.limit self.now.depth) function (kinds tokens.now)) }
     {
         let ((quantifier, argument), rest) = parenthesized(|at| self.argument(at), tokens)?;
-        let argument = Boxed::new(self.alloc, argument)?;
         Ok((Primary::Aggregate(function, quantifier, argument), rest))
     }
 
@@ -64,11 +61,9 @@ impl<
             let (query, rest) = self.query_in_parentheses(tokens)?;
             Ok((Primary::Subquery(query), rest))
         } else {
-            let (inside, rest) = parenthesized(|at| self.inner_expression(at), tokens)?;
-            Ok((
-                Primary::Parenthesized(Boxed::new(self.alloc, inside)?),
-                rest,
-            ))
+            let inside = parenthesized(|at| self.inner_expression(at), tokens);
+            let (inside, rest) = boxed(self.alloc, inside)?;
+            Ok((Primary::Parenthesized(inside), rest))
         }
     }
 
@@ -145,7 +140,7 @@ impl<
         let (first, rest) = self.factor(tokens)?;
         let others = many(
             self.limit,
-            multiply_operator,
+            |at| multiply_operator(at),
             |operator, at| self.multiplied(operator, at),
             Items::new(self.alloc),
             rest,
@@ -180,7 +175,7 @@ impl<
         let (first, rest) = self.term(tokens)?;
         let others = many(
             self.limit,
-            add_operator,
+            |at| add_operator(at),
             |operator, at| self.added(operator, at),
             Items::new(self.alloc),
             rest,

@@ -2,16 +2,12 @@
 
 ghost use Rattle.std.specs.Prelude.{◌≡◌};
 ghost use Rattle.ast.specs.Queries.{is_grouped, is_lone};
-ghost use Rattle.productions.specs.Readers.{kinds, Gives};
+ghost use Rattle.terminals.specs.Readers.{kinds, Gives};
 ghost use Rattle.ast.specs.declared.tree.Addend.{out-Addend};
 ghost use Rattle.productions.specs.ReadQueries as queries;
 ghost use Rattle.productions.specs.Levels.{inner_at, Nests};
 
-use crate::cursor::{after_word, next_is_symbol, word};
-use crate::error::ParseError;
-use crate::lists::{listed, many, paired};
 use crate::rules::Rules;
-use crate::terminals::{column, intersect, may_quantifier, set_operator};
 use ast::{
     Addend, Column, Condition, Expression, Operand, Query, Select, SelectItem, SetOperator,
     TableReference,
@@ -19,6 +15,10 @@ use ast::{
 use items::{Boxed, Items};
 use lexer::{Symbol, Token, Word};
 use std::alloc::Global;
+use terminals::{
+    ParseError, after_word, boxed, column, intersect, listed, many, may_quantifier, next_is_symbol,
+    paired, set_operator, word,
+};
 
 fn is_grouped(operand: &Operand) -> bool
     ensures { result ≡ is_grouped operand.now }
@@ -61,8 +61,8 @@ impl<
         match after_word(Word::Where, tokens) {
             None => Ok((None, tokens)),
             Some(rest) => {
-                let (condition, rest) = self.condition(rest)?;
-                Ok((Some(Boxed::new(self.alloc, condition)?), rest))
+                let (condition, rest) = boxed(self.alloc, self.condition(rest))?;
+                Ok((Some(condition), rest))
             }
         }
     }
@@ -94,8 +94,8 @@ impl<
         match after_word(Word::Having, tokens) {
             None => Ok((None, tokens)),
             Some(rest) => {
-                let (condition, rest) = self.condition(rest)?;
-                Ok((Some(Boxed::new(self.alloc, condition)?), rest))
+                let (condition, rest) = boxed(self.alloc, self.condition(rest))?;
+                Ok((Some(condition), rest))
             }
         }
     }
@@ -186,8 +186,8 @@ impl<
             let (query, rest) = self.query_in_parentheses(tokens)?;
             Ok((Operand::Grouped(query), rest))
         } else {
-            let (select, rest) = self.select(tokens)?;
-            Ok((Operand::Select(Boxed::new(self.alloc, select)?), rest))
+            let (select, rest) = boxed(self.alloc, self.select(tokens))?;
+            Ok((Operand::Select(select), rest))
         }
     }
 
@@ -215,7 +215,7 @@ impl<
         let found = Items::new(self.alloc);
         let others = many(
             self.limit,
-            intersect,
+            |at| intersect(at),
             |all, at| self.intersected(all, at),
             found,
             rest,
@@ -248,7 +248,7 @@ impl<
         let found = Items::new(self.alloc);
         let others = many(
             self.limit,
-            set_operator,
+            |at| set_operator(at),
             |operator, at| self.united(operator, at),
             found,
             rest,

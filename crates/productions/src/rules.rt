@@ -1,15 +1,14 @@
 //! The rules of the grammar over function values that read what stands between parentheses.
 
-ghost use Rattle.productions.specs.Readers.{kinds, Gives};
-ghost use Rattle.productions.specs.Readers as read;
+ghost use Rattle.terminals.specs.Readers.{kinds, Gives};
+ghost use Rattle.terminals.specs.Readers as read;
 ghost use Rattle.productions.specs.Levels.{inner_at, Nests};
 
-use crate::error::ParseError;
-use crate::lists::parenthesized;
 use ast::{Condition, Expression, Query};
 use items::Boxed;
 use lexer::Token;
 use std::alloc::Global;
+use terminals::{ParseError, boxed, parenthesized};
 
 /// The rules, where the function values read what stands between parentheses: that is nested less than `depth` deep,
 /// and no chain in it has more than `limit` operands. So all recursion goes through these three.
@@ -66,7 +65,6 @@ impl<
         requires { Nests self.now.limit self.now.depth (E.pre self.now.expression) (E.post self.now.expression) (C.pre self.now.condition) (C.post self.now.condition) (Q.pre self.now.query) (Q.post self.now.query) }
         ensures { Gives result (read.parenthesized (inner_at self.now.limit self.now.depth).query (kinds tokens.now)) }
     {
-        let (query, rest) = parenthesized(|at| self.inner_query(at), tokens)?;
-        Ok((Boxed::new(self.alloc, query)?, rest))
+        boxed(self.alloc, parenthesized(|at| self.inner_query(at), tokens))
     }
 }

@@ -1,19 +1,19 @@
 //! The tables of a query, and what it selects.
 
 ghost use Rattle.std.specs.Prelude.{◌≡◌};
-ghost use Rattle.productions.specs.Readers.{kinds, Finds, Gives};
+ghost use Rattle.terminals.specs.Readers.{kinds, Finds, Gives};
 ghost use Rattle.productions.specs.ReadQueries as queries;
 ghost use Rattle.productions.specs.Levels.{inner_at, Nests};
 
-use crate::cursor::{after_symbol, after_word, eat_word, name, next_is_symbol, next_is_word, word};
-use crate::error::ParseError;
-use crate::lists::{listed, many, paired};
 use crate::rules::Rules;
-use crate::terminals::{alias, may_alias};
 use ast::{Condition, Expression, Join, Query, SelectItem, TableReference, TableSource};
 use items::{Boxed, Items};
 use lexer::{Symbol, Token, Word};
 use std::alloc::Global;
+use terminals::{
+    ParseError, after_symbol, after_word, alias, boxed, eat_word, listed, many, may_alias, name,
+    next_is_symbol, next_is_word, paired, word,
+};
 
 fn begins_join(tokens: &[Token]) -> bool
     ensures { result ≡ queries.begins_join (kinds tokens.now) }
@@ -66,8 +66,7 @@ impl<
         ensures { Gives result (queries.on self.now.limit (inner_at self.now.limit self.now.depth) (kinds tokens.now)) }
     {
         let rest = word(Word::On, tokens)?;
-        let (condition, rest) = self.condition(rest)?;
-        Ok((Boxed::new(self.alloc, condition)?, rest))
+        boxed(self.alloc, self.condition(rest))
     }
 
     /// `JOIN source1 ON cond`

@@ -14,7 +14,7 @@ use Rattle.ast.specs.Grammar.{IsText, IsConditionText}
 use Rattle.ast.specs.Nesting.{IsNestedWithin}
 use Rattle.ast.specs.Notation.{Tokens}
 use Rattle.ast.specs.Words.{SEMICOLON}
-use Rattle.productions.specs.Readers.{kinds}
+use Rattle.terminals.specs.Readers.{kinds}
 use Rattle.printer.specs.Printed.{IsTextOf, IsConditionTextOf, BeginsWithCondition}
 
 -- the front of tokens nests no deeper than all of them

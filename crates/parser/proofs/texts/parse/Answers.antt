@@ -2,8 +2,8 @@ use Rattle.std.proofs.Common.{rules, arith, ◌≡◌, true, false, Some, None, 
 use Rattle.lexer.specs.declared.refusals.Reason.TheVariants.{Syntax}
 use Rattle.lexer.specs.declared.refusals.Refusal.TheVariants.{Exceeded, Invalid}
 use Rattle.lexer.specs.declared.refusals.Limit.TheVariants.{Chain, Nesting}
-use Rattle.productions.specs.Readers.{kinds}
-use Rattle.productions.specs.ReadStatements.{text}
+use Rattle.terminals.specs.Readers.{kinds}
+use Rattle.statements.specs.ReadStatements.{text}
 use Rattle.productions.specs.Levels.{inner_at}
 use Rattle.parser.specs.Shallow.{is_shallow}
 use Rattle.parser.proofs.Nested.{shallow_nested, nested_shallow}

@@ -1,8 +1,8 @@
 use Rattle.std.proofs.Common.{◌≡◌, None}
-use Rattle.productions.specs.Readers.{kinds}
-use Rattle.productions.specs.ReadStatements.{text}
+use Rattle.terminals.specs.Readers.{kinds}
+use Rattle.statements.specs.ReadStatements.{text}
 use Rattle.productions.specs.Levels.{inner_at}
-use Rattle.productions.specs.declared.error.ParseError.TheVariants as error
+use Rattle.terminals.specs.declared.error.ParseError.TheVariants as error
 use Rattle.parser.proofs.Found.{text_found}
 use Rattle.parser.proofs.AgainText.{text_none}
 use Rattle.parser.proofs.texts.statement_refusal.Goals as goal
