@@ -7,3 +7,4 @@ pub mod Queries
 pub mod Statements
 pub mod Grammar
 pub mod Nesting
+pub mod Parts

@@ -1,13 +1,13 @@
 -- What is printed has the tokens of the tree, and these are parsed to it.
-use Rattle.std.proofs.Common.{◌≡◌, ◌⊎◌, ℕ, List, [], ◌∷◌, ◌++◌, Result, Ok, Err, Some, None, refl, sym, ap, ◌∙◌, subst, inl, inr, append_assoc}
+use Rattle.std.proofs.Common.{◌≡◌, ◌⊎◌, List, [], ◌∷◌, ◌++◌, Result, Ok, Err, Some, refl, sym, ap, ◌∙◌, subst, inl, inr, append_assoc}
 use Rattle.std.specs.Prelude.{◌↔◌, MatchResult}
 use Rattle.lexer.specs.declared.kinds.Token.{Token}
 use Rattle.lexer.specs.declared.refusals.Refusal.{Refusal}
 use Rattle.lexer.specs.declared.refusals.Refusal.TheVariants.{Memory, Exceeded}
 use Rattle.lexer.specs.declared.refusals.Limit.TheVariants.{Nesting}
-use Rattle.lexer.specs.Printing.{AreUnsigned, HasKinds}
+use Rattle.lexer.specs.Printing.{AreUnsigned}
 use Rattle.lexer.specs.Token.{Bytes}
-use Rattle.lexer.specs.Tokens.{AreTokens, kinds_of}
+use Rattle.lexer.specs.Tokens.{kinds_of}
 use Rattle.ast.specs.declared.statement.Statement.{Statement}
 use Rattle.ast.specs.declared.tree.Condition.{Condition}
 use Rattle.ast.specs.Grammar.{IsText, IsConditionText}

@@ -7,6 +7,7 @@ ghost use Rattle.lexer.specs.Printing.{AreUnsigned};
 ghost use Rattle.ast.specs.Grammar.{IsText};
 ghost use Rattle.ast.specs.Nesting.{IsNestedWithin};
 ghost use Rattle.ast.specs.Notation.{Tokens};
+ghost use Rattle.ast.specs.Parts.{StandsIn};
 ghost use Rattle.printer.specs.Printed.{BeginsWithCondition};
 
 use ast::{Condition, Statement};
@@ -30,11 +31,14 @@ pub fn read_again(alloc: Global, statement: &Statement) -> Result<Statement, Ref
 
 /// Prints a condition, and reads what is printed: how a CHECK is stored and read again.
 ///
-/// A condition that stands in a statement comes out as it was, if memory suffices: where it stands, tokens begin
-/// with it.
+/// It comes out as it was, if memory suffices, where tokens that nest within the limit and have no number below 0
+/// begin with it (`begins`). So does each condition that stands, at any depth, inside a statement that `parse` gave
+/// for the tokens of a text (`inside`).
 pub fn read_condition_again(alloc: Global, condition: &Condition) -> Result<Condition, Refusal>
-    ensures { (kinds rest : Tokens) → AreUnsigned kinds → IsNestedWithin 64 kinds → BeginsWithCondition (Some 64) kinds condition.now rest
+    ensures begins { (kinds rest : Tokens) → AreUnsigned kinds → IsNestedWithin 64 kinds → BeginsWithCondition (Some 64) kinds condition.now rest
         → MatchResult result (λ again. again ≡ condition.now) (λ refusal. refusal ≡ Memory) }
+    ensures inside { (statement : Statement) (kinds : Tokens) → AreUnsigned kinds → IsNestedWithin 64 kinds → IsText (Some 64) kinds statement
+        → StandsIn condition.now statement → MatchResult result (λ again. again ≡ condition.now) (λ refusal. refusal ≡ Memory) }
 {
     let text = print_condition(alloc, condition)?;
     let found = tokens(alloc, text.as_slice())?;
