@@ -21,3 +21,4 @@ pub mod Played
 pub mod Rollbacks
 pub mod Stored
 pub mod KnownSessions
+pub mod ReadTexts

@@ -1,11 +1,15 @@
 -- What a core holds, as its callers see it, and what its calls leave.
-use Rattle.std.specs.Prelude.{◌≡◌, ◌⊎◌, ℕ, ◌+◌, List, slice_get, Option, Some, None}
+use Rattle.std.specs.Prelude.{◌≡◌, ◌≢◌, ◌⊎◌, ℕ, ◌+◌, List, slice_get, Option, Some, None}
+use Rattle.lexer.specs.declared.refusals.Refusal.TheVariants.{Memory}
+use Rattle.lexer.specs.Token.{Bytes}
+use Rattle.ast.specs.declared.statement.Statement.{Statement}
 use Rattle.sqlcore.specs.declared.engine.Core.{Core}
 use Rattle.sqlcore.specs.declared.engine.SessionId.{SessionId}
 use Rattle.sqlcore.specs.declared.reply.Reply.{Reply}
 use Rattle.sqlcore.specs.declared.reply.Reply.TheVariants as says
 use Rattle.sqlcore.specs.declared.store.Store.{Store}
 use Rattle.sqlcore.specs.Contents.{Contents, no_contents, contents, kept}
+use Rattle.sqlcore.specs.Reading.{IsRead, IsUnread}
 
 -- the tables as the session sees them, and as they are committed
 abbrev pub contents_of : {D : Type 0} → Core D → Contents
@@ -67,6 +71,14 @@ abbrev pub Leaves : {D : Type 0} → Core D → Reply → Core D → Type 0
 Leaves old (says.Refused refusal) new = IsUnchanged old new
 Leaves old (says.Rows rows) new = IsUnchanged old new
 Leaves old reply new = SameSessions old new × ((kept_of new ≡ kept_of old) ⊎ HasCommitted old new)
+
+-- A text that is no statement is refused: for want of memory, or by the first refusal of its reading.
+abbrev pub IsNoStatement : Bytes → Type 0
+IsNoStatement text = (x : Statement) → IsRead text x → ⊥
+
+abbrev pub RefusesUnread : Bytes → Reply → Type 0
+RefusesUnread text (says.Refused refusal) = refusal ≢ Memory → IsUnread text refusal
+RefusesUnread text reply = ⊥
 
 -- ---- sessions
 

@@ -45,7 +45,9 @@ impl<D: Disk> Core<D> {
     ghost use Rattle.lexer.specs.declared.refusals.Limit.TheVariants.{Sessions};
     ghost use Rattle.lexer.specs.declared.refusals.Reason.TheVariants as reason;
     ghost use Rattle.lexer.specs.declared.refusals.Refusal.TheVariants.{Exceeded, Invalid};
-    ghost use Rattle.sqlcore.specs.Held.{session_of, sessions_made, device_of, IsNew, HasMade, HasEnded, HasRolledBack, IsUnchanged, Leaves};
+    ghost use Rattle.lexer.specs.declared.refusals.Refusal.TheVariants as refusals;
+    ghost use Rattle.sqlcore.specs.Held.{session_of, sessions_made, device_of, IsNew, HasMade, HasEnded, HasRolledBack, IsNoStatement, IsUnchanged, Leaves, RefusesUnread};
+    ghost use Rattle.sqlcore.specs.Reading.{IsUnread};
     ghost use Rattle.sqlcore.specs.Step.{IsRollback};
 
     /// A new database on a device of length 0, without tables and sessions, over a pool of `frames` pages.
@@ -82,13 +84,16 @@ impl<D: Disk> Core<D> {
     }
 
     /// Carries out a statement of this session, and answers its reply. After a refusal tables, transaction
-    /// and session are as before. A call of a session that has ended is refused by `session`.
+    /// and session are as before. A call of a session that has ended is refused by `session`. A text that is no
+    /// statement is refused by the first thing that is wrong with it: its length, its tokens, a word that is not
+    /// supported, its nesting, its grammar; or for want of memory.
     ///
     /// ROLLBACK takes no memory and always succeeds.
     pub fn step(&mut self, session: SessionId, text: &[u8]) -> Reply
         ensures leaves { Leaves self.old result self.new }
         ensures rolled_back { IsRollback text.now → session_of self.old ≡ Some session → (result ≡ Reply.Done) × HasRolledBack self.old self.new }
         ensures ended { session_of self.old ≢ Some session → result ≡ Reply.Refused (Invalid reason.Session) }
+        ensures unread { session_of self.old ≡ Some session → IsNoStatement text.now → RefusesUnread text.now result }
     {
         if !self.is_standing(session) {
             return Reply::Refused(Refusal::Invalid(Reason::Session));
@@ -150,7 +155,8 @@ impl<D: Disk> Core<D> {
 
     /// The reply of any statement but ROLLBACK.
     fn execute(&mut self, text: &[u8]) -> Result<Reply, Refusal>
-        ensures { MatchResult result (λ reply. Leaves self.old reply self.new) (λ _. IsUnchanged self.old self.new) }
+        ensures leaves { MatchResult result (λ reply. Leaves self.old reply self.new) (λ _. IsUnchanged self.old self.new) }
+        ensures unread { IsNoStatement text.now → MatchResult result (λ _. ⊥) (λ refusal. refusal ≢ refusals.Memory → IsUnread text.now refusal) }
     {
         let statement = read_statement(self.alloc, text)?;
         match resolve(self.alloc, statement, self.store.schema())? {

@@ -1,6 +1,9 @@
 //! A statement's way from its text to its reply.
-ghost use Rattle.std.specs.Prelude.{MatchResult};
+ghost use Rattle.std.specs.Prelude.{◌≡◌, ◌≢◌, IfErr, IfOk, MatchResult};
+ghost use Rattle.ast.specs.declared.statement.Statement.{Statement as Tree};
+ghost use Rattle.lexer.specs.declared.refusals.Refusal.TheVariants.{Memory};
 ghost use Rattle.sqlcore.specs.Held.{SameTables, LeavesTables};
+ghost use Rattle.sqlcore.specs.Reading.{IsRead, IsUnread};
 
 use crate::engine::LONGEST_STATEMENT;
 use crate::reply::Reply;
@@ -15,7 +18,11 @@ use std::alloc::Global;
 use typing::{Change, CreateTable, Insert, InsertSource, OrderedQuery};
 
 /// The statement of a text: its length is looked at first, then its tokens, its words and its grammar.
-pub(crate) fn read_statement(alloc: Global, text: &[u8]) -> Result<Statement, Refusal> {
+pub(crate) fn read_statement(alloc: Global, text: &[u8]) -> Result<Statement, Refusal>
+    ensures read { IfOk result (λ x. IsRead text.now x) }
+    ensures unread { IfErr result (λ refusal. refusal ≢ Memory → IsUnread text.now refusal) }
+    ensures only { (x : Tree) → IsRead text.now x → MatchResult result (λ found. found ≡ x) (λ refusal. refusal ≡ Memory) }
+{
     if text.len() > LONGEST_STATEMENT {
         return Err(Refusal::Exceeded(Limit::Statement));
     }
