@@ -1,6 +1,6 @@
 -- What the steps from a text to its statement say together.
 use Rattle.std.proofs.Common.{◌≡◌, ◌≢◌, ◌⊎◌, ℕ, ◌+◌, ◌≤◌, ◌<◌, Bool, true, false, List, ◌++◌, length, Option, Some, None, Result, Ok, Err, refl, sym, ap, ◌∙◌, subst, inl, inr, arith}
-use Rattle.std.specs.Prelude.{◌↔◌, is_some, IfOk, IfErr, MatchResult}
+use Rattle.std.specs.Prelude.{◌↔◌, IfOk, IfErr, MatchResult}
 use Rattle.std.proofs.lemmas.Bool.Decides.{leb_tells}
 use Rattle.lexer.specs.declared.kinds.Token.{Token}
 use Rattle.lexer.specs.declared.refusals.Refusal.{Refusal}
@@ -23,10 +23,6 @@ nested_unless ts unless front back e = elim (leb_tells (lefts front) (rights fro
   | inl t ↦ t.1
   | inr f ↦ absurd (unless (λ nested. let a = nested front back e in let b = f.1 in omega arith))
 ]
-
-pub none_when : {A : Type 0} (o : Option A) → is_some o ≡ false → o ≡ None
-none_when None e = refl
-none_when (Some x) e = cc
 
 -- what is promised of a parsed list of tokens
 pub record Parses (tokens : List Token) (result : Result Statement Refusal) : Type 0 where

@@ -1,7 +1,8 @@
 //! A statement's way from its text to its reply.
-ghost use Rattle.std.specs.Prelude.{◌≡◌, ◌≢◌, IfErr, IfOk, MatchResult};
+ghost use Rattle.std.specs.Prelude.{◌≡◌, ◌≢◌, IfErr, IfOk, IsSome, MatchBool, MatchResult, None};
 ghost use Rattle.ast.specs.declared.statement.Statement.{Statement as Tree};
 ghost use Rattle.lexer.specs.declared.refusals.Refusal.TheVariants.{Memory};
+ghost use Rattle.lexer.specs.Support as unsupported;
 ghost use Rattle.sqlcore.specs.Held.{SameTables, LeavesTables};
 ghost use Rattle.sqlcore.specs.Reading.{IsRead, IsUnread};
 
@@ -11,7 +12,7 @@ use crate::store::Store;
 use ast::Statement;
 use denote::{Env, Fault, Rows, Stop, broken_not_null, query_rows, rows_to_insert};
 use items::Items;
-use lexer::{Limit, Reason, Refusal, first_unsupported, tokens};
+use lexer::{Limit, Reason, Refusal, Token, first_unsupported, tokens};
 use parser::parse;
 use sqlval::Table;
 use std::alloc::Global;
@@ -27,10 +28,17 @@ pub(crate) fn read_statement(alloc: Global, text: &[u8]) -> Result<Statement, Re
         return Err(Refusal::Exceeded(Limit::Statement));
     }
     let tokens = tokens(alloc, text)?;
-    if first_unsupported(tokens.as_slice()).is_some() {
+    if !are_supported(tokens.as_slice()) {
         return Err(Refusal::NotSupported);
     }
     parse(alloc, tokens.as_slice())
+}
+
+/// Whether the forms of all words are built.
+fn are_supported(tokens: &[Token]) -> bool
+    ensures { MatchBool result (unsupported.first_unsupported tokens.now ≡ None) (IsSome (unsupported.first_unsupported tokens.now)) }
+{
+    first_unsupported(tokens).is_none()
 }
 
 /// The rows of a query, over the tables as the session sees them.

@@ -1,9 +1,9 @@
-use Rattle.std.proofs.Common.{◌≡◌, ◌≤◌, length, None, refl, sym, ◌∙◌, ap, subst, arith}
+use Rattle.std.proofs.Common.{◌≡◌, ◌≤◌, length, refl, sym, ◌∙◌, ap, subst, arith}
 use Rattle.std.proofs.lemmas.Result.{err_from_is_err_and}
 use Rattle.lexer.specs.Support.{first_unsupported}
 use Rattle.lexer.specs.Tokens.{AreTokens}
 use Rattle.sqlcore.specs.Reading.{IsUnread}
-use Rattle.sqlcore.proofs.ReadTexts.{AreReadable, Parses, read_if, unread_if, only_one, none_when}
+use Rattle.sqlcore.proofs.ReadTexts.{AreReadable, Parses, read_if, unread_if, only_one}
 use Rattle.sqlcore.proofs.statements.read_statement.Goals as goal
 
 pub returns-in_err-tokens-clause-only : goal.returns-in_err-tokens-clause-only
@@ -12,27 +12,27 @@ returns-in_err-tokens-clause-only c = λ x read.
     let p = err_from_is_err_and c.from_residual.result c.from_residual.ensures.1 in
     rw p.1 (p.2 ∙ memory)
 
-pub returns-then-is_some-clause-unread : goal.returns-then-is_some-clause-unread
-returns-then-is_some-clause-unread c = λ ne.
-    let some = ap (λ tokens. first_unsupported tokens) (sym c.as_slice.ensures.value) ∙ sym c.first_unsupported.ensures in
-    IsUnread.unsupported c.in_ok-tokens.tokens.items (omega (arith, c.if-text-gt-LONGEST_STATEMENT.false)) c.in_ok-tokens.ensures.found
-    (rw some (sym c.is_some.ensures ∙ c.if-is_some.true)) refl
+pub returns-then-not-are_supported-clause-unread : goal.returns-then-not-are_supported-clause-unread
+returns-then-not-are_supported-clause-unread c = λ ne.
+    let some = rw c.if-not-are_supported.true at c.are_supported.ensures in
+    IsUnread.unsupported c.as_slice.result.now (omega (arith, c.if-text-gt-LONGEST_STATEMENT.false))
+    (subst (AreTokens c.args.text.now) (sym c.as_slice.ensures.value) c.in_ok-tokens.ensures.found) some refl
 
-pub returns-then-is_some-clause-only : goal.returns-then-is_some-clause-only
-returns-then-is_some-clause-only c = λ x read.
+pub returns-then-not-are_supported-clause-only : goal.returns-then-not-are_supported-clause-only
+returns-then-not-are_supported-clause-only c = λ x read.
     let same = c.in_ok-tokens.ensures.only read.tokens read.spelled.tokenized in
-    let none = c.first_unsupported.ensures ∙ ap (λ tokens. first_unsupported tokens) (c.as_slice.ensures.value ∙ same) ∙ read.spelled.supported in
-    let some = sym c.is_some.ensures ∙ c.if-is_some.true in
+    let none = ap (λ tokens. first_unsupported tokens) (c.as_slice.ensures.value ∙ same) ∙ read.spelled.supported in
+    let some = rw c.if-not-are_supported.true at c.are_supported.ensures in
     let false_then = rw none at some in
     cc
 
 readable : (c : goal.After-drop-tokens-2) → AreReadable c.args.text.now c.as_slice-2.result.now
 readable c =
-    let none = none_when c.first_unsupported.result (sym c.is_some.ensures ∙ c.if-is_some.false) in
+    let none = rw c.if-not-are_supported.false at c.are_supported.ensures in
     record {
       short = omega (arith, c.if-text-gt-LONGEST_STATEMENT.false);
       tokenized = subst (AreTokens c.args.text.now) (sym c.as_slice-2.ensures.value) c.in_ok-tokens.ensures.found;
-      supported = ap (λ tokens. first_unsupported tokens) (c.as_slice-2.ensures.value ∙ sym c.as_slice.ensures.value) ∙ sym c.first_unsupported.ensures ∙ none;
+      supported = ap (λ tokens. first_unsupported tokens) (c.as_slice-2.ensures.value ∙ sym c.as_slice.ensures.value) ∙ none;
     }
 
 parses : (c : goal.After-drop-tokens-2) → Parses c.as_slice-2.result.now c.parse.result
