@@ -22,3 +22,6 @@ pub mod Rollbacks
 pub mod Stored
 pub mod KnownSessions
 pub mod ReadTexts
+pub mod GoodDatabases
+pub mod GoodReplies
+pub mod GoodSteps

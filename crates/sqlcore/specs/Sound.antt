@@ -1,7 +1,7 @@
 -- What holds of every world that a run comes to.
 use Rattle.std.specs.Prelude.{◌≡◌, ℕ, ◌≤◌, Bool, true, false, Option, Some, None}
 use Rattle.std.specs.FinMap.{get}
-use Rattle.denote.specs.Database.{Database}
+use Rattle.denote.specs.Database.{Database, CheckReading, IsGood}
 use Rattle.sqlcore.specs.World.{Transaction, Session, World, is_live, is_writer}
 
 -- A transaction, in a world with so many commits and this last database; the third argument says whether its session is the writer. It
@@ -22,3 +22,9 @@ pub record IsSound (w : World) : Type 0 where
   pub sessions : (s : ℕ) (session : Session) → get w.sessions s ≡ Some session
       → IsSoundSession w.commits w.last (is_writer w s) session.transaction
   pub writer : (s : ℕ) → is_writer w s ≡ true → is_live w s ≡ true
+
+-- The last committed database is good, and so are those of every transaction: the one that it found and the one that it works on.
+pub record IsGoodWorld (reading : CheckReading) (w : World) : Type 0 where
+  pub last : IsGood reading w.last
+  pub transactions : (s : ℕ) (session : Session) (t : Transaction) → get w.sessions s ≡ Some session → session.transaction ≡ Some t
+      → IsGood reading t.found × IsGood reading t.working

@@ -1,10 +1,10 @@
 //! What follows from the definitions of calls and runs. These functions do nothing: their contracts are the laws.
 
-ghost use Rattle.std.specs.Prelude.{◌≡◌, ◌≢◌, ℕ, ◌+◌, List, length, slice_get, Contains, Ok, true, false};
+ghost use Rattle.std.specs.Prelude.{◌≡◌, ◌≢◌, ℕ, ◌+◌, List, length, slice_get, All, Contains, Ok, true, false};
 ghost use Rattle.lexer.specs.declared.refusals.Refusal.{Refusal};
 ghost use Rattle.lexer.specs.declared.refusals.Refusal.TheVariants.{SerializationFailure};
 ghost use Rattle.lexer.specs.Token.{Bytes};
-ghost use Rattle.denote.specs.Database.{Database};
+ghost use Rattle.denote.specs.Database.{Database, CheckReading, IsGood};
 ghost use Rattle.sqlcore.specs.declared.reply.Reply.{Reply};
 ghost use Rattle.sqlcore.specs.declared.reply.Reply.TheVariants as says;
 ghost use Rattle.sqlcore.specs.Left.{IsFetch, LeavesAlmostAll};
@@ -12,9 +12,9 @@ ghost use Rattle.sqlcore.specs.Rules.{Rules};
 ghost use Rattle.sqlcore.specs.Run.{Event, Happens, MakesSession, DropsSession, Moment, Run, history};
 ghost use Rattle.sqlcore.specs.Script.{IsPlayed};
 ghost use Rattle.sqlcore.specs.Serial.{Committed, transactions, IsWriter, IsSerializable};
-ghost use Rattle.sqlcore.specs.Sound.{IsSound};
+ghost use Rattle.sqlcore.specs.Sound.{IsSound, IsGoodWorld};
 ghost use Rattle.sqlcore.specs.Step.{Step};
-ghost use Rattle.sqlcore.specs.World.{World, is_live, opened};
+ghost use Rattle.sqlcore.specs.World.{World, is_live, new_world, opened};
 
 /// A refused call leaves the world as it was; but a serialization failure has rolled back the session's transaction, and a FETCH
 /// has closed its cursor.
@@ -41,6 +41,18 @@ pub fn sessions_stand_until_they_end()
 pub fn worlds_stay_sound()
     ensures event { (rules : Rules) (old new : World) (event : Event) → IsSound old → Happens rules old event new → IsSound new }
     ensures run { (rules : Rules) (db : Database) (moments : List Moment) (end : World) → Run rules (opened db) moments end → IsSound end }
+{}
+
+/// In every world of a run that begins with good databases all databases are good: the last committed one, and of each session with a
+/// transaction the one that it found and its working one. So is each database of the history. A new world begins so, and so does a
+/// good database that was opened.
+pub fn databases_stay_good()
+    ensures new_world { (reading : CheckReading) → IsGoodWorld reading new_world }
+    ensures opened { (reading : CheckReading) (db : Database) → IsGood reading db → IsGoodWorld reading (opened db) }
+    ensures run { (rules : Rules) (start end : World) (moments : List Moment) → IsGoodWorld rules.check start → Run rules start moments end
+        → IsGoodWorld rules.check end }
+    ensures committed { (rules : Rules) (start end : World) (moments : List Moment) → IsGoodWorld rules.check start → Run rules start moments end
+        → All (IsGood rules.check) (history start moments) }
 {}
 
 /// The committed databases of a run form one list, whose last one is the last committed; each is made from the one before by one

@@ -1,5 +1,5 @@
 use Rattle.sqlcore.proofs.Live.{keeps_live, made_live, made_others, dropped_live, dropped_others}
-use Rattle.sqlcore.proofs.laws.sessions_stand_until_they_end.Goals as goal
+use Rattle.sqlcore.proofs.session_laws.sessions_stand_until_they_end.Goals as goal
 
 pub returns : goal.returns
 returns c = record {

@@ -1,0 +1,36 @@
+-- A change that is accepted makes a good database of a good one.
+use Rattle.std.proofs.Common.{◌≡◌, refl, ap, sym, ◌∙◌, subst, ℕ, List, Option, Some, None}
+use Rattle.std.specs.List.{list_all}
+use Rattle.std.specs.FinMap.{get}
+use Rattle.sqlval.specs.declared.schema.Column.{Column}
+use Rattle.typing.specs.declared.statement.Change.{Change}
+use Rattle.denote.specs.Change.{Changed, Makes, Raises, Violates, changed, IsAccepted}
+use Rattle.denote.specs.Database.{Name, Table, Database, CheckReading, fits_columns, IsGoodTable, IsGood, IsSameTable, AreSame, IsSameDatabase}
+use Rattle.laws.proofs.Good.{changed-good}
+use Rattle.laws.proofs.Orders.{list_all-permutes}
+use Rattle.laws.proofs.Tables.{violated_by-same}
+
+module _ (reading : CheckReading) where
+  same_table : (name : Name) (t u : Table) → IsSameTable t u → IsGoodTable reading name t → IsGoodTable reading name u
+  same_table name t u same good = record {
+    fitting = ap (λ (columns : List Column). list_all (fits_columns columns) u.rows) (sym same.columns)
+        ∙ sym (list_all-permutes (fits_columns t.columns) t.rows u.rows same.rows) ∙ good.fitting;
+    unviolated = sym (violated_by-same reading name t u same.columns same.constraints same.rows) ∙ good.unviolated;
+  }
+
+  -- the order of rows does not matter
+  same_database : (db new : Database) → IsSameDatabase db new → IsGood reading db → IsGood reading new
+  same_database db new same good name table is = at (get db name) refl (subst (AreSame (get db name)) is (same name))
+    where
+      at : (found : Option Table) → get db name ≡ found → AreSame found (Some table) → IsGoodTable reading name table
+      at None e h = absurd h
+      at (Some t) e h = same_table name t table h (good name t e)
+
+  pub accepted_good : (db new : Database) (change : Change) (count : Option ℕ) → IsGood reading db → IsAccepted (changed reading db change) new count
+      → IsGood reading new
+  accepted_good db new change count good accepted = at (changed reading db change) refl accepted
+    where
+      at : (c : Changed) → changed reading db change ≡ c → IsAccepted c new count → IsGood reading new
+      at (Makes made n) e h = same_database made new h.0 (changed-good reading db made change n good e)
+      at (Raises faults) e h = absurd h
+      at (Violates names) e h = absurd h
