@@ -25,3 +25,4 @@ pub mod ReadTexts
 pub mod GoodDatabases
 pub mod GoodReplies
 pub mod GoodSteps
+pub mod Answered

@@ -1,6 +1,9 @@
 -- The tables that a core holds.
-use Rattle.std.specs.Prelude.{◌≡◌, ℕ, List, [], ◌∷◌, ◌++◌, map, take, slice_get, slice_set, Some}
+use Rattle.std.specs.Prelude.{◌≡◌, ℕ, List, [], ◌∷◌, ◌++◌, map, take, slice_get, slice_set, Option, Some, None}
+use Rattle.std.specs.Option.{unwrap_or}
+use Rattle.sqlval.specs.declared.schema.Schema.{Schema}
 use Rattle.sqlval.specs.declared.schema.Table.{Table}
+use Rattle.sqlval.specs.Schema.{table_place}
 use Rattle.sqlval.specs.Value.{Row}
 use Rattle.sqlcore.specs.declared.store.Store.{Store}
 use Rattle.sqlcore.specs.declared.table_rows.TableRows.{TableRows}
@@ -13,6 +16,18 @@ pub record Contents : Type 0 where
 -- no tables
 abbrev pub no_contents : Contents
 no_contents = record { tables = []; rows = [] }
+
+abbrev pub schema_of : Contents → Schema
+schema_of c = record { tables = c.tables }
+
+-- the rows of the table at a place
+abbrev pub rows_at : Contents → Option ℕ → List Row
+rows_at c None = []
+rows_at c (Some place) = unwrap_or (slice_get c.rows place) []
+
+-- the rows of the table with this name
+abbrev pub rows_under : Contents → List ℕ → List Row
+rows_under c name = rows_at c (table_place name (schema_of c))
 
 abbrev pub all_rows : TableRows → List Row
 all_rows table = table.rows

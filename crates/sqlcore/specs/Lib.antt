@@ -2,9 +2,9 @@ pub mod Pieces
 pub mod PieceMeaning
 pub mod Printed
 pub mod Writes
-pub mod Store
 pub mod Contents
 pub mod Held
+pub mod Carried
 pub mod Place
 pub mod Cutter
 pub mod World

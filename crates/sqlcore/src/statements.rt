@@ -1,8 +1,12 @@
 //! A statement's way from its text to its reply.
-ghost use Rattle.std.specs.Prelude.{◌≡◌, ◌≢◌, IfErr, IfOk, IsSome, MatchBool, MatchResult, None};
+ghost use Rattle.std.specs.Prelude.{◌≡◌, ◌≢◌, IfErr, IfOk, IsSome, MatchBool, MatchResult, None, Some, slice_get};
 ghost use Rattle.ast.specs.declared.statement.Statement.{Statement as Tree};
 ghost use Rattle.lexer.specs.declared.refusals.Refusal.TheVariants.{Memory};
 ghost use Rattle.lexer.specs.Support as unsupported;
+ghost use Rattle.sqlval.specs.declared.schema.Table as declared;
+ghost use Rattle.typing.specs.declared.statement.Change.TheVariants as does;
+ghost use Rattle.sqlcore.specs.Carried.{AnswersQuery, Carries, GivesStored, RefusesRows, refusal_at};
+ghost use Rattle.sqlcore.specs.Contents.{contents};
 ghost use Rattle.sqlcore.specs.Held.{SameTables, LeavesTables};
 ghost use Rattle.sqlcore.specs.Reading.{IsRead, IsUnread};
 
@@ -42,7 +46,9 @@ fn are_supported(tokens: &[Token]) -> bool
 }
 
 /// The rows of a query, over the tables as the session sees them.
-pub(crate) fn answer(alloc: Global, store: &Store, query: &OrderedQuery) -> Result<Reply, Refusal> {
+pub(crate) fn answer(alloc: Global, store: &Store, query: &OrderedQuery) -> Result<Reply, Refusal>
+    ensures { MatchResult result (λ reply. AnswersQuery (contents store.now) query.now reply) (λ refusal. AnswersQuery (contents store.now) query.now (Reply.Refused refusal)) }
+{
     if !query.keys.is_empty() {
         return Err(Refusal::NotSupported);
     }
@@ -58,7 +64,8 @@ pub(crate) fn carry_out_change(
     store: &mut Store,
     change: Change,
 ) -> Result<Reply, Refusal>
-    ensures { MatchResult result (λ reply. LeavesTables store.old reply store.new) (λ _. SameTables store.old store.new) }
+    ensures leaves { MatchResult result (λ reply. LeavesTables store.old reply store.new) (λ _. SameTables store.old store.new) }
+    ensures carries { MatchResult result (λ reply. Carries (contents store.old) change reply (contents store.new)) (λ refusal. Carries (contents store.old) change (Reply.Refused refusal) (contents store.new)) }
 {
     match change {
         Change::CreateTable(table) => create_table(alloc, store, table),
@@ -68,7 +75,8 @@ pub(crate) fn carry_out_change(
 }
 
 fn create_table(alloc: Global, store: &mut Store, table: CreateTable) -> Result<Reply, Refusal>
-    ensures { MatchResult result (λ reply. LeavesTables store.old reply store.new) (λ _. SameTables store.old store.new) }
+    ensures leaves { MatchResult result (λ reply. LeavesTables store.old reply store.new) (λ _. SameTables store.old store.new) }
+    ensures carries { MatchResult result (λ reply. Carries (contents store.old) (does.CreateTable table) reply (contents store.new)) (λ refusal. Carries (contents store.old) (does.CreateTable table) (Reply.Refused refusal) (contents store.new)) }
 {
     let CreateTable {
         name,
@@ -86,7 +94,8 @@ fn create_table(alloc: Global, store: &mut Store, table: CreateTable) -> Result<
 }
 
 fn insert_rows(alloc: Global, store: &mut Store, insert: &Insert) -> Result<Reply, Refusal>
-    ensures { MatchResult result (λ reply. LeavesTables store.old reply store.new) (λ _. SameTables store.old store.new) }
+    ensures leaves { MatchResult result (λ reply. LeavesTables store.old reply store.new) (λ _. SameTables store.old store.new) }
+    ensures carries { MatchResult result (λ reply. Carries (contents store.old) (does.Insert insert.now) reply (contents store.new)) (λ refusal. Carries (contents store.old) (does.Insert insert.now) (Reply.Refused refusal) (contents store.new)) }
 {
     let Some(place) = store.schema().find_table(insert.table.as_slice()) else {
         return Err(Refusal::Invalid(Reason::Name));
@@ -98,7 +107,10 @@ fn insert_rows(alloc: Global, store: &mut Store, insert: &Insert) -> Result<Repl
 }
 
 /// The rows that an INSERT adds to the table at this place, none of which violates its constraints.
-fn new_rows(alloc: Global, store: &Store, place: usize, insert: &Insert) -> Result<Rows, Refusal> {
+fn new_rows(alloc: Global, store: &Store, place: usize, insert: &Insert) -> Result<Rows, Refusal>
+    ensures { (table : declared.Table) → slice_get (contents store.now).tables place ≡ Some table
+        → MatchResult result (GivesStored (contents store.now) insert.now table) (RefusesRows (contents store.now) insert.now table) }
+{
     let Some(table) = store.schema().tables.get(place) else {
         return Err(Refusal::Invalid(Reason::Name));
     };
@@ -116,7 +128,9 @@ fn new_rows(alloc: Global, store: &Store, place: usize, insert: &Insert) -> Resu
 }
 
 /// The refusal of a statement whose evaluation stopped.
-fn refusal_of(stop: Stop) -> Refusal {
+fn refusal_of(stop: Stop) -> Refusal
+    ensures { result ≡ refusal_at stop }
+{
     match stop {
         Stop::Memory => Refusal::Memory,
         Stop::NotBuilt => Refusal::NotSupported,

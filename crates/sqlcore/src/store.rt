@@ -1,5 +1,5 @@
 //! The tables in memory.
-ghost use Rattle.std.specs.Prelude.{◌≡◌, ◌≤◌, length, OnOk, OnErr};
+ghost use Rattle.std.specs.Prelude.{◌≡◌, ◌≤◌, ◌⊎◌, length, slice_get, IfErr, None, OnOk, OnErr};
 
 use crate::every_table::{commit_each, roll_back_each};
 use crate::table_rows::TableRows;
@@ -22,6 +22,7 @@ pub(crate) struct Store {
 }
 
 impl Store {
+    ghost use Rattle.lexer.specs.declared.refusals.Refusal.TheVariants.{Memory};
     ghost use Rattle.sqlcore.specs.Contents.{no_contents, contents, kept, with_table, HasAppended};
 
     /// No tables.
@@ -67,6 +68,7 @@ impl Store {
         ensures added { OnOk result (HasAppended (contents self.old) place rows (contents self.new)) }
         ensures refused { OnErr result (contents self.new ≡ contents self.old) }
         ensures kept { kept self.new ≡ kept self.old }
+        ensures refusal { IfErr result (λ refusal. (refusal ≡ Memory) ⊎ (slice_get (contents self.old).rows place ≡ None)) }
     {
         match self.rows.get_mut(place) {
             Some(table) => table.append(rows),
@@ -95,9 +97,9 @@ impl Store {
 }
 
 impl Tables for Store {
-    ghost use Rattle.sqlcore.specs.Store.{stored_rows};
+    ghost use Rattle.sqlcore.specs.Contents.{contents, rows_under};
 
-    ghost rows_of = { stored_rows };
+    ghost rows_of = { λ store. rows_under (contents store) };
 
     fn rows(&self, name: &Text) -> &[Row] {
         match self.schema.find_table(name.as_slice()) {

@@ -1,5 +1,6 @@
 //! The rows of one table.
-ghost use Rattle.std.specs.Prelude.{◌≡◌, ◌≤◌, [], ◌++◌, length, take, OnOk, OnErr};
+ghost use Rattle.std.specs.Prelude.{◌≡◌, ◌≤◌, [], ◌++◌, length, take, IfErr, OnOk, OnErr};
+ghost use Rattle.lexer.specs.declared.refusals.Refusal.TheVariants.{Memory};
 
 use denote::{Row, Rows};
 use items::Items;
@@ -38,6 +39,7 @@ impl TableRows {
         ensures added { OnOk result (self.new.rows ≡ self.old.rows ++ rows) }
         ensures refused { OnErr result (self.new.rows ≡ self.old.rows) }
         ensures kept { take self.new.committed self.new.rows ≡ take self.old.committed self.old.rows }
+        ensures refusal { IfErr result (λ refusal. refusal ≡ Memory) }
     {
         self.rows.append(rows)?;
         Ok(())
