@@ -26,3 +26,4 @@ pub mod GoodDatabases
 pub mod GoodReplies
 pub mod GoodSteps
 pub mod Answered
+pub mod Called

@@ -108,13 +108,18 @@ pub record IsAgainst {D : Type 0} (core : Core D) (text : Bytes) (refusal : Refu
   pub found : answered_found statement (schema_of (contents_of core)) ≡ Err reasons
   pub one : Contains reasons refusal
 
+-- The reply to a statement that stands for this, and what the call leaves.
+pub data Does {D : Type 0} (old : Core D) (typed : Typed) (reply : Reply) (new : Core D) : Type 0 where
+  withheld : (refusal : Refusal) → IsWithheld refusal → reply ≡ says.Refused refusal → IsUnchanged old new → Does old typed reply new
+  queries : (q : OrderedQuery) → typed ≡ asks.Query q → AnswersQuery (contents_of old) q reply → IsUnchanged old new → Does old typed reply new
+  changes : (change : Change) → typed ≡ asks.Change change → Carries (contents_of old) change reply (contents_of new)
+      → kept_of new ≡ kept_of old → SameSessions old new → Does old typed reply new
+  commits : typed ≡ asks.Commit → reply ≡ says.Done → HasCommitted old new → SameSessions old new → Does old typed reply new
+  rolls_back : typed ≡ asks.Rollback → reply ≡ says.Done → HasRolledBack old new → SameSessions old new → Does old typed reply new
+
 -- The reply to a text, and what the call leaves.
 pub data Calls {D : Type 0} (old : Core D) (text : Bytes) (reply : Reply) (new : Core D) : Type 0 where
   withheld : (refusal : Refusal) → IsWithheld refusal → reply ≡ says.Refused refusal → IsUnchanged old new → Calls old text reply new
   unread : (refusal : Refusal) → IsUnread text refusal → reply ≡ says.Refused refusal → IsUnchanged old new → Calls old text reply new
   wrong : (refusal : Refusal) → IsAgainst old text refusal → reply ≡ says.Refused refusal → IsUnchanged old new → Calls old text reply new
-  queries : (q : OrderedQuery) → StandsFor old text (asks.Query q) → AnswersQuery (contents_of old) q reply → IsUnchanged old new → Calls old text reply new
-  changes : (change : Change) → StandsFor old text (asks.Change change) → Carries (contents_of old) change reply (contents_of new)
-      → kept_of new ≡ kept_of old → SameSessions old new → Calls old text reply new
-  commits : StandsFor old text asks.Commit → reply ≡ says.Done → HasCommitted old new → SameSessions old new → Calls old text reply new
-  rolls_back : StandsFor old text asks.Rollback → reply ≡ says.Done → HasRolledBack old new → SameSessions old new → Calls old text reply new
+  carried_out : (typed : Typed) → StandsFor old text typed → Does old typed reply new → Calls old text reply new

@@ -1,9 +1,9 @@
 //! A core and its calls.
 ghost use Rattle.std.specs.Prelude.{◌≡◌, ◌≢◌, ◌↔◌, ◌<◌, ◌-◌, ◌^◌, IsOk, IfOk, IfErr, MatchBool, MatchResult};
 
+use crate::execution::{answer, carry_out_change, read_statement};
 use crate::reply::Reply;
 use crate::rollback::is_rollback;
-use crate::statements::{answer, carry_out_change, read_statement};
 use crate::store::Store;
 use disk::Disk;
 use lexer::{Limit, Reason, Refusal};
@@ -46,6 +46,7 @@ impl<D: Disk> Core<D> {
     ghost use Rattle.lexer.specs.declared.refusals.Reason.TheVariants as reason;
     ghost use Rattle.lexer.specs.declared.refusals.Refusal.TheVariants.{Exceeded, Invalid};
     ghost use Rattle.lexer.specs.declared.refusals.Refusal.TheVariants as refusals;
+    ghost use Rattle.sqlcore.specs.Carried.{Calls, Does};
     ghost use Rattle.sqlcore.specs.Held.{session_of, sessions_made, device_of, IsNew, HasMade, HasEnded, HasRolledBack, IsNoStatement, IsUnchanged, Leaves, RefusesUnread};
     ghost use Rattle.sqlcore.specs.Reading.{IsUnread};
     ghost use Rattle.sqlcore.specs.Step.{IsRollback};
@@ -90,6 +91,7 @@ impl<D: Disk> Core<D> {
     ///
     /// ROLLBACK takes no memory and always succeeds.
     pub fn step(&mut self, session: SessionId, text: &[u8]) -> Reply
+        ensures calls { session_of self.old ≡ Some session → Calls self.old text.now result self.new }
         ensures leaves { Leaves self.old result self.new }
         ensures rolled_back { IsRollback text.now → session_of self.old ≡ Some session → (result ≡ Reply.Done) × HasRolledBack self.old self.new }
         ensures ended { session_of self.old ≢ Some session → result ≡ Reply.Refused (Invalid reason.Session) }
@@ -157,9 +159,19 @@ impl<D: Disk> Core<D> {
     fn execute(&mut self, text: &[u8]) -> Result<Reply, Refusal>
         ensures leaves { MatchResult result (λ reply. Leaves self.old reply self.new) (λ _. IsUnchanged self.old self.new) }
         ensures unread { IsNoStatement text.now → MatchResult result (λ _. ⊥) (λ refusal. refusal ≢ refusals.Memory → IsUnread text.now refusal) }
+        ensures calls { MatchResult result (λ reply. Calls self.old text.now reply self.new) (λ refusal. Calls self.old text.now (Reply.Refused refusal) self.new) }
     {
         let statement = read_statement(self.alloc, text)?;
-        match resolve(self.alloc, statement, self.store.schema())? {
+        let typed = resolve(self.alloc, statement, self.store.schema())?;
+        self.carry_out(typed)
+    }
+
+    /// The reply of a typed statement.
+    fn carry_out(&mut self, typed: Typed) -> Result<Reply, Refusal>
+        ensures leaves { MatchResult result (λ reply. Leaves self.old reply self.new) (λ _. IsUnchanged self.old self.new) }
+        ensures does { MatchResult result (λ reply. Does self.old typed reply self.new) (λ refusal. Does self.old typed (Reply.Refused refusal) self.new) }
+    {
+        match typed {
             Typed::Query(query) => answer(self.alloc, &self.store, &query),
             Typed::Change(change) => carry_out_change(self.alloc, &mut self.store, change),
             Typed::Commit => {

@@ -3,13 +3,13 @@
 
 mod engine;
 mod every_table;
+mod execution;
 mod input;
 mod printing;
 mod reply;
 mod rollback;
 mod script;
 mod session_laws;
-mod statements;
 mod store;
 mod table_rows;
 

@@ -4,7 +4,7 @@ use Rattle.lexer.specs.Support.{first_unsupported}
 use Rattle.lexer.specs.Tokens.{AreTokens}
 use Rattle.sqlcore.specs.Reading.{IsUnread}
 use Rattle.sqlcore.proofs.ReadTexts.{AreReadable, Parses, read_if, unread_if, only_one}
-use Rattle.sqlcore.proofs.statements.read_statement.Goals as goal
+use Rattle.sqlcore.proofs.execution.read_statement.Goals as goal
 
 pub returns-in_err-tokens-clause-only : goal.returns-in_err-tokens-clause-only
 returns-in_err-tokens-clause-only c = λ x read.

@@ -1,7 +1,7 @@
 use Rattle.std.proofs.Common.{refl, inl}
 use Rattle.std.proofs.lemmas.Result.{err_from_is_err_and}
 use Rattle.sqlcore.specs.Carried.{Carries}
-use Rattle.sqlcore.proofs.statements.create_table.Goals as goal
+use Rattle.sqlcore.proofs.execution.create_table.Goals as goal
 
 pub returns-in_err-create-clause-carries : goal.returns-in_err-create-clause-carries
 returns-in_err-create-clause-carries c =

@@ -4,7 +4,7 @@ use Rattle.sqlval.specs.Schema.{table_place}
 use Rattle.sqlcore.specs.Carried.{Carries, RefusesRows}
 use Rattle.sqlcore.specs.Contents.{contents, schema_of}
 use Rattle.sqlcore.proofs.Answered.{table_there, rows_stand}
-use Rattle.sqlcore.proofs.statements.insert_rows.Goals as goal
+use Rattle.sqlcore.proofs.execution.insert_rows.Goals as goal
 
 pub returns-in_default-clause-carries : goal.returns-in_default-clause-carries
 returns-in_default-clause-carries c =
