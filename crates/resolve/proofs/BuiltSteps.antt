@@ -319,9 +319,9 @@ pub ruleset all_steps = (all-false, all-next, all-done)
 
 pub ruleset item_steps = (all-false, all-next, all-done, all_mapped, item_built_is, reference_built-table, reference_built-derived)
 
-pub ruleset expression_steps = (expression_built_is, term_built_is, factor_built_is, number_built, text_built, column_built, count_built, aggregate_built, parenthesized_built, subquery_built)
+pub ruleset factor_steps = (factor_built_is, number_built, text_built, column_built, count_built, aggregate_built, parenthesized_built, subquery_built)
 
-pub ruleset condition_steps = (condition_built_is, conjunction_built_is, negation_built_is, nested_built, compare_built, between_built, in_list_built, in_query_built, like_built, null_built, exists_built)
+pub ruleset negation_steps = (negation_built_is, nested_built, compare_built, between_built, in_list_built, in_query_built, like_built, null_built, exists_built)
 
 pub ruleset query_steps = (query_built-some, query_built-none, tells-nil)
 

@@ -33,6 +33,7 @@ use Rattle.typing.specs.SetOperator.{in_query}
 use Rattle.typing.specs.Typing.{conjunction_part, negation_part}
 use Rattle.typing.proofs.Nodes as node
 use Rattle.resolve.specs.Here.{here, expression_found, condition_found, conjunction_found, negation_found, predicate_found, test_found}
+use Rattle.resolve.specs.Parts.{of_type}
 use Rattle.resolve.proofs.FindsLemmas.{Finds-then_err, Finds-also_first, Finds-also_second, Finds-each_item, Finds-before_first, Finds-before_others, Finds-invalid}
 use Rattle.resolve.proofs.Nodes.{in_turn-here}
 
@@ -195,117 +196,74 @@ and_of-more [] n = refl
 and_of-more (x ∷ []) n = absurd (n refl)
 and_of-more (x ∷ y ∷ xs) n = refl
 
--- ---- predicates
+-- ---- predicates, where their first operand is found
+
+-- what follows from the operands
+abbrev with_first : Typed → Finding Typed → Finding (Typed × Typed)
+with_first first found = found >>= (λ second. Ok (first, second))
+
+abbrev compare_of : Comparison → Finding (Typed × Typed) → Finding Condition
+compare_of operator found = found >>= (λ p. Ok (condition.Compare (operator_of operator) p.0 p.1))
+
+abbrev bounds_of : Bool → Finding ((Typed × Typed) × (Typed × Typed)) → Finding Condition
+bounds_of n found = found >>= (λ p. Ok (negated n (condition.Between (p.0).0 (p.0).1 (p.1).1)))
+
+abbrev pub between_of : Bool → Finding (Typed × (Typed × Typed)) → Finding Condition
+between_of n found = found >>= (λ p. Ok (negated n (condition.Between p.0 (p.1).0 (p.1).1)))
+
+abbrev list_of : Bool → Finding (Typed × List Value) → Finding Condition
+list_of n found = found >>= (λ p. Ok (negated n (condition.InList p.0 p.1)))
+
+alike-parts : (v : TypedExpression) (y : Finding TypedExpression) → alike (Ok v) y ≡ with_first v.expression (of_type v.value_type y)
+alike-parts v (Ok w) = refl
+alike-parts v (Err reasons) = refl
+
+pub compared-parts : (operator : Comparison) (v : TypedExpression) (y : Finding TypedExpression) →
+    compared operator (Ok v) y ≡ compare_of operator (also (Ok v.expression) (of_type v.value_type y))
+compared-parts operator v y = ap (compare_of operator) (alike-parts v y) ∙ beside (of_type v.value_type y)
+  where
+    beside : (second : Finding Typed) → compare_of operator (with_first v.expression second) ≡ compare_of operator (also (Ok v.expression) second)
+    beside (Ok x) = refl
+    beside (Err reasons) = refl
+
+pub between-parts : (n : Bool) (v : TypedExpression) (low high : Finding TypedExpression) →
+    between n (Ok v) low high ≡ between_of n (also (Ok v.expression) (also (of_type v.value_type low) (of_type v.value_type high)))
+between-parts n v low high =
+    ap (λ p. bounds_of n (also p (alike (Ok v) high))) (alike-parts v low)
+    ∙ (ap (λ p. bounds_of n (also (with_first v.expression (of_type v.value_type low)) p)) (alike-parts v high)
+    ∙ beside (of_type v.value_type low) (of_type v.value_type high))
+  where
+    beside : (from to : Finding Typed) → bounds_of n (also (with_first v.expression from) (with_first v.expression to)) ≡ between_of n (also (Ok v.expression) (also from to))
+    beside (Ok x) (Ok y) = refl
+    beside (Ok x) (Err reasons) = refl
+    beside (Err reasons) (Ok y) = refl
+    beside (Err reasons) (Err others) = refl
+
+pub in_list-parts : (n : Bool) (v : TypedExpression) (literals : List Literal) →
+    in_list n (Ok v) literals ≡ list_of n (also (Ok v.expression) (each (map (literal_of v.value_type) literals)))
+in_list-parts n v literals = beside (each (map (literal_of v.value_type) literals))
+  where
+    beside : (found : Finding (List Value)) → (found >>= (λ values. Ok (negated n (condition.InList v.expression values)))) ≡ list_of n (also (Ok v.expression) found)
+    beside (Ok values) = refl
+    beside (Err reasons) = refl
 
 module _ (r : Refusal) where
-  alike_first : (x y : Finding TypedExpression) → Finds (Err r) x → Finds (Err r) (alike x y)
-  alike_first x y h = Finds-then_err r (also x y) (λ q. must_be (q.0).value_type q.1 >>= (λ second. Ok ((q.0).expression, second))) (Finds-also_first r x y h)
-
-  alike_second : (x y : Finding TypedExpression) → Finds (Err r) y → Finds (Err r) (alike x y)
-  alike_second x y h = Finds-then_err r (also x y) (λ q. must_be (q.0).value_type q.1 >>= (λ second. Ok ((q.0).expression, second))) (Finds-also_second r x y h)
-
-  alike_type : (x y : Finding TypedExpression) (v w : TypedExpression) → x ≡ Ok v → y ≡ Ok w → Finds (Err r) (must_be v.value_type w) → Finds (Err r) (alike x y)
-  alike_type x y v w e f h = rw (e, f) (Finds-then_err r (must_be v.value_type w) (λ second. Ok (v.expression, second)) h)
-
-  of_alike : (operator : Comparison) (x y : Finding TypedExpression) → Finds (Err r) (alike x y) → Finds (Err r) (compared operator x y)
-  of_alike operator x y h = Finds-then_err r (alike x y) (λ q. Ok (condition.Compare (operator_of operator) q.0 q.1)) h
-
   pub compared_first : (operator : Comparison) (x y : Finding TypedExpression) → Finds (Err r) x → Finds (Err r) (compared operator x y)
-  compared_first operator x y h = of_alike operator x y (alike_first x y h)
+  compared_first operator x y h = Finds-then_err r (alike x y) (λ p. Ok (condition.Compare (operator_of operator) p.0 p.1)) (alike_first x y h)
+    where
+      alike_first : (x y : Finding TypedExpression) → Finds (Err r) x → Finds (Err r) (alike x y)
+      alike_first x y h = Finds-then_err r (also x y) (λ q. must_be (q.0).value_type q.1 >>= (λ second. Ok ((q.0).expression, second))) (Finds-also_first r x y h)
 
-  pub compared_second : (operator : Comparison) (x y : Finding TypedExpression) → Finds (Err r) y → Finds (Err r) (compared operator x y)
-  compared_second operator x y h = of_alike operator x y (alike_second x y h)
-
-  pub compared_type : (operator : Comparison) (x y : Finding TypedExpression) (v w : TypedExpression) → x ≡ Ok v → y ≡ Ok w → Finds (Err r) (must_be v.value_type w) → Finds (Err r) (compared operator x y)
-  compared_type operator x y v w e f h = of_alike operator x y (alike_type x y v w e f h)
-
-  module _ (n : Bool) (x low high : Finding TypedExpression) where
-    of_low : Finds (Err r) (alike x low) → Finds (Err r) (between n x low high)
-    of_low h = Finds-then_err r (also (alike x low) (alike x high)) (λ q. Ok (negated n (condition.Between (q.0).0 (q.0).1 (q.1).1))) (Finds-also_first r (alike x low) (alike x high) h)
-
-    of_high : Finds (Err r) (alike x high) → Finds (Err r) (between n x low high)
-    of_high h = Finds-then_err r (also (alike x low) (alike x high)) (λ q. Ok (negated n (condition.Between (q.0).0 (q.0).1 (q.1).1))) (Finds-also_second r (alike x low) (alike x high) h)
-
-    pub between_operand : Finds (Err r) x → Finds (Err r) (between n x low high)
-    between_operand h = of_low (alike_first x low h)
-
-    pub between_low : Finds (Err r) low → Finds (Err r) (between n x low high)
-    between_low h = of_low (alike_second x low h)
-
-    pub between_low_type : (v w : TypedExpression) → x ≡ Ok v → low ≡ Ok w → Finds (Err r) (must_be v.value_type w) → Finds (Err r) (between n x low high)
-    between_low_type v w e f h = of_low (alike_type x low v w e f h)
-
-    pub between_high : Finds (Err r) high → Finds (Err r) (between n x low high)
-    between_high h = of_high (alike_second x high h)
-
-    pub between_high_type : (v w : TypedExpression) → x ≡ Ok v → high ≡ Ok w → Finds (Err r) (must_be v.value_type w) → Finds (Err r) (between n x low high)
-    between_high_type v w e f h = of_high (alike_type x high v w e f h)
-
-  module _ (n : Bool) (x pattern : Finding TypedExpression) where
-    pub like_text : Finds (Err r) (x >>= must_be Text) → Finds (Err r) (like n x pattern)
-    like_text h = Finds-then_err r (also (x >>= must_be Text) (pattern >>= must_be Text)) (λ q. Ok (negated n (condition.Like q.0 q.1))) (Finds-also_first r (x >>= must_be Text) (pattern >>= must_be Text) h)
-
-    pub like_pattern : Finds (Err r) (pattern >>= must_be Text) → Finds (Err r) (like n x pattern)
-    like_pattern h = Finds-then_err r (also (x >>= must_be Text) (pattern >>= must_be Text)) (λ q. Ok (negated n (condition.Like q.0 q.1))) (Finds-also_second r (x >>= must_be Text) (pattern >>= must_be Text) h)
-
-  pub in_list_operand : (n : Bool) (x : Finding TypedExpression) (literals : List Literal) → Finds (Err r) x → Finds (Err r) (in_list n x literals)
-  in_list_operand n x literals h = Finds-then_err r x (λ v. each (map (literal_of v.value_type) literals) >>= (λ values. Ok (negated n (condition.InList v.expression values)))) h
-
-  pub in_list_literals : (n : Bool) (x : Finding TypedExpression) (v : TypedExpression) (literals : List Literal) → x ≡ Ok v → Finds (Err r) (each (map (literal_of v.value_type) literals)) → Finds (Err r) (in_list n x literals)
-  in_list_literals n x v literals e h = rw e (Finds-then_err r (each (map (literal_of v.value_type) literals)) (λ values. Ok (negated n (condition.InList v.expression values))) h)
-
-  pub null_test_operand : (n : Bool) (x : Finding TypedExpression) → Finds (Err r) x → Finds (Err r) (null_test n x)
-  null_test_operand n x h = Finds-then_err r x (λ v. Ok (negated n (condition.IsNull v.expression))) h
-
--- what all parts are found to be
-pub compared-ok : (operator : Comparison) (x y : Finding TypedExpression) (v w : TypedExpression) (second : Typed) →
-    x ≡ Ok v → y ≡ Ok w → must_be v.value_type w ≡ Ok second → compared operator x y ≡ Ok (condition.Compare (operator_of operator) v.expression second)
-compared-ok operator x y v w second e f g = rw (e, f, g) refl
-
-pub between-ok : (n : Bool) (x low high : Finding TypedExpression) (v w u : TypedExpression) (from to : Typed) →
-    x ≡ Ok v → low ≡ Ok w → must_be v.value_type w ≡ Ok from → high ≡ Ok u → must_be v.value_type u ≡ Ok to → between n x low high ≡ Ok (negated n (condition.Between v.expression from to))
-between-ok n x low high v w u from to e f g h k = rw (e, f, g, h, k) refl
-
-pub like-ok : (n : Bool) (x pattern : Finding TypedExpression) (v w : TypedExpression) (a b : Typed) →
-    x ≡ Ok v → must_be Text v ≡ Ok a → pattern ≡ Ok w → must_be Text w ≡ Ok b → like n x pattern ≡ Ok (negated n (condition.Like a b))
-like-ok n x pattern v w a b e f g h = rw (e, f, g, h) refl
-
-pub in_list-ok : (n : Bool) (x : Finding TypedExpression) (v : TypedExpression) (literals : List Literal) (values : List Value) →
-    x ≡ Ok v → each (map (literal_of v.value_type) literals) ≡ Ok values → in_list n x literals ≡ Ok (negated n (condition.InList v.expression values))
-in_list-ok n x v literals values e f = rw (e, f) refl
-
-pub null_test-ok : (n : Bool) (x : Finding TypedExpression) (v : TypedExpression) → x ≡ Ok v → null_test n x ≡ Ok (negated n (condition.IsNull v.expression))
-null_test-ok n x v e = rw e refl
-
--- the exits as they stand in the code
-pub like_operand : (r : Refusal) (n : Bool) (x pattern : Finding TypedExpression) → Finds (Err r) x → Finds (Err r) (like n x pattern)
-like_operand r n x pattern h = like_text r n x pattern (Finds-then_err r x (must_be Text) h)
-
-pub like_operand_type : (r : Refusal) (n : Bool) (x pattern : Finding TypedExpression) (v : TypedExpression) → x ≡ Ok v → Finds (Err r) (must_be Text v) → Finds (Err r) (like n x pattern)
-like_operand_type r n x pattern v e h = like_text r n x pattern (rw e h)
-
-pub like_second : (r : Refusal) (n : Bool) (x pattern : Finding TypedExpression) → Finds (Err r) pattern → Finds (Err r) (like n x pattern)
-like_second r n x pattern h = like_pattern r n x pattern (Finds-then_err r pattern (must_be Text) h)
-
-pub like_second_type : (r : Refusal) (n : Bool) (x pattern : Finding TypedExpression) (w : TypedExpression) → pattern ≡ Ok w → Finds (Err r) (must_be Text w) → Finds (Err r) (like n x pattern)
-like_second_type r n x pattern w e h = like_pattern r n x pattern (rw e h)
+  pub between_first : (n : Bool) (x low high : Finding TypedExpression) → Finds (Err r) x → Finds (Err r) (between n x low high)
+  between_first n x low high h =
+      Finds-then_err r (also (alike x low) (alike x high)) (λ p. Ok (negated n (condition.Between (p.0).0 (p.0).1 (p.1).1)))
+      (Finds-also_first r (alike x low) (alike x high)
+      (Finds-then_err r (also x low) (λ q. must_be (q.0).value_type q.1 >>= (λ second. Ok ((q.0).expression, second))) (Finds-also_first r x low h)))
 
 pub then_refused : {A B : Type 0} (r : Refusal) (x : Finding A) (f : A → B) → Finds (Err r) x → Finds (Err r) (x >>= (λ v. Ok (f v)))
 then_refused r x f h = Finds-then_err r x (λ v. Ok (f v)) h
 
-pub ruleset node_steps = (negation_is, test_is, then_refused)
-
 pub ruleset flat_steps = (flattened-next, flattened-start)
-
-pub ruleset compared_steps = (compared_first, compared_second, compared_type, compared-ok)
-
-pub ruleset between_steps = (between_operand, between_low, between_low_type, between_high, between_high_type, between-ok)
-
-pub ruleset like_steps = (like_operand, like_operand_type, like_second, like_second_type, like-ok)
-
-pub ruleset list_steps = (in_list_operand, in_list_literals, in_list-ok)
-
-pub ruleset null_steps = (null_test_operand, null_test-ok)
 
 pub then_change : {A B C : Type 0} (r : Refusal) (x : Finding A) (f : A → B) (g : B → C) → Finds (Err r) x → Finds (Err r) (x >>= (λ v. Ok (f v)) >>= (λ w. Ok (g w)))
 then_change r x f g h = Finds-then_err r (x >>= (λ v. Ok (f v))) (λ w. Ok (g w)) (Finds-then_err r x (λ v. Ok (f v)) h)

@@ -110,3 +110,32 @@ each-finds f items i found past e = record { ok = each-done f items i found past
 
 -- what a loop needs that finds each of many
 pub ruleset each_steps = (Finds-each_item, each-next, each-finds)
+
+-- ---- parts taken with their refusals
+
+pub Finds-ok : {A : Type 0} (x : A) → Finds {A = A} (Ok x) (Ok x)
+Finds-ok x = record { ok = refl; err = tt }
+
+-- a part is refused, and so is what follows from it
+pub then-err : {A B : Type 0} (reply : Result A Refusal) (r : Refusal) (x : Finding A) (next : A → Finding B) → reply ≡ Err r → Finds reply x → Finds (Err r) (x >>= next)
+then-err reply r x next e h = Finds-then_err r x next (rw e at h)
+
+-- a part is found, and what follows from it
+pub then-ok : {A B : Type 0} (reply : Result A Refusal) (v : A) (again : Result B Refusal) (x : Finding A) (next : A → Finding B) → reply ≡ Ok v → Finds reply x → Finds again (next v) → Finds again (x >>= next)
+then-ok reply v again x next e h k = let found : x ≡ Ok v = (rw e at h).ok in rw found k
+
+pub also-first : {A B : Type 0} (reply : Result A Refusal) (r : Refusal) (x : Finding A) (y : Finding B) → reply ≡ Err r → Finds reply x → Finds (Err r) (also x y)
+also-first reply r x y e h = Finds-also_first r x y (rw e at h)
+
+pub also-second : {A B : Type 0} (reply : Result B Refusal) (r : Refusal) (x : Finding A) (y : Finding B) → reply ≡ Err r → Finds reply y → Finds (Err r) (also x y)
+also-second reply r x y e h = Finds-also_second r x y (rw e at h)
+
+pub also-ok : {A B : Type 0} (first : Result A Refusal) (second : Result B Refusal) (v : A) (w : B) (x : Finding A) (y : Finding B) → first ≡ Ok v → second ≡ Ok w → Finds first x → Finds second y → Finds (Ok (v, w)) (also x y)
+also-ok first second v w x y e f h k =
+    let found : x ≡ Ok v = (rw e at h).ok in
+    let other : y ≡ Ok w = (rw f at k).ok in
+    record { ok = rw (found, other) refl; err = tt }
+
+pub ruleset both_steps = (also-first, also-second, also-ok)
+
+pub ruleset part_steps = (then-err, then-ok)

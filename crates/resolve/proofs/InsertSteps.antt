@@ -32,6 +32,7 @@ use Rattle.typing.specs.Built.{expression_built, rows_built, stored_built}
 use Rattle.resolve.specs.Here.{expression_found}
 use Rattle.resolve.specs.Rows.{source_stored, stored_found}
 use Rattle.resolve.proofs.Everywhere.{expressions-same}
+use Rattle.resolve.specs.Parts.{of_type}
 use Rattle.resolve.proofs.FindsLemmas.{after, Finds-then_err, Finds-also_first, Finds-also_second, Finds-each_item, each-next, each-finds, IsReasonOf-left, Finds-before_first, Finds-before_others}
 use Rattle.resolve.proofs.Plain.{left, right}
 
@@ -49,15 +50,13 @@ value_here k tree h =
     ap (λ found. found >>= (λ x. Ok (Some x)))
     ((expressions-same k tree h).found no_columns (record { scope = []; clause = Plain }) (λ column. nothing_named column.table column.name))
 
-pub value_refused : (r : Refusal) (wanted : ValueType) (tree : Expression) → expression_built tree ≡ true → Finds (Err r) (expression_found no_columns tree) →
-    Finds (Err r) (source_found nothing_known [] (written.Value tree) >>= stored_as wanted)
-value_refused r wanted tree h f =
-    rw (value_here nothing_known tree h)
-    (Finds-then_err r (expression_found no_columns tree >>= (λ x. Ok (Some x))) (stored_as wanted) (Finds-then_err r (expression_found no_columns tree) (λ x. Ok (Some x)) f))
-
-pub value_typed : (wanted : ValueType) (tree : Expression) (x : TypedExpression) (r : Result Typed Refusal) → expression_built tree ≡ true → expression_found no_columns tree ≡ Ok x →
-    Finds r (must_be wanted x) → Finds r (source_found nothing_known [] (written.Value tree) >>= stored_as wanted)
-value_typed wanted tree x r h e f = rw (value_here nothing_known tree h, e) f
+pub value_is : (wanted : ValueType) (tree : Expression) → expression_built tree ≡ true →
+    (source_found nothing_known [] (written.Value tree) >>= stored_as wanted) ≡ of_type wanted (expression_found no_columns tree)
+value_is wanted tree h = rw (value_here nothing_known tree h) (beside (expression_found no_columns tree))
+  where
+    beside : (found : Finding TypedExpression) → (found >>= (λ x. Ok (Some x)) >>= stored_as wanted) ≡ of_type wanted found
+    beside (Ok x) = refl
+    beside (Err reasons) = refl
 
 same_source : (k : Known) (s : StoredSource) → stored_built s ≡ true → source_found k [] s ≡ source_found nothing_known [] s
 same_source k (written.Value tree) h = value_here k tree h ∙ sym (value_here nothing_known tree h)
@@ -209,5 +208,3 @@ pub ruleset rows_steps = (all-item, Finds-each_item, each-next, each-finds)
 pub ruleset row_steps = (row_refused, row_is)
 
 pub ruleset zip_steps = (all-item, zip-finds)
-
-pub ruleset source_steps = (value_refused, value_typed)

@@ -16,6 +16,8 @@ use Rattle.ast.specs.declared.tree.Primary.{Primary}
 use Rattle.ast.specs.declared.tree.Primary.TheVariants as p
 use Rattle.ast.specs.declared.tree.Query.{Query}
 use Rattle.ast.specs.declared.tree.Term.{Term, out-Term}
+use Rattle.sqlval.specs.declared.value.ValueType.TheVariants.{Integer}
+use Rattle.typing.specs.declared.typed.Expression.{Expression as Typed}
 use Rattle.typing.specs.declared.typed.Expression.TheVariants as expression
 use Rattle.typing.specs.declared.scope.Frame.{Frame}
 use Rattle.typing.specs.declared.scope.TypedExpression.{TypedExpression}
@@ -23,7 +25,7 @@ use Rattle.typing.specs.Finding.{Finding, ◌>>=◌, also, each, invalid}
 use Rattle.typing.specs.Known.{nothing_known}
 use Rattle.typing.specs.Part.{Part, View, in_turn, if_chain, of_chain, Checked}
 use Rattle.typing.specs.Scope.{column_in}
-use Rattle.typing.specs.Expression.{integer, text, must_be, signed_number, signed, sum_chain, product_chain, calculation, concatenation, sum_operand, text_operand, product_operand, leading_operator, chain_led_by}
+use Rattle.typing.specs.Expression.{integer, text, must_be, signed_number, signed, sum_chain, product_chain, calculation, concatenation, sum_operand, text_operand, product_operand, product_operator, leading_operator, chain_led_by}
 use Rattle.typing.specs.Typing.{expression_part, term_part, factor_part, primary_part, with_sign}
 use Rattle.typing.proofs.Nodes as node
 use Rattle.resolve.specs.Here.{here, expression_found, term_found, factor_found, primary_found, summand, joined_text, multiplier}
@@ -152,3 +154,11 @@ module _ (frame : Frame) where
   pub term_product : (tree : Term) → ((out-Term tree).others ≡ [] → ⊥) →
       term_found frame tree ≡ calculation (factor_found frame (out-Term tree).first) (each (map (multiplier frame) (out-Term tree).others))
   term_product tree n = term_is tree ∙ chain-product (factor_found frame (out-Term tree).first) (out-Term tree).others n
+
+  -- the operator of a product, which is always one, beside its operand
+  pub product_operand_is : (other : MultiplyOperator × Factor) → multiplier frame other ≡ also (Ok (product_operator other.0)) (factor_found frame other.1 >>= must_be Integer)
+  product_operand_is other = beside (factor_found frame other.1 >>= must_be Integer)
+    where
+      beside : (found : Finding Typed) → (found >>= (λ x. Ok (product_operator other.0, x))) ≡ also (Ok (product_operator other.0)) found
+      beside (Ok x) = refl
+      beside (Err reasons) = refl

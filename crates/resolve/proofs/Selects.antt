@@ -51,7 +51,7 @@ use Rattle.typing.specs.Built.{references}
 use Rattle.typing.proofs.Nodes as node
 use Rattle.resolve.specs.BuiltParts.{condition_built, item_built, reference_built, select_built}
 use Rattle.resolve.specs.Here.{condition_found}
-use Rattle.resolve.specs.Select.{column_name, filter_found, item_found, items_found, made_item, made_select, name_of, only_select, query_answered, select_answered, select_in, select_over, shown_from, stored_select, typed_items}
+use Rattle.resolve.specs.Select.{column_name, filter_found, item_found, items_found, made_item, made_select, name_of, only_select, query_answered, select_answered, select_in, select_of, select_over, shown_from, stored_select, typed_items}
 use Rattle.resolve.proofs.BuiltSteps.{item_built_is, not-nil, reference_built-table, reference_built-derived, query_built-none, query_built-some, select_built_is}
 use Rattle.resolve.proofs.Everywhere.{expressions-same, conditions-same}
 use Rattle.resolve.proofs.FindsLemmas.{Finds-then_err, Finds-also_first, Finds-also_second, Finds-exceeded, IsReasonOf-left}
@@ -366,37 +366,16 @@ listed_is frame trees h =
 
 -- ---- a SELECT over its FROM
 
-made_refused : {A B : Type 0} (r : Refusal) (f : A → B) (x : Finding A) → Finds (Err r) (x >>= (λ a. Ok (f a))) → Finds (Err r) x
-made_refused r f (Ok x) h = record { ok = tt; err = h.err }
-made_refused r f (Err reasons) h = record { ok = tt; err = h.err }
-
-module _ (frame : Frame) (from : Source) (tree : Select) where
-  abbrev made_of : Option Condition × List ShownItem → Typed
-  made_of p = made_select (map typed_item p.1) from p.0
-
-  pub over_filter : (r : Refusal) → Finds (Err r) (filter_found frame (out-Select tree).filter) → Finds (Err r) (select_over frame from tree)
-  over_filter r h =
-      Finds-then_err r (also (filter_found frame (out-Select tree).filter) (items_found frame (out-Select tree).items)) (λ p. Ok (made_of p))
-      (Finds-also_first r (filter_found frame (out-Select tree).filter) (items_found frame (out-Select tree).items) h)
-
-  pub over_items : (r : Refusal) → Finds (Err r) (typed_items (items_found frame (out-Select tree).items)) → Finds (Err r) (select_over frame from tree)
-  over_items r h =
-      Finds-then_err r (also (filter_found frame (out-Select tree).filter) (items_found frame (out-Select tree).items)) (λ p. Ok (made_of p))
-      (Finds-also_second r (filter_found frame (out-Select tree).filter) (items_found frame (out-Select tree).items) (made_refused r (map typed_item) (items_found frame (out-Select tree).items) h))
-
-  pub over_all : (filter : Option Condition) (items : List Item) → filter_found frame (out-Select tree).filter ≡ Ok filter → typed_items (items_found frame (out-Select tree).items) ≡ Ok items →
-      select_over frame from tree ≡ Ok (made_select items from filter)
-  over_all filter items e f = rw e (go (items_found frame (out-Select tree).items)) ∙ ap (λ found. found >>= (λ ys. Ok (made_select ys from filter))) f
-    where
-      go : (x : Finding (List ShownItem)) → (also {A = Option Condition} (Ok filter) x >>= (λ p. Ok (made_of p))) ≡ (typed_items x >>= (λ ys. Ok (made_select ys from filter)))
-      go (Ok xs) = refl
-      go (Err reasons) = refl
-
-  pub over_found : (filter : Option Condition) (items : List Item) → filter_found frame (out-Select tree).filter ≡ Ok filter → typed_items (items_found frame (out-Select tree).items) ≡ Ok items →
-      Finds (Ok (made_select items from filter)) (select_over frame from tree)
-  over_found filter items e f = record { ok = over_all filter items e f; err = tt }
-
-pub ruleset over_steps = (over_filter, over_items, over_found)
+pub over-parts : (frame : Frame) (from : Source) (tree : Select) →
+    select_over frame from tree ≡ select_of from (also (filter_found frame (out-Select tree).filter) (typed_items (items_found frame (out-Select tree).items)))
+over-parts frame from tree = beside (filter_found frame (out-Select tree).filter) (items_found frame (out-Select tree).items)
+  where
+    beside : (filter : Finding (Option Condition)) (items : Finding (List ShownItem)) →
+        (also filter items >>= (λ p. Ok (made_select (map typed_item p.1) from p.0))) ≡ select_of from (also filter (typed_items items))
+    beside (Ok f) (Ok xs) = refl
+    beside (Ok f) (Err reasons) = refl
+    beside (Err reasons) (Ok xs) = refl
+    beside (Err reasons) (Err more) = refl
 
 pub ruleset star_steps = (star_refused, star_found)
 

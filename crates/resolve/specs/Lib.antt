@@ -2,5 +2,6 @@ pub mod Answer
 pub mod BuiltParts
 pub mod Constraints
 pub mod Here
+pub mod Parts
 pub mod Rows
 pub mod Select

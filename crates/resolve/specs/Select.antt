@@ -87,6 +87,9 @@ filter_found frame (Some tree) = condition_found frame tree >>= (λ c. Ok (Some 
 abbrev pub made_select : List Item → Source → Option Condition → Typed
 made_select items from filter = query.Select (roll-Select (record { distinct = false; items = items; from = from; filter = filter; grouping = None }))
 
+abbrev pub select_of : Source → Finding (Option Condition × List Item) → Finding Typed
+select_of from found = found >>= (λ p. Ok (made_select p.1 from p.0))
+
 abbrev pub select_over : Frame → Source → Select → Finding Typed
 select_over frame from tree =
     also (filter_found frame (out-Select tree).filter) (items_found frame (out-Select tree).items) >>= (λ p. Ok (made_select (map typed_item p.1) from p.0))

@@ -1,18 +1,20 @@
 //! The types of conditions.
 
-ghost use Rattle.std.specs.Prelude.{◌≡◌, ◌∷◌, ◌++◌, map, None, Ok, IfOk, OnOk};
+ghost use Rattle.std.specs.Prelude.{◌≡◌, ◌∷◌, ◌++◌, map, None, Ok, OnOk};
 ghost use Rattle.typing.specs.Condition.{and_of, between, compared, conjunction, conjuncts, disjunction, disjuncts, in_list, like, literal_of, negated, null_test, operator_of, or_of, tested, truth_asked};
 ghost use Rattle.typing.specs.Finding.{each};
 ghost use Rattle.typing.specs.Finds.{Finds};
 ghost use Rattle.resolve.specs.Here.{condition_found, conjunction_found, expression_found, negation_found, predicate_found, test_found};
+ghost use Rattle.resolve.specs.Parts.{of_type};
 
 use crate::expressions::{of_type, typed_expression, with_sign};
+use crate::parts::{both, boxed};
 use ast::{Comparison, Conjunction, Literal, Negation, Predicate, Test, TruthTest, TruthValue};
 use items::{Boxed, Items};
 use lexer::{Reason, Refusal};
 use sqlval::{CompOp, Truth, Value, ValueType};
 use std::alloc::{AllocError, Global};
-use typing::{Condition, Frame, TypedExpression};
+use typing::{Condition, Expression, Frame};
 
 /// What a condition without queries and set functions stands for in one FROM.
 #[cycle(conditions)]
@@ -78,23 +80,21 @@ fn typed_negations(
 }
 
 #[cycle(conditions)]
-#[tactic(auto, using(crate::proofs::ConditionSteps::node_steps))]
 fn typed_negation(alloc: Global, frame: &Frame, tree: &Negation) -> Result<Condition, Refusal>
     requires ungrouped { frame.now.key ≡ None }
     ensures { Finds result (negation_found frame.now tree.now) }
 {
     let condition = typed_test(alloc, frame, &tree.test)?;
-    Ok(negated(alloc, tree.is_negated, condition)?)
+    negated(alloc, tree.is_negated, condition)
 }
 
 #[cycle(conditions)]
-#[tactic(auto, using(crate::proofs::ConditionSteps::node_steps))]
 fn typed_test(alloc: Global, frame: &Frame, tree: &Test) -> Result<Condition, Refusal>
     requires ungrouped { frame.now.key ≡ None }
     ensures { Finds result (test_found frame.now tree.now) }
 {
     let condition = typed_predicate(alloc, frame, &tree.predicate)?;
-    Ok(tested(alloc, tree.truth, condition)?)
+    tested(alloc, tree.truth, condition)
 }
 
 #[cycle(conditions)]
@@ -118,7 +118,6 @@ fn typed_predicate(alloc: Global, frame: &Frame, tree: &Predicate) -> Result<Con
     }
 }
 
-#[tactic(auto, using(crate::proofs::ConditionSteps::compared_steps))]
 fn compared(
     alloc: Global,
     frame: &Frame,
@@ -129,14 +128,12 @@ fn compared(
     requires ungrouped { frame.now.key ≡ None }
     ensures { Finds result (compared operator (expression_found frame.now x.now) (expression_found frame.now y.now)) }
 {
-    let x = typed_expression(alloc, frame, x)?;
-    let y = typed_expression(alloc, frame, y)?;
-    let y = of_type(y, x.value_type)?;
-    let x = Boxed::new(alloc, x.expression)?;
-    Ok(Condition::Compare(operator_of(operator), x, Boxed::new(alloc, y)?))
+    let typed = typed_expression(alloc, frame, x)?;
+    let y = typed_operand(alloc, frame, y, typed.value_type);
+    let (x, y) = both(boxed(alloc, Ok(typed.expression)), y)?;
+    Ok(Condition::Compare(operator_of(operator), x, y))
 }
 
-#[tactic(auto, using(crate::proofs::ConditionSteps::between_steps))]
 fn between(
     alloc: Global,
     frame: &Frame,
@@ -148,18 +145,13 @@ fn between(
     requires ungrouped { frame.now.key ≡ None }
     ensures { Finds result (between is_negated (expression_found frame.now x.now) (expression_found frame.now low.now) (expression_found frame.now high.now)) }
 {
-    let x = typed_expression(alloc, frame, x)?;
-    let low = typed_expression(alloc, frame, low)?;
-    let low = of_type(low, x.value_type)?;
-    let high = typed_expression(alloc, frame, high)?;
-    let high = of_type(high, x.value_type)?;
-    let x = Boxed::new(alloc, x.expression)?;
-    let low = Boxed::new(alloc, low)?;
-    let condition = Condition::Between(x, low, Boxed::new(alloc, high)?);
-    Ok(negated(alloc, is_negated, condition)?)
+    let typed = typed_expression(alloc, frame, x)?;
+    let low = typed_operand(alloc, frame, low, typed.value_type);
+    let high = typed_operand(alloc, frame, high, typed.value_type);
+    let (x, (low, high)) = both(boxed(alloc, Ok(typed.expression)), both(low, high))?;
+    negated(alloc, is_negated, Condition::Between(x, low, high))
 }
 
-#[tactic(auto, using(crate::proofs::ConditionSteps::list_steps))]
 fn in_list(
     alloc: Global,
     frame: &Frame,
@@ -170,16 +162,12 @@ fn in_list(
     requires ungrouped { frame.now.key ≡ None }
     ensures { Finds result (in_list is_negated (expression_found frame.now x.now) literals.now) }
 {
-    let TypedExpression {
-        expression,
-        value_type,
-    } = typed_expression(alloc, frame, x)?;
-    let values = literals_of(alloc, value_type, literals)?;
-    let condition = Condition::InList(Boxed::new(alloc, expression)?, values);
-    Ok(negated(alloc, is_negated, condition)?)
+    let typed = typed_expression(alloc, frame, x)?;
+    let values = literals_of(alloc, typed.value_type, literals);
+    let (x, values) = both(boxed(alloc, Ok(typed.expression)), values)?;
+    negated(alloc, is_negated, Condition::InList(x, values))
 }
 
-#[tactic(auto, using(crate::proofs::ConditionSteps::like_steps))]
 fn like(
     alloc: Global,
     frame: &Frame,
@@ -190,16 +178,12 @@ fn like(
     requires ungrouped { frame.now.key ≡ None }
     ensures { Finds result (like is_negated (expression_found frame.now x.now) (expression_found frame.now pattern.now)) }
 {
-    let x = typed_expression(alloc, frame, x)?;
-    let x = of_type(x, ValueType::Text)?;
-    let pattern = typed_expression(alloc, frame, pattern)?;
-    let pattern = of_type(pattern, ValueType::Text)?;
-    let x = Boxed::new(alloc, x)?;
-    let condition = Condition::Like(x, Boxed::new(alloc, pattern)?);
-    Ok(negated(alloc, is_negated, condition)?)
+    let x = typed_operand(alloc, frame, x, ValueType::Text);
+    let pattern = typed_operand(alloc, frame, pattern, ValueType::Text);
+    let (x, pattern) = both(x, pattern)?;
+    negated(alloc, is_negated, Condition::Like(x, pattern))
 }
 
-#[tactic(auto, using(crate::proofs::ConditionSteps::null_steps))]
 fn null_test(
     alloc: Global,
     frame: &Frame,
@@ -209,9 +193,22 @@ fn null_test(
     requires ungrouped { frame.now.key ≡ None }
     ensures { Finds result (null_test is_negated (expression_found frame.now x.now)) }
 {
-    let x = typed_expression(alloc, frame, x)?;
-    let condition = Condition::IsNull(Boxed::new(alloc, x.expression)?);
-    Ok(negated(alloc, is_negated, condition)?)
+    let typed = typed_expression(alloc, frame, x)?;
+    let condition = Condition::IsNull(Boxed::new(alloc, typed.expression)?);
+    negated(alloc, is_negated, condition)
+}
+
+/// An operand of the type asked for.
+fn typed_operand(
+    alloc: Global,
+    frame: &Frame,
+    tree: &ast::Expression,
+    wanted: ValueType,
+) -> Result<Boxed<Expression>, Refusal>
+    requires ungrouped { frame.now.key ≡ None }
+    ensures { Finds result (of_type wanted (expression_found frame.now tree.now)) }
+{
+    boxed(alloc, of_type(typed_expression(alloc, frame, tree), wanted))
 }
 
 /// Literals, all of the type asked for.
@@ -285,8 +282,8 @@ fn and_of(operands: Items<Condition>) -> Condition
 }
 
 /// NOT, where it is written.
-fn negated(alloc: Global, is_negated: bool, condition: Condition) -> Result<Condition, AllocError>
-    ensures { IfOk result (λ c. c ≡ negated is_negated condition) }
+fn negated(alloc: Global, is_negated: bool, condition: Condition) -> Result<Condition, Refusal>
+    ensures { Finds result (Ok (negated is_negated condition)) }
 {
     if is_negated {
         Ok(Condition::Not(Boxed::new(alloc, condition)?))
@@ -300,8 +297,8 @@ fn tested(
     alloc: Global,
     test: Option<TruthTest>,
     condition: Condition,
-) -> Result<Condition, AllocError>
-    ensures { IfOk result (λ c. c ≡ tested test condition) }
+) -> Result<Condition, Refusal>
+    ensures { Finds result (Ok (tested test condition)) }
 {
     match test {
         None => Ok(condition),

@@ -1,14 +1,16 @@
 //! The types of expressions.
 
-ghost use Rattle.std.specs.Prelude.{◌≡◌, map, None, Ok};
-ghost use Rattle.typing.specs.Finding.{each};
+ghost use Rattle.std.specs.Prelude.{◌≡◌, List, map, None, Ok};
+ghost use Rattle.typing.specs.Finding.{Finding, each};
 ghost use Rattle.typing.specs.Finds.{Finds};
-ghost use Rattle.typing.specs.Expression.{calculation, concatenation, integer, leading_operator, must_be, must_concatenate, product_operator, signed, signed_number, sum_operator, text};
+ghost use Rattle.typing.specs.Expression.{calculation, concatenation, leading_operator, must_concatenate, product_operator, signed_number, sum_operator, text};
 ghost use Rattle.resolve.specs.Here.{expression_found, factor_found, joined_text, multiplier, primary_found, summand, term_found};
+ghost use Rattle.resolve.specs.Parts.{after_sign, calculation_of, concatenation_of, number_of, of_type};
 
+use crate::parts::{both, boxed, second};
 use crate::scope::column;
 use ast::{AddOperator, Factor, MultiplyOperator, Primary, Sign, Term};
-use items::{Boxed, Items};
+use items::{Boxed, Items, Text};
 use lexer::{Reason, Refusal};
 use sqlval::{Value, ValueType, negate};
 use std::alloc::Global;
@@ -25,36 +27,33 @@ pub fn typed_expression(
     requires ungrouped { frame.now.key ≡ None }
     ensures { Finds result (expression_found frame.now tree.now) }
 {
-    let first = typed_term(alloc, frame, &tree.first)?;
-    let Some(operator) = first_operator(tree.others.as_slice()) else {
-        return Ok(first);
+    let first = typed_term(alloc, frame, &tree.first);
+    let others = tree.others.as_slice();
+    let Some(operator) = first_operator(others) else {
+        return first;
     };
     match operator {
-        AddOperator::Concatenate => {
-            typed_concatenation(alloc, frame, first, tree.others.as_slice())
-        }
-        _ => typed_sum(alloc, frame, first, tree.others.as_slice()),
+        AddOperator::Concatenate => typed_concatenation(alloc, frame, others, first),
+        _ => typed_sum(alloc, frame, others, first),
     }
 }
 
 #[cycle(expressions)]
-#[tactic(auto, using(crate::proofs::Chains::expression_steps))]
 fn typed_sum(
     alloc: Global,
     frame: &Frame,
-    first: TypedExpression,
     others: &[(AddOperator, Term)],
+    first: Result<TypedExpression, Refusal>,
 ) -> Result<TypedExpression, Refusal>
     requires ungrouped { frame.now.key ≡ None }
-    ensures { Finds result (calculation (Ok first) (each (map (summand frame.now) others.now))) }
+    ensures { (x : Finding TypedExpression) → Finds first x → Finds result (calculation x (each (map (summand frame.now) others.now))) }
 {
-    let first = of_type(first, ValueType::Integer)?;
-    let operands = summands(alloc, frame, others)?;
-    calculated(alloc, first, operands)
+    let first = boxed(alloc, of_type(first, ValueType::Integer));
+    calculated(both(first, summands(alloc, frame, others)))
 }
 
 #[cycle(expressions)]
-#[tactic(auto, using(crate::proofs::Chains::expression_steps))]
+#[tactic(auto, using(crate::proofs::FindsLemmas::each_steps))]
 fn summands(
     alloc: Global,
     frame: &Frame,
@@ -65,32 +64,41 @@ fn summands(
 {
     let mut operands = Items::new(alloc);
     for (operator, term) in others {
-        let operator = operator_in_sum(*operator)?;
-        let operand = typed_term(alloc, frame, term)?;
-        let operand = of_type(operand, ValueType::Integer)?;
-        operands.push((operator, operand))?;
+        operands.push(summand(alloc, frame, *operator, term)?)?;
     }
     Ok(operands)
 }
 
 #[cycle(expressions)]
-#[tactic(auto, using(crate::proofs::Chains::expression_steps))]
-fn typed_concatenation(
+fn summand(
     alloc: Global,
     frame: &Frame,
-    first: TypedExpression,
-    others: &[(AddOperator, Term)],
-) -> Result<TypedExpression, Refusal>
+    operator: AddOperator,
+    term: &Term,
+) -> Result<(Arithmetic, Expression), Refusal>
     requires ungrouped { frame.now.key ≡ None }
-    ensures { Finds result (concatenation (Ok first) (each (map (joined_text frame.now) others.now))) }
+    ensures { Finds result (summand frame.now (operator, term.now)) }
 {
-    let first = of_type(first, ValueType::Text)?;
-    let operands = joined_texts(alloc, frame, others)?;
-    concatenated(alloc, first, operands)
+    let operand = of_type(typed_term(alloc, frame, term), ValueType::Integer);
+    both(operator_in_sum(operator), operand)
 }
 
 #[cycle(expressions)]
-#[tactic(auto, using(crate::proofs::Chains::expression_steps))]
+fn typed_concatenation(
+    alloc: Global,
+    frame: &Frame,
+    others: &[(AddOperator, Term)],
+    first: Result<TypedExpression, Refusal>,
+) -> Result<TypedExpression, Refusal>
+    requires ungrouped { frame.now.key ≡ None }
+    ensures { (x : Finding TypedExpression) → Finds first x → Finds result (concatenation x (each (map (joined_text frame.now) others.now))) }
+{
+    let first = boxed(alloc, of_type(first, ValueType::Text));
+    concatenated(both(first, joined_texts(alloc, frame, others)))
+}
+
+#[cycle(expressions)]
+#[tactic(auto, using(crate::proofs::FindsLemmas::each_steps))]
 fn joined_texts(
     alloc: Global,
     frame: &Frame,
@@ -101,45 +109,54 @@ fn joined_texts(
 {
     let mut operands = Items::new(alloc);
     for (operator, term) in others {
-        only_concatenation(*operator)?;
-        let operand = typed_term(alloc, frame, term)?;
-        let operand = of_type(operand, ValueType::Text)?;
-        operands.push(operand)?;
+        operands.push(joined_text(alloc, frame, *operator, term)?)?;
     }
     Ok(operands)
 }
 
 #[cycle(expressions)]
-#[tactic(auto, using(crate::proofs::Chains::expression_steps))]
+fn joined_text(
+    alloc: Global,
+    frame: &Frame,
+    operator: AddOperator,
+    term: &Term,
+) -> Result<Expression, Refusal>
+    requires ungrouped { frame.now.key ≡ None }
+    ensures { Finds result (joined_text frame.now (operator, term.now)) }
+{
+    let operand = of_type(typed_term(alloc, frame, term), ValueType::Text);
+    second(both(only_concatenation(operator), operand))
+}
+
+#[cycle(expressions)]
+#[tactic(auto, using(crate::proofs::Chains::term_steps))]
 fn typed_term(alloc: Global, frame: &Frame, tree: &Term) -> Result<TypedExpression, Refusal>
     requires ungrouped { frame.now.key ≡ None }
     ensures { Finds result (term_found frame.now tree.now) }
 {
-    let first = typed_factor(alloc, frame, &tree.first)?;
+    let first = typed_factor(alloc, frame, &tree.first);
     if tree.others.is_empty() {
-        return Ok(first);
+        return first;
     }
-    typed_product(alloc, frame, first, tree.others.as_slice())
+    typed_product(alloc, frame, tree.others.as_slice(), first)
 }
 
 #[cycle(expressions)]
-#[tactic(auto, using(crate::proofs::Chains::expression_steps))]
 fn typed_product(
     alloc: Global,
     frame: &Frame,
-    first: TypedExpression,
     others: &[(MultiplyOperator, Factor)],
+    first: Result<TypedExpression, Refusal>,
 ) -> Result<TypedExpression, Refusal>
     requires ungrouped { frame.now.key ≡ None }
-    ensures { Finds result (calculation (Ok first) (each (map (multiplier frame.now) others.now))) }
+    ensures { (x : Finding TypedExpression) → Finds first x → Finds result (calculation x (each (map (multiplier frame.now) others.now))) }
 {
-    let first = of_type(first, ValueType::Integer)?;
-    let operands = multipliers(alloc, frame, others)?;
-    calculated(alloc, first, operands)
+    let first = boxed(alloc, of_type(first, ValueType::Integer));
+    calculated(both(first, multipliers(alloc, frame, others)))
 }
 
 #[cycle(expressions)]
-#[tactic(auto, using(crate::proofs::Chains::expression_steps))]
+#[tactic(auto, using(crate::proofs::FindsLemmas::each_steps))]
 fn multipliers(
     alloc: Global,
     frame: &Frame,
@@ -150,15 +167,26 @@ fn multipliers(
 {
     let mut operands = Items::new(alloc);
     for (operator, factor) in others {
-        let operand = typed_factor(alloc, frame, factor)?;
-        let operand = of_type(operand, ValueType::Integer)?;
-        operands.push((operator_in_product(*operator), operand))?;
+        operands.push(multiplier(alloc, frame, *operator, factor)?)?;
     }
     Ok(operands)
 }
 
 #[cycle(expressions)]
-#[tactic(auto, using(crate::proofs::Chains::expression_steps))]
+fn multiplier(
+    alloc: Global,
+    frame: &Frame,
+    operator: MultiplyOperator,
+    factor: &Factor,
+) -> Result<(Arithmetic, Expression), Refusal>
+    requires ungrouped { frame.now.key ≡ None }
+    ensures { Finds result (multiplier frame.now (operator, factor.now)) }
+{
+    let operand = of_type(typed_factor(alloc, frame, factor), ValueType::Integer);
+    both(Ok(operator_in_product(operator)), operand)
+}
+
+#[cycle(expressions)]
 fn typed_factor(alloc: Global, frame: &Frame, tree: &Factor) -> Result<TypedExpression, Refusal>
     requires ungrouped { frame.now.key ≡ None }
     ensures { Finds result (factor_found frame.now tree.now) }
@@ -167,7 +195,6 @@ fn typed_factor(alloc: Global, frame: &Frame, tree: &Factor) -> Result<TypedExpr
 }
 
 #[cycle(expressions)]
-#[tactic(auto, using(crate::proofs::Chains::expression_steps))]
 fn typed_primary(
     alloc: Global,
     frame: &Frame,
@@ -178,24 +205,11 @@ fn typed_primary(
     ensures { Finds result (primary_found frame.now sign tree.now) }
 {
     match tree {
-        Primary::Number(number) => {
-            let number = with_sign(sign, *number)?;
-            Ok(TypedExpression {
-                expression: Expression::Constant(number),
-                value_type: ValueType::Integer,
-            })
-        }
-        Primary::Text(text) => {
-            let constant = TypedExpression {
-                expression: Expression::Constant(Value::Text(text.copy(alloc)?)),
-                value_type: ValueType::Text,
-            };
-            after_sign(alloc, sign, constant)
-        }
-        Primary::Column(name) => after_sign(alloc, sign, column(frame, name)?),
+        Primary::Number(number) => number_constant(with_sign(sign, *number)),
+        Primary::Text(text) => after_sign(alloc, sign, text_constant(alloc, text)),
+        Primary::Column(name) => after_sign(alloc, sign, column(frame, name)),
         Primary::Parenthesized(inner) => {
-            let inner = typed_expression(alloc, frame, inner.get())?;
-            after_sign(alloc, sign, inner)
+            after_sign(alloc, sign, typed_expression(alloc, frame, inner.get()))
         }
         Primary::CountRows => Err(Refusal::Invalid(Reason::Check)),
         Primary::Aggregate(_, _, _) => Err(Refusal::Invalid(Reason::Check)),
@@ -204,13 +218,37 @@ fn typed_primary(
 }
 
 /// The expression, if its type is the one asked for.
-pub fn of_type(typed: TypedExpression, wanted: ValueType) -> Result<Expression, Refusal>
-    ensures { Finds result (must_be wanted typed) }
+#[tactic(auto, using(crate::proofs::FindsLemmas::part_steps))]
+pub fn of_type(
+    typed: Result<TypedExpression, Refusal>,
+    wanted: ValueType,
+) -> Result<Expression, Refusal>
+    ensures { (x : Finding TypedExpression) → Finds typed x → Finds result (of_type wanted x) }
 {
+    let typed = typed?;
     if typed.value_type != wanted {
         return Err(Refusal::Invalid(Reason::DataType));
     }
     Ok(typed.expression)
+}
+
+#[tactic(auto, using(crate::proofs::FindsLemmas::part_steps))]
+fn number_constant(number: Result<Value, Refusal>) -> Result<TypedExpression, Refusal>
+    ensures { (x : Finding Value) → Finds number x → Finds result (number_of x) }
+{
+    Ok(TypedExpression {
+        expression: Expression::Constant(number?),
+        value_type: ValueType::Integer,
+    })
+}
+
+fn text_constant(alloc: Global, codes: &Text) -> Result<TypedExpression, Refusal>
+    ensures { Finds result (Ok (text (Expression.Constant (Value.Text codes.now)))) }
+{
+    Ok(TypedExpression {
+        expression: Expression::Constant(Value::Text(codes.copy(alloc)?)),
+        value_type: ValueType::Text,
+    })
 }
 
 /// A number with the sign directly before it.
@@ -226,51 +264,52 @@ pub fn with_sign(sign: Option<Sign>, number: i64) -> Result<Value, Refusal>
     }
 }
 
+#[tactic(auto, using(crate::proofs::FindsLemmas::part_steps))]
 fn after_sign(
     alloc: Global,
     sign: Option<Sign>,
-    typed: TypedExpression,
+    typed: Result<TypedExpression, Refusal>,
 ) -> Result<TypedExpression, Refusal>
-    ensures { Finds result (signed sign typed) }
+    ensures { (x : Finding TypedExpression) → Finds typed x → Finds result (after_sign sign x) }
 {
     match sign {
-        None => Ok(typed),
+        None => typed,
         Some(Sign::Plus) => Ok(TypedExpression {
             expression: of_type(typed, ValueType::Integer)?,
             value_type: ValueType::Integer,
         }),
         Some(Sign::Minus) => {
-            let operand = of_type(typed, ValueType::Integer)?;
+            let operand = boxed(alloc, of_type(typed, ValueType::Integer))?;
             Ok(TypedExpression {
-                expression: Expression::Negation(Boxed::new(alloc, operand)?),
+                expression: Expression::Negation(operand),
                 value_type: ValueType::Integer,
             })
         }
     }
 }
 
+#[tactic(auto, using(crate::proofs::FindsLemmas::part_steps))]
 fn calculated(
-    alloc: Global,
-    first: Expression,
-    operands: Items<(Arithmetic, Expression)>,
+    parts: Result<(Boxed<Expression>, Items<(Arithmetic, Expression)>), Refusal>,
 ) -> Result<TypedExpression, Refusal>
-    ensures { Finds result (Ok (integer (Expression.Calculation first operands))) }
+    ensures { (x : Finding (Expression × List (Arithmetic × Expression))) → Finds parts x → Finds result (calculation_of x) }
 {
+    let (first, operands) = parts?;
     Ok(TypedExpression {
-        expression: Expression::Calculation(Boxed::new(alloc, first)?, operands),
+        expression: Expression::Calculation(first, operands),
         value_type: ValueType::Integer,
     })
 }
 
+#[tactic(auto, using(crate::proofs::FindsLemmas::part_steps))]
 fn concatenated(
-    alloc: Global,
-    first: Expression,
-    operands: Items<Expression>,
+    parts: Result<(Boxed<Expression>, Items<Expression>), Refusal>,
 ) -> Result<TypedExpression, Refusal>
-    ensures { Finds result (Ok (text (Expression.Concatenation first operands))) }
+    ensures { (x : Finding (Expression × List Expression)) → Finds parts x → Finds result (concatenation_of x) }
 {
+    let (first, operands) = parts?;
     Ok(TypedExpression {
-        expression: Expression::Concatenation(Boxed::new(alloc, first)?, operands),
+        expression: Expression::Concatenation(first, operands),
         value_type: ValueType::Text,
     })
 }

@@ -165,7 +165,6 @@ fn typed_sources(
 }
 
 /// A source of VALUES, which sees no column, for a column of this type.
-#[tactic(auto, using(crate::proofs::InsertSteps::source_steps))]
 fn typed_source(
     alloc: Global,
     wanted: ValueType,
@@ -182,8 +181,7 @@ fn typed_source(
                 columns: Items::new(alloc),
                 key: None,
             };
-            let typed = typed_expression(alloc, &nothing, tree)?;
-            of_type(typed, wanted)
+            of_type(typed_expression(alloc, &nothing, tree), wanted)
         }
     }
 }

@@ -5,6 +5,7 @@ mod conditions;
 mod expressions;
 mod inserts;
 mod names;
+mod parts;
 mod queries;
 mod resolving;
 mod scope;

@@ -1,23 +1,24 @@
 //! The columns and types of queries.
 
-ghost use Rattle.std.specs.Prelude.{◌≡◌, ◌&&◌, true, None, Ok, map, IfOk, IfErr};
+ghost use Rattle.std.specs.Prelude.{◌≡◌, [], ◌∷◌, ◌&&◌, true, List, Option, None, Ok, map, IfOk, IfErr};
 ghost use Rattle.std.specs.Option.{option_copied};
 ghost use Rattle.typing.specs.Built.{is_nil, query_built};
-ghost use Rattle.typing.specs.Finding.{each, reasons_in};
+ghost use Rattle.typing.specs.Finding.{Finding, each, reasons_in};
 ghost use Rattle.typing.specs.Finds.{Finds, IsReasonOf};
 ghost use Rattle.typing.specs.From.{shown_name};
 ghost use Rattle.typing.specs.Known.{known, known_table};
 ghost use Rattle.typing.specs.Select.{columns_from, limited, typed_item};
-ghost use Rattle.typing.specs.Table.{frame_of, table_found, type_in};
+ghost use Rattle.typing.specs.Table.{frame_of, offer_of, table_found, type_in};
 ghost use Rattle.resolve.specs.BuiltParts.{select_built};
-ghost use Rattle.resolve.specs.Select.{column_name, factor_column, filter_found, item_found, items_found, made_item, made_select, name_of, only_select, query_answered, select_answered, select_over, shown_from, stored_select, term_column, typed_items};
+ghost use Rattle.resolve.specs.Select.{column_name, factor_column, filter_found, item_found, items_found, made_item, name_of, only_select, query_answered, select_answered, select_of, select_over, shown_from, stored_select, term_column, typed_items};
 
 use crate::conditions::typed_condition;
 use crate::expressions::typed_expression;
+use crate::parts::both;
 use ast::{Addend, Alias, Factor, Operand, Primary, SelectItem, TableSource, Term};
 use items::{Boxed, Items, Text};
 use lexer::{Limit, Name, Reason, Refusal};
-use sqlval::{ColumnType, Schema, Table, ValueType};
+use sqlval::{Column, ColumnType, Schema, Table, ValueType};
 use std::alloc::{AllocError, Global};
 use typing::{
     Condition, Expression, Frame, Item, Offer, OrderedQuery, Query, Select, Source, TypedExpression,
@@ -127,20 +128,40 @@ pub fn table_named<'a>(schema: &'a Schema, name: &Text) -> Result<&'a Table, Ref
 pub fn frame_of(alloc: Global, shown: &Text, table: &Table) -> Result<Frame, AllocError>
     ensures { IfOk result (λ frame. frame ≡ frame_of shown.now table.now.columns) }
 {
-    let mut columns = Items::with_capacity(alloc, table.columns.len())?;
-    for column in table.columns.as_slice() {
-        columns.push(Offer {
-            table: shown.copy(alloc)?,
-            name: Some(column.name.copy(alloc)?),
-            value_type: value_type_of(column.column_type),
-        })?;
-    }
-    let mut tables = Items::with_capacity(alloc, 1)?;
-    tables.push(shown.copy(alloc)?)?;
+    let tables = only(alloc, shown)?;
     Ok(Frame {
         tables,
-        columns,
+        columns: offers_of(alloc, shown, table.columns.as_slice())?,
         key: None,
+    })
+}
+
+fn only(alloc: Global, name: &Text) -> Result<Items<Text>, AllocError>
+    ensures { IfOk result (λ names. names ≡ name.now ∷ []) }
+{
+    let mut names = Items::with_capacity(alloc, 1)?;
+    names.push(name.copy(alloc)?)?;
+    Ok(names)
+}
+
+fn offers_of(alloc: Global, shown: &Text, columns: &[Column]) -> Result<Items<Offer>, AllocError>
+    ensures { IfOk result (λ offers. offers ≡ map (offer_of shown.now) columns.now) }
+{
+    let mut offers = Items::with_capacity(alloc, columns.len())?;
+    for column in columns {
+        offers.push(offer_of(alloc, shown, column)?)?;
+    }
+    Ok(offers)
+}
+
+fn offer_of(alloc: Global, shown: &Text, column: &Column) -> Result<Offer, AllocError>
+    ensures { IfOk result (λ offer. offer ≡ offer_of shown.now column.now) }
+{
+    let table = shown.copy(alloc)?;
+    Ok(Offer {
+        table,
+        name: Some(column.name.copy(alloc)?),
+        value_type: value_type_of(column.column_type),
     })
 }
 
@@ -155,7 +176,6 @@ pub fn value_type_of(column: ColumnType) -> ValueType
 }
 
 /// A SELECT over the columns that its FROM offers.
-#[tactic(auto, using(crate::proofs::Selects::over_steps))]
 fn select_over(
     alloc: Global,
     frame: &Frame,
@@ -165,19 +185,23 @@ fn select_over(
     requires ungrouped { frame.now.key ≡ None }
     ensures { Finds result (select_over frame.now from tree.now) }
 {
-    let filter = typed_filter(alloc, frame, &tree.filter)?;
-    let items = typed_list(alloc, frame, &tree.items)?;
-    Ok(made_select(alloc, items, from, filter)?)
+    let filter = typed_filter(alloc, frame, &tree.filter);
+    made_select(
+        alloc,
+        from,
+        both(filter, typed_list(alloc, frame, &tree.items)),
+    )
 }
 
+#[tactic(auto, using(crate::proofs::FindsLemmas::part_steps))]
 fn made_select(
     alloc: Global,
-    items: Items<Item>,
     from: Source,
-    filter: Option<Condition>,
-) -> Result<Query, AllocError>
-    ensures { IfOk result (λ query. query ≡ made_select items from filter) }
+    parts: Result<(Option<Condition>, Items<Item>), Refusal>,
+) -> Result<Query, Refusal>
+    ensures { (x : Finding (Option Condition × List Item)) → Finds parts x → Finds result (select_of from x) }
 {
+    let (filter, items) = parts?;
     let select = Select {
         distinct: false,
         items,

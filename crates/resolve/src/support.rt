@@ -199,7 +199,7 @@ fn is_filter_built(filter: &Option<Boxed<Condition>>) -> bool
 }
 
 #[cycle(built_expressions)]
-#[tactic(auto, using(crate::proofs::BuiltSteps::expression_steps))]
+#[tactic(auto, using(crate::proofs::BuiltSteps::expression_built_is))]
 fn is_expression_built(expression: &Expression) -> bool
     ensures { result ≡ expression_built expression.now }
 {
@@ -220,7 +220,7 @@ fn are_terms_built(others: &[(AddOperator, Term)]) -> bool
 }
 
 #[cycle(built_expressions)]
-#[tactic(auto, using(crate::proofs::BuiltSteps::expression_steps))]
+#[tactic(auto, using(crate::proofs::BuiltSteps::term_built_is))]
 fn is_term_built(term: &Term) -> bool
     ensures { result ≡ term_built term.now }
 {
@@ -241,7 +241,7 @@ fn are_factors_built(others: &[(MultiplyOperator, Factor)]) -> bool
 }
 
 #[cycle(built_expressions)]
-#[tactic(auto, using(crate::proofs::BuiltSteps::expression_steps))]
+#[tactic(auto, using(crate::proofs::BuiltSteps::factor_steps))]
 fn is_factor_built(factor: &Factor) -> bool
     ensures { result ≡ factor_built factor.now }
 {
@@ -257,7 +257,7 @@ fn is_factor_built(factor: &Factor) -> bool
 }
 
 #[cycle(built_conditions)]
-#[tactic(auto, using(crate::proofs::BuiltSteps::condition_steps))]
+#[tactic(auto, using(crate::proofs::BuiltSteps::condition_built_is))]
 fn is_condition_built(condition: &Condition) -> bool
     ensures { result ≡ condition_built condition.now }
 {
@@ -278,7 +278,7 @@ fn are_conjunctions_built(others: &[Conjunction]) -> bool
 }
 
 #[cycle(built_conditions)]
-#[tactic(auto, using(crate::proofs::BuiltSteps::condition_steps))]
+#[tactic(auto, using(crate::proofs::BuiltSteps::conjunction_built_is))]
 fn is_conjunction_built(conjunction: &Conjunction) -> bool
     ensures { result ≡ conjunction_built conjunction.now }
 {
@@ -299,7 +299,7 @@ fn are_negations_built(others: &[Negation]) -> bool
 }
 
 #[cycle(built_conditions)]
-#[tactic(auto, using(crate::proofs::BuiltSteps::condition_steps))]
+#[tactic(auto, using(crate::proofs::BuiltSteps::negation_steps))]
 fn is_negation_built(negation: &Negation) -> bool
     ensures { result ≡ negation_built negation.now }
 {

@@ -4,8 +4,8 @@ use Rattle.ast.specs.declared.tree.Condition.{out-Condition}
 use Rattle.ast.specs.declared.tree.Conjunction.{out-Conjunction}
 use Rattle.resolve.specs.Here.{conjunction_found, negation_found}
 use Rattle.lexer.specs.declared.refusals.Reason.TheVariants.{Check}
-use Rattle.resolve.proofs.FindsLemmas.{Finds-invalid}
-use Rattle.resolve.proofs.ConditionSteps.{condition_is, conjunction_is, disjunction_refused, conjunction_refused, predicate_nested, predicate_compare, predicate_between, predicate_in_list, predicate_like, predicate_is_null, predicate_exists, in_query_refused, disjunct_refused, conjunct_refused, disjunction-done, conjunction-done}
+use Rattle.resolve.proofs.FindsLemmas.{Finds-invalid, Finds-then_err}
+use Rattle.resolve.proofs.ConditionSteps.{condition_is, conjunction_is, negation_is, test_is, disjunction_refused, conjunction_refused, predicate_nested, predicate_compare, predicate_between, predicate_in_list, predicate_like, predicate_is_null, predicate_exists, in_query_refused, disjunct_refused, conjunct_refused, disjunction-done, conjunction-done}
 use Rattle.resolve.proofs.conditions.+conditions.Goals as goal
 
 pub typed_condition-returns-in_err-first : goal.typed_condition-returns-in_err-first
@@ -75,3 +75,21 @@ typed_predicate-returns-in-InQuery t c = rw c.in-InQuery.is (in_query_refused c.
 
 pub typed_predicate-returns-in-Exists : goal.typed_predicate-returns-in-Exists
 typed_predicate-returns-in-Exists t c = rw (c.in-Exists.is, predicate_exists c.args.frame.now) (Finds-invalid Check)
+
+-- ---- NOT and IS
+
+pub typed_negation-returns-in_err-condition : goal.typed_negation-returns-in_err-condition
+typed_negation-returns-in_err-condition t c =
+    let p = err_from_is_err_and c.from_residual.result c.from_residual.ensures.1 in
+    rw (p.1, p.2, negation_is c.args.frame.now c.args.tree.now) (Finds-then_err _ _ _ c.in_err-condition.ensures)
+
+pub typed_negation-returns : goal.typed_negation-returns
+typed_negation-returns t c = rw (negation_is c.args.frame.now c.args.tree.now, c.in_ok-condition.ensures.ok) c.negated.ensures
+
+pub typed_test-returns-in_err-condition : goal.typed_test-returns-in_err-condition
+typed_test-returns-in_err-condition t c =
+    let p = err_from_is_err_and c.from_residual.result c.from_residual.ensures.1 in
+    rw (p.1, p.2, test_is c.args.frame.now c.args.tree.now) (Finds-then_err _ _ _ c.in_err-condition.ensures)
+
+pub typed_test-returns : goal.typed_test-returns
+typed_test-returns t c = rw (test_is c.args.frame.now c.args.tree.now, c.in_ok-condition.ensures.ok) c.tested.ensures

@@ -1,66 +1,27 @@
-use Rattle.std.proofs.Common.{Ok, ◌∷◌, [], map, rules, sym, w64}
+use Rattle.std.proofs.Common.{Ok, Err, ◌≡◌, map, rules, ap, sym, w64}
 use mir.Val.{SFits}
 use Rattle.std.proofs.lemmas.Int.{to_z-of_z}
 use Rattle.std.proofs.lemmas.Result.{err_from_is_err_and}
-use Rattle.typing.specs.declared.typed.Expression.TheVariants as expression
-use Rattle.typing.specs.Finding.{each}
-use Rattle.typing.specs.Expression.{integer, signed, signed_number}
-use Rattle.typing.specs.Scope.{column_in}
+use Rattle.lexer.specs.declared.refusals.Reason.TheVariants.{Check}
+use Rattle.typing.specs.Expression.{product_operator}
 use Rattle.resolve.specs.Here.{joined_text, multiplier, summand}
-use Rattle.resolve.proofs.Chains.{calculation-ok, Finds-calculation_others, Finds-concatenation_others, concatenation-ok, summand_operator, summand_term, summand_type, multiplier_factor, multiplier_type, joined_text_operator, joined_text_term, joined_text_type}
-use Rattle.resolve.proofs.FindsLemmas.{each-finds, Finds-each_item, Finds-then_err}
-use Rattle.resolve.proofs.Nodes.{primary_number, primary_text, primary_column, primary_parenthesized, expression_sum, expression_concatenation, term_product}
+use Rattle.resolve.proofs.FindsLemmas.{Finds-invalid, each-finds, then-err, then-ok}
+use Rattle.resolve.proofs.Nodes.{factor_is, product_operand_is, primary_number, primary_text, primary_column, primary_parenthesized, primary_count_rows, primary_aggregate, primary_subquery, expression_alone, expression_sum, expression_concatenation, term_alone, term_product}
 use Rattle.resolve.proofs.expressions.+expressions.Goals as goal
 
 -- ---- chains
 
-pub joined_texts-returns-in_err-only_concatenation : goal.joined_texts-returns-in_err-only_concatenation
-joined_texts-returns-in_err-only_concatenation t c =
-    let p = err_from_is_err_and c.from_residual.result c.from_residual.ensures.1 in
-    rw (p.1, p.2) (Finds-each_item _ (joined_text c.args.frame.now) c.args.others.now c.loop-operator.operator-index c.loop-operator-item.result
-    c.loop-operator-test.true c.loop-operator-item.is (joined_text_operator _ c.args.frame.now c.loop-operator-item.result c.in_err-only_concatenation.ensures))
+pub summand-returns : goal.summand-returns
+summand-returns t c = c.both.ensures _ _ c.operator_in_sum.ensures (c.of_type-operand.ensures _ c.typed_term.ensures)
 
-pub joined_texts-returns-in_err-operand : goal.joined_texts-returns-in_err-operand
-joined_texts-returns-in_err-operand t c =
-    let p = err_from_is_err_and c.from_residual-in_err-operand.result c.from_residual-in_err-operand.ensures.1 in
-    rw (p.1, p.2) (Finds-each_item _ (joined_text c.args.frame.now) c.args.others.now c.loop-operator.operator-index c.loop-operator-item.result
-    c.loop-operator-test.true c.loop-operator-item.is (joined_text_term _ c.args.frame.now c.loop-operator-item.result c.in_err-operand.ensures))
+pub joined_text-returns : goal.joined_text-returns
+joined_text-returns t c = c.second.ensures _ (c.both.ensures _ _ c.only_concatenation.ensures (c.of_type-operand.ensures _ c.typed_term.ensures))
 
-pub joined_texts-returns-in_err-operand-2 : goal.joined_texts-returns-in_err-operand-2
-joined_texts-returns-in_err-operand-2 t c =
-    let p = err_from_is_err_and c.from_residual-in_err-operand-2.result c.from_residual-in_err-operand-2.ensures.1 in
-    rw (p.1, p.2) (Finds-each_item _ (joined_text c.args.frame.now) c.args.others.now c.loop-operator.operator-index c.loop-operator-item.result
-    c.loop-operator-test.true c.loop-operator-item.is (joined_text_type _ c.args.frame.now c.loop-operator-item.result c.in_ok-operand.operand c.in_ok-operand.ensures.ok c.in_err-operand-2.ensures))
-
-pub summands-returns-in_err-operator : goal.summands-returns-in_err-operator
-summands-returns-in_err-operator t c =
-    let p = err_from_is_err_and c.from_residual.result c.from_residual.ensures.1 in
-    rw (p.1, p.2) (Finds-each_item _ (summand c.args.frame.now) c.args.others.now c.loop-operator.operator-index c.loop-operator-item.result
-    c.loop-operator-test.true c.loop-operator-item.is (summand_operator _ c.args.frame.now c.loop-operator-item.result c.in_err-operator.ensures))
-
-pub summands-returns-in_err-operand : goal.summands-returns-in_err-operand
-summands-returns-in_err-operand t c =
-    let p = err_from_is_err_and c.from_residual-in_err-operand.result c.from_residual-in_err-operand.ensures.1 in
-    rw (p.1, p.2) (Finds-each_item _ (summand c.args.frame.now) c.args.others.now c.loop-operator.operator-index c.loop-operator-item.result
-    c.loop-operator-test.true c.loop-operator-item.is (summand_term _ c.args.frame.now c.loop-operator-item.result c.in_err-operand.ensures))
-
-pub summands-returns-in_err-operand-2 : goal.summands-returns-in_err-operand-2
-summands-returns-in_err-operand-2 t c =
-    let p = err_from_is_err_and c.from_residual-in_err-operand-2.result c.from_residual-in_err-operand-2.ensures.1 in
-    rw (p.1, p.2) (Finds-each_item _ (summand c.args.frame.now) c.args.others.now c.loop-operator.operator-index c.loop-operator-item.result
-    c.loop-operator-test.true c.loop-operator-item.is (summand_type _ c.args.frame.now c.loop-operator-item.result c.in_ok-operand.operand c.in_ok-operand.ensures.ok c.in_err-operand-2.ensures))
-
-pub multipliers-returns-in_err-operand : goal.multipliers-returns-in_err-operand
-multipliers-returns-in_err-operand t c =
-    let p = err_from_is_err_and c.from_residual.result c.from_residual.ensures.1 in
-    rw (p.1, p.2) (Finds-each_item _ (multiplier c.args.frame.now) c.args.others.now c.loop-operator.operator-index c.loop-operator-item.result
-    c.loop-operator-test.true c.loop-operator-item.is (multiplier_factor _ c.args.frame.now c.loop-operator-item.result c.in_err-operand.ensures))
-
-pub multipliers-returns-in_err-operand-2 : goal.multipliers-returns-in_err-operand-2
-multipliers-returns-in_err-operand-2 t c =
-    let p = err_from_is_err_and c.from_residual-in_err-operand-2.result c.from_residual-in_err-operand-2.ensures.1 in
-    rw (p.1, p.2) (Finds-each_item _ (multiplier c.args.frame.now) c.args.others.now c.loop-operator.operator-index c.loop-operator-item.result
-    c.loop-operator-test.true c.loop-operator-item.is (multiplier_type _ c.args.frame.now c.loop-operator-item.result c.in_ok-operand.operand c.in_ok-operand.ensures.ok c.in_err-operand-2.ensures))
+pub multiplier-returns : goal.multiplier-returns
+multiplier-returns t c =
+    let operand = c.of_type-operand.ensures _ c.typed_factor.ensures in
+    rw (product_operand_is c.args.frame.now (c.args.operator, c.args.factor.now))
+    (c.both.ensures (Ok (product_operator c.args.operator)) _ (record { ok = ap Ok (sym c.operator_in_product.ensures); err = tt }) operand)
 
 pub joined_texts-returns : goal.joined_texts-returns
 joined_texts-returns t c =
@@ -74,78 +35,67 @@ pub multipliers-returns : goal.multipliers-returns
 multipliers-returns t c =
     each-finds (multiplier c.args.frame.now) c.args.others.now c.loop-operator.operator-index c.loop-operator.operands c.loop-operator-test.false c.loop-operator.invariant
 
-pub typed_sum-returns-in_err-operands : goal.typed_sum-returns-in_err-operands
-typed_sum-returns-in_err-operands t c =
-    let p = err_from_is_err_and c.from_residual-in_err-operands.result c.from_residual-in_err-operands.ensures.1 in
-    rw (p.1, p.2) (Finds-calculation_others _ (Ok c.args.first) (each (map (summand c.args.frame.now) c.args.others.now)) c.in_err-operands.ensures)
-
 pub typed_sum-returns : goal.typed_sum-returns
-typed_sum-returns t c =
-    rw (calculation-ok c.args.first c.in_ok-first.first (each (map (summand c.args.frame.now) c.args.others.now)) c.in_ok-operands.operands c.in_ok-first.ensures.ok c.in_ok-operands.ensures.ok)
-    c.calculated.ensures
-
-pub typed_product-returns-in_err-operands : goal.typed_product-returns-in_err-operands
-typed_product-returns-in_err-operands t c =
-    let p = err_from_is_err_and c.from_residual-in_err-operands.result c.from_residual-in_err-operands.ensures.1 in
-    rw (p.1, p.2) (Finds-calculation_others _ (Ok c.args.first) (each (map (multiplier c.args.frame.now) c.args.others.now)) c.in_err-operands.ensures)
+typed_sum-returns t c = λ x h. c.calculated.ensures _ (c.both.ensures _ _ (c.boxed-first.ensures _ (c.of_type.ensures x h)) c.summands.ensures)
 
 pub typed_product-returns : goal.typed_product-returns
-typed_product-returns t c =
-    rw (calculation-ok c.args.first c.in_ok-first.first (each (map (multiplier c.args.frame.now) c.args.others.now)) c.in_ok-operands.operands c.in_ok-first.ensures.ok c.in_ok-operands.ensures.ok)
-    c.calculated.ensures
-
-pub typed_concatenation-returns-in_err-operands : goal.typed_concatenation-returns-in_err-operands
-typed_concatenation-returns-in_err-operands t c =
-    let p = err_from_is_err_and c.from_residual-in_err-operands.result c.from_residual-in_err-operands.ensures.1 in
-    rw (p.1, p.2) (Finds-concatenation_others _ (Ok c.args.first) (each (map (joined_text c.args.frame.now) c.args.others.now)) c.in_err-operands.ensures)
+typed_product-returns t c = λ x h. c.calculated.ensures _ (c.both.ensures _ _ (c.boxed-first.ensures _ (c.of_type.ensures x h)) c.multipliers.ensures)
 
 pub typed_concatenation-returns : goal.typed_concatenation-returns
-typed_concatenation-returns t c =
-    rw (concatenation-ok c.args.first c.in_ok-first.first (each (map (joined_text c.args.frame.now) c.args.others.now)) c.in_ok-operands.operands c.in_ok-first.ensures.ok c.in_ok-operands.ensures.ok)
-    c.concatenated.ensures
+typed_concatenation-returns t c = λ x h. c.concatenated.ensures _ (c.both.ensures _ _ (c.boxed-first.ensures _ (c.of_type.ensures x h)) c.joined_texts.ensures)
+
+pub typed_expression-returns-in_default : goal.typed_expression-returns-in_default
+typed_expression-returns-in_default t c = rw (expression_alone c.args.frame.now c.args.tree.now (sym (rw (c.as_slice-others.ensures, c.in_default.is) at c.first_operator.ensures))) c.typed_term-first.ensures
 
 pub typed_expression-returns-in-Concatenate : goal.typed_expression-returns-in-Concatenate
 typed_expression-returns-in-Concatenate t c =
-    let led = sym (rw (c.as_slice.ensures, c.in-Some.is, c.in-Concatenate.is) at c.first_operator.ensures) in
-    rw (expression_concatenation c.args.frame.now c.args.tree.now led, c.in_ok-first.ensures.ok)
-    (rw c.as_slice-in-Concatenate.ensures at c.typed_concatenation.ensures)
+    let led = sym (rw (c.as_slice-others.ensures, c.in-Some.is, c.in-Concatenate.is) at c.first_operator.ensures) in
+    rw (expression_concatenation c.args.frame.now c.args.tree.now led)
+    (rw c.as_slice-others.ensures at (c.typed_concatenation.ensures _ c.typed_term-first.ensures))
 
 pub typed_expression-returns-in_default-operator : goal.typed_expression-returns-in_default-operator
 typed_expression-returns-in_default-operator t c =
-    let led = sym (rw (c.as_slice.ensures, c.in-Some.is) at c.first_operator.ensures) in
-    rw (expression_sum c.args.frame.now c.args.tree.now c.in-Some.operator led c.in_default-operator.not-Concatenate, c.in_ok-first.ensures.ok)
-    (rw c.as_slice-in_default-operator.ensures at c.typed_sum.ensures)
+    let led = sym (rw (c.as_slice-others.ensures, c.in-Some.is) at c.first_operator.ensures) in
+    rw (expression_sum c.args.frame.now c.args.tree.now c.in-Some.operator led c.in_default-operator.not-Concatenate)
+    (rw c.as_slice-others.ensures at (c.typed_sum.ensures _ c.typed_term-first.ensures))
+
+pub typed_term-returns-then-is_empty : goal.typed_term-returns-then-is_empty
+typed_term-returns-then-is_empty t c = rw (term_alone c.args.frame.now c.args.tree.now (c.is_empty.ensures.0 c.if-is_empty.true)) c.typed_factor-first.ensures
 
 pub typed_term-returns : goal.typed_term-returns
 typed_term-returns t c =
-    rw (term_product c.args.frame.now c.args.tree.now (λ e. cc (c.is_empty.ensures.1 e, c.if-is_empty.false)), c.in_ok-first.ensures.ok)
-    (rw c.as_slice.ensures at c.typed_product.ensures)
+    rw (term_product c.args.frame.now c.args.tree.now (λ e. cc (c.is_empty.ensures.1 e, c.if-is_empty.false)))
+    (rw c.as_slice.ensures at (c.typed_product.ensures _ c.typed_factor-first.ensures))
 
 -- ---- primaries
 
-pub typed_primary-returns-in_err-number-in-Number : goal.typed_primary-returns-in_err-number-in-Number
-typed_primary-returns-in_err-number-in-Number t c =
-    let p = err_from_is_err_and c.from_residual.result c.from_residual.ensures.1 in
+pub typed_factor-returns : goal.typed_factor-returns
+typed_factor-returns t c = rw (factor_is c.args.frame.now c.args.tree.now) c.typed_primary.ensures
+
+pub typed_primary-returns-in-Number : goal.typed_primary-returns-in-Number
+typed_primary-returns-in-Number t c =
     let fits : SFits w64 c.in-Number.number = search rules in
-    rw (p.1, p.2, c.in-Number.is, primary_number c.args.frame.now)
-    (Finds-then_err _ (signed_number c.args.sign c.in-Number.number) (λ x. Ok (integer (expression.Constant x)))
-    (rw (to_z-of_z w64 c.in-Number.number fits) at c.in_err-number-in-Number.ensures))
+    rw (c.in-Number.is, primary_number c.args.frame.now)
+    (c.number_constant.ensures _ (rw (to_z-of_z w64 c.in-Number.number fits) at c.with_sign.ensures))
 
-pub typed_primary-returns-in_err-column-in-Column : goal.typed_primary-returns-in_err-column-in-Column
-typed_primary-returns-in_err-column-in-Column t c =
-    let p = err_from_is_err_and c.from_residual-in_err-column-in-Column.result c.from_residual-in_err-column-in-Column.ensures.1 in
-    rw (p.1, p.2, c.in-Column.is, primary_column c.args.frame.now)
-    (Finds-then_err _ (column_in c.in-Column.name (c.args.frame.now ∷ [])) (signed c.args.sign) c.in_err-column-in-Column.ensures)
+pub typed_primary-returns-in-Text : goal.typed_primary-returns-in-Text
+typed_primary-returns-in-Text t c =
+    rw (c.in-Text.is, primary_text c.args.frame.now) (c.after_sign.ensures _ c.text_constant.ensures)
 
-pub typed_primary-returns-in_ok-copy-in-Text : goal.typed_primary-returns-in_ok-copy-in-Text
-typed_primary-returns-in_ok-copy-in-Text t c =
-    rw (c.in-Text.is, primary_text c.args.frame.now) (rw c.in_ok-copy-in-Text.ensures.copied at c.after_sign.ensures)
+pub typed_primary-returns-in-Column : goal.typed_primary-returns-in-Column
+typed_primary-returns-in-Column t c =
+    rw (c.in-Column.is, primary_column c.args.frame.now) (c.after_sign-in-Column.ensures _ c.column.ensures)
 
-pub typed_primary-returns-in_ok-column-in-Column : goal.typed_primary-returns-in_ok-column-in-Column
-typed_primary-returns-in_ok-column-in-Column t c =
-    rw (c.in-Column.is, primary_column c.args.frame.now, c.in_ok-column-in-Column.ensures.ok) c.after_sign-in-Column.ensures
+pub typed_primary-returns-in-Parenthesized : goal.typed_primary-returns-in-Parenthesized
+typed_primary-returns-in-Parenthesized t c =
+    rw (c.in-Parenthesized.is, primary_parenthesized c.args.frame.now)
+    (c.after_sign-in-Parenthesized.ensures _ (rw c.get.ensures at c.typed_expression.ensures))
 
-pub typed_primary-returns-in_ok-inner-in-Parenthesized : goal.typed_primary-returns-in_ok-inner-in-Parenthesized
-typed_primary-returns-in_ok-inner-in-Parenthesized t c =
-    rw (c.in-Parenthesized.is, primary_parenthesized c.args.frame.now, rw c.get.ensures at c.in_ok-inner-in-Parenthesized.ensures.ok)
-    c.after_sign-in-Parenthesized.ensures
+pub typed_primary-returns-in-CountRows : goal.typed_primary-returns-in-CountRows
+typed_primary-returns-in-CountRows t c = rw (c.in-CountRows.is, primary_count_rows c.args.frame.now) (Finds-invalid Check)
+
+pub typed_primary-returns-in-Aggregate : goal.typed_primary-returns-in-Aggregate
+typed_primary-returns-in-Aggregate t c = rw (c.in-Aggregate.is, primary_aggregate c.args.frame.now) (Finds-invalid Check)
+
+pub typed_primary-returns-in-Subquery : goal.typed_primary-returns-in-Subquery
+typed_primary-returns-in-Subquery t c = rw (c.in-Subquery.is, primary_subquery c.args.frame.now) (Finds-invalid Check)

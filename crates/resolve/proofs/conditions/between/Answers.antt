@@ -1,0 +1,21 @@
+use Rattle.std.proofs.lemmas.Result.{err_from_is_err_and}
+use Rattle.resolve.proofs.ConditionSteps.{between_first, between-parts}
+use Rattle.resolve.proofs.FindsLemmas.{Finds-ok, then-err, then-ok}
+use Rattle.resolve.proofs.conditions.between.Goals as goal
+
+pub returns-in_err-typed : goal.returns-in_err-typed
+returns-in_err-typed c =
+    let p = err_from_is_err_and c.from_residual.result c.from_residual.ensures.1 in
+    rw (p.1, p.2)
+    (between_first _ c.args.is_negated _ _ _ c.in_err-typed.ensures)
+
+pub returns-in_err-x : goal.returns-in_err-x
+returns-in_err-x c =
+    let p = err_from_is_err_and c.from_residual-in_err-x.result c.from_residual-in_err-x.ensures.1 in
+    rw (p.1, p.2, c.in_ok-typed.ensures.ok, between-parts c.args.is_negated)
+    (then-err c.both-2.result _ _ _ c.in_err-x.was (c.both-2.ensures _ _ (c.boxed.ensures _ (Finds-ok _)) (c.both.ensures _ _ c.typed_operand-low.ensures c.typed_operand-high.ensures)))
+
+pub returns : goal.returns
+returns c =
+    rw (c.in_ok-typed.ensures.ok, between-parts c.args.is_negated)
+    (then-ok c.both-2.result _ _ _ _ c.in_ok-x.was (c.both-2.ensures _ _ (c.boxed.ensures _ (Finds-ok _)) (c.both.ensures _ _ c.typed_operand-low.ensures c.typed_operand-high.ensures)) c.negated.ensures)
