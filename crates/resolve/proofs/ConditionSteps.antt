@@ -263,8 +263,6 @@ module _ (r : Refusal) where
 pub then_refused : {A B : Type 0} (r : Refusal) (x : Finding A) (f : A → B) → Finds (Err r) x → Finds (Err r) (x >>= (λ v. Ok (f v)))
 then_refused r x f h = Finds-then_err r x (λ v. Ok (f v)) h
 
-pub ruleset flat_steps = (flattened-next, flattened-start)
-
 pub then_change : {A B C : Type 0} (r : Refusal) (x : Finding A) (f : A → B) (g : B → C) → Finds (Err r) x → Finds (Err r) (x >>= (λ v. Ok (f v)) >>= (λ w. Ok (g w)))
 then_change r x f g h = Finds-then_err r (x >>= (λ v. Ok (f v))) (λ w. Ok (g w)) (Finds-then_err r x (λ v. Ok (f v)) h)
 

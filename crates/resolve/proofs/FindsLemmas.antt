@@ -108,9 +108,6 @@ pub each-finds : {X A : Type 0} (f : X → Finding A) (items : List X) (i : ℕ)
     length items ≤ i → after found (each (map f (drop i items))) ≡ each (map f items) → Finds (Ok found) (each (map f items))
 each-finds f items i found past e = record { ok = each-done f items i found past e; err = tt }
 
--- what a loop needs that finds each of many
-pub ruleset each_steps = (Finds-each_item, each-next, each-finds)
-
 -- ---- parts taken with their refusals
 
 pub Finds-ok : {A : Type 0} (x : A) → Finds {A = A} (Ok x) (Ok x)

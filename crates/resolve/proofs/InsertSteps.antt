@@ -16,6 +16,7 @@ use Rattle.ast.specs.declared.statement.StoredSource.TheVariants as written
 use Rattle.ast.specs.declared.tree.Expression.{Expression}
 use Rattle.typing.specs.declared.typed.Expression.{Expression as Typed}
 use Rattle.typing.specs.declared.statement.Insert.{Insert}
+use Rattle.typing.specs.declared.statement.InsertSource.{InsertSource}
 use Rattle.typing.specs.declared.statement.InsertSource.TheVariants as from
 use Rattle.typing.specs.declared.scope.Frame.{Frame}
 use Rattle.typing.specs.declared.scope.TypedExpression.{TypedExpression}
@@ -30,7 +31,7 @@ use Rattle.typing.specs.Table.{are_distinct, distinct_found, table_found}
 use Rattle.typing.specs.Typing.{expression_part}
 use Rattle.typing.specs.Built.{expression_built, rows_built, stored_built}
 use Rattle.resolve.specs.Here.{expression_found}
-use Rattle.resolve.specs.Rows.{source_stored, stored_found}
+use Rattle.resolve.specs.Rows.{rows_in, source_stored, stored_found}
 use Rattle.resolve.proofs.Everywhere.{expressions-same}
 use Rattle.resolve.specs.Parts.{of_type}
 use Rattle.resolve.proofs.FindsLemmas.{after, Finds-then_err, Finds-also_first, Finds-also_second, Finds-each_item, each-next, each-finds, IsReasonOf-left, Finds-before_first, Finds-before_others}
@@ -177,18 +178,26 @@ module _ (k : Known) (tree : Tree) where
       targets_are : targets_of ≡ Ok targets
       targets_are = rw there found
 
-      pub insert_rows : (r : Refusal) → Finds (Err r) (each (map (row_stored nothing_known targets) values)) → Finds (Err r) (insert_found k tree)
-      insert_rows r f =
-          insert_refused r (rw (targets_are, same_rows k targets values h)
-          (Finds-then_err r (each (map (row_stored nothing_known targets) values)) (λ stored. Ok (targets, from.Values stored)) f))
+      abbrev insert_of : Finding (Unit {0} × (List Target × InsertSource)) → Finding Insert
+      insert_of found = found >>= (λ p. Ok (record { table = tree.table; columns = map (λ target. target.0) (p.1).0; source = (p.1).1 }))
 
-      pub insert_all : (stored : List (List Typed)) → are_distinct tree.columns ≡ true → each (map (row_stored nothing_known targets) values) ≡ Ok stored →
-          insert_found k tree ≡ Ok (record { table = tree.table; columns = map (λ target. target.0) targets; source = from.Values stored })
-      insert_all stored distinct e = rw (is, targets_are, distinct, same_rows k targets values h, e) refl
+      abbrev with_targets : Finding (List (List Typed)) → Finding (List Target × InsertSource)
+      with_targets found = found >>= (λ stored. Ok (targets, from.Values stored))
 
-      pub insert_finds : (stored : List (List Typed)) → are_distinct tree.columns ≡ true → each (map (row_stored nothing_known targets) values) ≡ Ok stored →
-          Finds (Ok (record { table = tree.table; columns = map (λ target. target.0) targets; source = from.Values stored })) (insert_found k tree)
-      insert_finds stored distinct e = record { ok = insert_all stored distinct e; err = tt }
+      pub insert_is : are_distinct tree.columns ≡ true → insert_found k tree ≡ rows_in tree.table targets (each (map (row_stored nothing_known targets) values))
+      insert_is distinct = rw (is, targets_are, distinct, same_rows k targets values h) (beside (each (map (row_stored nothing_known targets) values)))
+        where
+          beside : (stored : Finding (List (List Typed))) → insert_of (also (Ok tt) (with_targets stored)) ≡ rows_in tree.table targets stored
+          beside (Ok stored) = refl
+          beside (Err reasons) = refl
+
+-- rows beside the places of their columns
+abbrev rows_of : List ℕ → Finding (List ℕ × List (List Typed)) → Finding Insert
+rows_of table found = found >>= (λ p. Ok (record { table = table; columns = p.0; source = from.Values p.1 }))
+
+pub rows-parts : (table : List ℕ) (targets : List Target) (rows : Finding (List (List Typed))) → rows_in table targets rows ≡ rows_of table (also (Ok (map (λ target. target.0) targets)) rows)
+rows-parts table targets (Ok rows) = refl
+rows-parts table targets (Err reasons) = refl
 
 -- ---- targets
 
@@ -199,7 +208,7 @@ pub targets_some : (columns : List Defined) (names : List (List ℕ)) → (names
 targets_some columns [] n = absurd (n refl)
 targets_some columns (name ∷ names) n = refl
 
-pub ruleset insert_steps = (insert_missing, insert_targets, insert_twice, insert_rows, insert_finds)
+pub ruleset insert_steps = (insert_missing, insert_targets, insert_twice)
 
 pub ruleset target_steps = (targets_none, targets_some)
 

@@ -1,5 +1,4 @@
 pub mod BuiltSteps
-pub mod Chains
 pub mod ColumnNames
 pub mod ConditionSteps
 pub mod Everywhere

@@ -31,7 +31,6 @@ pub fn typed_condition(
 }
 
 #[cycle(conditions)]
-#[tactic(auto, using(crate::proofs::ConditionSteps::flat_steps))]
 fn typed_disjunction(
     alloc: Global,
     frame: &Frame,
@@ -60,7 +59,6 @@ fn typed_conjunction(alloc: Global, frame: &Frame, tree: &Conjunction) -> Result
 }
 
 #[cycle(conditions)]
-#[tactic(auto, using(crate::proofs::ConditionSteps::flat_steps))]
 fn typed_negations(
     alloc: Global,
     frame: &Frame,
@@ -212,7 +210,6 @@ fn typed_operand(
 }
 
 /// Literals, all of the type asked for.
-#[tactic(auto, using(crate::proofs::FindsLemmas::each_steps))]
 fn literals_of(
     alloc: Global,
     wanted: ValueType,

@@ -18,7 +18,6 @@ use typing::{Arithmetic, Expression, Frame, TypedExpression};
 
 /// What an expression without queries and set functions stands for in one FROM.
 #[cycle(expressions)]
-#[tactic(auto, using(crate::proofs::Chains::expression_steps))]
 pub fn typed_expression(
     alloc: Global,
     frame: &Frame,
@@ -53,7 +52,6 @@ fn typed_sum(
 }
 
 #[cycle(expressions)]
-#[tactic(auto, using(crate::proofs::FindsLemmas::each_steps))]
 fn summands(
     alloc: Global,
     frame: &Frame,
@@ -98,7 +96,6 @@ fn typed_concatenation(
 }
 
 #[cycle(expressions)]
-#[tactic(auto, using(crate::proofs::FindsLemmas::each_steps))]
 fn joined_texts(
     alloc: Global,
     frame: &Frame,
@@ -129,7 +126,6 @@ fn joined_text(
 }
 
 #[cycle(expressions)]
-#[tactic(auto, using(crate::proofs::Chains::term_steps))]
 fn typed_term(alloc: Global, frame: &Frame, tree: &Term) -> Result<TypedExpression, Refusal>
     requires ungrouped { frame.now.key ≡ None }
     ensures { Finds result (term_found frame.now tree.now) }
@@ -156,7 +152,6 @@ fn typed_product(
 }
 
 #[cycle(expressions)]
-#[tactic(auto, using(crate::proofs::FindsLemmas::each_steps))]
 fn multipliers(
     alloc: Global,
     frame: &Frame,

@@ -1,16 +1,18 @@
 //! The columns and types of INSERT.
 
-ghost use Rattle.std.specs.Prelude.{◌≡◌, true, length, map, IfOk};
+ghost use Rattle.std.specs.Prelude.{◌≡◌, true, List, Ok, length, map, IfOk};
 ghost use Rattle.std.specs.List.{list_all, zip};
 ghost use Rattle.typing.specs.Built.{rows_built, stored_built};
-ghost use Rattle.typing.specs.Finding.{each};
+ghost use Rattle.typing.specs.Finding.{Finding, each};
 ghost use Rattle.typing.specs.Finds.{Finds};
 ghost use Rattle.typing.specs.Insert.{insert_found, row_stored, target_named, targets_found, targets_from};
 ghost use Rattle.typing.specs.Known.{known, nothing_known};
-ghost use Rattle.resolve.specs.Rows.{source_stored, stored_found};
+ghost use Rattle.typing.specs.Table.{are_distinct};
+ghost use Rattle.resolve.specs.Rows.{rows_in, source_stored, stored_found};
 
 use crate::expressions::{of_type, typed_expression};
 use crate::names::are_distinct;
+use crate::parts::both;
 use crate::queries::{table_named, value_type_of};
 use ast::{InsertRows, StoredSource};
 use items::{Items, Text};
@@ -30,16 +32,35 @@ pub fn typed_insert(alloc: Global, tree: &ast::Insert, schema: &Schema) -> Resul
     };
     let table = table_named(schema, tree.table.as_text())?;
     let targets = targets_of(alloc, table, tree.columns.as_slice())?;
-    let names = texts_of(alloc, tree.columns.as_slice())?;
-    if !are_distinct(names.as_slice()) {
+    let is_distinct = are_all_distinct(alloc, tree.columns.as_slice())?;
+    if !is_distinct {
         return Err(Refusal::Invalid(Reason::Duplicate));
     }
-    let typed = typed_rows(alloc, targets.as_slice(), rows.as_slice())?;
+    let rows = typed_rows(alloc, targets.as_slice(), rows.as_slice());
+    inserted(alloc, &tree.table, targets.as_slice(), rows)
+}
+
+fn inserted(
+    alloc: Global,
+    table: &Name,
+    targets: &[(usize, ValueType)],
+    rows: Result<Items<Items<Expression>>, Refusal>,
+) -> Result<Insert, Refusal>
+    ensures { (x : Finding (List (List Expression))) → Finds rows x → Finds result (rows_in table.now targets.now x) }
+{
+    let (columns, rows) = both(places_of(alloc, targets), rows)?;
     Ok(Insert {
-        table: tree.table.as_text().copy(alloc)?,
-        columns: places_of(alloc, targets.as_slice())?,
-        source: InsertSource::Values(typed),
+        table: table.as_text().copy(alloc)?,
+        columns,
+        source: InsertSource::Values(rows),
     })
+}
+
+fn are_all_distinct(alloc: Global, names: &[Name]) -> Result<bool, AllocError>
+    ensures { IfOk result (λ distinct. distinct ≡ are_distinct names.now) }
+{
+    let texts = texts_of(alloc, names)?;
+    Ok(are_distinct(texts.as_slice()))
 }
 
 fn texts_of(alloc: Global, names: &[Name]) -> Result<Items<Text>, AllocError>
@@ -78,7 +99,6 @@ fn all_targets(alloc: Global, columns: &[Column]) -> Result<Items<(usize, ValueT
     Ok(targets)
 }
 
-#[tactic(auto, using(crate::proofs::FindsLemmas::each_steps))]
 fn named_targets(
     alloc: Global,
     table: &Table,
@@ -105,8 +125,8 @@ fn target_named(table: &Table, name: &Name) -> Result<(usize, ValueType), Refusa
     }
 }
 
-fn places_of(alloc: Global, targets: &[(usize, ValueType)]) -> Result<Items<usize>, AllocError>
-    ensures { IfOk result (λ places. places ≡ map (λ target. target.0) targets.now) }
+fn places_of(alloc: Global, targets: &[(usize, ValueType)]) -> Result<Items<usize>, Refusal>
+    ensures { Finds result (Ok (map (λ target. target.0) targets.now)) }
 {
     let mut places = Items::with_capacity(alloc, targets.len())?;
     for (place, _) in targets {

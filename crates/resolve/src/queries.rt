@@ -7,7 +7,8 @@ ghost use Rattle.typing.specs.Finding.{Finding, each, reasons_in};
 ghost use Rattle.typing.specs.Finds.{Finds, IsReasonOf};
 ghost use Rattle.typing.specs.From.{shown_name};
 ghost use Rattle.typing.specs.Known.{known, known_table};
-ghost use Rattle.typing.specs.Select.{columns_from, limited, typed_item};
+ghost use Rattle.typing.specs.Scope.{column_at};
+ghost use Rattle.typing.specs.Select.{columns_from, limited, shown_item, typed_item};
 ghost use Rattle.typing.specs.Table.{frame_of, offer_of, table_found, type_in};
 ghost use Rattle.resolve.specs.BuiltParts.{select_built};
 ghost use Rattle.resolve.specs.Select.{column_name, factor_column, filter_found, item_found, items_found, made_item, name_of, only_select, query_answered, select_answered, select_of, select_over, shown_from, stored_select, term_column, typed_items};
@@ -256,16 +257,23 @@ fn column_items(alloc: Global, offers: &[Offer]) -> Result<Items<Item>, AllocErr
 {
     let mut items = Items::with_capacity(alloc, offers.len())?;
     for (place, offer) in offers.iter().enumerate() {
-        items.push(Item {
-            expression: Expression::Column { depth: 0, place },
-            name: copied_name(alloc, &offer.name)?,
-        })?;
+        items.push(column_item(alloc, place, offer)?)?;
     }
     Ok(items)
 }
 
-fn copied_name(alloc: Global, name: &Option<Text>) -> Result<Option<Text>, AllocError>
-    ensures { IfOk result (λ copy. copy ≡ name.now) }
+fn column_item(alloc: Global, place: usize, offer: &Offer) -> Result<Item, AllocError>
+    ensures { IfOk result (λ item. item ≡ typed_item (shown_item offer.now.name (column_at offer.now.value_type 0 place))) }
+{
+    let name = copied_name(alloc, offer.name.as_ref())?;
+    Ok(Item {
+        expression: Expression::Column { depth: 0, place },
+        name,
+    })
+}
+
+fn copied_name(alloc: Global, name: Option<&Text>) -> Result<Option<Text>, AllocError>
+    ensures { IfOk result (λ copy. copy ≡ option_copied name.entry) }
 {
     match name {
         Some(name) => Ok(Some(name.copy(alloc)?)),
@@ -284,7 +292,6 @@ fn listed_items(alloc: Global, frame: &Frame, trees: &[SelectItem]) -> Result<It
     each_item(alloc, frame, trees)
 }
 
-#[tactic(auto, using(crate::proofs::FindsLemmas::each_steps))]
 fn each_item(alloc: Global, frame: &Frame, trees: &[SelectItem]) -> Result<Items<Item>, Refusal>
     requires ungrouped { frame.now.key ≡ None }
     ensures { Finds result (each (map (made_item frame.now) trees.now)) }
@@ -301,11 +308,8 @@ fn made_item(alloc: Global, frame: &Frame, tree: &SelectItem) -> Result<Item, Re
     requires ungrouped { frame.now.key ≡ None }
     ensures { Finds result (made_item frame.now tree.now) }
 {
+    let name = copied_name(alloc, item_name(tree))?;
     let TypedExpression { expression, .. } = typed_expression(alloc, frame, &tree.value)?;
-    let name = match item_name(tree) {
-        Some(name) => Some(name.copy(alloc)?),
-        None => None,
-    };
     Ok(Item { expression, name })
 }
 

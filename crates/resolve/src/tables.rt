@@ -72,7 +72,6 @@ fn typed_columns(alloc: Global, elements: &[TableElement]) -> Result<Items<Colum
     Ok(columns)
 }
 
-#[tactic(auto, using(crate::proofs::FindsLemmas::each_steps))]
 fn each_column(alloc: Global, elements: &[TableElement]) -> Result<Items<Column>, Refusal>
     ensures { Finds result (each (map element_found elements.now)) }
 {

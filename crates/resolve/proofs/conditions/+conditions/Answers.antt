@@ -1,11 +1,13 @@
-use Rattle.std.proofs.Common.{Ok, map}
+use Rattle.std.proofs.Common.{◌∙◌, map}
+use Rattle.typing.specs.Condition.{conjuncts, disjuncts}
+use Rattle.typing.specs.Finding.{each}
 use Rattle.std.proofs.lemmas.Result.{err_from_is_err_and}
 use Rattle.ast.specs.declared.tree.Condition.{out-Condition}
 use Rattle.ast.specs.declared.tree.Conjunction.{out-Conjunction}
 use Rattle.resolve.specs.Here.{conjunction_found, negation_found}
 use Rattle.lexer.specs.declared.refusals.Reason.TheVariants.{Check}
 use Rattle.resolve.proofs.FindsLemmas.{Finds-invalid, Finds-then_err}
-use Rattle.resolve.proofs.ConditionSteps.{condition_is, conjunction_is, negation_is, test_is, disjunction_refused, conjunction_refused, predicate_nested, predicate_compare, predicate_between, predicate_in_list, predicate_like, predicate_is_null, predicate_exists, in_query_refused, disjunct_refused, conjunct_refused, disjunction-done, conjunction-done}
+use Rattle.resolve.proofs.ConditionSteps.{condition_is, conjunction_is, negation_is, test_is, disjunction_refused, conjunction_refused, predicate_nested, predicate_compare, predicate_between, predicate_in_list, predicate_like, predicate_is_null, predicate_exists, in_query_refused, disjunct_refused, conjunct_refused, disjunction-done, conjunction-done, flattened-next, flattened-start}
 use Rattle.resolve.proofs.conditions.+conditions.Goals as goal
 
 pub typed_condition-returns-in_err-first : goal.typed_condition-returns-in_err-first
@@ -49,6 +51,26 @@ pub typed_negations-returns : goal.typed_negations-returns
 typed_negations-returns t c =
     rw c.and_of.ensures
     (record { ok = conjunction-done (negation_found c.args.frame.now) c.args.first c.args.others.now c.loop-other.other-index c.loop-other.operands c.loop-other-test.false c.loop-other.invariant; err = tt })
+
+pub typed_disjunction-loop-other-init : goal.typed_disjunction-loop-other-init
+typed_disjunction-loop-other-init t c =
+    rw (c.in_ok-add_disjunct.ensures, c.new-operands.ensures) (flattened-start disjuncts c.args.first (each (map (conjunction_found c.args.frame.now) c.args.others.now)))
+
+pub typed_disjunction-loop-other-preserved : goal.typed_disjunction-loop-other-preserved
+typed_disjunction-loop-other-preserved t c =
+    rw c.in_ok-add_disjunct-2.ensures
+    (flattened-next disjuncts (conjunction_found c.args.frame.now) c.args.others.now c.loop-other.other-index c.other-item.result c.loop-other.operands c.in_ok-operand.operand
+    c.loop-other-test.true c.other-item.is c.in_ok-operand.ensures.ok ∙ c.loop-other.invariant)
+
+pub typed_negations-loop-other-init : goal.typed_negations-loop-other-init
+typed_negations-loop-other-init t c =
+    rw (c.in_ok-add_conjunct.ensures, c.new-operands.ensures) (flattened-start conjuncts c.args.first (each (map (negation_found c.args.frame.now) c.args.others.now)))
+
+pub typed_negations-loop-other-preserved : goal.typed_negations-loop-other-preserved
+typed_negations-loop-other-preserved t c =
+    rw c.in_ok-add_conjunct-2.ensures
+    (flattened-next conjuncts (negation_found c.args.frame.now) c.args.others.now c.loop-other.other-index c.other-item.result c.loop-other.operands c.in_ok-operand.operand
+    c.loop-other-test.true c.other-item.is c.in_ok-operand.ensures.ok ∙ c.loop-other.invariant)
 
 -- ---- predicates
 

@@ -1,11 +1,11 @@
-use Rattle.std.proofs.Common.{Ok, Err, ◌≡◌, map, rules, ap, sym, w64}
+use Rattle.std.proofs.Common.{◌∙◌, Ok, rules, ap, sym, w64}
 use mir.Val.{SFits}
 use Rattle.std.proofs.lemmas.Int.{to_z-of_z}
 use Rattle.std.proofs.lemmas.Result.{err_from_is_err_and}
 use Rattle.lexer.specs.declared.refusals.Reason.TheVariants.{Check}
 use Rattle.typing.specs.Expression.{product_operator}
 use Rattle.resolve.specs.Here.{joined_text, multiplier, summand}
-use Rattle.resolve.proofs.FindsLemmas.{Finds-invalid, each-finds, then-err, then-ok}
+use Rattle.resolve.proofs.FindsLemmas.{Finds-each_item, Finds-invalid, each-finds, each-next}
 use Rattle.resolve.proofs.Nodes.{factor_is, product_operand_is, primary_number, primary_text, primary_column, primary_parenthesized, primary_count_rows, primary_aggregate, primary_subquery, expression_alone, expression_sum, expression_concatenation, term_alone, term_product}
 use Rattle.resolve.proofs.expressions.+expressions.Goals as goal
 
@@ -34,6 +34,39 @@ summands-returns t c =
 pub multipliers-returns : goal.multipliers-returns
 multipliers-returns t c =
     each-finds (multiplier c.args.frame.now) c.args.others.now c.loop-operator.operator-index c.loop-operator.operands c.loop-operator-test.false c.loop-operator.invariant
+
+pub summands-returns-in_err-summand : goal.summands-returns-in_err-summand
+summands-returns-in_err-summand t c =
+    let p = err_from_is_err_and c.from_residual.result c.from_residual.ensures.1 in
+    rw (p.1, p.2) (Finds-each_item _ (summand c.args.frame.now) c.args.others.now c.loop-operator.operator-index c.loop-operator-item.result c.loop-operator-test.true c.loop-operator-item.is c.in_err-summand.ensures)
+
+pub summands-loop-operator-preserved : goal.summands-loop-operator-preserved
+summands-loop-operator-preserved t c =
+    rw c.in_ok-push.ensures.ok
+    (each-next (summand c.args.frame.now) c.args.others.now c.loop-operator.operator-index c.loop-operator-item.result c.loop-operator.operands c.in_ok-summand.field-0
+    c.loop-operator-test.true c.loop-operator-item.is c.in_ok-summand.ensures.ok ∙ c.loop-operator.invariant)
+
+pub joined_texts-returns-in_err-joined_text : goal.joined_texts-returns-in_err-joined_text
+joined_texts-returns-in_err-joined_text t c =
+    let p = err_from_is_err_and c.from_residual.result c.from_residual.ensures.1 in
+    rw (p.1, p.2) (Finds-each_item _ (joined_text c.args.frame.now) c.args.others.now c.loop-operator.operator-index c.loop-operator-item.result c.loop-operator-test.true c.loop-operator-item.is c.in_err-joined_text.ensures)
+
+pub joined_texts-loop-operator-preserved : goal.joined_texts-loop-operator-preserved
+joined_texts-loop-operator-preserved t c =
+    rw c.in_ok-push.ensures.ok
+    (each-next (joined_text c.args.frame.now) c.args.others.now c.loop-operator.operator-index c.loop-operator-item.result c.loop-operator.operands c.in_ok-joined_text.field-0
+    c.loop-operator-test.true c.loop-operator-item.is c.in_ok-joined_text.ensures.ok ∙ c.loop-operator.invariant)
+
+pub multipliers-returns-in_err-multiplier : goal.multipliers-returns-in_err-multiplier
+multipliers-returns-in_err-multiplier t c =
+    let p = err_from_is_err_and c.from_residual.result c.from_residual.ensures.1 in
+    rw (p.1, p.2) (Finds-each_item _ (multiplier c.args.frame.now) c.args.others.now c.loop-operator.operator-index c.loop-operator-item.result c.loop-operator-test.true c.loop-operator-item.is c.in_err-multiplier.ensures)
+
+pub multipliers-loop-operator-preserved : goal.multipliers-loop-operator-preserved
+multipliers-loop-operator-preserved t c =
+    rw c.in_ok-push.ensures.ok
+    (each-next (multiplier c.args.frame.now) c.args.others.now c.loop-operator.operator-index c.loop-operator-item.result c.loop-operator.operands c.in_ok-multiplier.field-0
+    c.loop-operator-test.true c.loop-operator-item.is c.in_ok-multiplier.ensures.ok ∙ c.loop-operator.invariant)
 
 pub typed_sum-returns : goal.typed_sum-returns
 typed_sum-returns t c = λ x h. c.calculated.ensures _ (c.both.ensures _ _ (c.boxed-first.ensures _ (c.of_type.ensures x h)) c.summands.ensures)

@@ -1,7 +1,7 @@
-use Rattle.std.proofs.Common.{sym}
+use Rattle.std.proofs.Common.{◌∙◌, sym}
 use Rattle.std.proofs.lemmas.Result.{err_from_is_err_and}
 use Rattle.typing.specs.Known.{known, known_table}
-use Rattle.resolve.proofs.InsertSteps.{insert_finds, insert_missing, insert_rows, insert_targets}
+use Rattle.resolve.proofs.InsertSteps.{insert_is, insert_missing, insert_targets}
 use Rattle.resolve.proofs.inserts.typed_insert.Goals as goal
 
 pub returns-in_err-table : goal.returns-in_err-table
@@ -17,18 +17,9 @@ returns-in_err-targets c =
     (insert_targets (known c.args.schema.now) c.args.tree.now c.in-Values.rows c.in-Values.is _ (known_table c.in_ok-table.table.now) (rw c.as_text.ensures.text at c.in_ok-table.ensures.ok)
     (rw c.as_slice.ensures at c.in_err-targets.ensures))
 
-pub returns-in_err-typed : goal.returns-in_err-typed
-returns-in_err-typed c =
-    let p = err_from_is_err_and c.from_residual-in_err-typed.result c.from_residual-in_err-typed.ensures.1 in
-    rw (p.1, p.2)
-    (insert_rows (known c.args.schema.now) c.args.tree.now c.in-Values.rows c.in-Values.is (known_table c.in_ok-table.table.now) c.in_ok-targets.targets
-    (rw c.as_text.ensures.text at c.in_ok-table.ensures.ok) (rw c.as_slice.ensures at c.in_ok-targets.ensures.ok) (rw c.in-Values.is at c.requires.built) _
-    (rw (c.as_slice-4.ensures, c.as_slice-5.ensures) at c.in_err-typed.ensures))
-
 pub returns : goal.returns
 returns c =
-    let distinct = sym (rw (c.as_slice-3.ensures, c.in_ok-names.ensures, c.as_slice-2.ensures) at c.if-not-are_distinct.ensures) in
-    rw (c.in_ok-copy.ensures.copied, c.as_text-2.ensures.text, c.in_ok-places_of.ensures, c.as_slice-6.ensures)
-    (insert_finds (known c.args.schema.now) c.args.tree.now c.in-Values.rows c.in-Values.is (known_table c.in_ok-table.table.now) c.in_ok-targets.targets
-    (rw c.as_text.ensures.text at c.in_ok-table.ensures.ok) (rw c.as_slice.ensures at c.in_ok-targets.ensures.ok) (rw c.in-Values.is at c.requires.built) c.in_ok-typed.typed distinct
-    (rw (c.as_slice-4.ensures, c.as_slice-5.ensures) at c.in_ok-typed.ensures.ok))
+    let distinct = sym (rw c.as_slice-2.ensures at c.in_ok-is_distinct.ensures) ∙ c.if-not-is_distinct.false in
+    rw (insert_is (known c.args.schema.now) c.args.tree.now c.in-Values.rows c.in-Values.is (known_table c.in_ok-table.table.now) c.in_ok-targets.targets
+    (rw c.as_text.ensures.text at c.in_ok-table.ensures.ok) (rw c.as_slice.ensures at c.in_ok-targets.ensures.ok) (rw c.in-Values.is at c.requires.built) distinct)
+    (rw c.as_slice-5.ensures at (c.inserted.ensures _ (rw (c.as_slice-3.ensures, c.as_slice-4.ensures) at c.typed_rows-rows.ensures)))
