@@ -25,15 +25,9 @@ use typing::{Change, Typed};
 ///
 /// A statement with a form that is not built yet is `NotSupported`, whatever else may be wrong with it. Else it is
 /// refused by a reason of names or types, or a limit of its tables and columns, that holds of it; where several hold,
-/// by any of these. Refuses for want of memory too. The statement is dropped.
-pub fn resolve(alloc: Global, statement: Statement, schema: &Schema) -> Result<Typed, Refusal>
-    ensures { Finds result (answered_found statement schema.now) }
-{
-    resolve_tree(alloc, &statement, schema)
-}
-
+/// by any of these. Refuses for want of memory too.
 #[tactic(auto, using(crate::proofs::Statements::answer_steps))]
-fn resolve_tree(alloc: Global, statement: &Statement, schema: &Schema) -> Result<Typed, Refusal>
+pub fn resolve(alloc: Global, statement: &Statement, schema: &Schema) -> Result<Typed, Refusal>
     ensures { Finds result (answered_found statement.now schema.now) }
 {
     if is_built(statement) {
