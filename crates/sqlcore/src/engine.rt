@@ -162,7 +162,7 @@ impl<D: Disk> Core<D> {
         ensures calls { MatchResult result (λ reply. Calls self.old text.now reply self.new) (λ refusal. Calls self.old text.now (Reply.Refused refusal) self.new) }
     {
         let statement = read_statement(self.alloc, text)?;
-        let typed = resolve(self.alloc, statement, self.store.schema())?;
+        let typed = resolve(self.alloc, &statement, self.store.schema())?;
         self.carry_out(typed)
     }
 
