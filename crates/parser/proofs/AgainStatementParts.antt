@@ -35,7 +35,7 @@ use Rattle.ast.specs.Statements.{AreNames, IsSortColumn, IsDirection, IsSortKey,
 use Rattle.ast.specs.Words.{CHECK, CONSTRAINT, KEY, NOT, ORDER, PRIMARY, UNIQUE, WHERE}
 use Rattle.terminals.specs.Readers.{Reader, next_is, is_word, is_symbol, word, symbol, number, both, after, made, listed, parenthesized}
 use Rattle.terminals.specs.ReadTerminals.{is_name, sort_column, direction, sort_key}
-use Rattle.productions.specs.ReadExpressions.{Inner}
+use Rattle.expressions.specs.ReadExpressions.{Inner}
 use Rattle.statements.specs.ReadStatements.{names, order, varying, text_type, type_name, constraint_name, constraint_ahead, begins_constraint, ordered_query, filter, check, column_rule, column_constraint, column_definition, table_rule, table_constraint, element, indexed_columns, stored_source, stored_sources, row_of_sources, insert_rows, opens_names, insert_columns, assignment}
 use Rattle.parser.specs.Shallow.{is_shallow}
 use Rattle.parser.proofs.Steps.{word_again, no_word}

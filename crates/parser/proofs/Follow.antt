@@ -14,7 +14,7 @@ use Rattle.ast.specs.declared.tree.Query.{Query}
 use Rattle.ast.specs.Expressions.{Nested}
 use Rattle.terminals.specs.Readers.{is_word, is_symbol}
 use Rattle.terminals.specs.ReadTerminals.{is_name, is_operator, is_predicate_word, is_set_word}
-use Rattle.productions.specs.ReadExpressions.{Inner}
+use Rattle.expressions.specs.ReadExpressions.{Inner}
 use Rattle.statements.specs.ReadStatements.{opens_names}
 use Rattle.parser.proofs.Again.{Stops, Again}
 

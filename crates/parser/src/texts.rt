@@ -12,7 +12,7 @@ ghost use Rattle.terminals.specs.Readers.{kinds, GivesAll};
 ghost use Rattle.statements.specs.ReadStatements as statements;
 ghost use Rattle.parser.specs.Shallow.{is_shallow};
 ghost use Rattle.parser.specs.Trees.{HasStatement, HasCondition};
-ghost use Rattle.productions.specs.Levels.{inner_at};
+ghost use Rattle.expressions.specs.Levels.{inner_at};
 
 use ast::{Condition, Statement};
 use lexer::{Limit, Reason, Refusal, Symbol, Token};

@@ -28,7 +28,7 @@ use Rattle.ast.specs.declared.tree.Condition.{Condition}
 use Rattle.ast.specs.Notation.{Tokens}
 use Rattle.terminals.specs.Readers.{Reader, ◌>>=◌, if_next, is_word, is_symbol, next_is, rest_of, word, symbol, name, number, both, after, parenthesized, made, many, listed, maybe, maybe_listed, written}
 use Rattle.terminals.specs.ReadTerminals.{is_name, sort_key}
-use Rattle.productions.specs.ReadExpressions.{Inner}
+use Rattle.expressions.specs.ReadExpressions.{Inner}
 
 abbrev pub names : Reader (List (List ℕ))
 names = listed name

@@ -4,7 +4,7 @@ ghost use Rattle.std.specs.Prelude.{◌≡◌};
 ghost use Rattle.terminals.specs.Readers.{kinds, Finds, Gives};
 ghost use Rattle.terminals.specs.Readers as read;
 ghost use Rattle.statements.specs.ReadStatements as statements;
-ghost use Rattle.productions.specs.Levels.{inner_at};
+ghost use Rattle.expressions.specs.Levels.{inner_at};
 
 use crate::statement::Statements;
 use ast::{

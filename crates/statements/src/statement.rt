@@ -4,14 +4,14 @@ ghost use Rattle.std.specs.Prelude.{◌≡◌};
 ghost use Rattle.terminals.specs.Readers.{kinds, Finds, Gives};
 ghost use Rattle.terminals.specs.Readers as read;
 ghost use Rattle.statements.specs.ReadStatements as statements;
-ghost use Rattle.productions.specs.Levels.{inner_at};
+ghost use Rattle.expressions.specs.Levels.{inner_at};
 
 use ast::{
     AccessMode, Condition, DeclareCursor, Expression, OrderedQuery, Query, SortKey, Statement,
 };
 use items::{Boxed, Items};
 use lexer::{Symbol, Token, Word};
-use productions::entry;
+use queries::entry;
 use std::alloc::Global;
 use terminals::{
     ParseError, after_word, eat_word, is_symbol, listed, name, next_is_word, only_if, paired,

@@ -1,7 +1,7 @@
 use Rattle.std.proofs.Common.{◌≡◌, None}
 use Rattle.terminals.specs.Readers.{kinds}
 use Rattle.statements.specs.ReadStatements.{condition_text}
-use Rattle.productions.specs.Levels.{inner_at}
+use Rattle.expressions.specs.Levels.{inner_at}
 use Rattle.terminals.specs.declared.error.ParseError.TheVariants as error
 use Rattle.parser.proofs.Found.{condition_found}
 use Rattle.parser.proofs.AgainText.{condition_text_none}

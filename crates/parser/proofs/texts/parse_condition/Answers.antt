@@ -4,7 +4,7 @@ use Rattle.lexer.specs.declared.refusals.Refusal.TheVariants.{Exceeded, Invalid}
 use Rattle.lexer.specs.declared.refusals.Limit.TheVariants.{Chain, Nesting}
 use Rattle.terminals.specs.Readers.{kinds}
 use Rattle.statements.specs.ReadStatements.{condition_text}
-use Rattle.productions.specs.Levels.{inner_at}
+use Rattle.expressions.specs.Levels.{inner_at}
 use Rattle.parser.specs.Shallow.{is_shallow}
 use Rattle.parser.proofs.Nested.{shallow_nested, nested_shallow}
 use Rattle.parser.proofs.Found.{condition_found}

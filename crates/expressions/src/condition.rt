@@ -3,9 +3,9 @@
 ghost use Rattle.terminals.specs.Readers.{kinds, Finds, Gives};
 ghost use Rattle.terminals.specs.Readers as read;
 ghost use Rattle.terminals.specs.ReadTerminals as terminals;
-ghost use Rattle.productions.specs.ReadExpressions as expressions;
+ghost use Rattle.expressions.specs.ReadExpressions as expressions;
 ghost use Rattle.lexer.specs.declared.words.Word.TheVariants as w;
-ghost use Rattle.productions.specs.Levels.{inner_at, Nests};
+ghost use Rattle.expressions.specs.Levels.{inner_at, Nests};
 
 use crate::rules::Rules;
 use ast::{

@@ -1,8 +1,8 @@
 //! Expressions.
 
 ghost use Rattle.terminals.specs.Readers.{kinds, Gives};
-ghost use Rattle.productions.specs.ReadExpressions as expressions;
-ghost use Rattle.productions.specs.Levels.{inner_at, Nests};
+ghost use Rattle.expressions.specs.ReadExpressions as expressions;
+ghost use Rattle.expressions.specs.Levels.{inner_at, Nests};
 
 use crate::rules::Rules;
 use ast::{

@@ -2,7 +2,7 @@
 
 ghost use Rattle.terminals.specs.Readers.{kinds, Gives};
 ghost use Rattle.terminals.specs.Readers as read;
-ghost use Rattle.productions.specs.Levels.{inner_at, Nests};
+ghost use Rattle.expressions.specs.Levels.{inner_at, Nests};
 
 use ast::{Condition, Expression, Query};
 use items::Boxed;

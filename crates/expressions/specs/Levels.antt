@@ -9,8 +9,8 @@ use Rattle.ast.specs.declared.tree.Expression.{Expression}
 use Rattle.ast.specs.declared.tree.Query.{Query}
 use Rattle.terminals.specs.declared.error.ParseError.{ParseError}
 use Rattle.terminals.specs.Readers.{ReadsBy}
-use Rattle.productions.specs.ReadExpressions.{Inner, expression, condition}
-use Rattle.productions.specs.ReadQueries.{query}
+use Rattle.expressions.specs.ReadExpressions.{Inner, expression, condition}
+use Rattle.expressions.specs.ReadQueries.{query}
 
 -- with parentheses nested less than so deep
 abbrev pub inner_at : Option ℕ → ℕ → Inner

@@ -16,12 +16,12 @@ use Rattle.ast.specs.declared.tree.SelectItem.{SelectItem, roll-SelectItem}
 use Rattle.ast.specs.declared.tree.TableReference.{TableReference, roll-TableReference}
 use Rattle.ast.specs.declared.tree.TableSource.{TableSource}
 use Rattle.ast.specs.declared.tree.TableSource.TheVariants as source_of
-use Rattle.productions.specs.declared.query.Clauses.{Clauses}
+use Rattle.expressions.specs.declared.clauses.Clauses.{Clauses}
 use Rattle.ast.specs.Notation.{Tokens}
 use Rattle.ast.specs.Queries.{is_lone}
 use Rattle.terminals.specs.Readers.{Reader, ◌>>=◌, if_next, is_word, is_symbol, next_is, word, symbol, name, both, after, parenthesized, made, many, listed, optional, maybe, maybe_listed, written}
 use Rattle.terminals.specs.ReadTerminals.{quantifier, set_operator, intersect, column, alias, may_alias}
-use Rattle.productions.specs.ReadExpressions.{Inner, expression, condition}
+use Rattle.expressions.specs.ReadExpressions.{Inner, expression, condition}
 
 -- whether a join comes next
 abbrev pub begins_join : Tokens → Bool

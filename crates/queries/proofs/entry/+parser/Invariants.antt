@@ -1,4 +1,4 @@
-use Rattle.productions.proofs.entry.+parser.Given as goal
+use Rattle.queries.proofs.entry.+parser.Given as goal
 
 abbrev pub decreases-expression : goal.decreases-expression
 decreases-expression l = l.depth

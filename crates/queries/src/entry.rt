@@ -1,10 +1,11 @@
 //! The three rules that recursion goes through.
 
 ghost use Rattle.terminals.specs.Readers.{kinds, Gives};
-ghost use Rattle.productions.specs.Levels.{inner_at};
+ghost use Rattle.expressions.specs.Levels.{inner_at};
 
-use crate::rules::Rules;
+use crate::query::Queries;
 use ast::{Condition, Expression, Query};
+use expressions::Rules;
 use lexer::Token;
 use std::alloc::Global;
 use terminals::ParseError;
@@ -81,5 +82,5 @@ pub fn query(
         condition,
         query,
     };
-    rules.query(tokens)
+    Queries { rules }.query(tokens)
 }
