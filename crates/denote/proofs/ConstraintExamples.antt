@@ -1,5 +1,5 @@
 -- Worked changes of rows under several constraints and limits: a statement, a table, and what becomes of it.
-use Rattle.std.proofs.Common.{◌≡◌, ℕ, List, [], ◌∷◌, Some, None, replicate}
+use Rattle.std.proofs.Common.{◌≡◌, refl, sym, subst, arith, ℕ, List, [], ◌∷◌, Option, Some, None, replicate}
 use Rattle.std.specs.FinMap.{insert}
 use Rattle.sqlval.specs.declared.value.Value.{Value}
 use Rattle.sqlval.specs.declared.value.Value.TheVariants.{Null, Text}
@@ -12,7 +12,7 @@ use Rattle.typing.specs.declared.statement.Assignment.{Assignment}
 use Rattle.typing.specs.declared.statement.InsertSource.TheVariants.{Values}
 use Rattle.denote.specs.declared.fault.Fault.TheVariants.{TextTooLong, DivisionByZero, OutOfRange, Record, Key}
 use Rattle.denote.specs.Database.{Database, Table, CheckReading}
-use Rattle.denote.specs.Change.{Changed, Makes, Raises, Violates, insert_into, update_in}
+use Rattle.denote.specs.Change.{Changed, Makes, Raises, Violates, insert_into, update_in, IsAccepted, IsNamed}
 use Rattle.denote.proofs.Nodes.{meanings}
 use Rattle.denote.proofs.ExampleTrees.{number, minus_one, greatest, literal, at, plus, divided, exceeds, t, table, two_integers, numbered, lettered, no_check}
 
@@ -57,8 +57,20 @@ abbrev into_three_kinds : Database → List (List Expression) → Changed
 into_three_kinds db rows = insert_of second_is_positive db (0 ∷ 1 ∷ 2 ∷ []) rows of_three_kinds
 
 -- INSERT INTO T VALUES (NULL, -1, 'ab')
-pub both_constraints_are_named : (db : Database) → into_three_kinds db ((null ∷ e.Constant minus_one ∷ text (97 ∷ 98 ∷ []) ∷ []) ∷ []) ≡ Violates (first ∷ p ∷ [])
+abbrev null_and_minus_one : Database → Changed
+null_and_minus_one db = into_three_kinds db ((null ∷ e.Constant minus_one ∷ text (97 ∷ 98 ∷ []) ∷ []) ∷ [])
+
+pub both_constraints_are_named : (db : Database) → null_and_minus_one db ≡ Violates (first ∷ p ∷ [])
 both_constraints_are_named db = simp meanings
+
+-- so either name may be shown
+pub either_name_refuses : (db : Database) → IsNamed (null_and_minus_one db) first × IsNamed (null_and_minus_one db) p
+either_name_refuses db =
+    (subst (λ made. IsNamed made first) (sym (both_constraints_are_named db)) (0, omega arith, refl), subst (λ made. IsNamed made p) (sym (both_constraints_are_named db)) (1, omega arith, refl))
+
+-- and it is not accepted
+pub what_violates_is_not_accepted : (db new : Database) (count : Option ℕ) → IsAccepted (null_and_minus_one db) new count → ⊥
+what_violates_is_not_accepted db new count = subst (λ made. IsAccepted made new count → ⊥) (sym (both_constraints_are_named db)) (λ accepted. accepted)
 
 -- INSERT INTO T VALUES (NULL, -1, 'abc')
 pub storing_comes_before_constraints : (db : Database) →

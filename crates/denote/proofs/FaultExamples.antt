@@ -90,9 +90,9 @@ pub unknown_does_not_end_and : where_of_four (c.And (exceeds (at 0) (literal 0) 
 unfolding through
 unknown_does_not_end_and = simp meanings
 
--- T has (NULL, 0) and (2, 5) alone: WHERE (A > 0) IS TRUE AND (A = 1 OR 10 / B = 2)
+-- T has (NULL, 0), (0, 0) and (2, 5) alone: WHERE (A > 0) IS TRUE AND (A = 1 OR 10 / B = 2)
 pub is_true_makes_unknown_false :
-    query_outcome (one_table ((Null ∷ number 0 ∷ []) ∷ (number 2 ∷ number 5 ∷ []) ∷ []))
+    query_outcome (one_table ((Null ∷ number 0 ∷ []) ∷ (number 0 ∷ number 0 ∷ []) ∷ (number 2 ∷ number 5 ∷ []) ∷ []))
     (select (items (at 0 ∷ [])) from_t (Some (c.And (c.IsTruth (exceeds (at 0) (literal 0)) True ∷ one_or_half ∷ [])))) []
     ≡ answer (column_of (number 2 ∷ []))
 unfolding through
