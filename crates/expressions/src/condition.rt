@@ -279,7 +279,7 @@ impl<
         Ok((Conjunction { first, others }, rest))
     }
 
-    /// `cond = conj {OR conj}`
+    /// `cond = conj {OR conj}`: refuses tokens that begin with none, and for want of memory.
     #[tactic(auto, unfolding(crate::specs::ReadExpressions::condition))]
     pub fn condition<'a>(&self, tokens: &'a [Token]) -> Result<(Condition, &'a [Token]), ParseError>
         requires { Nests self.now.limit self.now.depth (E.pre self.now.expression) (E.post self.now.expression) (C.pre self.now.condition) (C.post self.now.condition) (Q.pre self.now.query) (Q.post self.now.query) }

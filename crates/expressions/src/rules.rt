@@ -49,7 +49,7 @@ impl<
         (self.condition)(self.alloc, self.limit, self.depth, tokens)
     }
 
-    /// A query between parentheses.
+    /// A query between parentheses. Refuses what the function value refuses.
     pub fn inner_query<'a>(&self, tokens: &'a [Token]) -> Result<(Query, &'a [Token]), ParseError>
         requires { Nests self.now.limit self.now.depth (E.pre self.now.expression) (E.post self.now.expression) (C.pre self.now.condition) (C.post self.now.condition) (Q.pre self.now.query) (Q.post self.now.query) }
         ensures { Gives result ((inner_at self.now.limit self.now.depth).query (kinds tokens.now)) }
@@ -57,7 +57,8 @@ impl<
         (self.query)(self.alloc, self.limit, self.depth, tokens)
     }
 
-    /// A query and its parentheses.
+    /// A query and its parentheses. Refuses where one of the two is wanting, what the function value refuses, and for
+    /// want of memory.
     pub fn query_in_parentheses<'a>(
         &self,
         tokens: &'a [Token],

@@ -306,7 +306,8 @@ impl Statements {
         }
     }
 
-    /// One statement and perhaps a `;`, and nothing after it.
+    /// One statement and perhaps a `;`. Refuses where anything is left after it, where there is none, and for want of
+    /// memory.
     #[tactic(auto, unfolding(crate::specs::ReadStatements::text))]
     pub fn text<'a>(&self, tokens: &'a [Token]) -> Result<(Statement, &'a [Token]), ParseError>
         ensures { Gives result (statements.text (inner_at self.now.limit self.now.depth) (kinds tokens.now)) }
@@ -315,7 +316,7 @@ impl Statements {
         only_if(is_end(rest), statement, rest)
     }
 
-    /// One condition, and nothing after it.
+    /// One condition. Refuses where anything is left after it, where there is none, and for want of memory.
     #[tactic(auto, unfolding(crate::specs::ReadStatements::condition_text))]
     pub fn condition_text<'a>(
         &self,
