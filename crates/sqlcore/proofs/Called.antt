@@ -1,5 +1,5 @@
 -- What the steps of a call say together.
-use Rattle.std.proofs.Common.{◌≡◌, ◌≢◌, ◌⊎◌, List, [], Result, Ok, Err, refl, sym, inl, inr, arith}
+use Rattle.std.proofs.Common.{◌≡◌, ◌≢◌, ◌⊎◌, List, [], Result, Ok, Err, refl, ap, inl, inr, arith}
 use Rattle.std.specs.Prelude.{Contains, MatchResult}
 use Rattle.lexer.specs.declared.refusals.Refusal.{Refusal}
 use Rattle.lexer.specs.declared.refusals.Refusal.TheVariants as r
@@ -57,7 +57,7 @@ unchanged core = record { contents = refl; kept = refl; sessions = record { sess
 
 pub called_unread : {D : Type 0} (core : Core D) (text : Bytes) (e : Refusal) → (e ≢ r.Memory → IsUnread text e) → Calls core text (says.Refused e) core
 called_unread core text e unread = elim (is_memory e) [
-  | inl memory ↦ Calls.withheld e (inl memory) refl (unchanged core)
+  | inl memory ↦ Calls.wanting (ap (λ x. says.Refused x) memory) (unchanged core)
   | inr other ↦ Calls.unread e (unread other) refl (unchanged core)
 ]
 
@@ -71,7 +71,7 @@ pub called_wrong : {D : Type 0} (core : Core D) (text : Bytes) (x : Statement) (
 called_wrong core text x e read reason =
     let found : Finding Typed = answered_found x (schema_of (contents_of core)) in
     elim (reason_or_memory (reasons_in found) e reason) [
-      | inl memory ↦ Calls.withheld e (inl memory) refl (unchanged core)
+      | inl memory ↦ Calls.wanting (ap (λ x. says.Refused x) memory) (unchanged core)
       | inr one ↦ Calls.wrong e (record { statement = x; read = read; reasons = reasons_in found; found = reasons_found found e one; one = one }) refl (unchanged core)
     ]
 

@@ -34,7 +34,7 @@ use Rattle.sqlcore.specs.Held.{HasCommitted, HasRolledBack, IsUnchanged, SameSes
 use Rattle.sqlcore.specs.Reading.{IsRead, IsUnread}
 use Rattle.sqlcore.specs.Refusals.{refusal_of}
 
--- a refusal that may stand in place of nearly every reply: want of memory, or a form that is not built
+-- a refusal that may stand in place of the reply to a query or a change: want of memory, or a form that is not built
 abbrev pub IsWithheld : Refusal → Type 0
 IsWithheld refusal = (refusal ≡ Memory) ⊎ (refusal ≡ NotSupported)
 
@@ -119,7 +119,7 @@ pub data Does {D : Type 0} (old : Core D) (typed : Typed) (reply : Reply) (new :
 
 -- The reply to a text, and what the call leaves.
 pub data Calls {D : Type 0} (old : Core D) (text : Bytes) (reply : Reply) (new : Core D) : Type 0 where
-  withheld : (refusal : Refusal) → IsWithheld refusal → reply ≡ says.Refused refusal → IsUnchanged old new → Calls old text reply new
+  wanting : reply ≡ says.Refused Memory → IsUnchanged old new → Calls old text reply new
   unread : (refusal : Refusal) → IsUnread text refusal → reply ≡ says.Refused refusal → IsUnchanged old new → Calls old text reply new
   wrong : (refusal : Refusal) → IsAgainst old text refusal → reply ≡ says.Refused refusal → IsUnchanged old new → Calls old text reply new
   carried_out : (typed : Typed) → StandsFor old text typed → Does old typed reply new → Calls old text reply new
