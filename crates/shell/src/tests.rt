@@ -2,13 +2,13 @@
 
 mod command_lines;
 mod depth;
-mod expressions;
 mod faults;
 mod limits;
 mod memory;
 mod pieces;
 mod refusals;
 mod sessions;
+mod values;
 
 use crate::{Settings, run_on};
 use clap::Error;
