@@ -34,7 +34,8 @@ use Rattle.sqlcore.specs.Held.{HasCommitted, HasRolledBack, IsUnchanged, SameSes
 use Rattle.sqlcore.specs.Reading.{IsRead, IsUnread}
 use Rattle.sqlcore.specs.Refusals.{refusal_of}
 
--- a refusal that may stand in place of the reply to a query or a change: want of memory, or a form that is not built
+-- A refusal that may stand in place of the reply to a statement, of today's engine: want of memory, or a form that is not built, whichever forms
+-- those are. (ROLLBACK is never refused: a clause of its own says so.)
 abbrev pub IsWithheld : Refusal → Type 0
 IsWithheld refusal = (refusal ≡ Memory) ⊎ (refusal ≡ NotSupported)
 
