@@ -5,6 +5,7 @@
 //! tree has one list of tokens.
 #![tactic(auto)]
 
+mod copies;
 mod operator;
 mod statement;
 mod tree;
@@ -22,3 +23,6 @@ pub use tree::{
     Addend, Condition, Conjunction, Expression, Factor, Join, Negation, Operand, Predicate,
     Primary, Query, Select, SelectItem, TableReference, TableSource, Term, Test,
 };
+
+#[cfg(test)]
+mod tests;

@@ -1,7 +1,7 @@
 //! The parts of trees that hold no tree.
 
 use items::Text;
-use lexer::Name;
+use lexer::{Name, Number};
 
 /// An operator between terms.
 #[derive(Clone, Copy, Debug, PartialEq, Eq)]
@@ -88,7 +88,7 @@ pub enum Direction {
 /// A constant in a list after IN.
 #[derive(Debug, Drop)]
 pub enum Literal {
-    Number(Option<Sign>, i64),
+    Number(Option<Sign>, Number),
     Text(Text),
 }
 

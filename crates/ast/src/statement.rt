@@ -3,7 +3,7 @@
 use crate::operator::Direction;
 use crate::tree::{Condition, Expression, Query};
 use items::{Boxed, Items};
-use lexer::Name;
+use lexer::{Name, Number};
 
 /// A statement, without the `;` that may follow it.
 #[derive(Drop)]
@@ -47,7 +47,7 @@ pub struct SortKey {
 #[derive(Debug, Drop)]
 pub enum SortColumn {
     Named(Name),
-    Position(i64),
+    Position(Number),
 }
 
 /// CREATE TABLE: the table's name and what stands in its parentheses.
@@ -79,8 +79,8 @@ pub enum TypeName {
     Integer,
     /// `INT`
     Int,
-    Varchar(i64),
-    CharacterVarying(i64),
+    Varchar(Number),
+    CharacterVarying(Number),
 }
 
 /// A rule that stands behind a column, with a name where that is written.

@@ -5,7 +5,7 @@ use crate::operator::{
     SetOperator, Sign, TruthTest,
 };
 use items::{Boxed, Items, Text};
-use lexer::Name;
+use lexer::{Name, Number};
 
 /// A chain of terms, which groups to the left.
 #[cycle(ast)]
@@ -35,7 +35,7 @@ pub struct Factor {
 #[cycle(ast)]
 #[derive(Drop)]
 pub enum Primary {
-    Number(i64),
+    Number(Number),
     Text(Text),
     Column(Column),
     /// `COUNT ( * )`

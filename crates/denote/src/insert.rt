@@ -1,8 +1,11 @@
-ghost use Rattle.std.specs.Prelude.{◌≡◌, ◌==◌, position, List, [], ◌∷◌, IfOk, IfSome, IfNone, Contains, map, flat_map};
+ghost use Rattle.std.specs.Prelude.{◌≡◌, ◌≢◌, ◌==◌, ◌&&◌, false, position, List, [], ◌∷◌, IfErr, IfOk, IfSome, IfNone, Contains, map, flat_map};
+ghost use Rattle.std.specs.List.{list_all};
 ghost use Rattle.std.specs.Option.{option_copied};
 ghost use Rattle.sqlval.specs.Matching.{key_of};
 ghost use Rattle.sqlval.specs.Storing.{stored};
 ghost use Rattle.sqlval.specs.Value.{is_null};
+ghost use Rattle.typing.specs.Evaluated.{condition_evaluated, expression_evaluated, rows_evaluated};
+ghost use Rattle.denote.specs.declared.fault.Stop.TheVariants.{NotBuilt};
 ghost use Rattle.denote.specs.Change.{inserted_rows};
 ghost use Rattle.denote.specs.Database.{table_of, check_at, has_null, broken_not_nulls};
 ghost use Rattle.denote.specs.Evaluation.{faults_in, given};
@@ -51,7 +54,8 @@ fn source_for<'a>(
 }
 
 fn store(value: Value, column_type: ColumnType) -> Result<Value, Stop>
-    ensures { Gives result (given (stored value column_type)) }
+    ensures gives { Gives result (given (stored value column_type)) }
+    ensures built { IfErr result (λ stop. stop ≢ NotBuilt) }
 {
     Ok(store_as(value, column_type)?)
 }
@@ -65,7 +69,8 @@ fn column_value<S: Tables>(
     columns: &[usize],
     sources: &[Expression],
 ) -> Result<Value, Stop>
-    ensures { Gives result (value_for (given_for place columns.now (map (λ source. value_of (S.rows_of tables.now) source []) sources.now)) column.now Value.Null) }
+    ensures gives { Gives result (value_for (given_for place columns.now (map (λ source. value_of (S.rows_of tables.now) source []) sources.now)) column.now Value.Null) }
+    ensures built { IfErr result (λ stop. stop ≡ NotBuilt → list_all expression_evaluated sources.now ≡ false) }
 {
     match source_for(place, columns, sources) {
         None => Ok(Value::Null),
@@ -84,7 +89,8 @@ fn source_row<S: Tables>(
     columns: &[usize],
     sources: &[Expression],
 ) -> Result<Row, Stop>
-    ensures { Gives result (row_with table_columns.now columns.now (map (λ source. value_of (S.rows_of tables.now) source []) sources.now) []) }
+    ensures gives { Gives result (row_with table_columns.now columns.now (map (λ source. value_of (S.rows_of tables.now) source []) sources.now) []) }
+    ensures built { IfErr result (λ stop. stop ≡ NotBuilt → list_all expression_evaluated sources.now ≡ false) }
 {
     let mut row = Items::new(alloc);
     for (place, column) in table_columns.iter().enumerate() {
@@ -95,7 +101,8 @@ fn source_row<S: Tables>(
 
 /// Whether each CHECK can be evaluated at a row.
 fn evaluate_checks(alloc: Global, checks: &[Condition], row: &[Value]) -> Result<(), Stop>
-    ensures { Passes result (flat_map (λ check. faults_in (check_at check row.now)) checks.now) }
+    ensures passes { Passes result (flat_map (λ check. faults_in (check_at check row.now)) checks.now) }
+    ensures built { IfErr result (λ stop. stop ≡ NotBuilt → list_all condition_evaluated checks.now ≡ false) }
 {
     let env = Env::Inside(row, &Env::Outermost);
     for check in checks {
@@ -119,7 +126,8 @@ fn copied_key(alloc: Global, columns: &[usize], row: &[Value]) -> Result<Row, Al
 
 /// Whether the keys of a row are short enough for the indexes.
 fn measure_keys(alloc: Global, indexes: &[Index], row: &[Value]) -> Result<(), Stop>
-    ensures { Passes result (flat_map (λ index. key_faults row.now index.columns) indexes.now) }
+    ensures passes { Passes result (flat_map (λ index. key_faults row.now index.columns) indexes.now) }
+    ensures built { IfErr result (λ stop. stop ≢ NotBuilt) }
 {
     for index in indexes {
         let key = copied_key(alloc, index.columns.as_slice(), row)?;
@@ -132,7 +140,8 @@ fn measure_keys(alloc: Global, indexes: &[Index], row: &[Value]) -> Result<(), S
 
 /// Whether a table may hold a row, but for its constraints.
 fn admit(alloc: Global, table: &Table, checks: &[Condition], row: &[Value]) -> Result<(), Stop>
-    ensures { Passes result (row_faults checks.now (table_of table.now []) row.now) }
+    ensures passes { Passes result (row_faults checks.now (table_of table.now []) row.now) }
+    ensures built { IfErr result (λ stop. stop ≡ NotBuilt → list_all condition_evaluated checks.now ≡ false) }
 {
     evaluate_checks(alloc, checks, row)?;
     if coded_row_length(row) > LONGEST_RECORD {
@@ -149,7 +158,8 @@ fn row_to_insert<S: Tables>(
     columns: &[usize],
     sources: &[Expression],
 ) -> Result<Row, Stop>
-    ensures { Gives result (stored_row checks.now (table_of table.now []) columns.now (map (λ source. value_of (S.rows_of tables.now) source []) sources.now)) }
+    ensures gives { Gives result (stored_row checks.now (table_of table.now []) columns.now (map (λ source. value_of (S.rows_of tables.now) source []) sources.now)) }
+    ensures built { IfErr result (λ stop. stop ≡ NotBuilt → (list_all condition_evaluated checks.now && list_all expression_evaluated sources.now) ≡ false) }
 {
     let row = source_row(alloc, tables, table.columns.as_slice(), columns, sources)?;
     admit(alloc, table, checks, row.as_slice())?;
@@ -168,7 +178,8 @@ pub fn rows_to_insert<S: Tables>(
     columns: &[usize],
     rows: &[Items<Expression>],
 ) -> Result<Rows, Stop>
-    ensures { Gives result (inserted_rows checks.now (S.rows_of tables.now) (table_of table.now []) columns.now (from.Values rows.now)) }
+    ensures gives { Gives result (inserted_rows checks.now (S.rows_of tables.now) (table_of table.now []) columns.now (from.Values rows.now)) }
+    ensures built { IfErr result (λ stop. stop ≡ NotBuilt → (list_all condition_evaluated checks.now && rows_evaluated rows.now) ≡ false) }
 {
     let mut added = Items::new(alloc);
     for sources in rows {

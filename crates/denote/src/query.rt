@@ -1,5 +1,9 @@
-ghost use Rattle.std.specs.Prelude.{map};
+ghost use Rattle.std.specs.Prelude.{◌≡◌, ◌&&◌, false, IfErr, map};
+ghost use Rattle.std.specs.List.{list_all};
 ghost use Rattle.std.specs.Option.{option_map};
+ghost use Rattle.typing.specs.Built.{if_any};
+ghost use Rattle.typing.specs.Evaluated.{condition_evaluated, item_evaluated, query_evaluated, select_evaluated};
+ghost use Rattle.denote.specs.declared.fault.Stop.TheVariants.{NotBuilt};
 ghost use Rattle.denote.specs.Meaning.{truth_at, item_value, select_outcome, query_outcome};
 ghost use Rattle.denote.specs.OnePass.{passes, picked};
 ghost use Rattle.denote.specs.Outcome.{each};
@@ -21,7 +25,8 @@ fn is_kept<S: Tables>(
     env: &Env,
     filter: &Option<Condition>,
 ) -> Result<bool, Stop>
-    ensures { Gives result (passes (option_map (truth_at (S.rows_of tables.now)) filter.now) (env_of env.now)) }
+    ensures gives { Gives result (passes (option_map (truth_at (S.rows_of tables.now)) filter.now) (env_of env.now)) }
+    ensures built { IfErr result (λ stop. stop ≡ NotBuilt → if_any (option_map condition_evaluated filter.now) ≡ false) }
 {
     match filter {
         None => Ok(true),
@@ -32,7 +37,8 @@ fn is_kept<S: Tables>(
 /// The values of a select list at a row.
 #[tactic(auto, using(crate::proofs::Nodes::row_nodes))]
 fn item_values<S: Tables>(alloc: Global, tables: &S, env: &Env, items: &[Item]) -> Result<Row, Stop>
-    ensures { Gives result (values_of (map (item_value (S.rows_of tables.now)) items.now) (env_of env.now)) }
+    ensures gives { Gives result (values_of (map (item_value (S.rows_of tables.now)) items.now) (env_of env.now)) }
+    ensures built { IfErr result (λ stop. stop ≡ NotBuilt → list_all item_evaluated items.now ≡ false) }
 {
     let mut values = Items::new(alloc);
     for item in items {
@@ -51,7 +57,8 @@ fn picked_rows<S: Tables>(
     items: &[Item],
     rows: &[Row],
 ) -> Result<Rows, Stop>
-    ensures { GivesRows result (each (picked (option_map (truth_at (S.rows_of tables.now)) filter.now) (map (item_value (S.rows_of tables.now)) items.now) (env_of env.now)) rows.now) }
+    ensures gives { GivesRows result (each (picked (option_map (truth_at (S.rows_of tables.now)) filter.now) (map (item_value (S.rows_of tables.now)) items.now) (env_of env.now)) rows.now) }
+    ensures built { IfErr result (λ stop. stop ≡ NotBuilt → (if_any (option_map condition_evaluated filter.now) && list_all item_evaluated items.now) ≡ false) }
 {
     let mut found = Items::new(alloc);
     for row in rows {
@@ -71,7 +78,8 @@ fn select_rows<S: Tables>(
     env: &Env,
     select: &Select,
 ) -> Result<Rows, Stop>
-    ensures { GivesRows result (select_outcome (S.rows_of tables.now) select.now (env_of env.now)) }
+    ensures gives { GivesRows result (select_outcome (S.rows_of tables.now) select.now (env_of env.now)) }
+    ensures built { IfErr result (λ stop. stop ≡ NotBuilt → select_evaluated select.now ≡ false) }
 {
     if select.distinct {
         return Err(Stop::NotBuilt);
@@ -100,7 +108,8 @@ pub fn query_rows<S: Tables>(
     env: &Env,
     query: &Query,
 ) -> Result<Rows, Stop>
-    ensures { GivesRows result (query_outcome (S.rows_of tables.now) query.now (env_of env.now)) }
+    ensures gives { GivesRows result (query_outcome (S.rows_of tables.now) query.now (env_of env.now)) }
+    ensures built { IfErr result (λ stop. stop ≡ NotBuilt → query_evaluated query.now ≡ false) }
 {
     match query {
         Query::Select(select) => select_rows(alloc, tables, env, select.get()),

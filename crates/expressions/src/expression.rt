@@ -77,8 +77,10 @@ impl<
         ensures { Gives result (expressions.constant_or_column self.now.limit (inner_at self.now.limit self.now.depth) (kinds tokens.now)) }
     {
         if next_is_number(tokens) {
-            let (value, rest) = number(tokens)?;
-            Ok((Primary::Number(value), rest))
+            match number(tokens) {
+                Ok((value, rest)) => Ok((Primary::Number(value), rest)),
+                Err(error) => Err(error),
+            }
         } else if next_is_string(tokens) {
             let (text, rest) = string(self.alloc, tokens)?;
             Ok((Primary::Text(text), rest))

@@ -10,7 +10,6 @@ pub mod Sound
 pub mod WordTable
 pub mod Whole
 pub mod Printed
-pub mod Unsigned
 pub mod SkippingAgain
 pub mod WordAgain
 pub mod NumberAgain

@@ -1,5 +1,5 @@
 -- A number and the faults of a number are read as such.
-use Rattle.std.proofs.Common.{◌≡◌, ℕ, ◌≤◌, ◌<◌, pos, true, false, ◌||◌, [], ◌∷◌, ◌++◌, length, drop, refl, ◌∙◌, inl, inr, arith}
+use Rattle.std.proofs.Common.{◌≡◌, ℕ, ◌≤◌, ◌<◌, true, false, ◌||◌, [], ◌∷◌, ◌++◌, length, drop, refl, ◌∙◌, inl, inr, arith}
 use Rattle.std.specs.Char.{is_ascii_alphabetic, is_ascii_digit}
 use Rattle.std.specs.List.{list_all, take_while}
 use Rattle.std.specs.Prelude.{nat_lt, if◌then◌else◌}
@@ -9,7 +9,8 @@ use Rattle.std.proofs.lemmas.List.{drop_at}
 use Rattle.lexer.specs.declared.kinds.Kind.TheVariants as kind
 use Rattle.lexer.specs.declared.refusals.Refusal.TheVariants.{Invalid}
 use Rattle.lexer.specs.declared.refusals.Reason.TheVariants as reason
-use Rattle.lexer.specs.Token.{Bytes, begins_with, is_word_byte, number_of, greatest_number}
+use Rattle.lexer.specs.Number.{greatest_number}
+use Rattle.lexer.specs.Token.{Bytes, begins_with, is_word_byte, number_of}
 use Rattle.lexer.specs.Reading.{Step, Reads, Fails, next, number, goes_on_as_word}
 use Rattle.lexer.proofs.WordAgain.{take_while-run}
 
@@ -19,7 +20,7 @@ no_letter b h = grind (arith, nat_tests)
 -- what is read at digits
 number_step : Bytes → Bytes → Step
 number_step digits rest =
-    if nat_lt 9223372036854775807 (number_of digits) || goes_on_as_word rest then Fails (Invalid reason.Number) else Reads (kind.Number (pos (number_of digits))) rest
+    if nat_lt 9223372036854775807 (number_of digits) || goes_on_as_word rest then Fails (Invalid reason.Number) else Reads (kind.Number (number_of digits)) rest
 
 next-digits : (digits rest : Bytes) → begins_with is_ascii_digit digits ≡ true → list_all is_ascii_digit digits ≡ true → begins_with is_ascii_digit rest ≡ false
     → next (digits ++ rest) ≡ number_step digits rest
@@ -40,7 +41,7 @@ goes_on [] h d = h
 goes_on (b ∷ bs) h d = grind (arith, nat_tests)
 
 pub next_number : (digits rest : Bytes) → begins_with is_ascii_digit digits ≡ true → list_all is_ascii_digit digits ≡ true → number_of digits ≤ greatest_number
-    → begins_with is_word_byte rest ≡ false → next (digits ++ rest) ≡ Reads (kind.Number (pos (number_of digits))) rest
+    → begins_with is_word_byte rest ≡ false → next (digits ++ rest) ≡ Reads (kind.Number (number_of digits)) rest
 unfolding number_step
 next_number digits rest first all small ends =
     let apart = no_digit rest ends in

@@ -17,10 +17,11 @@ use Rattle.lexer.specs.declared.kinds.Symbol.TheVariants as symbol
 use Rattle.lexer.specs.declared.kinds.Token.{Token}
 use Rattle.lexer.specs.Name.{begins_name, is_identifier, is_name, is_name_character}
 use Rattle.lexer.specs.Words.{reserved, word_text}
-use Rattle.lexer.specs.Token.{Bytes, Spells, EndsBefore, IsLongest, IsGap, nothing, space, begins_with, begins_comment, folded, is_word_byte, number_of, symbol_text, greatest_number}
+use Rattle.lexer.specs.Number.{greatest_number}
+use Rattle.lexer.specs.Token.{Bytes, Spells, EndsBefore, IsLongest, IsGap, nothing, space, begins_with, begins_comment, folded, is_word_byte, number_of, symbol_text}
 use Rattle.lexer.specs.Tokens.{IsToken, AreTokensBetween, kinds_of}
 use Rattle.lexer.specs.Reading.{symbol_of_two}
-use Rattle.lexer.specs.Printing.{kind_text, spaced_text, text_of, IsKind, AreKinds, AreUnsigned, HasKinds}
+use Rattle.lexer.specs.Printing.{kind_text, spaced_text, text_of, IsKind, AreKinds, HasKinds}
 use Rattle.lexer.proofs.SymbolSound.{longest_alone, longest_of_two}
 use Rattle.lexer.proofs.Whole.{IsCut, cut}
 use Rattle.lexer.proofs.WordTable.{is_identifier-word_text}
@@ -74,13 +75,12 @@ decimal_spells n small = decimal_by_steps IsDecimal
 kind_spells : (k : Kind) → IsKind k → Spells (kind_text k) k
 kind_spells (kind.Word w) h = folded-is_identifier (word_text w) (is_identifier-word_text w)
 kind_spells (kind.Name name) h = (folded-is_identifier name (is_identifier-is_name name h), h)
-kind_spells (kind.Number (pos n)) h =
+kind_spells (kind.Number n) h =
     let spells = decimal_spells n h in (
       and_from (begins_with is_ascii_digit (decimal n)) (list_all is_ascii_digit (decimal n)) spells.first spells.all,
       subst (λ v. v ≤ greatest_number) (sym spells.value) h,
-      ap pos (sym spells.value),
+      sym spells.value,
     )
-kind_spells (kind.Number (negsuc n)) h = absurd h
 kind_spells (kind.Text characters) h = (refl, h)
 kind_spells (kind.Symbol s) h = refl
 
@@ -146,8 +146,7 @@ digits_no_comment (b ∷ bs) rest h = and_left (eqb b 45) (begins_with (λ c. eq
 kind_no_comment : (k : Kind) (kinds : List Kind) → IsKind k → begins_comment (kind_text k ++ spaced_text kinds) ≡ false
 kind_no_comment (kind.Word w) kinds h = identifier_no_comment (word_text w) (spaced_text kinds) (and_parts (begins_name (word_text w)) (list_all is_name_character (word_text w)) (is_identifier-word_text w)).0
 kind_no_comment (kind.Name name) kinds h = identifier_no_comment name (spaced_text kinds) (and_parts (begins_name name) (list_all is_name_character name) (is_identifier-is_name name h)).0
-kind_no_comment (kind.Number (pos n)) kinds h = digits_no_comment (decimal n) (spaced_text kinds) (decimal_spells n h).first
-kind_no_comment (kind.Number (negsuc n)) kinds h = absurd h
+kind_no_comment (kind.Number n) kinds h = digits_no_comment (decimal n) (spaced_text kinds) (decimal_spells n h).first
 kind_no_comment (kind.Text characters) kinds h = refl
 kind_no_comment (kind.Symbol symbol.Minus) kinds h = no_first (λ b. eqb b 45) kinds refl
 kind_no_comment (kind.Symbol _) kinds h = refl
@@ -213,5 +212,5 @@ HasKinds-text_of (k ∷ kinds) are =
       kinds_are = kinds-places text (k ∷ kinds);
     }
 
-pub read_again : (kinds : List Kind) (text : Bytes) → text ≡ text_of kinds → (AreUnsigned kinds → AreKinds kinds) → AreUnsigned kinds → HasKinds text kinds
-read_again kinds text e valid unsigned = subst (λ bytes. HasKinds bytes kinds) (sym e) (HasKinds-text_of kinds (valid unsigned))
+pub read_again : (kinds : List Kind) (text : Bytes) → text ≡ text_of kinds → AreKinds kinds → HasKinds text kinds
+read_again kinds text e are = subst (λ bytes. HasKinds bytes kinds) (sym e) (HasKinds-text_of kinds are)

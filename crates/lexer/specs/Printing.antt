@@ -1,20 +1,21 @@
 -- The text of a list of tokens: each in its plain spelling, with one space between two.
-use Rattle.std.specs.Prelude.{◌≡◌, pos, negsuc, ◌≤◌, true, List, [], ◌∷◌, ◌++◌}
-use Rattle.std.specs.Fmt.{signed_decimal}
+use Rattle.std.specs.Prelude.{◌≡◌, ◌≤◌, true, List, [], ◌∷◌, ◌++◌}
+use Rattle.std.specs.Fmt.{decimal}
 use Rattle.items.specs.Text.{is_text}
 use Rattle.lexer.specs.declared.kinds.Kind.{Kind}
 use Rattle.lexer.specs.declared.kinds.Kind.TheVariants as kind
 use Rattle.lexer.specs.declared.kinds.Token.{Token}
 use Rattle.lexer.specs.Name.{is_name}
+use Rattle.lexer.specs.Number.{greatest_number}
 use Rattle.lexer.specs.Words.{word_text}
-use Rattle.lexer.specs.Token.{Bytes, quoted, symbol_text, greatest_number}
+use Rattle.lexer.specs.Token.{Bytes, quoted, symbol_text}
 use Rattle.lexer.specs.Tokens.{AreTokens, kinds_of}
 
 -- words and names in upper case, numbers in decimal, strings in quotes with their quotes doubled
 abbrev pub kind_text : Kind → Bytes
 kind_text (kind.Word w) = word_text w
 kind_text (kind.Name name) = name
-kind_text (kind.Number number) = signed_decimal number
+kind_text (kind.Number number) = decimal number
 kind_text (kind.Text characters) = 39 ∷ quoted characters ++ 39 ∷ []
 kind_text (kind.Symbol symbol) = symbol_text symbol
 
@@ -28,23 +29,12 @@ abbrev pub text_of : List Kind → Bytes
 text_of [] = []
 text_of (k ∷ kinds) = kind_text k ++ spaced_text kinds
 
--- the number is not below 0: a sign is a token of its own
-abbrev pub IsUnsigned : Kind → Type 0
-IsUnsigned (kind.Number (pos n)) = Unit {0}
-IsUnsigned (kind.Number (negsuc n)) = ⊥
-IsUnsigned _ = Unit {0}
-
 -- what a token can be: its name is a name, its number within the limits, its string a string
 abbrev pub IsKind : Kind → Type 0
 IsKind (kind.Name name) = is_name name ≡ true
-IsKind (kind.Number (pos n)) = n ≤ greatest_number
-IsKind (kind.Number (negsuc n)) = ⊥
+IsKind (kind.Number number) = number ≤ greatest_number
 IsKind (kind.Text characters) = is_text characters ≡ true
 IsKind _ = Unit {0}
-
-abbrev pub AreUnsigned : List Kind → Type 0
-AreUnsigned [] = Unit {0}
-AreUnsigned (k ∷ kinds) = IsUnsigned k × AreUnsigned kinds
 
 abbrev pub AreKinds : List Kind → Type 0
 AreKinds [] = Unit {0}

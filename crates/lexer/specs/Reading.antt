@@ -1,5 +1,5 @@
 -- What the functions that read one token compute: a step of the proof. What the crate promises stands in `Tokens`.
-use Rattle.std.specs.Prelude.{◌≡◌, ◌≢◌, ℕ, pos, Bool, true, false, not, ◌&&◌, ◌||◌, if◌then◌else◌, ◌==◌, nat_lt, nat_le, [], ◌∷◌, ◌++◌, length, drop, take_while, Option, Some, None, option_and_then, Result, Ok, Err}
+use Rattle.std.specs.Prelude.{◌≡◌, ◌≢◌, ℕ, Bool, true, false, not, ◌&&◌, ◌||◌, if◌then◌else◌, ◌==◌, nat_lt, nat_le, [], ◌∷◌, ◌++◌, length, drop, take_while, Option, Some, None, option_and_then, Result, Ok, Err}
 use Rattle.std.specs.Borrow.{Bor}
 use Rattle.std.specs.Char.{is_ascii_alphabetic, is_ascii_digit}
 use Rattle.items.specs.Text.{as_text, is_character, is_text}
@@ -13,7 +13,8 @@ use Rattle.lexer.specs.declared.refusals.Reason.TheVariants as reason
 use Rattle.lexer.specs.declared.refusals.Limit.TheVariants as limit
 use Rattle.lexer.specs.declared.words.Word.{Word}
 use Rattle.lexer.specs.Name.{as_name}
-use Rattle.lexer.specs.Token.{Bytes, begins_with, is_space, is_word_byte, folded, greatest_number, longest_text, number_of}
+use Rattle.lexer.specs.Number.{greatest_number}
+use Rattle.lexer.specs.Token.{Bytes, begins_with, is_space, is_word_byte, folded, longest_text, number_of}
 use Rattle.lexer.specs.Words.{reserved}
 
 -- what a text begins with: nothing more, a token and what follows it, or a fault
@@ -81,7 +82,7 @@ goes_on_as_word bs = begins_with (λ b. is_ascii_alphabetic b || b == 95) bs
 unfoldable pub number : ℕ → Bytes → Step
 number b bs =
     if nat_lt greatest_number (number_of (b ∷ run is_ascii_digit bs)) || goes_on_as_word (after_run is_ascii_digit bs) then Fails (Invalid reason.Number)
-    else Reads (kind.Number (pos (number_of (b ∷ run is_ascii_digit bs)))) (after_run is_ascii_digit bs)
+    else Reads (kind.Number (number_of (b ∷ run is_ascii_digit bs))) (after_run is_ascii_digit bs)
 
 -- ---- strings, after the first quote. A quote is pending where the last byte was one that may be doubled.
 

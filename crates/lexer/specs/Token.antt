@@ -1,7 +1,7 @@
 -- What a token is: how it is spelled, what may not follow it, and which faults stand in place of one.
 -- SQL-92, 5.2 <token> and <separator>, and 5.3 <literal>. Our own choices: comments may hold any byte and words
 -- only ASCII letters; a number has no fraction and no exponent; two strings side by side are two tokens; the limits.
-use Rattle.std.specs.Prelude.{◌≡◌, ◌≢◌, ℕ, ◌+◌, ◌-◌, ◌*◌, ◌<◌, ◌≤◌, pos, Bool, true, false, ◌||◌, ◌&&◌, if◌then◌else◌, ◌==◌, List, [], ◌∷◌, ◌++◌, length, fold, map, codes}
+use Rattle.std.specs.Prelude.{◌≡◌, ◌≢◌, ℕ, ◌+◌, ◌-◌, ◌*◌, ◌<◌, ◌≤◌, Bool, true, false, ◌||◌, ◌&&◌, if◌then◌else◌, ◌==◌, List, [], ◌∷◌, ◌++◌, length, fold, map, codes}
 use Rattle.std.specs.Char.{is_ascii_alphabetic, is_ascii_digit, to_ascii_uppercase}
 use Rattle.std.specs.List.{list_all}
 use Rattle.items.specs.Text.{is_character, is_text}
@@ -14,6 +14,7 @@ use Rattle.lexer.specs.declared.refusals.Refusal.TheVariants.{Invalid, Exceeded}
 use Rattle.lexer.specs.declared.refusals.Reason.TheVariants as reason
 use Rattle.lexer.specs.declared.refusals.Limit.TheVariants as limit
 use Rattle.lexer.specs.Name.{is_name, longest_name}
+use Rattle.lexer.specs.Number.{greatest_number}
 use Rattle.lexer.specs.Words.{word_text}
 
 abbrev pub Bytes : Type 0
@@ -57,10 +58,6 @@ folded = map to_ascii_uppercase
 abbrev pub number_of : Bytes → ℕ
 number_of = fold (λ n digit. 10 * n + (digit - 48)) 0
 
--- 2 ^ 63 - 1
-abbrev pub greatest_number : ℕ
-greatest_number = 9223372036854775807
-
 -- the greatest number of characters of a string
 abbrev pub longest_text : ℕ
 longest_text = 1000
@@ -99,7 +96,7 @@ symbol_text symbol.Concatenation = codes "||"
 abbrev pub Spells : Bytes → Kind → Type 0
 Spells bytes (kind.Word word) = folded bytes ≡ word_text word
 Spells bytes (kind.Name name) = (folded bytes ≡ name) × (is_name name ≡ true)
-Spells bytes (kind.Number number) = (is_digits bytes ≡ true) × (number_of bytes ≤ greatest_number) × (number ≡ pos (number_of bytes))
+Spells bytes (kind.Number number) = (is_digits bytes ≡ true) × (number_of bytes ≤ greatest_number) × (number ≡ number_of bytes)
 Spells bytes (kind.Text characters) = (bytes ≡ 39 ∷ quoted characters ++ 39 ∷ []) × (is_text characters ≡ true)
 Spells bytes (kind.Symbol symbol) = bytes ≡ symbol_text symbol
 

@@ -1,4 +1,5 @@
 use crate::names::Name;
+use crate::numbers::Number;
 use crate::words::Word;
 use items::Text;
 
@@ -44,8 +45,8 @@ pub enum Symbol {
 pub enum Kind {
     Word(Word),
     Name(Name),
-    /// Never below 0 in what `tokens` gives: a sign is a symbol.
-    Number(i64),
+    /// A sign is a symbol, and no part of a number.
+    Number(Number),
     /// The characters of a string, without its quotes.
     Text(Text),
     Symbol(Symbol),

@@ -17,6 +17,7 @@ mod words;
 
 pub use kinds::{Kind, Symbol, Token};
 pub use names::Name;
+pub use numbers::Number;
 pub use printing::{print_kind, print_kinds};
 pub use recognition::is_made_of;
 pub use refusals::{Limit, Reason, Refusal};

@@ -1,15 +1,59 @@
 //! Numbers.
 
-ghost use Rattle.std.specs.Prelude.{◌≡◌, ◌∷◌, ◌≤◌, length, min, take_while, IfOk};
+ghost use Rattle.std.specs.Prelude.{◌≡◌, ◌∷◌, ◌≤◌, pos, length, min, take_while, IfOk};
 ghost use Rattle.std.specs.Char.{is_ascii_digit};
+ghost use Rattle.lexer.specs.Number.{as_number};
 ghost use Rattle.lexer.specs.Reading as reading;
 ghost use Rattle.lexer.specs.Token as token;
 ghost use Rattle.lexer.specs.Reading.{Gives};
 
 use crate::kinds::Kind;
 use crate::refusals::{Reason, Refusal};
+use std::marker::Model;
 
 const GREATEST: u64 = 9_223_372_036_854_775_807;
+
+/// A number without a sign, from 0 to 2^63 - 1. Contracts see it as that number.
+#[derive(Clone, Copy, Debug, PartialEq, Eq)]
+pub struct Number {
+    value: u64,
+}
+
+impl Model for Number {
+    ghost use Rattle.std.specs.Prelude.{ℕ, ◌≤◌};
+    ghost use Rattle.std.specs.Coded.{coded_ℕ};
+    ghost use Rattle.lexer.specs.Number.{greatest_number};
+
+    ghost Value = { ℕ };
+
+    ghost coded = { coded_ℕ };
+
+    ghost view = { λ number. number.value };
+
+    ghost inverse = { λ value. record { value = value } };
+
+    ghost invariant = { λ number. number.value ≤ greatest_number };
+}
+
+impl Number {
+    /// The number of this value; `None` exactly where that is greater than 2^63 - 1.
+    pub fn from_value(value: u64) -> Option<Number>
+        ensures { result ≡ as_number value }
+    {
+        if value > GREATEST {
+            None
+        } else {
+            Some(Number { value })
+        }
+    }
+
+    /// Its value, which is never below 0.
+    pub fn value(self) -> i64
+        ensures { result ≡ pos self }
+    {
+        self.value as i64
+    }
+}
 
 /// The number that begins with the digit `first` before `after`, and what follows it.
 #[tactic(auto, unfolding(crate::specs::Reading::number))]
@@ -22,7 +66,7 @@ pub fn read_number(first: u8, after: &[u8]) -> Result<(Kind, &[u8]), Refusal>
     if value > GREATEST || goes_on_as_word(rest) {
         return Err(Refusal::Invalid(Reason::Number));
     }
-    Ok((Kind::Number(value as i64), rest))
+    Ok((Kind::Number(Number { value }), rest))
 }
 
 /// The value of the digits, or one more than `GREATEST` where it is greater than that.

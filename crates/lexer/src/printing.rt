@@ -1,12 +1,13 @@
 //! The text of tokens.
 
 ghost use Rattle.std.specs.Prelude.{◌≡◌, ◌∷◌, ◌++◌, [], IfOk, OnOk};
-ghost use Rattle.lexer.specs.Printing.{kind_text, text_of, AreKinds, AreUnsigned, HasKinds, IsKind, IsUnsigned, spaced_text};
-ghost use Rattle.std.specs.Fmt.{signed_decimal};
+ghost use Rattle.lexer.specs.Printing.{kind_text, text_of, AreKinds, HasKinds, IsKind, spaced_text};
+ghost use Rattle.std.specs.Fmt.{decimal};
 ghost use Rattle.lexer.specs.declared.kinds.Kind.TheVariants as kind_is;
 ghost use Rattle.lexer.specs.Token.{quoted, quoted_character, symbol_text};
 
 use crate::kinds::{Kind, Symbol};
+use crate::numbers::Number;
 use std::alloc::{AllocError, Global};
 
 impl Symbol {
@@ -35,12 +36,12 @@ impl Symbol {
     }
 }
 
-/// The text of the tokens, with one space between two. Read again, it has just these tokens, if none
-/// is a number below 0. Refuses for want of memory alone.
+/// The text of the tokens, with one space between two. Read again, it has just these tokens.
+/// Refuses for want of memory alone.
 #[tactic(auto, using(crate::proofs::Printed::read_again))]
 pub fn print_kinds(alloc: Global, kinds: &[Kind]) -> Result<Vec<u8>, AllocError>
     ensures text { IfOk result (λ text. text.items ≡ text_of kinds.now) }
-    ensures again { IfOk result (λ text. AreUnsigned kinds.now → HasKinds text.items kinds.now) }
+    ensures again { IfOk result (λ text. HasKinds text.items kinds.now) }
 {
     let text = joined(alloc, kinds)?;
     Ok(text)
@@ -50,7 +51,7 @@ pub fn print_kinds(alloc: Global, kinds: &[Kind]) -> Result<Vec<u8>, AllocError>
 /// its quotes doubled. Refuses for want of memory alone.
 pub fn print_kind(alloc: Global, kind: &Kind) -> Result<Vec<u8>, AllocError>
     ensures text { IfOk result (λ text. text.items ≡ kind_text kind.now) }
-    ensures kind { IsUnsigned kind.now → IsKind kind.now }
+    ensures kind { IsKind kind.now }
 {
     match kind {
         Kind::Word(word) => Vec::from_slice(alloc, word.text()),
@@ -63,7 +64,7 @@ pub fn print_kind(alloc: Global, kind: &Kind) -> Result<Vec<u8>, AllocError>
 
 fn joined(alloc: Global, kinds: &[Kind]) -> Result<Vec<u8>, AllocError>
     ensures text { IfOk result (λ text. text.items ≡ text_of kinds.now) }
-    ensures kinds { OnOk result (AreUnsigned kinds.now → AreKinds kinds.now) }
+    ensures kinds { OnOk result (AreKinds kinds.now) }
 {
     let [first, others @ ..] = kinds else {
         return Ok(Vec::new(alloc));
@@ -74,7 +75,7 @@ fn joined(alloc: Global, kinds: &[Kind]) -> Result<Vec<u8>, AllocError>
 
 fn push_others(alloc: Global, text: Vec<u8>, kinds: &[Kind]) -> Result<Vec<u8>, AllocError>
     ensures text { IfOk result (λ new. new.items ≡ text.items ++ spaced_text kinds.now) }
-    ensures kinds { OnOk result (AreUnsigned kinds.now → AreKinds kinds.now) }
+    ensures kinds { OnOk result (AreKinds kinds.now) }
 {
     let mut text = text;
     let mut rest = kinds;
@@ -86,11 +87,11 @@ fn push_others(alloc: Global, text: Vec<u8>, kinds: &[Kind]) -> Result<Vec<u8>, 
     Ok(text)
 }
 
-fn print_number(alloc: Global, number: i64) -> Result<Vec<u8>, AllocError>
-    ensures text { IfOk result (λ text. text.items ≡ signed_decimal number) }
-    ensures kind { IsUnsigned (kind_is.Number number) → IsKind (kind_is.Number number) }
+fn print_number(alloc: Global, number: Number) -> Result<Vec<u8>, AllocError>
+    ensures text { IfOk result (λ text. text.items ≡ decimal number) }
+    ensures kind { IsKind (kind_is.Number number) }
 {
-    let digits = number.to_string(alloc)?;
+    let digits = number.value().to_string(alloc)?;
     Vec::from_slice(alloc, digits.as_bytes())
 }
 

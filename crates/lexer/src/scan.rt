@@ -5,8 +5,7 @@ ghost use Rattle.lexer.specs.declared.kinds.Token.{Token};
 ghost use Rattle.lexer.specs.declared.refusals.Refusal.{Refusal};
 ghost use Rattle.lexer.specs.Reading as reading;
 ghost use Rattle.lexer.specs.Reading.{Gives, GivesStep};
-ghost use Rattle.lexer.specs.Tokens.{AreTokens, IsFirstFault, kinds_of};
-ghost use Rattle.lexer.specs.Printing.{AreUnsigned};
+ghost use Rattle.lexer.specs.Tokens.{AreTokens, IsFirstFault};
 
 use crate::gaps::skip_gap;
 use crate::identifiers::read_word;
@@ -21,7 +20,6 @@ use std::alloc::Global;
 /// by byte. Refuses for want of memory too.
 pub fn tokens(alloc: Global, text: &[u8]) -> Result<Vec<Token>, Refusal>
     ensures found { IfOk result (λ found. AreTokens text.now found.items) }
-    ensures unsigned { IfOk result (λ found. AreUnsigned (kinds_of found.items)) }
     ensures fault { IfErr result (λ refusal. refusal ≢ Refusal.Memory → IsFirstFault text.now refusal) }
 
     // A text that has tokens has these alone, and one that has a first fault that one alone.
@@ -35,7 +33,6 @@ pub fn tokens(alloc: Global, text: &[u8]) -> Result<Vec<Token>, Refusal>
 
 fn read_tokens(alloc: Global, text: &[u8]) -> Result<Vec<Token>, Refusal>
     ensures found { IfOk result (λ found. AreTokens text.now found.items) }
-    ensures unsigned { IfOk result (λ found. AreUnsigned (kinds_of found.items)) }
     ensures fault { IfErr result (λ refusal. refusal ≢ Refusal.Memory → IsFirstFault text.now refusal) }
 {
     let mut found = Vec::new(alloc);

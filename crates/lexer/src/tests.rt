@@ -1,4 +1,6 @@
-use crate::{Kind, Limit, Name, Reason, Refusal, Token, first_unsupported, print_kinds, tokens};
+use crate::{
+    Kind, Limit, Name, Number, Reason, Refusal, Token, first_unsupported, print_kinds, tokens,
+};
 use items::{Items, Text};
 use std::alloc::{AllocError, Global};
 use std::fmt::Write;
@@ -23,7 +25,7 @@ fn push_token(shown: &mut String, token: &Token) -> Result<(), AllocError> {
             shown.push_str("name ")?;
             push_bytes(shown, name.as_text().as_slice())
         }
-        Kind::Number(number) => write!(shown, "number {number}"),
+        Kind::Number(number) => write!(shown, "number {}", number.value()),
         Kind::Text(text) => {
             shown.push_str("text ")?;
             push_bytes(shown, text.as_slice())
@@ -238,6 +240,14 @@ fn names_are_no_reserved_words(rt: HostRuntime) -> Result<(), Fail> {
     let copy = name.copy(rt.alloc())?;
     assert_eq!(rt; copy.as_text().as_slice(), b"A_1".as_slice());
     assert_eq!(rt; name.into_text().as_slice(), b"A_1".as_slice());
+    Ok(())
+}
+
+#[test]
+fn numbers_end_at_their_limit(rt: HostRuntime) -> Result<(), Fail> {
+    let greatest = Number::from_value(9_223_372_036_854_775_807).ok_or("a number")?;
+    assert_eq!(rt; greatest.value(), i64::MAX);
+    assert!(rt; Number::from_value(9_223_372_036_854_775_808).is_none());
     Ok(())
 }
 

@@ -1,5 +1,5 @@
 -- Expressions: what is in the grammar is read again.
-use Rattle.std.proofs.Common.{◌≡◌, ℕ, zero, suc, ℤ, Bool, true, false, List, [], ◌∷◌, Option, Some, None, refl, ap, sym as flip, ◌∙◌, subst, inl, inr}
+use Rattle.std.proofs.Common.{◌≡◌, ℕ, zero, suc, Bool, true, false, List, [], ◌∷◌, Option, Some, None, refl, ap, sym as flip, ◌∙◌, subst, inl, inr}
 use Rattle.std.specs.Prelude.{◌⊎◌}
 use Rattle.lexer.specs.declared.kinds.Kind.{Kind}
 use Rattle.lexer.specs.declared.kinds.Kind.TheVariants as kind
@@ -204,7 +204,7 @@ module _ (limit : Option ℕ) {d : ℕ} {I : Inner} {N : Nested} (known : Known 
   unfolding primary
   at_count_rows rest = rw (count_rows_is rest) refl
 
-  at_number : (n : ℤ) (rest : Tokens) → primary limit I (kind.Number n ∷ rest) ≡ Some (primary_of.Number n, rest)
+  at_number : (n : ℕ) (rest : Tokens) → primary limit I (kind.Number n ∷ rest) ≡ Some (primary_of.Number n, rest)
   unfolding primary constant_or_column count_rows set_function word symbol
   at_number n rest = refl
 

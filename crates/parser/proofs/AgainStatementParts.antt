@@ -1,5 +1,5 @@
 -- The parts of statements: what is in the grammar is read again.
-use Rattle.std.proofs.Common.{◌≡◌, ℕ, ℤ, zero, suc, ◌<◌, Bool, true, false, List, [], ◌∷◌, length, Option, Some, None, refl, ap, ◌∙◌, arith}
+use Rattle.std.proofs.Common.{◌≡◌, ℕ, zero, suc, ◌<◌, Bool, true, false, List, [], ◌∷◌, length, Option, Some, None, refl, ap, ◌∙◌, arith}
 use Rattle.lexer.specs.declared.kinds.Kind.{Kind}
 use Rattle.lexer.specs.declared.kinds.Kind.TheVariants as kind
 use Rattle.lexer.specs.declared.kinds.Symbol.TheVariants as s
@@ -143,7 +143,7 @@ module _ {d : ℕ} where
   names_in_parentheses : Again (List (List ℕ)) d never (parenthesized names) (Parenthesized AreNames)
   names_in_parentheses = parenthesized_again never (inside refl names_again)
 
-  number_in_parentheses : Again ℤ d never (parenthesized number) (Parenthesized IsNumber)
+  number_in_parentheses : Again ℕ d never (parenthesized number) (Parenthesized IsNumber)
   number_in_parentheses = parenthesized_again never (inside refl number_again)
 
   sort_column_again : Again SortColumn d never sort_column IsSortColumn

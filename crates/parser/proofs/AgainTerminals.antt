@@ -1,5 +1,5 @@
 -- The parts that hold no other part: what is in the grammar is read again.
-use Rattle.std.proofs.Common.{◌≡◌, ℕ, ℤ, zero, suc, ◌<◌, Bool, true, false, List, [], ◌∷◌, length, Option, Some, None, refl, ap, arith}
+use Rattle.std.proofs.Common.{◌≡◌, ℕ, zero, suc, ◌<◌, Bool, true, false, List, [], ◌∷◌, length, Option, Some, None, refl, ap, arith}
 use Rattle.lexer.specs.declared.kinds.Kind.{Kind}
 use Rattle.lexer.specs.declared.kinds.Kind.TheVariants as kind
 use Rattle.lexer.specs.declared.kinds.Symbol.TheVariants as s
@@ -65,7 +65,7 @@ opened_from R' l f = record {
 pub name_again : {d : ℕ} → Again (List ℕ) d never name IsName
 name_again = record { passes = λ ts x rest h. one refl refl h; at = λ ts x rest h shallow stops. rw h refl }
 
-pub number_again : {d : ℕ} → Again ℤ d never number IsNumber
+pub number_again : {d : ℕ} → Again ℕ d never number IsNumber
 number_again = record { passes = λ ts x rest h. one refl refl h; at = λ ts x rest h shallow stops. rw h refl }
 
 pub string_again : {d : ℕ} → Again (List ℕ) d never string IsString

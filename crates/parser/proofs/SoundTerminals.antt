@@ -1,5 +1,5 @@
 -- The parts that hold no other part: what is read is in the grammar.
-use Rattle.std.proofs.Common.{◌≡◌, ℕ, ℤ, Bool, true, false, List, ◌∷◌, Option, Some, None, refl, ap, sym as flip, ◌∙◌, subst}
+use Rattle.std.proofs.Common.{◌≡◌, ℕ, Bool, true, false, List, ◌∷◌, Option, Some, None, refl, ap, sym as flip, ◌∙◌, subst}
 use Rattle.std.specs.Prelude.{if◌then◌else◌}
 use Rattle.lexer.specs.declared.kinds.Kind.{Kind}
 use Rattle.lexer.specs.declared.kinds.Kind.TheVariants as kind
@@ -41,10 +41,10 @@ name_sound = record { at = at }
     at (kind.Name n ∷ ts) x e = found (λ y. IsName (kind.Name n ∷ ts) y.0 y.1) (n, ts) x e refl
     at _ x e = cc
 
-pub number_sound : Sound ℤ number IsNumber
+pub number_sound : Sound ℕ number IsNumber
 number_sound = record { at = at }
   where
-    at : (ts : Tokens) (x : ℤ × Tokens) → number ts ≡ Some x → IsNumber ts x.0 x.1
+    at : (ts : Tokens) (x : ℕ × Tokens) → number ts ≡ Some x → IsNumber ts x.0 x.1
     at (kind.Number n ∷ ts) x e = found (λ y. IsNumber (kind.Number n ∷ ts) y.0 y.1) (n, ts) x e refl
     at _ x e = cc
 

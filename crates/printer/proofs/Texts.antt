@@ -1,6 +1,6 @@
 -- Whole statements and conditions, written and read again.
 use Rattle.std.proofs.Common.{◌≡◌, ℕ, ◌++◌, ◌∷◌, [], ◌⊎◌, Option, inl, inr, refl, ap, sym, ◌∙◌, subst, append-nil}
-use Rattle.lexer.specs.Printing.{AreUnsigned, HasKinds, text_of}
+use Rattle.lexer.specs.Printing.{HasKinds, text_of}
 use Rattle.lexer.specs.Token.{Bytes}
 use Rattle.ast.specs.declared.statement.Statement.{Statement}
 use Rattle.ast.specs.declared.tree.Condition.{Condition}
@@ -12,11 +12,6 @@ use Rattle.ast.specs.Words.{SEMICOLON}
 use Rattle.printer.specs.Writing.{Prints}
 use Rattle.printer.specs.Printed.{AreTokensOf, IsTextOf, BeginsWithCondition, AreConditionTokensOf, IsConditionTextOf}
 use Rattle.printer.proofs.Productions.{condition_inside}
-
--- the front of tokens without a number below 0
-unsigned_front : (front back : Tokens) → AreUnsigned (front ++ back) → AreUnsigned front
-unsigned_front [] back h = tt
-unsigned_front (k ∷ front) back h = (h.0, unsigned_front front back h.1)
 
 -- ---- statements
 
@@ -39,13 +34,8 @@ statement_tokens x kinds p = record { only = only; again = again } where
   }
 
 pub statement_text : (x : Statement) (kinds : Tokens) (text : Bytes) → AreTokensOf x kinds → text ≡ text_of kinds
-    → (AreUnsigned kinds → HasKinds text kinds) → IsTextOf x text
-statement_text x kinds text are text_is reads = record { kinds = kinds; are = are; text_is = text_is; again = again } where
-  again : (limit : Option ℕ) (ts : Tokens) → AreUnsigned ts → IsText limit ts x → HasKinds text kinds
-  again limit ts unsigned h = elim (are.only limit ts h) [
-    | inl same ↦ reads (subst AreUnsigned same unsigned)
-    | inr longer ↦ reads (unsigned_front kinds (SEMICOLON ∷ []) (subst AreUnsigned longer unsigned))
-  ]
+    → HasKinds text kinds → IsTextOf x text
+statement_text x kinds text are text_is again = record { kinds = kinds; are = are; text_is = text_is; again = again }
 
 -- ---- conditions
 
@@ -64,7 +54,5 @@ condition_tokens x kinds written = record { only = only; again = again } where
   }
 
 pub condition_text : (x : Condition) (kinds : Tokens) (text : Bytes) → AreConditionTokensOf x kinds → text ≡ text_of kinds
-    → (AreUnsigned kinds → HasKinds text kinds) → IsConditionTextOf x text
-condition_text x kinds text are text_is reads = record { kinds = kinds; are = are; text_is = text_is; again = again } where
-  again : (limit : Option ℕ) (ts rest : Tokens) → AreUnsigned ts → BeginsWithCondition limit ts x rest → HasKinds text kinds
-  again limit ts rest unsigned h = reads (unsigned_front kinds rest (subst AreUnsigned (are.only limit ts rest h) unsigned))
+    → HasKinds text kinds → IsConditionTextOf x text
+condition_text x kinds text are text_is again = record { kinds = kinds; are = are; text_is = text_is; again = again }

@@ -1,6 +1,6 @@
 -- The tokens and the text of a tree.
 use Rattle.std.specs.Prelude.{◌≡◌, ℕ, [], ◌∷◌, ◌++◌, ◌⊎◌, Option}
-use Rattle.lexer.specs.Printing.{AreUnsigned, HasKinds, text_of}
+use Rattle.lexer.specs.Printing.{HasKinds, text_of}
 use Rattle.lexer.specs.Token.{Bytes}
 use Rattle.ast.specs.declared.statement.Statement.{Statement}
 use Rattle.ast.specs.declared.tree.Condition.{Condition}
@@ -16,12 +16,12 @@ pub record AreTokensOf (x : Statement) (kinds : Tokens) : Type 0 where
   pub only : (limit : Option ℕ) (ts : Tokens) → IsText limit ts x → (ts ≡ kinds) ⊎ (ts ≡ kinds ++ SEMICOLON ∷ [])
   pub again : (limit : Option ℕ) (ts : Tokens) → IsText limit ts x → IsText limit kinds x
 
--- The text of the tokens of `x`. Read again it has just these, where any tokens without a number below 0 have this tree.
+-- The text of the tokens of `x`. Read again it has just these.
 pub record IsTextOf (x : Statement) (text : Bytes) : Type 0 where
   pub kinds : Tokens
   pub are : AreTokensOf x kinds
   pub text_is : text ≡ text_of kinds
-  pub again : (limit : Option ℕ) (ts : Tokens) → AreUnsigned ts → IsText limit ts x → HasKinds text kinds
+  pub again : HasKinds text kinds
 
 -- ---- conditions
 
@@ -35,9 +35,9 @@ pub record AreConditionTokensOf (x : Condition) (kinds : Tokens) : Type 0 where
   pub only : (limit : Option ℕ) (ts rest : Tokens) → BeginsWithCondition limit ts x rest → ts ≡ kinds ++ rest
   pub again : (limit : Option ℕ) (ts rest : Tokens) → BeginsWithCondition limit ts x rest → IsConditionText limit kinds x
 
--- The text of the tokens of the condition `x`. Read again it has just these, where any tokens without a number below 0 begin with this condition.
+-- The text of the tokens of the condition `x`. Read again it has just these.
 pub record IsConditionTextOf (x : Condition) (text : Bytes) : Type 0 where
   pub kinds : Tokens
   pub are : AreConditionTokensOf x kinds
   pub text_is : text ≡ text_of kinds
-  pub again : (limit : Option ℕ) (ts rest : Tokens) → AreUnsigned ts → BeginsWithCondition limit ts x rest → HasKinds text kinds
+  pub again : HasKinds text kinds

@@ -15,7 +15,7 @@ use ast::{
     SortKey, Statement, StoredSource, TableConstraint, TableElement, TableRule, TypeName, Update,
 };
 use items::Items;
-use lexer::{Kind, Name, Symbol, Word};
+use lexer::{Kind, Name, Number, Symbol, Word};
 use std::alloc::AllocError;
 
 fn direction_word(direction: Direction) -> Word
@@ -103,7 +103,7 @@ impl Writer {
     }
 
     /// Writes a number in parentheses.
-    fn length(&mut self, length: i64) -> Result<(), AllocError>
+    fn length(&mut self, length: Number) -> Result<(), AllocError>
         ensures { OnOk result (Prints (λ _ _. Parenthesized IsNumber) length self.old self.new) }
     {
         self.symbol(Symbol::LeftParenthesis)?;

@@ -8,7 +8,7 @@ use ast::{
     Test, TruthTest, TruthValue,
 };
 use items::{Boxed, Items, Text};
-use lexer::Name;
+use lexer::{Name, Number};
 use std::alloc::{AllocError, Global};
 use std::process::Abort;
 use std::test::Fail;
@@ -26,6 +26,10 @@ fn name_of(rt: &impl Abort, alloc: Global, codes: &[u8]) -> Result<Name, AllocEr
 fn column_named(rt: &impl Abort, alloc: Global, codes: &[u8]) -> Result<Expression, AllocError> {
     let name = name_of(rt, alloc, codes)?;
     Ok(expression_of(alloc, None, Primary::Column(Column { table: None, name })))
+}
+
+fn number_of(rt: &impl Abort, value: u64) -> Number {
+    Number::from_value(value).expect(rt, "it is within the limit")
 }
 
 fn expression_of(alloc: Global, sign: Option<Sign>, primary: Primary) -> Expression {
@@ -111,7 +115,7 @@ fn statements_without_trees(rt: HostRuntime) -> Result<(), Fail> {
 #[test]
 fn strings_signs_and_operators(rt: HostRuntime) -> Result<(), Fail> {
     let alloc = rt.alloc();
-    let mut sum = expression_of(alloc, Some(Sign::Minus), Primary::Number(7));
+    let mut sum = expression_of(alloc, Some(Sign::Minus), Primary::Number(number_of(&rt, 7)));
     let string = text_of(&rt, alloc, b"it's")?;
     sum.others.push((
         AddOperator::Concatenate,
@@ -128,10 +132,10 @@ fn strings_signs_and_operators(rt: HostRuntime) -> Result<(), Fail> {
 #[test]
 fn between_in_and_truth_tests(rt: HostRuntime) -> Result<(), Fail> {
     let alloc = rt.alloc();
-    let low = expression_of(alloc, None, Primary::Number(1));
-    let high = expression_of(alloc, None, Primary::Number(2));
+    let low = expression_of(alloc, None, Primary::Number(number_of(&rt, 1)));
+    let high = expression_of(alloc, None, Primary::Number(number_of(&rt, 2)));
     let between = Predicate::Between(column_named(&rt, alloc, b"A")?, true, low, high);
-    let literals = list_of(alloc, Literal::Number(Some(Sign::Plus), 3))?;
+    let literals = list_of(alloc, Literal::Number(Some(Sign::Plus), number_of(&rt, 3)))?;
     let inside = Predicate::InList(column_named(&rt, alloc, b"B")?, false, literals);
     let mut either = condition_of(alloc, test_of(false, between, None));
     let nested = condition_of(alloc, test_of(false, inside, None));
@@ -166,7 +170,7 @@ fn queries_with_set_operators_and_order(rt: HostRuntime) -> Result<(), Fail> {
     let second = addend_of(alloc, select_all_from(&rt, alloc, b"U")?)?;
     query.others.push((SetOperator::ExceptAll, second))?;
     let key = SortKey {
-        column: SortColumn::Position(1),
+        column: SortColumn::Position(number_of(&rt, 1)),
         direction: Some(Direction::Descending),
     };
     let ordered = OrderedQuery {

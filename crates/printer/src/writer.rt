@@ -5,7 +5,7 @@ ghost use Rattle.ast.specs.Notation.{Listed, Many, Maybe, Parenthesized, Written
 ghost use Rattle.printer.specs.Writing.{Puts, Prints};
 
 use items::{Boxed, Items, Text};
-use lexer::{Kind, Name, Symbol, Word};
+use lexer::{Kind, Name, Number, Symbol, Word};
 use std::alloc::{AllocError, Global};
 use std::marker::Model;
 
@@ -84,8 +84,8 @@ impl Writer {
         self.push(Kind::Symbol(symbol))
     }
 
-    /// Writes a number, whatever its sign.
-    pub fn number(&mut self, number: i64) -> Result<(), AllocError>
+    /// Writes a number.
+    pub fn number(&mut self, number: Number) -> Result<(), AllocError>
         ensures { OnOk result (Puts (λ _ _ ts rest. ts ≡ Kind.Number number ∷ rest) self.old self.new) }
     {
         self.push(Kind::Number(number))

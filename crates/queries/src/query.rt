@@ -3,7 +3,9 @@
 ghost use Rattle.std.specs.Prelude.{◌≡◌};
 ghost use Rattle.ast.specs.Queries.{is_grouped, is_lone};
 ghost use Rattle.terminals.specs.Readers.{kinds, Gives};
+ghost use Rattle.terminals.specs.Readers as read;
 ghost use Rattle.ast.specs.declared.tree.Addend.{out-Addend};
+ghost use Rattle.expressions.specs.ReadExpressions.{condition};
 ghost use Rattle.expressions.specs.ReadQueries as queries;
 ghost use Rattle.expressions.specs.Levels.{inner_at, Nests};
 
@@ -47,16 +49,16 @@ impl<
     C: Fn(Global, Option<usize>, usize, &[Token]) -> Result<(Condition, &[Token]), ParseError>,
     Q: Fn(Global, Option<usize>, usize, &[Token]) -> Result<(Query, &[Token]), ParseError>,
 > Queries<E, C, Q> {
-    /// `[WHERE cond]`
-    #[tactic(auto, unfolding(expressions::specs::ReadQueries::filter))]
-    fn filter<'a>(
+    /// A condition, where `before` comes next.
+    fn condition_after<'a>(
         &self,
+        before: Word,
         tokens: &'a [Token],
     ) -> Result<(Option<Boxed<Condition>>, &'a [Token]), ParseError>
         requires { Nests self.now.rules.limit self.now.rules.depth (E.pre self.now.rules.expression) (E.post self.now.rules.expression) (C.pre self.now.rules.condition) (C.post self.now.rules.condition) (Q.pre self.now.rules.query) (Q.post self.now.rules.query) }
-        ensures { Gives result (queries.filter self.now.rules.limit (inner_at self.now.rules.limit self.now.rules.depth) (kinds tokens.now)) }
+        ensures { Gives result (read.maybe (read.word before) (λ _. condition self.now.rules.limit (inner_at self.now.rules.limit self.now.rules.depth)) (kinds tokens.now)) }
     {
-        match after_word(Word::Where, tokens) {
+        match after_word(before, tokens) {
             None => Ok((None, tokens)),
             Some(rest) => {
                 let (condition, rest) = boxed(self.rules.alloc, self.rules.condition(rest))?;
@@ -80,33 +82,15 @@ impl<
         }
     }
 
-    /// `[HAVING cond]`
-    #[tactic(auto, unfolding(expressions::specs::ReadQueries::having))]
-    fn having<'a>(
-        &self,
-        tokens: &'a [Token],
-    ) -> Result<(Option<Boxed<Condition>>, &'a [Token]), ParseError>
-        requires { Nests self.now.rules.limit self.now.rules.depth (E.pre self.now.rules.expression) (E.post self.now.rules.expression) (C.pre self.now.rules.condition) (C.post self.now.rules.condition) (Q.pre self.now.rules.query) (Q.post self.now.rules.query) }
-        ensures { Gives result (queries.having self.now.rules.limit (inner_at self.now.rules.limit self.now.rules.depth) (kinds tokens.now)) }
-    {
-        match after_word(Word::Having, tokens) {
-            None => Ok((None, tokens)),
-            Some(rest) => {
-                let (condition, rest) = boxed(self.rules.alloc, self.rules.condition(rest))?;
-                Ok((Some(condition), rest))
-            }
-        }
-    }
-
     /// `[WHERE cond] [GROUP BY column {, column}] [HAVING cond]`
-    #[tactic(auto, unfolding(expressions::specs::ReadQueries::clauses))]
+    #[tactic(auto, unfolding(expressions::specs::ReadQueries::clauses, expressions::specs::ReadQueries::filter, expressions::specs::ReadQueries::having))]
     fn clauses<'a>(&self, tokens: &'a [Token]) -> Result<(Clauses, &'a [Token]), ParseError>
         requires { Nests self.now.rules.limit self.now.rules.depth (E.pre self.now.rules.expression) (E.post self.now.rules.expression) (C.pre self.now.rules.condition) (C.post self.now.rules.condition) (Q.pre self.now.rules.query) (Q.post self.now.rules.query) }
         ensures { Gives result (queries.clauses self.now.rules.limit (inner_at self.now.rules.limit self.now.rules.depth) (kinds tokens.now)) }
     {
-        let (filter, rest) = self.filter(tokens)?;
+        let (filter, rest) = self.condition_after(Word::Where, tokens)?;
         let (groups, rest) = self.groups(rest)?;
-        let (having, rest) = self.having(rest)?;
+        let (having, rest) = self.condition_after(Word::Having, rest)?;
         let clauses = Clauses {
             filter,
             groups,

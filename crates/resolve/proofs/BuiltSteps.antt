@@ -1,5 +1,5 @@
 -- Which nodes are built, from their parts; and loops that look at all items of a list.
-use Rattle.std.proofs.Common.{◌≡◌, refl, sym, ap, ◌∙◌, ℕ, ℤ, zero, suc, ◌+◌, ◌<◌, ◌≤◌, Bool, true, false, ◌&&◌, List, [], ◌∷◌, map, length, get_or, drop, drop-cons, add-one, Option, Some, None, arith, rules}
+use Rattle.std.proofs.Common.{◌≡◌, refl, sym, ap, ◌∙◌, ℕ, zero, suc, ◌+◌, ◌<◌, ◌≤◌, Bool, true, false, ◌&&◌, List, [], ◌∷◌, map, length, get_or, drop, drop-cons, add-one, Option, Some, None, arith, rules}
 use Rattle.std.specs.Prelude.{not, is_none, ◌↔◌, if◌then◌else◌}
 use Rattle.std.specs.Bool.{IsTrue}
 use Rattle.std.specs.List.{list_all}
@@ -94,7 +94,7 @@ pub factor_built_is : (tree : Factor) → factor_built tree ≡ primary_built (o
 unfolding factor_built primary_built
 factor_built_is tree = search (rules, the_lemmas)
 
-pub number_built : (n : ℤ) → primary_built (primary.Number n) ≡ true
+pub number_built : (n : ℕ) → primary_built (primary.Number n) ≡ true
 unfolding primary_built
 number_built n = search (rules, the_lemmas)
 

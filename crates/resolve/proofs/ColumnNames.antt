@@ -1,5 +1,5 @@
 -- The column that an expression is, where it is one alone.
-use Rattle.std.proofs.Common.{◌≡◌, refl, ap, ◌∙◌, ℕ, ℤ, List, [], ◌∷◌, map, Option, Some, None}
+use Rattle.std.proofs.Common.{◌≡◌, refl, ap, ◌∙◌, ℕ, List, [], ◌∷◌, map, Option, Some, None}
 use Rattle.ast.specs.declared.operator.AddOperator.{AddOperator}
 use Rattle.ast.specs.declared.operator.Column.{Column}
 use Rattle.ast.specs.declared.operator.MultiplyOperator.{MultiplyOperator}
@@ -65,7 +65,7 @@ module _ (tree : Factor) where
   pub column_signed : (column : Column) (sign : Sign) → (out-Factor tree).primary ≡ p.Column column → (out-Factor tree).sign ≡ Some sign → factor_column tree ≡ None
   column_signed column sign f e = by_primary (Some sign) (p.Column column) e f ∙ ap (λ part. part.name) (node.primary_column nothing_known (Some sign) column)
 
-  pub number_alone : (number : ℤ) → (out-Factor tree).primary ≡ p.Number number → factor_column tree ≡ None
+  pub number_alone : (number : ℕ) → (out-Factor tree).primary ≡ p.Number number → factor_column tree ≡ None
   number_alone number f = by_primary (out-Factor tree).sign (p.Number number) refl f ∙ ap (λ part. part.name) (node.primary_number nothing_known (out-Factor tree).sign number)
 
   pub text_alone : (codes : List ℕ) → (out-Factor tree).primary ≡ p.Text codes → factor_column tree ≡ None

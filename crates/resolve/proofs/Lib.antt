@@ -1,5 +1,8 @@
 pub mod BuiltSteps
 pub mod ColumnNames
+pub mod EvaluatedStatements
+pub mod EvaluatedTrees
+pub mod Fitting
 pub mod ConditionSteps
 pub mod Everywhere
 pub mod FindsLemmas

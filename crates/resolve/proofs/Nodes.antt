@@ -1,5 +1,5 @@
 -- What is found at each node of an expression, in one FROM.
-use Rattle.std.proofs.Common.{◌≡◌, ◌≢◌, ℤ, ℕ, List, [], ◌∷◌, map, Option, Some, None, Ok, Err, refl, sym, ◌∙◌, ap}
+use Rattle.std.proofs.Common.{◌≡◌, ◌≢◌, ℕ, List, [], ◌∷◌, map, Option, Some, None, Ok, Err, refl, sym, ◌∙◌, ap}
 use Rattle.std.specs.List.{zip}
 use Rattle.sqlval.specs.declared.value.Value.TheVariants as value
 use Rattle.lexer.specs.declared.refusals.Reason.TheVariants as reason
@@ -85,7 +85,7 @@ module _ (frame : Frame) where
   signed-here (Some sign) x = refl
 
   module _ (sign : Option Sign) where
-    pub primary_number : (number : ℤ) → primary_found frame sign (p.Number number) ≡ (signed_number sign number >>= (λ x. Ok (integer (expression.Constant x))))
+    pub primary_number : (number : ℕ) → primary_found frame sign (p.Number number) ≡ (signed_number sign number >>= (λ x. Ok (integer (expression.Constant x))))
     primary_number number = ap (λ part. part.found (here frame)) (node.primary_number nothing_known sign number)
 
     pub primary_text : (codes : List ℕ) → primary_found frame sign (p.Text codes) ≡ signed sign (text (expression.Constant (value.Text codes)))

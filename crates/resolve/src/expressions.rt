@@ -11,7 +11,7 @@ use crate::parts::{both, boxed, second};
 use crate::scope::column;
 use ast::{AddOperator, Factor, MultiplyOperator, Primary, Sign, Term};
 use items::{Boxed, Items, Text};
-use lexer::{Reason, Refusal};
+use lexer::{Number, Reason, Refusal};
 use sqlval::{Value, ValueType, negate};
 use std::alloc::Global;
 use typing::{Arithmetic, Expression, Frame, TypedExpression};
@@ -247,15 +247,15 @@ fn text_constant(alloc: Global, codes: &Text) -> Result<TypedExpression, Refusal
 }
 
 /// A number with the sign directly before it.
-pub fn with_sign(sign: Option<Sign>, number: i64) -> Result<Value, Refusal>
+pub fn with_sign(sign: Option<Sign>, number: Number) -> Result<Value, Refusal>
     ensures { Finds result (signed_number sign number) }
 {
     match sign {
-        Some(Sign::Minus) => match negate(&Value::Int(number)) {
+        Some(Sign::Minus) => match negate(&Value::Int(number.value())) {
             Ok(value) => Ok(value),
             Err(_) => Err(Refusal::Invalid(Reason::Number)),
         },
-        _ => Ok(Value::Int(number)),
+        _ => Ok(Value::Int(number.value())),
     }
 }
 

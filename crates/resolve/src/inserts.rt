@@ -3,6 +3,7 @@
 ghost use Rattle.std.specs.Prelude.{◌≡◌, true, List, Ok, length, map, IfOk};
 ghost use Rattle.std.specs.List.{list_all, zip};
 ghost use Rattle.typing.specs.Built.{rows_built, stored_built};
+ghost use Rattle.typing.specs.Evaluated.{insert_evaluated};
 ghost use Rattle.typing.specs.Finding.{Finding, each};
 ghost use Rattle.typing.specs.Finds.{Finds};
 ghost use Rattle.typing.specs.Insert.{insert_found, row_stored, target_named, targets_found, targets_from};
@@ -25,7 +26,8 @@ use typing::{Expression, Frame, Insert, InsertSource};
 #[tactic(auto, using(crate::proofs::InsertSteps::insert_steps))]
 pub fn typed_insert(alloc: Global, tree: &ast::Insert, schema: &Schema) -> Result<Insert, Refusal>
     requires built { rows_built tree.now.rows ≡ true }
-    ensures { Finds result (insert_found (known schema.now) tree.now) }
+    ensures finds { Finds result (insert_found (known schema.now) tree.now) }
+    ensures evaluated { IfOk result (λ insert. insert_evaluated insert.source ≡ true) }
 {
     let InsertRows::Values(rows) = &tree.rows else {
         return Err(Refusal::NotSupported);

@@ -3,6 +3,7 @@
 ghost use Rattle.std.specs.Prelude.{◌≡◌, [], ◌∷◌, ◌&&◌, true, List, Option, None, Ok, map, IfOk, IfErr};
 ghost use Rattle.std.specs.Option.{option_copied};
 ghost use Rattle.typing.specs.Built.{is_nil, query_built};
+ghost use Rattle.typing.specs.Evaluated.{query_evaluated};
 ghost use Rattle.typing.specs.Finding.{Finding, each, reasons_in};
 ghost use Rattle.typing.specs.Finds.{Finds, IsReasonOf};
 ghost use Rattle.typing.specs.From.{shown_name};
@@ -39,7 +40,8 @@ pub fn typed_query(
     schema: &Schema,
 ) -> Result<OrderedQuery, Refusal>
     requires built { (is_nil tree.now.order && query_built tree.now.query) ≡ true }
-    ensures { Finds result (query_answered (known schema.now) tree.now) }
+    ensures finds { Finds result (query_answered (known schema.now) tree.now) }
+    ensures evaluated { IfOk result (λ query. (is_nil query.keys && query_evaluated query.query) ≡ true) }
 {
     let Some(select) = only_select(&tree.query) else {
         return Err(Refusal::NotSupported);
@@ -71,7 +73,8 @@ pub fn only_select(query: &ast::Query) -> Option<&ast::Select>
 
 fn typed_select(alloc: Global, tree: &ast::Select, schema: &Schema) -> Result<Query, Refusal>
     requires built { select_built tree.now ≡ true }
-    ensures { Finds result (select_answered (known schema.now) tree.now) }
+    ensures finds { Finds result (select_answered (known schema.now) tree.now) }
+    ensures evaluated { IfOk result (λ query. query_evaluated query ≡ true) }
 {
     if tree.from.len() > MAXIMUM_TABLES {
         return Err(Refusal::Exceeded(Limit::Tables));

@@ -1,9 +1,10 @@
 //! Statements: names and types settled.
 
-ghost use Rattle.std.specs.Prelude.{◌≡◌, ◌&&◌, true};
+ghost use Rattle.std.specs.Prelude.{◌≡◌, ◌&&◌, true, IfOk};
 ghost use Rattle.std.specs.List.{list_all};
 ghost use Rattle.typing.specs.Built.{element_built, is_built, is_nil, query_built, rows_built};
 ghost use Rattle.typing.specs.CreateTable.{create_found};
+ghost use Rattle.typing.specs.Evaluated.{is_evaluated};
 ghost use Rattle.typing.specs.Finds.{Finds};
 ghost use Rattle.typing.specs.Insert.{insert_found};
 ghost use Rattle.typing.specs.Known.{known};
@@ -25,10 +26,11 @@ use typing::{Change, Typed};
 ///
 /// A statement with a form that is not built yet is `NotSupported`, whatever else may be wrong with it. Else it is
 /// refused by a reason of names or types, or a limit of its tables and columns, that holds of it; where several hold,
-/// by any of these. Refuses for want of memory too.
+/// by any of these. Refuses for want of memory too. What it gives has no form that comes later.
 #[tactic(auto, using(crate::proofs::Statements::answer_steps))]
 pub fn resolve(alloc: Global, statement: &Statement, schema: &Schema) -> Result<Typed, Refusal>
-    ensures { Finds result (answered_found statement.now schema.now) }
+    ensures finds { Finds result (answered_found statement.now schema.now) }
+    ensures evaluated { IfOk result (λ typed. is_evaluated typed ≡ true) }
 {
     if is_built(statement) {
         resolve_built(alloc, statement, schema)
@@ -40,7 +42,8 @@ pub fn resolve(alloc: Global, statement: &Statement, schema: &Schema) -> Result<
 #[tactic(auto, using(crate::proofs::Statements::answer_steps))]
 fn resolve_built(alloc: Global, statement: &Statement, schema: &Schema) -> Result<Typed, Refusal>
     requires built { is_built statement.now ≡ true }
-    ensures { Finds result (answered_found statement.now schema.now) }
+    ensures finds { Finds result (answered_found statement.now schema.now) }
+    ensures evaluated { IfOk result (λ typed. is_evaluated typed ≡ true) }
 {
     match statement {
         Statement::Query(query) => resolve_query(alloc, query.get(), schema),
@@ -59,7 +62,8 @@ fn resolve_query(
     schema: &Schema,
 ) -> Result<Typed, Refusal>
     requires built { (is_nil query.now.order && query_built query.now.query) ≡ true }
-    ensures { Finds result (of_query (query_answered (known schema.now) query.now)) }
+    ensures finds { Finds result (of_query (query_answered (known schema.now) query.now)) }
+    ensures evaluated { IfOk result (λ typed. is_evaluated typed ≡ true) }
 {
     let query = typed_query(alloc, query, schema)?;
     Ok(Typed::Query(query))
@@ -68,7 +72,8 @@ fn resolve_query(
 #[tactic(auto, using(crate::proofs::ConditionSteps::then_steps))]
 fn resolve_table(alloc: Global, table: &ast::CreateTable, schema: &Schema) -> Result<Typed, Refusal>
     requires built { list_all element_built table.now.elements ≡ true }
-    ensures { Finds result (of_table (create_found (known schema.now) table.now)) }
+    ensures finds { Finds result (of_table (create_found (known schema.now) table.now)) }
+    ensures evaluated { IfOk result (λ typed. is_evaluated typed ≡ true) }
 {
     let table = typed_table(alloc, table, schema)?;
     Ok(Typed::Change(Change::CreateTable(table)))
@@ -77,7 +82,8 @@ fn resolve_table(alloc: Global, table: &ast::CreateTable, schema: &Schema) -> Re
 #[tactic(auto, using(crate::proofs::ConditionSteps::then_steps))]
 fn resolve_insert(alloc: Global, insert: &ast::Insert, schema: &Schema) -> Result<Typed, Refusal>
     requires built { rows_built insert.now.rows ≡ true }
-    ensures { Finds result (of_insert (insert_found (known schema.now) insert.now)) }
+    ensures finds { Finds result (of_insert (insert_found (known schema.now) insert.now)) }
+    ensures evaluated { IfOk result (λ typed. is_evaluated typed ≡ true) }
 {
     let insert = typed_insert(alloc, insert, schema)?;
     Ok(Typed::Change(Change::Insert(insert)))

@@ -14,7 +14,7 @@ ghost use Rattle.resolve.specs.Constraints.{element_found, has_table, not_nulls_
 use crate::names::are_distinct;
 use ast::{ColumnConstraint, ColumnDefinition, TableElement, TypeName};
 use items::{Items, Text};
-use lexer::{Limit, Name, Reason, Refusal};
+use lexer::{Limit, Name, Number, Reason, Refusal};
 use sqlval::{Column, ColumnType, Constraint, Rule, Schema};
 use std::alloc::{AllocError, Global};
 use typing::CreateTable;
@@ -123,9 +123,10 @@ fn column_type_of(name: TypeName) -> Result<ColumnType, Refusal>
     }
 }
 
-fn varchar_of(length: i64) -> Result<ColumnType, Refusal>
+fn varchar_of(length: Number) -> Result<ColumnType, Refusal>
     ensures { Finds result (varchar length) }
 {
+    let length = length.value();
     if length < 1 || 255 < length {
         return Err(Refusal::Invalid(Reason::DataType));
     }

@@ -5,7 +5,6 @@ use Rattle.lexer.specs.declared.kinds.Token.{Token}
 use Rattle.lexer.specs.declared.refusals.Refusal.{Refusal}
 use Rattle.lexer.specs.declared.refusals.Refusal.TheVariants.{Memory, Exceeded}
 use Rattle.lexer.specs.declared.refusals.Limit.TheVariants.{Nesting}
-use Rattle.lexer.specs.Printing.{AreUnsigned}
 use Rattle.lexer.specs.Token.{Bytes}
 use Rattle.lexer.specs.Tokens.{kinds_of}
 use Rattle.ast.specs.declared.statement.Statement.{Statement}
@@ -16,6 +15,7 @@ use Rattle.ast.specs.Notation.{Tokens}
 use Rattle.ast.specs.Words.{SEMICOLON}
 use Rattle.terminals.specs.Readers.{kinds}
 use Rattle.printer.specs.Printed.{IsTextOf, IsConditionTextOf, BeginsWithCondition}
+use Rattle.round_trip.specs.ReadAs.{IsReadAs, IsReadAsCondition}
 
 -- the front of tokens nests no deeper than all of them
 nested_front : (ts front_kinds rest : Tokens) → ts ≡ front_kinds ++ rest → IsNestedWithin 64 ts → IsNestedWithin 64 front_kinds
@@ -47,10 +47,10 @@ pub record IsReadable (x : Statement) (found : List Token) : Type 0 where
   pub tree : IsText (Some 64) (kinds found) x
   pub nested : IsNestedWithin 64 (kinds found)
 
-pub readable : (x : Statement) (text : Bytes) (ts : Tokens) (found : List Token) (printed : IsTextOf x text) → (unsigned : AreUnsigned ts) → IsNestedWithin 64 ts
-    → (is : IsText (Some 64) ts x) → found ≡ (printed.again (Some 64) ts unsigned is).tokens → IsReadable x found
-readable x text ts found printed unsigned nested is e =
-    let has = printed.again (Some 64) ts unsigned is in
+pub readable : (x : Statement) (text : Bytes) (ts : Tokens) (found : List Token) (printed : IsTextOf x text) → IsNestedWithin 64 ts
+    → (is : IsText (Some 64) ts x) → found ≡ printed.again.tokens → IsReadable x found
+readable x text ts found printed nested is e =
+    let has = printed.again in
     let same : kinds_of found ≡ printed.kinds = ap kinds_of e ∙ has.kinds_are in
     record {
       tree = subst (λ k. IsText (Some 64) k x) (sym same) (printed.are.again (Some 64) ts is);
@@ -71,10 +71,10 @@ pub record IsReadableCondition (x : Condition) (found : List Token) : Type 0 whe
   pub tree : IsConditionText (Some 64) (kinds found) x
   pub nested : IsNestedWithin 64 (kinds found)
 
-pub readable_condition : (x : Condition) (text : Bytes) (ts rest : Tokens) (found : List Token) (printed : IsConditionTextOf x text) → (unsigned : AreUnsigned ts) → IsNestedWithin 64 ts
-    → (is : BeginsWithCondition (Some 64) ts x rest) → found ≡ (printed.again (Some 64) ts rest unsigned is).tokens → IsReadableCondition x found
-readable_condition x text ts rest found printed unsigned nested is e =
-    let has = printed.again (Some 64) ts rest unsigned is in
+pub readable_condition : (x : Condition) (text : Bytes) (ts rest : Tokens) (found : List Token) (printed : IsConditionTextOf x text) → IsNestedWithin 64 ts
+    → (is : BeginsWithCondition (Some 64) ts x rest) → found ≡ printed.again.tokens → IsReadableCondition x found
+readable_condition x text ts rest found printed nested is e =
+    let has = printed.again in
     let same : kinds_of found ≡ printed.kinds = ap kinds_of e ∙ has.kinds_are in
     record {
       tree = subst (λ k. IsConditionText (Some 64) k x) (sym same) (printed.are.again (Some 64) ts rest is);
@@ -87,3 +87,22 @@ pub condition_as_it_was : (x : Condition) (found : List Token) (result : Result 
     → MatchResult result (λ again. again ≡ x) (λ refusal. refusal ≡ Memory)
 condition_as_it_was x found result readable only nesting =
     settled x result (IsNestedWithin 64 (kinds found)) readable.nested (only x readable.tree) nesting
+
+-- ---- texts alone
+
+pub read_as : (x : Statement) (text : Bytes) (ts : Tokens) → IsTextOf x text → IsNestedWithin 64 ts → IsText (Some 64) ts x → IsReadAs text x
+read_as x text ts printed nested is = record {
+  kinds = printed.kinds;
+  has = printed.again;
+  tree = printed.are.again (Some 64) ts is;
+  nested = nested_without ts printed.kinds (printed.are.only (Some 64) ts is) nested;
+}
+
+pub read_as_condition : (x : Condition) (text : Bytes) (ts rest : Tokens) → IsConditionTextOf x text → IsNestedWithin 64 ts
+    → BeginsWithCondition (Some 64) ts x rest → IsReadAsCondition text x
+read_as_condition x text ts rest printed nested is = record {
+  kinds = printed.kinds;
+  has = printed.again;
+  tree = printed.are.again (Some 64) ts rest is;
+  nested = nested_front ts printed.kinds rest (printed.are.only (Some 64) ts rest is) nested;
+}

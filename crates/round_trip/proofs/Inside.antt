@@ -2,7 +2,6 @@
 use Rattle.std.proofs.Common.{ℕ, Some, zero, suc, Option}
 use Rattle.std.specs.List.{All}
 use Rattle.std.proofs.lemmas.List.Elements.{All-contains}
-use Rattle.lexer.specs.Printing.{AreUnsigned}
 use Rattle.ast.specs.declared.statement.Statement.{Statement}
 use Rattle.ast.specs.declared.tree.Condition.{Condition}
 use Rattle.ast.specs.Grammar.{nested_at, IsText}
@@ -10,7 +9,7 @@ use Rattle.ast.specs.Nesting.{IsNestedWithin}
 use Rattle.ast.specs.Notation.{Tokens}
 use Rattle.ast.specs.Parts.{Node, statement, query, addend, operand, select, select_item, table_reference, join, table_source, condition, conjunction, negation, test, predicate, expression, term, factor, primary, parts, Inside, itself, deeper, StandsIn}
 use Rattle.printer.specs.Printed.{BeginsWithCondition}
-use Rattle.round_trip.proofs.Leads.{at_once, nested_from, unsigned_from}
+use Rattle.round_trip.proofs.Leads.{at_once, nested_from}
 use Rattle.round_trip.proofs.Found.{Stands, Found, found_behind}
 use Rattle.round_trip.proofs.FoundExpressions.{Inner, primary_parts_found, factor_parts_found, term_parts_found, expression_parts_found, an_expression, predicate_parts_found, test_parts_found, negation_parts_found, conjunction_parts_found, condition_parts_found, a_condition}
 use Rattle.round_trip.proofs.FoundQueries.{table_source_parts_found, join_parts_found, table_reference_parts_found, select_item_parts_found, select_parts_found, operand_parts_found, addend_parts_found, query_parts_found, a_query}
@@ -59,24 +58,22 @@ module _ (limit : Option ℕ) where
 pub record IsBegun (x : Condition) : Type 0 where
   pub kinds : Tokens
   pub rest : Tokens
-  pub unsigned : AreUnsigned kinds
   pub nested : IsNestedWithin 64 kinds
   pub begins : BeginsWithCondition (Some 64) kinds x rest
 
-begun : (x : Condition) (y : Statement) (ts : Tokens) → AreUnsigned ts → IsNestedWithin 64 ts → IsText (Some 64) ts y → StandsIn x y → IsBegun x
-begun x y ts unsigned nested is inside =
+begun : (x : Condition) (y : Statement) (ts : Tokens) → IsNestedWithin 64 ts → IsText (Some 64) ts y → StandsIn x y → IsBegun x
+begun x y ts nested is inside =
     let f = found_inside (Some 64) inside is.depth ts is.rest is.statement in
     record {
       kinds = f.from;
       rest = f.rest;
-      unsigned = unsigned_from f.leads unsigned;
       nested = nested_from ts f.from 64 f.leads nested;
       begins = record { depth = suc f.depth; condition = f.stands };
     }
 
 -- what holds where tokens begin with the condition holds where it stands in a statement
-pub where_it_stands : (x : Condition) (P : Type 0) → ((kinds rest : Tokens) → AreUnsigned kinds → IsNestedWithin 64 kinds → BeginsWithCondition (Some 64) kinds x rest → P)
-    → (y : Statement) (kinds : Tokens) → AreUnsigned kinds → IsNestedWithin 64 kinds → IsText (Some 64) kinds y → StandsIn x y → P
-where_it_stands x P f y ts unsigned nested is inside =
-    let b = begun x y ts unsigned nested is inside in
-    f b.kinds b.rest b.unsigned b.nested b.begins
+pub where_it_stands : (x : Condition) (P : Type 0) → ((kinds rest : Tokens) → IsNestedWithin 64 kinds → BeginsWithCondition (Some 64) kinds x rest → P)
+    → (y : Statement) (kinds : Tokens) → IsNestedWithin 64 kinds → IsText (Some 64) kinds y → StandsIn x y → P
+where_it_stands x P f y ts nested is inside =
+    let b = begun x y ts nested is inside in
+    f b.kinds b.rest b.nested b.begins

@@ -1,6 +1,5 @@
 -- What stands inside tokens nests no deeper than they do.
 use Rattle.std.proofs.Common.{◌≡◌, ℕ, true, ◌∷◌}
-use Rattle.lexer.specs.Printing.{AreUnsigned}
 use Rattle.ast.specs.Nesting.{IsNestedWithin}
 use Rattle.ast.specs.Notation.{Tokens}
 use Rattle.ast.specs.Words.{LEFT_PARENTHESIS}
@@ -26,13 +25,3 @@ shallow_from (behind p l) d h = shallow_from l d (shallow_after p d h)
 
 pub nested_from : (ts from : Tokens) (d : ℕ) → Leads ts from → IsNestedWithin d ts → IsNestedWithin d from
 nested_from ts from d l nested = shallow_nested from d (shallow_from l d (nested_shallow ts d nested))
-
-unsigned_behind : {ts rest : Tokens} → Passes ts rest → AreUnsigned ts → AreUnsigned rest
-unsigned_behind here u = u
-unsigned_behind (past o c p) u = unsigned_behind p u.1
-unsigned_behind (around p r) u = unsigned_behind r (unsigned_behind p u.1).1
-
-pub unsigned_from : {ts from : Tokens} → Leads ts from → AreUnsigned ts → AreUnsigned from
-unsigned_from at_once u = u
-unsigned_from (into l) u = unsigned_from l u.1
-unsigned_from (behind p l) u = unsigned_from l (unsigned_behind p u)

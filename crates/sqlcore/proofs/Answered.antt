@@ -1,15 +1,19 @@
 -- Replies to queries and changes over the tables that a core holds.
-use Rattle.std.proofs.Common.{◌≡◌, ◌⊎◌, ◌<◌, ◌+◌, ℕ, suc, Bool, true, false, List, [], ◌∷◌, Option, Some, None, Ok, length, map, slice_get, refl, sym, ap, ◌∙◌, subst, inl, inr, arith}
+use Rattle.std.proofs.Common.{◌≡◌, ◌⊎◌, ◌<◌, ◌+◌, ℕ, suc, Bool, true, false, ◌&&◌, List, [], ◌∷◌, Option, Some, None, Ok, length, map, slice_get, refl, sym, ap, ◌∙◌, subst, inl, inr, arith}
 use Rattle.std.specs.List.{position_from}
 use Rattle.std.proofs.lemmas.List.{length-map}
 use Rattle.std.proofs.lemmas.Option.{slice_get_within, slice_get_cases}
 use Rattle.std.specs.Prelude.{IsSorted}
+use Rattle.std.proofs.lemmas.Bool.{eqb-true}
+use Rattle.lexer.specs.declared.refusals.Refusal.{Refusal}
 use Rattle.sqlval.specs.Schema.{same_name, table_place}
 use Rattle.sqlval.specs.Value.{Row}
 use Rattle.typing.specs.declared.typed.OrderKey.{OrderKey}
 use Rattle.typing.specs.declared.typed.OrderedQuery.{OrderedQuery}
 use Rattle.sqlval.specs.declared.schema.Table.{Table}
 use Rattle.typing.specs.declared.statement.Insert.{Insert}
+use Rattle.typing.specs.Built.{is_nil}
+use Rattle.typing.specs.Evaluated.{insert_evaluated, query_evaluated}
 use Rattle.denote.specs.declared.fault.Stop.{Stop}
 use Rattle.denote.specs.declared.fault.Stop.TheVariants as stop
 use Rattle.denote.specs.Answer.{Answers, by_keys}
@@ -17,9 +21,18 @@ use Rattle.denote.specs.Evaluation.{faults_in}
 use Rattle.denote.specs.Bag.{Permutes}
 use Rattle.denote.specs.Meaning.{query_outcome}
 use Rattle.denote.specs.Stop.{GivesRows, IsFaultOf}
+use Rattle.sqlcore.specs.declared.reply.Reply.TheVariants as says
 use Rattle.sqlcore.specs.declared.table_rows.TableRows.{TableRows}
-use Rattle.sqlcore.specs.Carried.{RefusesRows, denoted, refusal_at, stored_rows}
+use Rattle.sqlcore.specs.Carried.{AnswersQuery, RefusesRows, denoted, refusal_at, stored_rows}
 use Rattle.sqlcore.specs.Contents.{Contents, all_rows, rows_under, schema_of}
+
+first : (a b : Bool) → (a && b) ≡ true → a ≡ true
+first true b h = refl
+first false b h = absurd (cc h)
+
+second : (a b : Bool) → (a && b) ≡ true → b ≡ true
+second true b h = h
+second false b h = absurd (cc h)
 
 permutes_itself : (rows : List Row) → Permutes rows rows
 permutes_itself [] = Permutes.nothing
@@ -34,11 +47,27 @@ pub rows_answer : (c : Contents) (q : OrderedQuery) (rows : List Row) → q.keys
 rows_answer c q rows none gives =
     (gives.ok.0, subst (λ r. Permutes (query_outcome (rows_under c) q.query []).rows r) gives.ok.1 (permutes_itself (query_outcome (rows_under c) q.query []).rows), sorted_by_nothing q.keys rows none)
 
--- who stops at the rows of an INSERT refuses them
-pub rows_refused : (c : Contents) (i : Insert) (table : Table) (s : Stop) → IsFaultOf (faults_in (stored_rows c i table)) s → RefusesRows c i table (refusal_at s)
-rows_refused c i table stop.Memory h = inl (inl refl)
-rows_refused c i table stop.NotBuilt h = inl (inr refl)
-rows_refused c i table (stop.Fault fault) h = inr (inl (fault, h, refl))
+-- who stops at a query that is evaluated names one of its faults
+pub query_refused : (c : Contents) (q : OrderedQuery) (s : Stop) → (is_nil q.keys && query_evaluated q.query) ≡ true → (s ≡ stop.NotBuilt → query_evaluated q.query ≡ false)
+    → IsFaultOf (query_outcome (rows_under c) q.query []).faults s → AnswersQuery c q (says.Refused (refusal_at s))
+query_refused c q stop.Memory e n h = inl refl
+query_refused c q stop.NotBuilt e n h = absurd (cc (second (is_nil q.keys) (query_evaluated q.query) e, n refl))
+query_refused c q (stop.Fault fault) e n h = inr (fault, refl, h)
+
+-- a query that is evaluated has no ORDER BY
+pub unordered : (c : Contents) (q : OrderedQuery) (r : Refusal) → (is_nil q.keys && query_evaluated q.query) ≡ true → (q.keys ≡ [] → ⊥) → AnswersQuery c q (says.Refused r)
+unordered c q r e n = absurd (n (none q.keys (first (is_nil q.keys) (query_evaluated q.query) e)))
+  where
+    none : {A : Type 0} (xs : List A) → is_nil xs ≡ true → xs ≡ []
+    none [] h = refl
+    none (x ∷ xs) h = let zero_is : length (x ∷ xs) ≡ 0 = eqb-true (length (x ∷ xs)) 0 h in absurd (omega (arith, zero_is))
+
+-- who stops at the rows of an INSERT that is evaluated refuses them
+pub rows_refused : (c : Contents) (i : Insert) (table : Table) (s : Stop) → insert_evaluated i.source ≡ true → (s ≡ stop.NotBuilt → insert_evaluated i.source ≡ false)
+    → IsFaultOf (faults_in (stored_rows c i table)) s → RefusesRows c i table (refusal_at s)
+rows_refused c i table stop.Memory e n h = inl refl
+rows_refused c i table stop.NotBuilt e n h = absurd (cc (e, n refl))
+rows_refused c i table (stop.Fault fault) e n h = inr (inl (fault, h, refl))
 
 -- what is found at a place stands there
 pub record Stands {A : Type 0} (at : ℕ) (xs : List A) (place : ℕ) : Type 0 where

@@ -1,5 +1,5 @@
 -- What the steps of a call say together.
-use Rattle.std.proofs.Common.{◌≡◌, ◌≢◌, ◌⊎◌, List, [], Result, Ok, Err, refl, ap, inl, inr, arith}
+use Rattle.std.proofs.Common.{◌≡◌, ◌≢◌, ◌⊎◌, false, List, [], Result, Ok, Err, refl, ap, inl, inr, arith}
 use Rattle.std.specs.Prelude.{Contains, MatchResult}
 use Rattle.lexer.specs.declared.refusals.Refusal.{Refusal}
 use Rattle.lexer.specs.declared.refusals.Refusal.TheVariants as r
@@ -7,7 +7,11 @@ use Rattle.lexer.specs.Token.{Bytes}
 use Rattle.ast.specs.declared.statement.Statement.{Statement}
 use Rattle.typing.specs.declared.statement.Typed.{Typed}
 use Rattle.typing.specs.declared.statement.Change.{Change}
+use Rattle.typing.specs.declared.statement.Change.TheVariants as does
+use Rattle.typing.specs.declared.statement.InsertSource.{InsertSource}
+use Rattle.typing.specs.declared.statement.InsertSource.TheVariants as from
 use Rattle.typing.specs.declared.statement.Typed.TheVariants as asks
+use Rattle.typing.specs.Evaluated.{change_evaluated, insert_evaluated, is_evaluated}
 use Rattle.typing.specs.Finding.{Finding, reasons_in}
 use Rattle.typing.specs.Finds.{IsReasonOf}
 use Rattle.typing.specs.Statement.{answered_found}
@@ -89,3 +93,20 @@ kept_when old new (says.Refused refusal) h = h.kept
 pub kept_by : (old new : Store) (result : Result Reply Refusal) → MatchResult result (λ reply. LeavesTables old reply new) (λ _. SameTables old new) → kept new ≡ kept old
 kept_by old new (Ok reply) h = kept_when old new reply h
 kept_by old new (Err refusal) h = h.kept
+
+-- kinds of statements, of changes and of INSERTs that come later
+pub other_typed : (t : Typed) → ((q : _) → t ≡ asks.Query q → ⊥) → ((c : _) → t ≡ asks.Change c → ⊥) → (t ≡ asks.Commit → ⊥) → (t ≡ asks.Rollback → ⊥) → is_evaluated t ≡ false
+other_typed (asks.Query q) a b c d = absurd (a q refl)
+other_typed (asks.Change x) a b c d = absurd (b x refl)
+other_typed asks.Commit a b c d = absurd (c refl)
+other_typed asks.Rollback a b c d = absurd (d refl)
+other_typed t a b c d = refl
+
+pub other_change : (x : Change) → ((t : _) → x ≡ does.CreateTable t → ⊥) → ((i : _) → x ≡ does.Insert i → ⊥) → change_evaluated x ≡ false
+other_change (does.CreateTable t) a b = absurd (a t refl)
+other_change (does.Insert i) a b = absurd (b i refl)
+other_change x a b = refl
+
+pub other_rows : (s : InsertSource) → ((rows : _) → s ≡ from.Values rows → ⊥) → insert_evaluated s ≡ false
+other_rows (from.Values rows) a = absurd (a rows refl)
+other_rows (from.Query query) a = refl

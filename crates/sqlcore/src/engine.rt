@@ -1,5 +1,5 @@
 //! A core and its calls.
-ghost use Rattle.std.specs.Prelude.{◌≡◌, ◌≢◌, ◌↔◌, ◌<◌, ◌-◌, ◌^◌, IsOk, IfOk, IfErr, MatchBool, MatchResult};
+ghost use Rattle.std.specs.Prelude.{◌≡◌, ◌≢◌, ◌↔◌, ◌<◌, ◌-◌, ◌^◌, true, IsOk, IfOk, IfErr, MatchBool, MatchResult};
 
 use crate::execution::{answer, carry_out_change, read_statement};
 use crate::reply::Reply;
@@ -46,6 +46,7 @@ impl<D: Disk> Core<D> {
     ghost use Rattle.lexer.specs.declared.refusals.Reason.TheVariants as reason;
     ghost use Rattle.lexer.specs.declared.refusals.Refusal.TheVariants.{Exceeded, Invalid};
     ghost use Rattle.lexer.specs.declared.refusals.Refusal.TheVariants as refusals;
+    ghost use Rattle.typing.specs.Evaluated.{is_evaluated};
     ghost use Rattle.sqlcore.specs.Carried.{Calls, Does};
     ghost use Rattle.sqlcore.specs.Held.{session_of, sessions_made, device_of, IsNew, HasMade, HasEnded, HasRolledBack, IsNoStatement, IsUnchanged, Leaves, RefusesUnread};
     ghost use Rattle.sqlcore.specs.Reading.{IsUnread};
@@ -166,8 +167,9 @@ impl<D: Disk> Core<D> {
         self.carry_out(typed)
     }
 
-    /// The reply of a typed statement.
+    /// The reply of a typed statement all of whose forms are evaluated: `resolve` gives no other.
     fn carry_out(&mut self, typed: Typed) -> Result<Reply, Refusal>
+        requires evaluated { is_evaluated typed ≡ true }
         ensures leaves { MatchResult result (λ reply. Leaves self.old reply self.new) (λ _. IsUnchanged self.old self.new) }
         ensures does { MatchResult result (λ reply. Does self.old typed reply self.new) (λ refusal. Does self.old typed (Reply.Refused refusal) self.new) }
     {

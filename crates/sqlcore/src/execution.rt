@@ -1,10 +1,12 @@
 //! A statement's way from its text to its reply.
-ghost use Rattle.std.specs.Prelude.{◌≡◌, ◌≢◌, IfErr, IfOk, IsSome, MatchBool, MatchResult, None, Some, slice_get};
+ghost use Rattle.std.specs.Prelude.{◌≡◌, ◌≢◌, ◌&&◌, true, IfErr, IfOk, IsSome, MatchBool, MatchResult, None, Some, slice_get};
 ghost use Rattle.ast.specs.declared.statement.Statement.{Statement as Tree};
 ghost use Rattle.lexer.specs.declared.refusals.Refusal.TheVariants.{Memory};
 ghost use Rattle.lexer.specs.Support as unsupported;
 ghost use Rattle.sqlval.specs.declared.schema.Table as declared;
 ghost use Rattle.typing.specs.declared.statement.Change.TheVariants as does;
+ghost use Rattle.typing.specs.Built.{is_nil};
+ghost use Rattle.typing.specs.Evaluated.{change_evaluated, insert_evaluated, query_evaluated};
 ghost use Rattle.sqlcore.specs.Carried.{AnswersQuery, Carries, GivesStored, RefusesRows, refusal_at};
 ghost use Rattle.sqlcore.specs.Contents.{contents};
 ghost use Rattle.sqlcore.specs.Held.{SameTables, LeavesTables};
@@ -47,6 +49,7 @@ fn are_supported(tokens: &[Token]) -> bool
 
 /// The rows of a query, over the tables as the session sees them.
 pub(crate) fn answer(alloc: Global, store: &Store, query: &OrderedQuery) -> Result<Reply, Refusal>
+    requires evaluated { (is_nil query.now.keys && query_evaluated query.now.query) ≡ true }
     ensures { MatchResult result (λ reply. AnswersQuery (contents store.now) query.now reply) (λ refusal. AnswersQuery (contents store.now) query.now (Reply.Refused refusal)) }
 {
     if !query.keys.is_empty() {
@@ -64,6 +67,7 @@ pub(crate) fn carry_out_change(
     store: &mut Store,
     change: Change,
 ) -> Result<Reply, Refusal>
+    requires evaluated { change_evaluated change ≡ true }
     ensures leaves { MatchResult result (λ reply. LeavesTables store.old reply store.new) (λ _. SameTables store.old store.new) }
     ensures carries { MatchResult result (λ reply. Carries (contents store.old) change reply (contents store.new)) (λ refusal. Carries (contents store.old) change (Reply.Refused refusal) (contents store.new)) }
 {
@@ -94,6 +98,7 @@ fn create_table(alloc: Global, store: &mut Store, table: CreateTable) -> Result<
 }
 
 fn insert_rows(alloc: Global, store: &mut Store, insert: &Insert) -> Result<Reply, Refusal>
+    requires evaluated { insert_evaluated insert.now.source ≡ true }
     ensures leaves { MatchResult result (λ reply. LeavesTables store.old reply store.new) (λ _. SameTables store.old store.new) }
     ensures carries { MatchResult result (λ reply. Carries (contents store.old) (does.Insert insert.now) reply (contents store.new)) (λ refusal. Carries (contents store.old) (does.Insert insert.now) (Reply.Refused refusal) (contents store.new)) }
 {
@@ -108,6 +113,7 @@ fn insert_rows(alloc: Global, store: &mut Store, insert: &Insert) -> Result<Repl
 
 /// The rows that an INSERT adds to the table at this place, none of which violates its constraints.
 fn new_rows(alloc: Global, store: &Store, place: usize, insert: &Insert) -> Result<Rows, Refusal>
+    requires evaluated { insert_evaluated insert.now.source ≡ true }
     ensures { (table : declared.Table) → slice_get (contents store.now).tables place ≡ Some table
         → MatchResult result (GivesStored (contents store.now) insert.now table) (RefusesRows (contents store.now) insert.now table) }
 {

@@ -1,6 +1,6 @@
 //! CREATE and DROP.
 
-ghost use Rattle.std.specs.Prelude.{◌≡◌};
+ghost use Rattle.std.specs.Prelude.{◌≡◌, None, []};
 ghost use Rattle.terminals.specs.Readers.{kinds, Finds, Gives};
 ghost use Rattle.terminals.specs.Readers as read;
 ghost use Rattle.statements.specs.ReadStatements as statements;
@@ -25,8 +25,10 @@ fn varying(tokens: &[Token]) -> Result<(TypeName, &[Token]), ParseError>
     ensures { Gives result (statements.varying (kinds tokens.now)) }
 {
     let rest = word(Word::Varying, tokens)?;
-    let (length, rest) = parenthesized(|at| number(at), rest)?;
-    Ok((TypeName::CharacterVarying(length), rest))
+    match parenthesized(|at| number(at), rest) {
+        Ok((length, rest)) => Ok((TypeName::CharacterVarying(length), rest)),
+        Err(error) => Err(error),
+    }
 }
 
 /// `VARCHAR ( number ) | CHARACTER VARYING ( number )`
@@ -38,8 +40,10 @@ fn text_type(tokens: &[Token]) -> Result<(TypeName, &[Token]), ParseError>
         return varying(rest);
     }
     let rest = word(Word::Varchar, tokens)?;
-    let (length, rest) = parenthesized(|at| number(at), rest)?;
-    Ok((TypeName::Varchar(length), rest))
+    match parenthesized(|at| number(at), rest) {
+        Ok((length, rest)) => Ok((TypeName::Varchar(length), rest)),
+        Err(error) => Err(error),
+    }
 }
 
 /// `type`
@@ -133,6 +137,22 @@ impl Statements {
         Ok((ColumnConstraint { name, rule }, rest))
     }
 
+    /// `{[CONSTRAINT name] colrule}`
+    fn column_constraints<'a>(
+        &self,
+        tokens: &'a [Token],
+    ) -> Result<(Items<ColumnConstraint>, &'a [Token]), ParseError>
+        ensures { Gives result (read.many None statements.constraint_ahead (λ _. statements.column_constraint (inner_at self.now.limit self.now.depth)) [] (kinds tokens.now)) }
+    {
+        many(
+            None,
+            constraint_ahead,
+            |_, at| self.column_constraint(at),
+            Items::new(self.alloc),
+            tokens,
+        )
+    }
+
     /// `name type {[CONSTRAINT name] colrule}`
     #[tactic(auto, unfolding(crate::specs::ReadStatements::column_definition))]
     fn column_definition<'a>(
@@ -142,21 +162,18 @@ impl Statements {
         ensures { Gives result (statements.column_definition (inner_at self.now.limit self.now.depth) (kinds tokens.now)) }
     {
         let (column, rest) = name(self.alloc, tokens)?;
-        let (type_name, rest) = type_name(rest)?;
-        let found = Items::new(self.alloc);
-        let (constraints, rest) = many(
-            None,
-            constraint_ahead,
-            |_, at| self.column_constraint(at),
-            found,
-            rest,
-        )?;
-        let definition = ColumnDefinition {
-            column,
-            type_name,
-            constraints,
-        };
-        Ok((definition, rest))
+        match type_name(rest) {
+            Ok((type_name, rest)) => {
+                let (constraints, rest) = self.column_constraints(rest)?;
+                let definition = ColumnDefinition {
+                    column,
+                    type_name,
+                    constraints,
+                };
+                Ok((definition, rest))
+            }
+            Err(error) => Err(error),
+        }
     }
 
     /// `tabrule`

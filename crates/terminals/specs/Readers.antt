@@ -1,6 +1,6 @@
 -- Reading from the front of a list of tokens, one function for each way in which the grammar joins its rules.
 -- A step of the proof: the grammar itself is what parsing promises.
-use Rattle.std.specs.Prelude.{◌≡◌, ℕ, ℤ, zero, suc, ◌-◌, nat_le, Bool, true, false, if◌then◌else◌, List, [], ◌∷◌, ◌++◌, length, Option, Some, None, Result, Ok, Err}
+use Rattle.std.specs.Prelude.{◌≡◌, ℕ, zero, suc, ◌-◌, nat_le, Bool, true, false, if◌then◌else◌, List, [], ◌∷◌, ◌++◌, length, Option, Some, None, Result, Ok, Err}
 use denote.Enum.Bare.{sameb}
 use Rattle.std.specs.Borrow.{Bor}
 use Rattle.lexer.specs.contracts.words.Word.{the_type as word_type}
@@ -108,7 +108,7 @@ abbrev pub name : Reader (List ℕ)
 name (kind.Name x ∷ ts) = Some (x, ts)
 name _ = None
 
-abbrev pub number : Reader ℤ
+abbrev pub number : Reader ℕ
 number (kind.Number x ∷ ts) = Some (x, ts)
 number _ = None
 

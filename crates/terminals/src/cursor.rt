@@ -5,7 +5,7 @@ ghost use Rattle.terminals.specs.Readers.{kinds, Finds, FindsRest, Gives, GivesR
 ghost use Rattle.terminals.specs.Readers as read;
 
 use crate::error::ParseError;
-use lexer::{Kind, Name, Symbol, Token, Word};
+use lexer::{Kind, Name, Number, Symbol, Token, Word};
 use std::alloc::Global;
 
 /// Whether the token is `word`.
@@ -120,7 +120,9 @@ pub fn name(alloc: Global, tokens: &[Token]) -> Result<(Name, &[Token]), ParseEr
 }
 
 /// The number that has to come next. Refuses any other token, and the end.
-pub fn number(tokens: &[Token]) -> Result<(i64, &[Token]), ParseError>
+// Callers take the answer apart by `match`: the prover does not cover `?` yet where a type that is `Copy` and has a
+// model, as `Number`, stands beside a reference.
+pub fn number(tokens: &[Token]) -> Result<(Number, &[Token]), ParseError>
     ensures { Gives result (read.number (kinds tokens.now)) }
 {
     match tokens {

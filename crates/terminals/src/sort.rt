@@ -18,8 +18,10 @@ fn sort_column(alloc: Global, tokens: &[Token]) -> Result<(SortColumn, &[Token])
     ensures { Gives result (terminals.sort_column (kinds tokens.now)) }
 {
     if next_is_number(tokens) {
-        let (position, rest) = number(tokens)?;
-        Ok((SortColumn::Position(position), rest))
+        match number(tokens) {
+            Ok((position, rest)) => Ok((SortColumn::Position(position), rest)),
+            Err(error) => Err(error),
+        }
     } else {
         let (column, rest) = name(alloc, tokens)?;
         Ok((SortColumn::Named(column), rest))

@@ -304,8 +304,10 @@ pub fn literal(alloc: Global, tokens: &[Token]) -> Result<(Literal, &[Token]), P
         return Ok((Literal::Text(text), rest));
     }
     let (sign, rest) = may_sign(tokens);
-    let (value, rest) = number(rest)?;
-    Ok((Literal::Number(sign, value), rest))
+    match number(rest) {
+        Ok((value, rest)) => Ok((Literal::Number(sign, value), rest)),
+        Err(error) => Err(error),
+    }
 }
 
 /// `column = name | name . name`: refuses where a name is wanting, and for want of memory.

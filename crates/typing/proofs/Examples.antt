@@ -1,5 +1,5 @@
 -- Worked statements: a tree, a schema, and what it is found to be.
-use Rattle.std.proofs.Common.{◌≡◌, ℕ, List, [], ◌∷◌, Option, Some, None, true, false, pos, Ok}
+use Rattle.std.proofs.Common.{◌≡◌, ℕ, List, [], ◌∷◌, Option, Some, None, true, false, Ok}
 use Rattle.sqlval.specs.declared.schema.Schema.{Schema}
 use Rattle.sqlval.specs.declared.schema.Table.{Table}
 use Rattle.sqlval.specs.declared.schema.Column.{Column as Stored}
@@ -160,7 +160,7 @@ not_grouped_by = simp typings
 
 -- SELECT A FROM T WHERE COUNT(*) > 1
 pub no_set_function_in_where : found (select (column a ∷ []) (stored_table t ∷ [])
-    (Some (test (predicate.Compare (of primary.CountRows) written.Greater (of (primary.Number (pos 1)))))) [] None)
+    (Some (test (predicate.Compare (of primary.CountRows) written.Greater (of (primary.Number 1))))) [] None)
     ≡ invalid reason.Grouping
 no_set_function_in_where = simp typings
 

@@ -1,4 +1,13 @@
 pub mod Nodes
+pub mod EvaluatedNodes
 mod Examples
 mod FlatChains
 mod Roots
+pub mod TokensOf
+pub mod ReadTokens
+pub mod ReadsTerminals
+pub mod ReadsExpressions
+pub mod ReadsQueries
+pub mod KeptTexts
+pub mod ChecksStand
+mod KeptChecks

@@ -1,5 +1,5 @@
 -- What is found at each node.
-use Rattle.std.proofs.Common.{◌≡◌, ℕ, ℤ, Bool, List, ◌∷◌, map, rules, Option, Ok, ap}
+use Rattle.std.proofs.Common.{◌≡◌, ℕ, Bool, List, ◌∷◌, map, rules, Option, Ok, ap}
 use Rattle.std.specs.Option.{option_map}
 use Rattle.sqlval.specs.declared.value.Value.TheVariants as value
 use Rattle.ast.specs.declared.operator.Alias.{Alias}
@@ -44,7 +44,7 @@ use Rattle.typing.specs.Typing.{with_sign, in_parentheses, addend_step, query_st
 module _ (k : Known) where
   -- ---- expressions
 
-  pub primary_number : (sign : Option Sign) (number : ℤ) → primary_part k (primary.Number number) sign ≡ of_none (λ view. signed_number sign number >>= (λ x. Ok (integer (expression.Constant x))))
+  pub primary_number : (sign : Option Sign) (number : ℕ) → primary_part k (primary.Number number) sign ≡ of_none (λ view. signed_number sign number >>= (λ x. Ok (integer (expression.Constant x))))
   unfolding primary_part
   primary_number sign number = search (rules, the_lemmas)
 

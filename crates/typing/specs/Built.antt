@@ -1,4 +1,4 @@
--- Which forms are built yet: a statement with any other is refused as not supported, before its names, types and limits are looked at.
+-- Which forms are built so far: a statement with any other is refused as not supported, before its names, types and limits are looked at.
 -- Our own choice.
 use Rattle.std.specs.Prelude.{Bool, true, false, not, ◌&&◌, ◌==◌, List, ◌∷◌, length, Option, Some, None, is_none, nat_le, []}
 use Rattle.std.specs.List.{list_all}

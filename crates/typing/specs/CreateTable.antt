@@ -1,5 +1,5 @@
 -- CREATE TABLE (ISO/IEC 9075:1992, 11.3).
-use Rattle.std.specs.Prelude.{ℕ, not, ◌&&◌, nat_le, is_none, length, ℤ, pos, negsuc, List, [], ◌∷◌, map, Some, None, Ok, if◌then◌else◌}
+use Rattle.std.specs.Prelude.{ℕ, not, ◌&&◌, nat_le, is_none, length, List, [], ◌∷◌, map, Some, None, Ok, if◌then◌else◌}
 use Rattle.typing.specs.Known.{Known}
 use Rattle.sqlval.specs.declared.schema.Column.{Column}
 use Rattle.sqlval.specs.declared.storing.ColumnType.{ColumnType}
@@ -22,9 +22,8 @@ use Rattle.typing.specs.Table.{at_most, distinct_found, is_new}
 use Rattle.typing.specs.Constraint.{declared_from, constraints_found}
 
 -- VARCHAR(n) has n from 1 to 255: our own choice
-abbrev pub varchar : ℤ → Finding ColumnType
-varchar (pos n) = if nat_le 1 n && nat_le n 255 then Ok (Varchar n) else invalid DataType
-varchar (negsuc n) = invalid DataType
+abbrev pub varchar : ℕ → Finding ColumnType
+varchar n = if nat_le 1 n && nat_le n 255 then Ok (Varchar n) else invalid DataType
 
 abbrev pub type_found : TypeName → Finding ColumnType
 type_found written.Integer = Ok Integer

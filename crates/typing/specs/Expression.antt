@@ -1,5 +1,5 @@
 -- The types of expressions (ISO/IEC 9075:1992, 6.11 to 6.13).
-use Rattle.std.specs.Prelude.{ℤ, pos, List, [], ◌∷◌, map, Option, Some, None, Result, Ok, Err}
+use Rattle.std.specs.Prelude.{ℕ, pos, List, [], ◌∷◌, map, Option, Some, None, Result, Ok, Err}
 use Rattle.sqlval.specs.declared.code.Code.{Code}
 use Rattle.sqlval.specs.declared.value.Value.{Value}
 use Rattle.sqlval.specs.declared.value.Value.TheVariants as value
@@ -40,9 +40,9 @@ abbrev pub as_number : Result Value Code → Finding Value
 as_number (Ok number) = Ok number
 as_number (Err code) = invalid Number
 
-abbrev pub signed_number : Option Sign → ℤ → Finding Value
-signed_number (Some sign.Minus) number = as_number (difference_of (value.Int (pos 0)) (value.Int number))
-signed_number other number = Ok (value.Int number)
+abbrev pub signed_number : Option Sign → ℕ → Finding Value
+signed_number (Some sign.Minus) number = as_number (difference_of (value.Int (pos 0)) (value.Int (pos number)))
+signed_number other number = Ok (value.Int (pos number))
 
 -- a sign before anything else asks for an integer
 abbrev pub signed : Option Sign → TypedExpression → Finding TypedExpression

@@ -18,8 +18,10 @@ pub mod Update
 pub mod Index
 pub mod Tokens
 pub mod Printed
+pub mod Kept
 pub mod Check
 pub mod Constraint
 pub mod CreateTable
 pub mod Built
+pub mod Evaluated
 pub mod Statement

@@ -1,5 +1,5 @@
 -- ORDER BY (ISO/IEC 9075:1992, 13.1).
-use Rattle.std.specs.Prelude.{ℕ, ◌+◌, ◌-◌, ℤ, pos, negsuc, Bool, true, false, ◌&&◌, nat_le, List, [], ◌∷◌, map, length, Option, Some, None, Ok, if◌then◌else◌}
+use Rattle.std.specs.Prelude.{ℕ, ◌+◌, ◌-◌, Bool, true, false, ◌&&◌, nat_le, List, [], ◌∷◌, map, length, Option, Some, None, Ok, if◌then◌else◌}
 use Rattle.typing.specs.Known.{Known}
 use Rattle.sqlval.specs.Schema.{is_named}
 use Rattle.lexer.specs.declared.refusals.Reason.TheVariants.{Name, Ambiguous, Columns}
@@ -26,9 +26,8 @@ only_place (place ∷ []) = Ok place
 only_place (place ∷ other ∷ others) = invalid Ambiguous
 
 -- a position is counted from 1, a place from 0
-abbrev pub place_of_position : List ResultColumn → ℤ → Finding ℕ
-place_of_position columns (pos n) = if nat_le 1 n && nat_le n (length columns) then Ok (n - 1) else invalid Columns
-place_of_position columns (negsuc n) = invalid Columns
+abbrev pub place_of_position : List ResultColumn → ℕ → Finding ℕ
+place_of_position columns n = if nat_le 1 n && nat_le n (length columns) then Ok (n - 1) else invalid Columns
 
 abbrev pub sort_place : List ResultColumn → SortColumn → Finding ℕ
 sort_place columns (sort.Named name) = only_place (named_from 0 name columns)

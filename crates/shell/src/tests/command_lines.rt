@@ -1,10 +1,11 @@
-use crate::{settings, sqlsh};
+use crate::{DEFAULT_FRAMES, settings, sqlsh};
 use std::test::Fail;
 
 #[test]
 fn frames_are_from_16_to_4096(rt: HostRuntime) -> Result<(), Fail> {
     let alloc = rt.alloc();
     assert!(rt; settings(alloc, &["sqlsh", "run"])?.frames.get() == 256);
+    assert!(rt; DEFAULT_FRAMES == 256);
     assert!(rt;
         settings(alloc, &["sqlsh", "run", "--frames", "16"])?
             .frames

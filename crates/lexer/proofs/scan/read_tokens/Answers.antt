@@ -1,7 +1,6 @@
 use Rattle.std.proofs.Common.{◌≡◌, arith}
 use Rattle.std.proofs.lemmas.Result.{err_from_is_err_and}
 use Rattle.lexer.specs.Reading.{Stop, Reads, next}
-use Rattle.lexer.proofs.Unsigned.{AreUnsigned-AreTokens}
 use Rattle.lexer.proofs.Whole.{no_token, a_token, a_fault, one_more}
 use Rattle.lexer.proofs.scan.read_tokens.Goals as goal
 
@@ -16,10 +15,6 @@ returns-in_default-clause-found c =
     let ended : next c.skip_gap-here.result.now ≡ Stop = rw c.in_default.is at c.in_ok-kind.ensures.step in
     no_token c.args.text.now c.skip_gap-here.result.now c.loop-found.found.items c.loop-found.last c.loop-found.invariant.within
     c.skip_gap-here.ensures.value c.loop-found.invariant.before ended
-
-pub returns-in_default-clause-unsigned : goal.returns-in_default-clause-unsigned
-returns-in_default-clause-unsigned c =
-    AreUnsigned-AreTokens c.args.text.now c.loop-found.found.items (returns-in_default-clause-found c)
 
 pub loop-found-preserved : goal.loop-found-preserved
 loop-found-preserved c =

@@ -1,6 +1,4 @@
-use Rattle.std.proofs.Common.{◌∙◌, Ok, rules, ap, sym, w64}
-use mir.Val.{SFits}
-use Rattle.std.proofs.lemmas.Int.{to_z-of_z}
+use Rattle.std.proofs.Common.{◌∙◌, Ok, ap, sym}
 use Rattle.std.proofs.lemmas.Result.{err_from_is_err_and}
 use Rattle.lexer.specs.declared.refusals.Reason.TheVariants.{Check}
 use Rattle.typing.specs.Expression.{product_operator}
@@ -107,9 +105,7 @@ typed_factor-returns t c = rw (factor_is c.args.frame.now c.args.tree.now) c.typ
 
 pub typed_primary-returns-in-Number : goal.typed_primary-returns-in-Number
 typed_primary-returns-in-Number t c =
-    let fits : SFits w64 c.in-Number.number = search rules in
-    rw (c.in-Number.is, primary_number c.args.frame.now)
-    (c.number_constant.ensures _ (rw (to_z-of_z w64 c.in-Number.number fits) at c.with_sign.ensures))
+    rw (c.in-Number.is, primary_number c.args.frame.now) (c.number_constant.ensures _ c.with_sign.ensures)
 
 pub typed_primary-returns-in-Text : goal.typed_primary-returns-in-Text
 typed_primary-returns-in-Text t c =

@@ -1,6 +1,7 @@
-use Rattle.std.proofs.Common.{refl, inr}
-use Rattle.sqlcore.specs.Carried.{Carries}
+use Rattle.sqlcore.proofs.Called.{other_change}
 use Rattle.sqlcore.proofs.execution.carry_out_change.Goals as goal
 
 pub returns : goal.returns
-returns c = record { leaves = record { contents = refl; kept = refl }; carries = Carries.withheld _ (inr refl) refl refl }
+returns c =
+    let later = other_change c.args.change c.in_default.not-CreateTable c.in_default.not-Insert in
+    absurd (cc (later, c.requires.evaluated))

@@ -1,4 +1,4 @@
-use Rattle.std.proofs.Common.{refl, inl}
+use Rattle.std.proofs.Common.{refl}
 use Rattle.std.proofs.lemmas.Result.{err_from_is_err_and}
 use Rattle.sqlcore.specs.Carried.{Carries}
 use Rattle.sqlcore.proofs.execution.create_table.Goals as goal
@@ -6,7 +6,7 @@ use Rattle.sqlcore.proofs.execution.create_table.Goals as goal
 pub returns-in_err-create-clause-carries : goal.returns-in_err-create-clause-carries
 returns-in_err-create-clause-carries c =
     let p = err_from_is_err_and c.from_residual.result c.from_residual.ensures.1 in
-    rw p.1 (Carries.withheld p.0 (inl p.2) refl c.in_err-create.ensures.refused)
+    rw (p.1, p.2) (Carries.wanting refl c.in_err-create.ensures.refused)
 
 pub returns-clause-carries : goal.returns-clause-carries
 returns-clause-carries c =

@@ -26,7 +26,7 @@ returns-in_err-append-clause-carries c =
     let table = table_there (contents c.args.store.now) c.args.insert.now.table c.in-Some.place place in
     let p = err_from_is_err_and c.from_residual-in_err-append.result c.from_residual-in_err-append.ensures.1 in
     elim c.in_err-append.ensures.refusal [
-      | inl memory ↦ rw p.1 (Carries.withheld p.0 (inl (p.2 ∙ memory)) refl c.in_err-append.ensures.refused)
+      | inl memory ↦ rw (p.1, p.2, memory) (Carries.wanting refl c.in_err-append.ensures.refused)
       | inr none ↦ absurd (rows_stand c.args.store.now.schema.tables c.args.store.now.rows c.in-Some.place table.0 c.args.store.now.paired table.1 none)
     ]
 

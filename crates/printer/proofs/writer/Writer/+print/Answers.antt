@@ -1,6 +1,4 @@
-use Rattle.std.proofs.Common.{◌≡◌, ◌∙◌, ap, sym, subst, rules, w64}
-use Rattle.std.proofs.lemmas.Int.{to_z-of_z}
-use mir.Val.{SFits}
+use Rattle.std.proofs.Common.{◌≡◌, ◌∙◌, ap, sym, subst}
 use Rattle.ast.specs.declared.tree.Join.{out-Join}
 use Rattle.ast.specs.declared.tree.Join.TheVariants.{outs-Cross, outs-Inner, outs-Left}
 use Rattle.ast.specs.declared.tree.Operand.{out-Operand}
@@ -49,8 +47,7 @@ factor-returns t c =
 
 pub primary-returns-in-Number : goal.primary-returns-in-Number
 primary-returns-in-Number t c =
-    let fits : SFits w64 c.in-Number.number = search rules in
-    done c.number.result (λ last. primary (ap out-Primary c.in-Number.is ∙ outs-Number _) (simp to_z-of_z at last)) c.number.ensures
+    done c.number.result (λ last. primary (ap out-Primary c.in-Number.is ∙ outs-Number _) last) c.number.ensures
 
 pub primary-returns-in-Text : goal.primary-returns-in-Text
 primary-returns-in-Text t c =

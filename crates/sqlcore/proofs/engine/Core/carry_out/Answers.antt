@@ -1,7 +1,7 @@
-use Rattle.std.proofs.Common.{refl, inr}
+use Rattle.std.proofs.Common.{refl}
 use Rattle.std.proofs.lemmas.Result.{MatchResult-weaker}
 use Rattle.sqlcore.specs.Carried.{Does}
-use Rattle.sqlcore.proofs.Called.{kept_by, unchanged}
+use Rattle.sqlcore.proofs.Called.{kept_by, other_typed, unchanged}
 use Rattle.sqlcore.proofs.engine.Core.carry_out.Goals as goal
 
 pub returns-in-Query-clause-does : goal.returns-in-Query-clause-does
@@ -18,4 +18,6 @@ returns-in-Change-clause-does g c =
     (λ refusal h. Does.changes c.in-Change.change c.in-Change.is h kept (record { session = refl; made = refl; device = refl }))
 
 pub returns : goal.returns
-returns g c = record { leaves = unchanged c.args.self.now; does = Does.withheld _ (inr refl) refl (unchanged c.args.self.now) }
+returns g c =
+    let later = other_typed c.args.typed c.in_default.not-Query c.in_default.not-Change c.in_default.not-Commit c.in_default.not-Rollback in
+    absurd (cc (later, c.requires.evaluated))
