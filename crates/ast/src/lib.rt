@@ -5,7 +5,6 @@
 //! tree has one list of tokens.
 #![tactic(auto)]
 
-mod copies;
 mod operator;
 mod statement;
 mod tree;
@@ -23,6 +22,3 @@ pub use tree::{
     Addend, Condition, Conjunction, Expression, Factor, Join, Negation, Operand, Predicate,
     Primary, Query, Select, SelectItem, TableReference, TableSource, Term, Test,
 };
-
-#[cfg(test)]
-mod tests;
