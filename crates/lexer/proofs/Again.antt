@@ -8,7 +8,7 @@ use Rattle.lexer.specs.declared.kinds.Kind.{Kind}
 use Rattle.lexer.specs.declared.kinds.Kind.TheVariants as kind
 use Rattle.lexer.specs.declared.kinds.Symbol.{Symbol}
 use Rattle.lexer.specs.declared.kinds.Symbol.TheVariants as symbol
-use Rattle.lexer.specs.declared.refusals.Refusal.{Refusal}
+use Rattle.refusals.specs.declared.refusal.Refusal.{Refusal}
 use Rattle.lexer.specs.Token.{Bytes, Spells, EndsBefore, IsFault, IsRun, long_name, great_number, number_before_word, open_string, long_string, wrong_in_string, wrong_byte, begins_with, is_space, is_word_byte, quoted, symbol_text}
 use Rattle.lexer.specs.Reading.{Reads, Fails, next}
 use Rattle.lexer.proofs.Skipping.{IsAtToken}

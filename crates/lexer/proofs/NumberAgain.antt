@@ -7,8 +7,8 @@ use Rattle.std.proofs.lemmas.Bool.{cases_Bool, and_parts, lt-ltb, le-ltb}
 use Rattle.std.proofs.lemmas.Bool.Decides.{nat_tests}
 use Rattle.std.proofs.lemmas.List.{drop_at}
 use Rattle.lexer.specs.declared.kinds.Kind.TheVariants as kind
-use Rattle.lexer.specs.declared.refusals.Refusal.TheVariants.{Invalid}
-use Rattle.lexer.specs.declared.refusals.Reason.TheVariants as reason
+use Rattle.refusals.specs.declared.refusal.Refusal.TheVariants.{Invalid}
+use Rattle.refusals.specs.declared.reason.Reason.TheVariants as reason
 use Rattle.lexer.specs.Number.{greatest_number}
 use Rattle.lexer.specs.Token.{Bytes, begins_with, is_word_byte, number_of}
 use Rattle.lexer.specs.Reading.{Step, Reads, Fails, next, number, goes_on_as_word}

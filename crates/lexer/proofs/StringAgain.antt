@@ -5,9 +5,9 @@ use Rattle.std.proofs.lemmas.Bool.{cases_Bool, and_parts, eqb-true, leb-true, le
 use Rattle.std.proofs.lemmas.List.Folds.{list_all-append}
 use Rattle.items.specs.Text.{is_character, is_text}
 use Rattle.lexer.specs.declared.kinds.Kind.TheVariants as kind
-use Rattle.lexer.specs.declared.refusals.Refusal.TheVariants.{Invalid, Exceeded}
-use Rattle.lexer.specs.declared.refusals.Reason.TheVariants as reason
-use Rattle.lexer.specs.declared.refusals.Limit.TheVariants as limit
+use Rattle.refusals.specs.declared.refusal.Refusal.TheVariants.{Invalid, Exceeded}
+use Rattle.refusals.specs.declared.reason.Reason.TheVariants as reason
+use Rattle.refusals.specs.declared.limit.Limit.TheVariants as limit
 use Rattle.lexer.specs.Token.{Bytes, begins_with, quoted, quoted_character}
 use Rattle.lexer.specs.Reading.{Reads, Fails, next, string_from}
 

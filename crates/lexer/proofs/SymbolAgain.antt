@@ -5,8 +5,8 @@ use Rattle.std.proofs.lemmas.Bool.{cases_Bool, or_parts, eqb-true}
 use Rattle.lexer.specs.declared.kinds.Kind.TheVariants as kind
 use Rattle.lexer.specs.declared.kinds.Symbol.{Symbol}
 use Rattle.lexer.specs.declared.kinds.Symbol.TheVariants as symbol
-use Rattle.lexer.specs.declared.refusals.Refusal.TheVariants.{Invalid}
-use Rattle.lexer.specs.declared.refusals.Reason.TheVariants as reason
+use Rattle.refusals.specs.declared.refusal.Refusal.TheVariants.{Invalid}
+use Rattle.refusals.specs.declared.reason.Reason.TheVariants as reason
 use Rattle.lexer.specs.Token.{Bytes, IsLongest, is_known, is_space, symbol_text}
 use Rattle.lexer.specs.Reading.{Reads, Fails, next, symbol_alone, symbol_of_two, symbol_step}
 use Rattle.lexer.proofs.SymbolSound.{IsAlone, IsTwo, symbol_alone-text, symbol_of_two-text}

@@ -4,8 +4,8 @@ use Rattle.std.specs.Prelude.{slice_range, IfOk, IfErr, MatchResult}
 use Rattle.std.proofs.lemmas.List.{take-append-drop, drop-drop, length-take}
 use Rattle.lexer.specs.declared.kinds.Kind.{Kind}
 use Rattle.lexer.specs.declared.kinds.Token.{Token}
-use Rattle.lexer.specs.declared.refusals.Refusal.{Refusal}
-use Rattle.lexer.specs.declared.refusals.Refusal.TheVariants.{Memory}
+use Rattle.refusals.specs.declared.refusal.Refusal.{Refusal}
+use Rattle.refusals.specs.declared.refusal.Refusal.TheVariants.{Memory}
 use Rattle.lexer.specs.Token.{Bytes, begins_with, is_space}
 use Rattle.lexer.specs.Tokens.{IsToken, AreTokens, AreTokensBetween, IsFirstFault}
 use Rattle.lexer.specs.Reading.{Step, Stop, Reads, Fails, next, gap}

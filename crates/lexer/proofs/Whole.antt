@@ -4,7 +4,7 @@ use Rattle.std.proofs.lemmas.List.{take_at, take_rest, drop_at, drop-drop}
 use Rattle.std.specs.Prelude.{slice_range}
 use Rattle.lexer.specs.declared.kinds.Kind.{Kind}
 use Rattle.lexer.specs.declared.kinds.Token.{Token}
-use Rattle.lexer.specs.declared.refusals.Refusal.{Refusal}
+use Rattle.refusals.specs.declared.refusal.Refusal.{Refusal}
 use Rattle.lexer.specs.Token.{Bytes, IsGap, IsFault}
 use Rattle.lexer.specs.Tokens.{IsToken, AreTokensBetween, AreTokens, IsFirstFault}
 use Rattle.lexer.specs.Reading.{Stop, Reads, Fails, next, gap}

@@ -10,8 +10,8 @@ use Rattle.std.proofs.lemmas.List.Folds.{list_all-map}
 use Rattle.std.proofs.lemmas.List.Sums.{take_while-cons}
 use Rattle.items.specs.Text.{is_character, is_text}
 use Rattle.lexer.specs.declared.kinds.Kind.TheVariants as kind
-use Rattle.lexer.specs.declared.refusals.Refusal.TheVariants.{Exceeded}
-use Rattle.lexer.specs.declared.refusals.Limit.TheVariants as limit
+use Rattle.refusals.specs.declared.refusal.Refusal.TheVariants.{Exceeded}
+use Rattle.refusals.specs.declared.limit.Limit.TheVariants as limit
 use Rattle.lexer.specs.declared.words.Word.{Word}
 use Rattle.lexer.specs.declared.words.Word.TheVariants.{All}
 use Rattle.lexer.specs.Name.{begins_name, is_identifier, is_name, is_name_character}

@@ -1,7 +1,6 @@
 pub mod Words
 pub mod Name
 pub mod Number
-pub mod Refusal
 pub mod Token
 pub mod Tokens
 pub mod Reading

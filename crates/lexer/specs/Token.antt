@@ -9,10 +9,10 @@ use Rattle.lexer.specs.declared.kinds.Kind.{Kind}
 use Rattle.lexer.specs.declared.kinds.Kind.TheVariants as kind
 use Rattle.lexer.specs.declared.kinds.Symbol.{Symbol}
 use Rattle.lexer.specs.declared.kinds.Symbol.TheVariants as symbol
-use Rattle.lexer.specs.declared.refusals.Refusal.{Refusal}
-use Rattle.lexer.specs.declared.refusals.Refusal.TheVariants.{Invalid, Exceeded}
-use Rattle.lexer.specs.declared.refusals.Reason.TheVariants as reason
-use Rattle.lexer.specs.declared.refusals.Limit.TheVariants as limit
+use Rattle.refusals.specs.declared.refusal.Refusal.{Refusal}
+use Rattle.refusals.specs.declared.refusal.Refusal.TheVariants.{Invalid, Exceeded}
+use Rattle.refusals.specs.declared.reason.Reason.TheVariants as reason
+use Rattle.refusals.specs.declared.limit.Limit.TheVariants as limit
 use Rattle.lexer.specs.Name.{is_name, longest_name}
 use Rattle.lexer.specs.Number.{greatest_number}
 use Rattle.lexer.specs.Words.{word_text}

@@ -8,9 +8,9 @@ ghost use Rattle.lexer.specs.Words.{reserved};
 
 use crate::kinds::Kind;
 use crate::names::Name;
-use crate::refusals::{Limit, Refusal};
 use crate::words::reserved_word;
 use items::{Items, Text};
+use refusals::{Limit, Refusal};
 use std::alloc::{AllocError, Global};
 
 /// The word or name that begins with the letter `first` before `after`, and what follows it.

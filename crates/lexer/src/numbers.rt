@@ -8,7 +8,7 @@ ghost use Rattle.lexer.specs.Token as token;
 ghost use Rattle.lexer.specs.Reading.{Gives};
 
 use crate::kinds::Kind;
-use crate::refusals::{Reason, Refusal};
+use refusals::{Reason, Refusal};
 use std::marker::Model;
 
 const GREATEST: u64 = 9_223_372_036_854_775_807;

@@ -2,7 +2,7 @@
 
 ghost use Rattle.std.specs.Prelude.{◌≡◌, ◌≢◌, ◌∷◌, ◌<◌, ◌≤◌, ◌⊎◌, List, length, IfOk, IfErr, IfSome, MatchResult};
 ghost use Rattle.lexer.specs.declared.kinds.Token.{Token};
-ghost use Rattle.lexer.specs.declared.refusals.Refusal.{Refusal};
+ghost use Rattle.refusals.specs.declared.refusal.Refusal.{Refusal};
 ghost use Rattle.lexer.specs.Reading as reading;
 ghost use Rattle.lexer.specs.Reading.{Gives, GivesStep};
 ghost use Rattle.lexer.specs.Tokens.{AreTokens, IsFirstFault};
@@ -11,9 +11,9 @@ use crate::gaps::skip_gap;
 use crate::identifiers::read_word;
 use crate::kinds::{Kind, Token};
 use crate::numbers::read_number;
-use crate::refusals::Refusal;
 use crate::strings::read_string;
 use crate::symbols::read_symbol;
+use refusals::Refusal;
 use std::alloc::Global;
 
 /// The tokens of the text in order, whatever its length; or its first fault from left to right, byte

@@ -5,8 +5,8 @@ ghost use Rattle.lexer.specs.Reading as reading;
 ghost use Rattle.lexer.specs.Reading.{Gives};
 
 use crate::kinds::Kind;
-use crate::refusals::{Limit, Reason, Refusal};
 use items::{Items, Text};
+use refusals::{Limit, Reason, Refusal};
 use std::alloc::Global;
 
 /// The string whose first quote stands before `bytes`, and what follows it.

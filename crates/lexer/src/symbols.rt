@@ -5,7 +5,7 @@ ghost use Rattle.lexer.specs.Reading as reading;
 ghost use Rattle.lexer.specs.Reading.{Gives};
 
 use crate::kinds::{Kind, Symbol};
-use crate::refusals::{Reason, Refusal};
+use refusals::{Reason, Refusal};
 
 /// The symbol that begins with `first` before `after`, the longest one, and what follows it.
 pub fn read_symbol(first: u8, after: &[u8]) -> Result<(Kind, &[u8]), Refusal>

@@ -1,6 +1,4 @@
-use crate::{
-    Kind, Limit, Name, Number, Reason, Refusal, Token, first_unsupported, print_kinds, tokens,
-};
+use crate::{Kind, Name, Number, Token, first_unsupported, print_kinds, tokens};
 use items::{Items, Text};
 use std::alloc::{AllocError, Global};
 use std::fmt::Write;
@@ -248,38 +246,5 @@ fn numbers_end_at_their_limit(rt: HostRuntime) -> Result<(), Fail> {
     let greatest = Number::from_value(9_223_372_036_854_775_807).ok_or("a number")?;
     assert_eq!(rt; greatest.value(), i64::MAX);
     assert!(rt; Number::from_value(9_223_372_036_854_775_808).is_none());
-    Ok(())
-}
-
-#[test]
-fn refusals_print_their_code(rt: HostRuntime) -> Result<(), Fail> {
-    let named = Refusal::Violated(text_of(rt.alloc(), b"#1")?);
-    let rows: [(Refusal, &str); 14] = [
-        (Refusal::Invalid(Reason::DataType), "42000 type"),
-        (Refusal::NotSupported, "0A000"),
-        (Refusal::ManyRows, "21000"),
-        (Refusal::TextTooLong, "22001"),
-        (Refusal::OutOfRange, "22003"),
-        (Refusal::DivisionByZero, "22012"),
-        (named, "23000 #1"),
-        (Refusal::CursorState, "24000"),
-        (Refusal::TransactionState, "25000"),
-        (Refusal::SerializationFailure, "40001"),
-        (Refusal::Memory, "X0001"),
-        (Refusal::Disk, "X0002"),
-        (Refusal::Exceeded(Limit::KeyColumns), "X0003 keycolumns"),
-        (Refusal::Damaged, "X0004"),
-    ];
-    for (refusal, want) in &rows {
-        let printed = refusal.to_string(rt.alloc())?;
-        assert_eq!(rt; printed.as_str(), *want);
-        let code = refusal.code();
-        let mut parts = String::from_str(rt.alloc(), code)?;
-        if let Some(detail) = refusal.detail() {
-            parts.push(' ')?;
-            push_bytes(&mut parts, detail)?;
-        }
-        assert_eq!(rt; parts.as_str(), *want);
-    }
     Ok(())
 }

@@ -1,5 +1,6 @@
 use crate::{parse, parse_condition};
-use lexer::{Limit, Reason, Refusal, Token, tokens};
+use lexer::{Token, tokens};
+use refusals::{Limit, Reason, Refusal};
 use std::alloc::{AllocError, Global};
 use std::test::Fail;
 

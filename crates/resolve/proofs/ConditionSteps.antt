@@ -5,9 +5,9 @@ use Rattle.std.proofs.lemmas.List.{append-nil, drop_all}
 use Rattle.sqlval.specs.declared.value.Value.{Value}
 use Rattle.sqlval.specs.declared.value.ValueType.{ValueType}
 use Rattle.sqlval.specs.declared.value.ValueType.TheVariants.{Integer, Text}
-use Rattle.lexer.specs.declared.refusals.Reason.TheVariants as reason
-use Rattle.lexer.specs.declared.refusals.Refusal.{Refusal}
-use Rattle.lexer.specs.declared.refusals.Refusal.TheVariants.{Invalid}
+use Rattle.refusals.specs.declared.reason.Reason.TheVariants as reason
+use Rattle.refusals.specs.declared.refusal.Refusal.{Refusal}
+use Rattle.refusals.specs.declared.refusal.Refusal.TheVariants.{Invalid}
 use Rattle.ast.specs.declared.operator.Comparison.{Comparison}
 use Rattle.ast.specs.declared.operator.Literal.{Literal}
 use Rattle.ast.specs.declared.tree.Condition.{Condition as Tree, out-Condition as out_tree}

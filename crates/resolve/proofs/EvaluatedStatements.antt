@@ -5,9 +5,9 @@ use Rattle.std.specs.List.{list_all, zip}
 use Rattle.std.specs.Option.{option_map}
 use Rattle.sqlval.specs.declared.value.Value.TheVariants.{Null}
 use Rattle.sqlval.specs.declared.value.ValueType.{ValueType}
-use Rattle.lexer.specs.declared.refusals.Limit.TheVariants as limit
-use Rattle.lexer.specs.declared.refusals.Reason.TheVariants.{Columns}
-use Rattle.lexer.specs.declared.refusals.Refusal.{Refusal}
+use Rattle.refusals.specs.declared.limit.Limit.TheVariants as limit
+use Rattle.refusals.specs.declared.reason.Reason.TheVariants.{Columns}
+use Rattle.refusals.specs.declared.refusal.Refusal.{Refusal}
 use Rattle.ast.specs.declared.operator.Alias.{Alias}
 use Rattle.ast.specs.declared.statement.StoredSource.{StoredSource}
 use Rattle.ast.specs.declared.statement.StoredSource.TheVariants as written

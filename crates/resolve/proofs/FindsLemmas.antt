@@ -2,10 +2,10 @@
 use Rattle.std.proofs.Common.{◌≡◌, refl, ℕ, zero, suc, ◌+◌, ◌<◌, List, [], ◌∷◌, ◌++◌, map, length, ◌≤◌, get_or, drop, drop-cons, append_assoc, Result, Ok, Err, arith, ap, sym, ◌∙◌, add-one}
 use Rattle.std.proofs.lemmas.List.{append-nil, drop_all}
 use Rattle.std.proofs.lemmas.List.Elements.{Contains-append_left, Contains-append_right}
-use Rattle.lexer.specs.declared.refusals.Limit.{Limit}
-use Rattle.lexer.specs.declared.refusals.Reason.{Reason}
-use Rattle.lexer.specs.declared.refusals.Refusal.{Refusal}
-use Rattle.lexer.specs.declared.refusals.Refusal.TheVariants.{Invalid, NotSupported, ManyRows, TextTooLong, OutOfRange, DivisionByZero, Violated, CursorState, TransactionState, SerializationFailure, Memory, Disk, Exceeded, Damaged}
+use Rattle.refusals.specs.declared.limit.Limit.{Limit}
+use Rattle.refusals.specs.declared.reason.Reason.{Reason}
+use Rattle.refusals.specs.declared.refusal.Refusal.{Refusal}
+use Rattle.refusals.specs.declared.refusal.Refusal.TheVariants.{Invalid, NotSupported, ManyRows, TextTooLong, OutOfRange, DivisionByZero, Violated, CursorState, TransactionState, SerializationFailure, Memory, Disk, Exceeded, Damaged}
 use Rattle.typing.specs.Finding.{Finding, reasons_in, ◌>>=◌, also, before, each, invalid, exceeded}
 use Rattle.typing.specs.Finds.{Finds, IsReasonOf}
 

@@ -16,7 +16,7 @@ use Rattle.ast.specs.declared.operator.MultiplyOperator.{MultiplyOperator}
 use Rattle.ast.specs.declared.operator.Sign.{Sign}
 use Rattle.ast.specs.declared.operator.Sign.TheVariants as sign
 use Rattle.ast.specs.declared.operator.TruthTest.{TruthTest}
-use Rattle.lexer.specs.declared.refusals.Refusal.{Refusal}
+use Rattle.refusals.specs.declared.refusal.Refusal.{Refusal}
 use Rattle.typing.specs.declared.typed.Arithmetic.{Arithmetic}
 use Rattle.typing.specs.declared.typed.Condition.{Condition, Condition-F, out-Condition, roll-Condition, the_lemmas}
 use Rattle.typing.specs.declared.typed.Condition.TheVariants as condition

@@ -5,9 +5,9 @@ use Rattle.std.specs.List.{list_all, list_any, zip}
 use Rattle.std.proofs.lemmas.List.{append-nil, drop_all}
 use Rattle.sqlval.specs.declared.schema.Column.{Column as Defined}
 use Rattle.sqlval.specs.declared.value.ValueType.{ValueType}
-use Rattle.lexer.specs.declared.refusals.Reason.TheVariants.{Columns}
-use Rattle.lexer.specs.declared.refusals.Refusal.{Refusal}
-use Rattle.lexer.specs.declared.refusals.Refusal.TheVariants.{Invalid}
+use Rattle.refusals.specs.declared.reason.Reason.TheVariants.{Columns}
+use Rattle.refusals.specs.declared.refusal.Refusal.{Refusal}
+use Rattle.refusals.specs.declared.refusal.Refusal.TheVariants.{Invalid}
 use Rattle.ast.specs.declared.operator.Column.{Column}
 use Rattle.ast.specs.declared.statement.Insert.{Insert as Tree}
 use Rattle.ast.specs.declared.statement.InsertRows.TheVariants as rows

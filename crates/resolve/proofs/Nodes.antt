@@ -2,7 +2,7 @@
 use Rattle.std.proofs.Common.{◌≡◌, ◌≢◌, ℕ, List, [], ◌∷◌, map, Option, Some, None, Ok, Err, refl, sym, ◌∙◌, ap}
 use Rattle.std.specs.List.{zip}
 use Rattle.sqlval.specs.declared.value.Value.TheVariants as value
-use Rattle.lexer.specs.declared.refusals.Reason.TheVariants as reason
+use Rattle.refusals.specs.declared.reason.Reason.TheVariants as reason
 use Rattle.ast.specs.declared.operator.AddOperator.{AddOperator}
 use Rattle.ast.specs.declared.operator.AddOperator.TheVariants as add
 use Rattle.ast.specs.declared.operator.MultiplyOperator.{MultiplyOperator}

@@ -5,10 +5,10 @@ use Rattle.std.specs.List.{list_all}
 use Rattle.std.specs.Option.{option_map}
 use Rattle.std.proofs.lemmas.List.{append-nil, length-map}
 use Rattle.sqlval.specs.declared.schema.Column.{Column}
-use Rattle.lexer.specs.declared.refusals.Limit.TheVariants as limit
-use Rattle.lexer.specs.declared.refusals.Reason.TheVariants as reason
-use Rattle.lexer.specs.declared.refusals.Refusal.{Refusal}
-use Rattle.lexer.specs.declared.refusals.Refusal.TheVariants.{Exceeded, Invalid}
+use Rattle.refusals.specs.declared.limit.Limit.TheVariants as limit
+use Rattle.refusals.specs.declared.reason.Reason.TheVariants as reason
+use Rattle.refusals.specs.declared.refusal.Refusal.{Refusal}
+use Rattle.refusals.specs.declared.refusal.Refusal.TheVariants.{Exceeded, Invalid}
 use Rattle.ast.specs.declared.operator.SetOperator.{SetOperator}
 use Rattle.ast.specs.declared.statement.OrderedQuery.{OrderedQuery as OrderedTree}
 use Rattle.ast.specs.declared.tree.Addend.{Addend, out-Addend}

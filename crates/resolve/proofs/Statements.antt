@@ -3,9 +3,9 @@ use Rattle.std.proofs.Common.{◌≡◌, refl, sym, ap, ◌∙◌, ℕ, Bool, tr
 use Rattle.std.specs.Prelude.{nat_le, if◌then◌else◌}
 use Rattle.std.specs.List.{list_all}
 use Rattle.sqlval.specs.declared.schema.Schema.{Schema}
-use Rattle.lexer.specs.declared.refusals.Limit.TheVariants.{Tables}
-use Rattle.lexer.specs.declared.refusals.Refusal.{Refusal}
-use Rattle.lexer.specs.declared.refusals.Refusal.TheVariants.{NotSupported}
+use Rattle.refusals.specs.declared.limit.Limit.TheVariants.{Tables}
+use Rattle.refusals.specs.declared.refusal.Refusal.{Refusal}
+use Rattle.refusals.specs.declared.refusal.Refusal.TheVariants.{NotSupported}
 use Rattle.ast.specs.declared.statement.CreateTable.{CreateTable}
 use Rattle.ast.specs.declared.statement.Insert.{Insert}
 use Rattle.ast.specs.declared.statement.OrderedQuery.{OrderedQuery}

@@ -11,10 +11,10 @@ use Rattle.sqlval.specs.declared.schema.Constraint.{Constraint}
 use Rattle.sqlval.specs.declared.schema.Rule.{Rule}
 use Rattle.sqlval.specs.declared.schema.Rule.TheVariants as rule
 use Rattle.sqlval.specs.declared.storing.ColumnType.{ColumnType}
-use Rattle.lexer.specs.declared.refusals.Limit.TheVariants as limit
-use Rattle.lexer.specs.declared.refusals.Reason.TheVariants.{Duplicate}
-use Rattle.lexer.specs.declared.refusals.Refusal.{Refusal}
-use Rattle.lexer.specs.declared.refusals.Refusal.TheVariants.{Exceeded, Invalid}
+use Rattle.refusals.specs.declared.limit.Limit.TheVariants as limit
+use Rattle.refusals.specs.declared.reason.Reason.TheVariants.{Duplicate}
+use Rattle.refusals.specs.declared.refusal.Refusal.{Refusal}
+use Rattle.refusals.specs.declared.refusal.Refusal.TheVariants.{Exceeded, Invalid}
 use Rattle.ast.specs.declared.statement.ColumnConstraint.{ColumnConstraint}
 use Rattle.ast.specs.declared.statement.ColumnDefinition.{ColumnDefinition}
 use Rattle.ast.specs.declared.statement.ColumnRule.{ColumnRule}

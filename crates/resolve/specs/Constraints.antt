@@ -3,8 +3,8 @@ use Rattle.std.specs.Prelude.{ℕ, ◌+◌, not, is_none, List, [], ◌∷◌, �
 use Rattle.sqlval.specs.declared.schema.Column.{Column}
 use Rattle.sqlval.specs.declared.schema.Constraint.{Constraint}
 use Rattle.sqlval.specs.declared.schema.Rule.TheVariants as rule
-use Rattle.lexer.specs.declared.refusals.Limit.TheVariants as limit
-use Rattle.lexer.specs.declared.refusals.Refusal.TheVariants.{NotSupported}
+use Rattle.refusals.specs.declared.limit.Limit.TheVariants as limit
+use Rattle.refusals.specs.declared.refusal.Refusal.TheVariants.{NotSupported}
 use Rattle.ast.specs.declared.statement.TableElement.{TableElement}
 use Rattle.ast.specs.declared.statement.TableElement.TheVariants as element
 use Rattle.typing.specs.Finding.{Finding, ◌>>=◌, also}

@@ -1,6 +1,6 @@
 -- A SELECT of items or `*` from one stored table, with WHERE: what it stands for, part by part.
 use Rattle.std.specs.Prelude.{ℕ, ◌+◌, false, ◌&&◌, nat_le, length, List, [], ◌∷◌, map, Option, Some, None, Ok, if◌then◌else◌}
-use Rattle.lexer.specs.declared.refusals.Limit.TheVariants.{Tables}
+use Rattle.refusals.specs.declared.limit.Limit.TheVariants.{Tables}
 use Rattle.ast.specs.declared.operator.Alias.{Alias}
 use Rattle.ast.specs.declared.statement.OrderedQuery.{OrderedQuery as OrderedTree}
 use Rattle.ast.specs.declared.tree.Condition.{Condition as Tree}

@@ -11,7 +11,7 @@ use crate::expressions::{of_type, typed_expression, with_sign};
 use crate::parts::{both, boxed};
 use ast::{Comparison, Conjunction, Literal, Negation, Predicate, Test, TruthTest, TruthValue};
 use items::{Boxed, Items};
-use lexer::{Reason, Refusal};
+use refusals::{Reason, Refusal};
 use sqlval::{CompOp, Truth, Value, ValueType};
 use std::alloc::{AllocError, Global};
 use typing::{Condition, Expression, Frame};

@@ -6,7 +6,7 @@ ghost use Rattle.typing.specs.Finds.{Finds};
 ghost use Rattle.resolve.specs.Parts.{second_of};
 
 use items::Boxed;
-use lexer::Refusal;
+use refusals::Refusal;
 use std::alloc::Global;
 
 /// Two parts beside each other.

@@ -19,7 +19,8 @@ use crate::expressions::typed_expression;
 use crate::parts::both;
 use ast::{Addend, Alias, Factor, Operand, Primary, SelectItem, TableSource, Term};
 use items::{Boxed, Items, Text};
-use lexer::{Limit, Name, Reason, Refusal};
+use lexer::Name;
+use refusals::{Limit, Reason, Refusal};
 use sqlval::{Column, ColumnType, Schema, Table, ValueType};
 use std::alloc::{AllocError, Global};
 use typing::{

@@ -17,7 +17,7 @@ use crate::queries::typed_query;
 use crate::support::is_built;
 use crate::tables::typed_table;
 use ast::Statement;
-use lexer::Refusal;
+use refusals::Refusal;
 use sqlval::Schema;
 use std::alloc::Global;
 use typing::{Change, Typed};

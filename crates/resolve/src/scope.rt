@@ -5,7 +5,7 @@ ghost use Rattle.typing.specs.Finds.{Finds};
 ghost use Rattle.typing.specs.Scope.{as_matches, column_in, is_meant, meant};
 
 use ast::Column;
-use lexer::{Reason, Refusal};
+use refusals::{Reason, Refusal};
 use typing::{Expression, Found, Frame, Matches, Offer, TypedExpression};
 
 /// The column that a name means in one FROM.

@@ -14,7 +14,8 @@ ghost use Rattle.resolve.specs.Constraints.{element_found, has_table, not_nulls_
 use crate::names::are_distinct;
 use ast::{ColumnConstraint, ColumnDefinition, TableElement, TypeName};
 use items::{Items, Text};
-use lexer::{Limit, Name, Number, Reason, Refusal};
+use lexer::{Name, Number};
+use refusals::{Limit, Reason, Refusal};
 use sqlval::{Column, ColumnType, Constraint, Rule, Schema};
 use std::alloc::{AllocError, Global};
 use typing::CreateTable;

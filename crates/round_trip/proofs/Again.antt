@@ -2,9 +2,9 @@
 use Rattle.std.proofs.Common.{◌≡◌, ◌⊎◌, List, [], ◌∷◌, ◌++◌, Result, Ok, Err, Some, refl, sym, ap, ◌∙◌, subst, inl, inr, append_assoc}
 use Rattle.std.specs.Prelude.{◌↔◌, MatchResult}
 use Rattle.lexer.specs.declared.kinds.Token.{Token}
-use Rattle.lexer.specs.declared.refusals.Refusal.{Refusal}
-use Rattle.lexer.specs.declared.refusals.Refusal.TheVariants.{Memory, Exceeded}
-use Rattle.lexer.specs.declared.refusals.Limit.TheVariants.{Nesting}
+use Rattle.refusals.specs.declared.refusal.Refusal.{Refusal}
+use Rattle.refusals.specs.declared.refusal.Refusal.TheVariants.{Memory, Exceeded}
+use Rattle.refusals.specs.declared.limit.Limit.TheVariants.{Nesting}
 use Rattle.lexer.specs.Token.{Bytes}
 use Rattle.lexer.specs.Tokens.{kinds_of}
 use Rattle.ast.specs.declared.statement.Statement.{Statement}

@@ -2,7 +2,7 @@
 #![tactic(auto)]
 
 ghost use Rattle.std.specs.Prelude.{◌≡◌, Some, Ok, Err, MatchResult};
-ghost use Rattle.lexer.specs.declared.refusals.Refusal.TheVariants.{Memory};
+ghost use Rattle.refusals.specs.declared.refusal.Refusal.TheVariants.{Memory};
 ghost use Rattle.ast.specs.Grammar.{IsText};
 ghost use Rattle.ast.specs.Nesting.{IsNestedWithin};
 ghost use Rattle.ast.specs.Notation.{Tokens};
@@ -12,9 +12,10 @@ ghost use Rattle.printer.specs.Printed.{BeginsWithCondition, IsConditionTextOf, 
 ghost use Rattle.round_trip.specs.ReadAs.{IsReadAs, IsReadAsCondition};
 
 use ast::{Condition, Statement};
-use lexer::{Refusal, tokens};
+use lexer::tokens;
 use parser::{parse, parse_condition};
 use printer::{print, print_condition};
+use refusals::Refusal;
 use std::alloc::Global;
 
 /// Prints a statement, and reads what is printed.

@@ -3,7 +3,7 @@ ghost use Rattle.shell.specs.Status.{IsStatus};
 
 use crate::options::Settings;
 use disk::Disk;
-use lexer::Refusal;
+use refusals::Refusal;
 use sqlcore::{Core, Reply, ScriptFault, print_reply, run};
 use std::alloc::Global;
 use std::io::{Read, Write};

@@ -6,7 +6,7 @@ mod faults;
 mod limits;
 mod memory;
 mod pieces;
-mod refusals;
+mod refused;
 mod sessions;
 mod values;
 

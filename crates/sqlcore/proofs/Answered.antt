@@ -5,7 +5,7 @@ use Rattle.std.proofs.lemmas.List.{length-map}
 use Rattle.std.proofs.lemmas.Option.{slice_get_within, slice_get_cases}
 use Rattle.std.specs.Prelude.{IsSorted}
 use Rattle.std.proofs.lemmas.Bool.{eqb-true}
-use Rattle.lexer.specs.declared.refusals.Refusal.{Refusal}
+use Rattle.refusals.specs.declared.refusal.Refusal.{Refusal}
 use Rattle.sqlval.specs.Schema.{same_name, table_place}
 use Rattle.sqlval.specs.Value.{Row}
 use Rattle.typing.specs.declared.typed.OrderKey.{OrderKey}

@@ -1,8 +1,8 @@
 -- What the steps of a call say together.
 use Rattle.std.proofs.Common.{◌≡◌, ◌≢◌, ◌⊎◌, false, List, [], Result, Ok, Err, refl, ap, inl, inr, arith}
 use Rattle.std.specs.Prelude.{Contains, MatchResult}
-use Rattle.lexer.specs.declared.refusals.Refusal.{Refusal}
-use Rattle.lexer.specs.declared.refusals.Refusal.TheVariants as r
+use Rattle.refusals.specs.declared.refusal.Refusal.{Refusal}
+use Rattle.refusals.specs.declared.refusal.Refusal.TheVariants as r
 use Rattle.lexer.specs.Token.{Bytes}
 use Rattle.ast.specs.declared.statement.Statement.{Statement}
 use Rattle.typing.specs.declared.statement.Typed.{Typed}

@@ -1,6 +1,6 @@
 -- What a reply's effect leaves is good, where the session's transaction and the one in which its statement runs are.
 use Rattle.std.proofs.Common.{◌≡◌, [], ◌∷◌, ◌++◌, Option, Some, None}
-use Rattle.lexer.specs.declared.refusals.Refusal.{Refusal}
+use Rattle.refusals.specs.declared.refusal.Refusal.{Refusal}
 use Rattle.lexer.specs.Token.{Bytes}
 use Rattle.ast.specs.declared.statement.AccessMode.{AccessMode}
 use Rattle.ast.specs.declared.statement.DeclareCursor.{DeclareCursor}

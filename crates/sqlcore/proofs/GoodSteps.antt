@@ -7,7 +7,7 @@ use Rattle.std.specs.Option.{unwrap_or}
 use Rattle.std.specs.FinMap.{get, empty, get-empty}
 use Rattle.std.specs.Ordering.{nat_cmp}
 use Rattle.sqlval.specs.Comparison.{text_order}
-use Rattle.lexer.specs.declared.refusals.Refusal.{Refusal}
+use Rattle.refusals.specs.declared.refusal.Refusal.{Refusal}
 use Rattle.lexer.specs.Token.{Bytes}
 use Rattle.denote.specs.Database.{Database, IsGood, CheckReading}
 use Rattle.sqlcore.specs.declared.reply.Reply.{Reply}

@@ -3,8 +3,8 @@ use Rattle.std.proofs.Common.{◌≡◌, ◌≢◌, refl, ap, sym, ◌∙◌, �
 use Rattle.std.proofs.lemmas.Bool.{eqb-true, eqb-false}
 use Rattle.std.proofs.lemmas.List.{drop_all, get_or-set_same, length-set}
 use Rattle.std.proofs.lemmas.Option.{slice_get-get_or}
-use Rattle.lexer.specs.declared.refusals.Refusal.TheVariants.{Invalid}
-use Rattle.lexer.specs.declared.refusals.Reason.TheVariants as reason
+use Rattle.refusals.specs.declared.refusal.Refusal.TheVariants.{Invalid}
+use Rattle.refusals.specs.declared.reason.Reason.TheVariants as reason
 use Rattle.sqlcore.specs.declared.engine.Core.{Core}
 use Rattle.sqlcore.specs.declared.engine.SessionId.{SessionId}
 use Rattle.sqlcore.specs.declared.reply.Reply.{Reply}

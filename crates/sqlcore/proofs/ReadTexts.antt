@@ -3,10 +3,10 @@ use Rattle.std.proofs.Common.{◌≡◌, ◌≢◌, ◌⊎◌, ℕ, ◌+◌, ◌
 use Rattle.std.specs.Prelude.{◌↔◌, IfOk, IfErr, MatchResult}
 use Rattle.std.proofs.lemmas.Bool.Decides.{leb_tells}
 use Rattle.lexer.specs.declared.kinds.Token.{Token}
-use Rattle.lexer.specs.declared.refusals.Refusal.{Refusal}
-use Rattle.lexer.specs.declared.refusals.Refusal.TheVariants.{Memory, Invalid, Exceeded}
-use Rattle.lexer.specs.declared.refusals.Reason.TheVariants.{Syntax}
-use Rattle.lexer.specs.declared.refusals.Limit.TheVariants.{Nesting, Chain}
+use Rattle.refusals.specs.declared.refusal.Refusal.{Refusal}
+use Rattle.refusals.specs.declared.refusal.Refusal.TheVariants.{Memory, Invalid, Exceeded}
+use Rattle.refusals.specs.declared.reason.Reason.TheVariants.{Syntax}
+use Rattle.refusals.specs.declared.limit.Limit.TheVariants.{Nesting, Chain}
 use Rattle.lexer.specs.Support.{first_unsupported}
 use Rattle.lexer.specs.Token.{Bytes}
 use Rattle.lexer.specs.Tokens.{AreTokens, kinds_of}

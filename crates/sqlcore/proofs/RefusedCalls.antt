@@ -1,7 +1,7 @@
 -- What a refused call leaves.
 use Rattle.std.proofs.Common.{◌≡◌, ◌≢◌, ◌⊎◌, ℕ, zero, suc, Option, Some, None, ap, ◌∙◌, inl, inr}
-use Rattle.lexer.specs.declared.refusals.Refusal.{Refusal}
-use Rattle.lexer.specs.declared.refusals.Refusal.TheVariants.{SerializationFailure}
+use Rattle.refusals.specs.declared.refusal.Refusal.{Refusal}
+use Rattle.refusals.specs.declared.refusal.Refusal.TheVariants.{SerializationFailure}
 use Rattle.lexer.specs.Token.{Bytes}
 use Rattle.ast.specs.declared.statement.AccessMode.{AccessMode}
 use Rattle.ast.specs.declared.statement.DeclareCursor.{DeclareCursor}

@@ -3,7 +3,7 @@ use Rattle.std.proofs.Common.{◌≡◌, ℕ, ◌+◌, ◌≤◌, Bool, true, fa
 use Rattle.std.specs.Prelude.{◌==◌}
 use Rattle.std.specs.Option.{unwrap_or}
 use Rattle.std.proofs.lemmas.Bool.{eqb-true}
-use Rattle.lexer.specs.declared.refusals.Refusal.TheVariants.{CursorState, TransactionState, SerializationFailure}
+use Rattle.refusals.specs.declared.refusal.Refusal.TheVariants.{CursorState, TransactionState, SerializationFailure}
 use Rattle.denote.specs.Database.{Database}
 use Rattle.sqlcore.specs.Sound.{IsSoundTransaction, IsSoundSession}
 use Rattle.sqlcore.specs.Transactions.{begun, began_earlier, is_overtaken, obstacle, is_read_only, has_open}

@@ -4,9 +4,9 @@
 -- and of statements that the rules of names and types refuse so, as those with a form that comes later (`wrong`); of no statement that stands for
 -- something.
 use Rattle.std.specs.Prelude.{◌≡◌, ◌⊎◌, ℕ, List, [], length, slice_get, Option, Some, None, Ok, Err, Contains}
-use Rattle.lexer.specs.declared.refusals.Reason.TheVariants.{Name}
-use Rattle.lexer.specs.declared.refusals.Refusal.{Refusal}
-use Rattle.lexer.specs.declared.refusals.Refusal.TheVariants.{Memory, NotSupported, Invalid, Violated}
+use Rattle.refusals.specs.declared.reason.Reason.TheVariants.{Name}
+use Rattle.refusals.specs.declared.refusal.Refusal.{Refusal}
+use Rattle.refusals.specs.declared.refusal.Refusal.TheVariants.{Memory, NotSupported, Invalid, Violated}
 use Rattle.lexer.specs.Token.{Bytes}
 use Rattle.ast.specs.declared.statement.Statement.{Statement}
 use Rattle.sqlval.specs.declared.schema.Table.{Table}

@@ -1,6 +1,6 @@
 -- What a core holds, as its callers see it, and what its calls leave.
 use Rattle.std.specs.Prelude.{◌≡◌, ◌≢◌, ◌⊎◌, ℕ, ◌+◌, List, slice_get, Option, Some, None}
-use Rattle.lexer.specs.declared.refusals.Refusal.TheVariants.{Memory}
+use Rattle.refusals.specs.declared.refusal.Refusal.TheVariants.{Memory}
 use Rattle.lexer.specs.Token.{Bytes}
 use Rattle.ast.specs.declared.statement.Statement.{Statement}
 use Rattle.sqlcore.specs.declared.engine.Core.{Core}

@@ -2,10 +2,10 @@
 -- refusals are our own choice.)
 use Rattle.std.specs.Prelude.{◌≡◌, ℕ, ◌<◌, ◌≤◌, List, length, Option, Some, None, IsSome}
 use Rattle.lexer.specs.declared.kinds.Token.{Token}
-use Rattle.lexer.specs.declared.refusals.Refusal.{Refusal}
-use Rattle.lexer.specs.declared.refusals.Refusal.TheVariants.{Invalid, NotSupported, Exceeded}
-use Rattle.lexer.specs.declared.refusals.Reason.TheVariants.{Syntax}
-use Rattle.lexer.specs.declared.refusals.Limit.TheVariants as limit
+use Rattle.refusals.specs.declared.refusal.Refusal.{Refusal}
+use Rattle.refusals.specs.declared.refusal.Refusal.TheVariants.{Invalid, NotSupported, Exceeded}
+use Rattle.refusals.specs.declared.reason.Reason.TheVariants.{Syntax}
+use Rattle.refusals.specs.declared.limit.Limit.TheVariants as limit
 use Rattle.lexer.specs.Support.{first_unsupported}
 use Rattle.lexer.specs.Token.{Bytes}
 use Rattle.lexer.specs.Tokens.{AreTokens, IsFirstFault, kinds_of}

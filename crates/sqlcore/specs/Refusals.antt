@@ -1,9 +1,9 @@
 -- Which refusal a fault is, and which refusals may stand in place of nearly any reply. The codes from X0001 on are our own choice.
 use Rattle.std.specs.Prelude.{◌≡◌}
-use Rattle.lexer.specs.declared.refusals.Refusal.{Refusal}
-use Rattle.lexer.specs.declared.refusals.Refusal.TheVariants as refused
-use Rattle.lexer.specs.declared.refusals.Limit.{Limit}
-use Rattle.lexer.specs.declared.refusals.Limit.TheVariants as limit
+use Rattle.refusals.specs.declared.refusal.Refusal.{Refusal}
+use Rattle.refusals.specs.declared.refusal.Refusal.TheVariants as refused
+use Rattle.refusals.specs.declared.limit.Limit.{Limit}
+use Rattle.refusals.specs.declared.limit.Limit.TheVariants as limit
 use Rattle.denote.specs.declared.fault.Fault.{Fault}
 use Rattle.denote.specs.declared.fault.Fault.TheVariants as fault
 use Rattle.sqlcore.specs.declared.reply.Reply.{Reply}

@@ -2,7 +2,7 @@
 -- step takes them as they are.
 use Rattle.std.specs.Prelude.{◌≡◌, List, map, Result, Ok, Err, Contains, Some}
 use Rattle.std.specs.FinMap.{get, keys}
-use Rattle.lexer.specs.declared.refusals.Refusal.{Refusal}
+use Rattle.refusals.specs.declared.refusal.Refusal.{Refusal}
 use Rattle.sqlval.specs.declared.schema.Index.{Index}
 use Rattle.sqlval.specs.declared.schema.Schema.{Schema}
 use Rattle.sqlval.specs.declared.schema.Table as declared

@@ -3,9 +3,9 @@
 use Rattle.std.specs.Prelude.{◌≡◌, ◌⊎◌, ℕ, ◌<◌, ◌≤◌, Bool, true, false, ◌||◌, List, [], ◌∷◌, ◌++◌, map, filter, Result, Ok, Err, Some, None, if◌then◌else◌}
 use Rattle.std.specs.List.{list_all}
 use Rattle.std.specs.FinMap.{get, remove, empty, len}
-use Rattle.lexer.specs.declared.refusals.Refusal.{Refusal}
-use Rattle.lexer.specs.declared.refusals.Refusal.TheVariants.{Memory, Disk, Exceeded}
-use Rattle.lexer.specs.declared.refusals.Limit.TheVariants as limit
+use Rattle.refusals.specs.declared.refusal.Refusal.{Refusal}
+use Rattle.refusals.specs.declared.refusal.Refusal.TheVariants.{Memory, Disk, Exceeded}
+use Rattle.refusals.specs.declared.limit.Limit.TheVariants as limit
 use Rattle.lexer.specs.Token.{Bytes}
 use Rattle.denote.specs.Database.{Database}
 use Rattle.sqlcore.specs.declared.reply.Reply.{Reply}

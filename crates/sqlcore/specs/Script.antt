@@ -3,9 +3,9 @@ use Rattle.std.specs.Prelude.{◌≡◌, ◌⊎◌, ℕ, Bool, true, false, List
 use Rattle.std.specs.List.{list_any}
 use Rattle.std.specs.Ordering.{nat_cmp}
 use Rattle.std.specs.FinMap.{FinMap, get, insert, empty, values}
-use Rattle.lexer.specs.declared.refusals.Refusal.{Refusal}
-use Rattle.lexer.specs.declared.refusals.Refusal.TheVariants.{Invalid}
-use Rattle.lexer.specs.declared.refusals.Reason.TheVariants as reason
+use Rattle.refusals.specs.declared.refusal.Refusal.{Refusal}
+use Rattle.refusals.specs.declared.refusal.Refusal.TheVariants.{Invalid}
+use Rattle.refusals.specs.declared.reason.Reason.TheVariants as reason
 use Rattle.lexer.specs.Token.{Bytes}
 use Rattle.sqlcore.specs.declared.reply.Reply.{Reply}
 use Rattle.sqlcore.specs.declared.reply.Reply.TheVariants as says

@@ -3,9 +3,9 @@
 use Rattle.std.specs.Prelude.{◌≡◌, ◌⊎◌, ℕ, ◌<◌, ◌≤◌, zero, suc, true, false, List, [], ◌∷◌, ◌++◌, Option, Some, None, Ok, Err}
 use Rattle.std.specs.FinMap.{get, contains_key, len, insert}
 use Rattle.sqlval.specs.Value.{Row}
-use Rattle.lexer.specs.declared.refusals.Refusal.{Refusal}
-use Rattle.lexer.specs.declared.refusals.Refusal.TheVariants.{Violated, CursorState, TransactionState, SerializationFailure, Exceeded}
-use Rattle.lexer.specs.declared.refusals.Limit.TheVariants as limit
+use Rattle.refusals.specs.declared.refusal.Refusal.{Refusal}
+use Rattle.refusals.specs.declared.refusal.Refusal.TheVariants.{Violated, CursorState, TransactionState, SerializationFailure, Exceeded}
+use Rattle.refusals.specs.declared.limit.Limit.TheVariants as limit
 use Rattle.ast.specs.declared.statement.AccessMode.{AccessMode}
 use Rattle.ast.specs.declared.statement.DeclareCursor.{DeclareCursor}
 use Rattle.ast.specs.declared.statement.OrderedQuery.{OrderedQuery}

@@ -2,8 +2,8 @@
 -- words that are not supported, nesting, grammar; the state of transaction and cursors; names and types; evaluation and constraints.
 use Rattle.std.specs.Prelude.{◌≡◌, ◌⊎◌, ℕ, Bool, true, false, List, [], ◌∷◌, Option, Some}
 use Rattle.std.specs.FinMap.{get}
-use Rattle.lexer.specs.declared.refusals.Refusal.{Refusal}
-use Rattle.lexer.specs.declared.refusals.Refusal.TheVariants.{Memory}
+use Rattle.refusals.specs.declared.refusal.Refusal.{Refusal}
+use Rattle.refusals.specs.declared.refusal.Refusal.TheVariants.{Memory}
 use Rattle.lexer.specs.declared.words.Word.{Word}
 use Rattle.lexer.specs.declared.words.Word.TheVariants.{Rollback, Work}
 use Rattle.lexer.specs.Token.{Bytes}

@@ -6,7 +6,7 @@ use crate::reply::Reply;
 use crate::rollback::is_rollback;
 use crate::store::Store;
 use disk::Disk;
-use lexer::{Limit, Reason, Refusal};
+use refusals::{Limit, Reason, Refusal};
 use resolve::resolve;
 use std::alloc::Global;
 use typing::Typed;
@@ -42,10 +42,10 @@ pub struct Core<D: Disk> {
 }
 
 impl<D: Disk> Core<D> {
-    ghost use Rattle.lexer.specs.declared.refusals.Limit.TheVariants.{Sessions};
-    ghost use Rattle.lexer.specs.declared.refusals.Reason.TheVariants as reason;
-    ghost use Rattle.lexer.specs.declared.refusals.Refusal.TheVariants.{Exceeded, Invalid};
-    ghost use Rattle.lexer.specs.declared.refusals.Refusal.TheVariants as refusals;
+    ghost use Rattle.refusals.specs.declared.limit.Limit.TheVariants.{Sessions};
+    ghost use Rattle.refusals.specs.declared.reason.Reason.TheVariants as reason;
+    ghost use Rattle.refusals.specs.declared.refusal.Refusal.TheVariants.{Exceeded, Invalid};
+    ghost use Rattle.refusals.specs.declared.refusal.Refusal.TheVariants as refusals;
     ghost use Rattle.typing.specs.Evaluated.{is_evaluated};
     ghost use Rattle.sqlcore.specs.Carried.{Calls, Does};
     ghost use Rattle.sqlcore.specs.Held.{session_of, sessions_made, device_of, IsNew, HasMade, HasEnded, HasRolledBack, IsNoStatement, IsUnchanged, Leaves, RefusesUnread};

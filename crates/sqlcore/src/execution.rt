@@ -1,7 +1,7 @@
 //! A statement's way from its text to its reply.
 ghost use Rattle.std.specs.Prelude.{◌≡◌, ◌≢◌, ◌&&◌, true, IfErr, IfOk, IsSome, MatchBool, MatchResult, None, Some, slice_get};
 ghost use Rattle.ast.specs.declared.statement.Statement.{Statement as Tree};
-ghost use Rattle.lexer.specs.declared.refusals.Refusal.TheVariants.{Memory};
+ghost use Rattle.refusals.specs.declared.refusal.Refusal.TheVariants.{Memory};
 ghost use Rattle.lexer.specs.Support as unsupported;
 ghost use Rattle.sqlval.specs.declared.schema.Table as declared;
 ghost use Rattle.typing.specs.declared.statement.Change.TheVariants as does;
@@ -18,8 +18,9 @@ use crate::store::Store;
 use ast::Statement;
 use denote::{Env, Fault, Rows, Stop, broken_not_null, query_rows, rows_to_insert};
 use items::Items;
-use lexer::{Limit, Reason, Refusal, Token, first_unsupported, tokens};
+use lexer::{Token, first_unsupported, tokens};
 use parser::parse;
+use refusals::{Limit, Reason, Refusal};
 use sqlval::Table;
 use std::alloc::Global;
 use typing::{Change, CreateTable, Insert, InsertSource, OrderedQuery};

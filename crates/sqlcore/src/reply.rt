@@ -1,5 +1,5 @@
 use items::{Items, Text};
-use lexer::Refusal;
+use refusals::Refusal;
 use sqlval::Value;
 
 /// What a call of a session answers.

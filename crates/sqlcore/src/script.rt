@@ -7,7 +7,7 @@ use crate::input::{Cutter, Request};
 use crate::printing::print_reply;
 use crate::reply::Reply;
 use disk::Disk;
-use lexer::{Reason, Refusal};
+use refusals::{Reason, Refusal};
 use std::alloc::{AllocError, Global};
 use std::io;
 use std::io::{ErrorKind, Read, Write};

@@ -1,8 +1,8 @@
 //! What follows from the definitions of calls and runs. These functions do nothing: their contracts are the laws.
 
 ghost use Rattle.std.specs.Prelude.{◌≡◌, ◌≢◌, ℕ, ◌+◌, List, length, slice_get, All, Contains, Ok, true, false};
-ghost use Rattle.lexer.specs.declared.refusals.Refusal.{Refusal};
-ghost use Rattle.lexer.specs.declared.refusals.Refusal.TheVariants.{SerializationFailure};
+ghost use Rattle.refusals.specs.declared.refusal.Refusal.{Refusal};
+ghost use Rattle.refusals.specs.declared.refusal.Refusal.TheVariants.{SerializationFailure};
 ghost use Rattle.lexer.specs.Token.{Bytes};
 ghost use Rattle.denote.specs.Database.{Database, CheckReading, IsGood};
 ghost use Rattle.sqlcore.specs.declared.reply.Reply.{Reply};

@@ -5,7 +5,7 @@ use crate::every_table::{commit_each, roll_back_each};
 use crate::table_rows::TableRows;
 use denote::{Row, Rows, Tables};
 use items::{Items, Text};
-use lexer::{Reason, Refusal};
+use refusals::{Reason, Refusal};
 use sqlval::{Schema, Table};
 use std::alloc::{AllocError, Global};
 
@@ -22,7 +22,7 @@ pub(crate) struct Store {
 }
 
 impl Store {
-    ghost use Rattle.lexer.specs.declared.refusals.Refusal.TheVariants.{Memory};
+    ghost use Rattle.refusals.specs.declared.refusal.Refusal.TheVariants.{Memory};
     ghost use Rattle.sqlcore.specs.Contents.{no_contents, contents, kept, with_table, HasAppended};
 
     /// No tables.

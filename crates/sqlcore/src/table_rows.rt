@@ -1,10 +1,10 @@
 //! The rows of one table.
 ghost use Rattle.std.specs.Prelude.{◌≡◌, ◌≤◌, [], ◌++◌, length, take, IfErr, OnOk, OnErr};
-ghost use Rattle.lexer.specs.declared.refusals.Refusal.TheVariants.{Memory};
+ghost use Rattle.refusals.specs.declared.refusal.Refusal.TheVariants.{Memory};
 
 use denote::{Row, Rows};
 use items::Items;
-use lexer::Refusal;
+use refusals::Refusal;
 use std::alloc::Global;
 
 /// The rows of a table, of which the first `committed` are.

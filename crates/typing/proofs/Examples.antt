@@ -6,7 +6,7 @@ use Rattle.sqlval.specs.declared.schema.Column.{Column as Stored}
 use Rattle.sqlval.specs.declared.storing.ColumnType.TheVariants as stored
 use Rattle.sqlval.specs.declared.value.ValueType.{ValueType}
 use Rattle.sqlval.specs.declared.value.ValueType.TheVariants.{Integer, Text}
-use Rattle.lexer.specs.declared.refusals.Reason.TheVariants as reason
+use Rattle.refusals.specs.declared.reason.Reason.TheVariants as reason
 use Rattle.ast.specs.declared.operator.Column.{Column}
 use Rattle.ast.specs.declared.operator.Comparison.TheVariants as written
 use Rattle.ast.specs.declared.operator.SetOperator.TheVariants as set

@@ -11,8 +11,8 @@ use Rattle.sqlval.specs.declared.schema.Rule.TheVariants as rule
 use Rattle.sqlval.specs.declared.storing.ColumnType.{ColumnType}
 use Rattle.sqlval.specs.declared.storing.ColumnType.TheVariants.{Integer, Varchar}
 use Rattle.sqlval.specs.declared.value.ValueType.TheVariants as type
-use Rattle.lexer.specs.declared.refusals.Limit.TheVariants as limit
-use Rattle.lexer.specs.declared.refusals.Reason.TheVariants.{DataType}
+use Rattle.refusals.specs.declared.limit.Limit.TheVariants as limit
+use Rattle.refusals.specs.declared.reason.Reason.TheVariants.{DataType}
 use Rattle.lexer.specs.Printing.{HasKinds}
 use Rattle.ast.specs.declared.statement.ColumnConstraint.{ColumnConstraint}
 use Rattle.ast.specs.declared.statement.ColumnDefinition.{ColumnDefinition}

@@ -3,7 +3,7 @@ use Rattle.std.specs.Prelude.{◌≡◌, ℕ, List, [], ◌∷◌, length, Some,
 use Rattle.sqlval.specs.declared.schema.Column.{Column}
 use Rattle.sqlval.specs.declared.schema.Rule.{Rule}
 use Rattle.sqlval.specs.declared.schema.Rule.TheVariants as rule
-use Rattle.lexer.specs.declared.refusals.Limit.TheVariants as limit
+use Rattle.refusals.specs.declared.limit.Limit.TheVariants as limit
 use Rattle.lexer.specs.Printing.{HasKinds}
 use Rattle.ast.specs.declared.tree.Condition.{Condition as Tree}
 use Rattle.ast.specs.Notation.{Tokens}

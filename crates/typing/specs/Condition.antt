@@ -8,7 +8,7 @@ use Rattle.sqlval.specs.declared.value.Value.{Value}
 use Rattle.sqlval.specs.declared.value.Value.TheVariants as value
 use Rattle.sqlval.specs.declared.value.ValueType.{ValueType}
 use Rattle.sqlval.specs.declared.value.ValueType.TheVariants as type
-use Rattle.lexer.specs.declared.refusals.Reason.TheVariants.{DataType}
+use Rattle.refusals.specs.declared.reason.Reason.TheVariants.{DataType}
 use Rattle.ast.specs.declared.operator.Comparison.{Comparison}
 use Rattle.ast.specs.declared.operator.Comparison.TheVariants as written
 use Rattle.ast.specs.declared.operator.Literal.{Literal}

@@ -6,7 +6,7 @@ use Rattle.sqlval.specs.declared.value.Value.TheVariants as value
 use Rattle.sqlval.specs.declared.value.ValueType.{ValueType}
 use Rattle.sqlval.specs.declared.value.ValueType.TheVariants.{Integer, Text}
 use Rattle.sqlval.specs.Arithmetic.{difference_of}
-use Rattle.lexer.specs.declared.refusals.Reason.TheVariants.{DataType, Number}
+use Rattle.refusals.specs.declared.reason.Reason.TheVariants.{DataType, Number}
 use Rattle.ast.specs.declared.operator.Sign.{Sign}
 use Rattle.ast.specs.declared.operator.Sign.TheVariants as sign
 use Rattle.ast.specs.declared.operator.AddOperator.{AddOperator}

@@ -2,10 +2,10 @@
 -- Where several things are wrong, each that is found is a reason; which one is shown is left open. What depends on a part that is wrong is not looked at
 -- (`>>=`), and parts beside each other all are (`also`, `each`). All of this is our own choice.
 use Rattle.std.specs.Prelude.{List, [], ◌∷◌, ◌++◌, Result, Ok, Err}
-use Rattle.lexer.specs.declared.refusals.Reason.{Reason}
-use Rattle.lexer.specs.declared.refusals.Limit.{Limit}
-use Rattle.lexer.specs.declared.refusals.Refusal.{Refusal}
-use Rattle.lexer.specs.declared.refusals.Refusal.TheVariants.{Invalid, Exceeded}
+use Rattle.refusals.specs.declared.reason.Reason.{Reason}
+use Rattle.refusals.specs.declared.limit.Limit.{Limit}
+use Rattle.refusals.specs.declared.refusal.Refusal.{Refusal}
+use Rattle.refusals.specs.declared.refusal.Refusal.TheVariants.{Invalid, Exceeded}
 
 -- what it stands for, or at least one reason
 abbrev pub Finding : Type 0 → Type 0

@@ -1,7 +1,7 @@
 -- How a reply stands to what is found.
 use Rattle.std.specs.Prelude.{◌≡◌, List, Result, Ok, IfOk, IfErr, Contains}
-use Rattle.lexer.specs.declared.refusals.Refusal.{Refusal}
-use Rattle.lexer.specs.declared.refusals.Refusal.TheVariants.{Memory}
+use Rattle.refusals.specs.declared.refusal.Refusal.{Refusal}
+use Rattle.refusals.specs.declared.refusal.Refusal.TheVariants.{Memory}
 use Rattle.typing.specs.Finding.{Finding, reasons_in}
 
 -- a refusal names one of these reasons, unless memory was wanting

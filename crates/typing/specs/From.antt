@@ -1,7 +1,7 @@
 -- FROM and its joins (ISO/IEC 9075:1992, 6.3, 7.4, 7.5).
 use Rattle.std.specs.Prelude.{ℕ, List, [], ◌∷◌, ◌++◌, map, length, Option, Some, None, Ok}
 use Rattle.sqlval.specs.declared.schema.Column.{Column}
-use Rattle.lexer.specs.declared.refusals.Reason.TheVariants.{Syntax}
+use Rattle.refusals.specs.declared.reason.Reason.TheVariants.{Syntax}
 use Rattle.ast.specs.declared.operator.Alias.{Alias}
 use Rattle.typing.specs.declared.typed.Condition.{Condition}
 use Rattle.typing.specs.declared.typed.Source.{Source}

@@ -1,8 +1,8 @@
 -- CREATE INDEX and DROP INDEX: our own. Index names are distinct over the whole database, and apart from those of tables.
 use Rattle.std.specs.Prelude.{ℕ, List, length, Ok, if◌then◌else◌}
 use Rattle.typing.specs.Known.{Known, KnownTable}
-use Rattle.lexer.specs.declared.refusals.Limit.TheVariants as limit
-use Rattle.lexer.specs.declared.refusals.Reason.TheVariants.{Name}
+use Rattle.refusals.specs.declared.limit.Limit.TheVariants as limit
+use Rattle.refusals.specs.declared.reason.Reason.TheVariants.{Name}
 use Rattle.ast.specs.declared.statement.CreateIndex.{CreateIndex as Tree}
 use Rattle.typing.specs.declared.statement.CreateIndex.{CreateIndex}
 use Rattle.typing.specs.Finding.{Finding, ◌>>=◌, also, invalid}

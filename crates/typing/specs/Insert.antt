@@ -5,7 +5,7 @@ use Rattle.sqlval.specs.declared.value.Value.TheVariants.{Null}
 use Rattle.sqlval.specs.declared.value.ValueType.{ValueType}
 use Rattle.typing.specs.Known.{Known, place_in}
 use Rattle.sqlval.specs.declared.schema.Column.{Column}
-use Rattle.lexer.specs.declared.refusals.Reason.TheVariants.{Columns}
+use Rattle.refusals.specs.declared.reason.Reason.TheVariants.{Columns}
 use Rattle.ast.specs.declared.statement.StoredSource.{StoredSource}
 use Rattle.ast.specs.declared.statement.StoredSource.TheVariants as written
 use Rattle.ast.specs.declared.statement.InsertRows.{InsertRows}

@@ -2,7 +2,7 @@
 use Rattle.std.specs.Prelude.{ℕ, ◌+◌, ◌-◌, Bool, true, false, ◌&&◌, nat_le, List, [], ◌∷◌, map, length, Option, Some, None, Ok, if◌then◌else◌}
 use Rattle.typing.specs.Known.{Known}
 use Rattle.sqlval.specs.Schema.{is_named}
-use Rattle.lexer.specs.declared.refusals.Reason.TheVariants.{Name, Ambiguous, Columns}
+use Rattle.refusals.specs.declared.reason.Reason.TheVariants.{Name, Ambiguous, Columns}
 use Rattle.ast.specs.declared.operator.Direction.{Direction}
 use Rattle.ast.specs.declared.operator.Direction.TheVariants as direction
 use Rattle.ast.specs.declared.statement.OrderedQuery.{OrderedQuery as Tree}

@@ -3,7 +3,7 @@ use Rattle.std.specs.Prelude.{ℕ, zero, suc, ◌+◌, ◌==◌, Bool, true, fal
 use Rattle.std.specs.List.{list_any, position_from}
 use Rattle.sqlval.specs.declared.value.ValueType.{ValueType}
 use Rattle.sqlval.specs.Schema.{same_name, is_named}
-use Rattle.lexer.specs.declared.refusals.Reason.TheVariants.{Name, Ambiguous, Grouping}
+use Rattle.refusals.specs.declared.reason.Reason.TheVariants.{Name, Ambiguous, Grouping}
 use Rattle.ast.specs.declared.operator.Column.{Column}
 use Rattle.typing.specs.declared.typed.Expression.TheVariants as expression
 use Rattle.typing.specs.declared.scope.Offer.{Offer}

@@ -2,7 +2,7 @@
 -- set function; HAVING and the select list then see, of each group, the key and the values of the set functions.
 use Rattle.std.specs.Prelude.{ℕ, ◌+◌, ◌==◌, Bool, true, false, not, ◌&&◌, is_none, List, [], ◌∷◌, map, length, Option, Some, None, Ok}
 use Rattle.sqlval.specs.declared.value.ValueType.{ValueType}
-use Rattle.lexer.specs.declared.refusals.Limit.TheVariants as limit
+use Rattle.refusals.specs.declared.limit.Limit.TheVariants as limit
 use Rattle.ast.specs.declared.operator.Alias.{Alias}
 use Rattle.ast.specs.declared.operator.Column.{Column}
 use Rattle.typing.specs.declared.typed.Condition.{Condition}

@@ -2,7 +2,7 @@
 use Rattle.std.specs.Prelude.{Bool, true, false, [], ◌∷◌, Option, Some, None, Ok}
 use Rattle.sqlval.specs.declared.value.ValueType.{ValueType}
 use Rattle.sqlval.specs.declared.value.ValueType.TheVariants.{Integer}
-use Rattle.lexer.specs.declared.refusals.Reason.TheVariants.{Grouping, Check}
+use Rattle.refusals.specs.declared.reason.Reason.TheVariants.{Grouping, Check}
 use Rattle.ast.specs.declared.operator.Column.{Column}
 use Rattle.ast.specs.declared.operator.Quantifier.{Quantifier}
 use Rattle.ast.specs.declared.operator.Quantifier.TheVariants as quantifier

@@ -3,7 +3,7 @@ use Rattle.std.specs.Prelude.{◌==◌, Bool, true, false, List, [], ◌∷◌, 
 use Rattle.std.specs.Cmp.Lexicographic.{pointwise}
 use Rattle.sqlval.specs.declared.value.ValueType.{ValueType}
 use Rattle.sqlval.specs.declared.value.ValueType.TheVariants.{Integer, Text}
-use Rattle.lexer.specs.declared.refusals.Reason.TheVariants.{DataType, Columns}
+use Rattle.refusals.specs.declared.reason.Reason.TheVariants.{DataType, Columns}
 use Rattle.ast.specs.declared.operator.SetOperator.{SetOperator as Written}
 use Rattle.ast.specs.declared.operator.SetOperator.TheVariants as written
 use Rattle.typing.specs.declared.typed.Condition.{Condition}

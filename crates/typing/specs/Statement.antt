@@ -2,8 +2,8 @@
 use Rattle.std.specs.Prelude.{[], ◌∷◌, Ok, Err, if◌then◌else◌}
 use Rattle.sqlval.specs.declared.schema.Schema.{Schema}
 use Rattle.typing.specs.Known.{Known, known}
-use Rattle.lexer.specs.declared.refusals.Limit.TheVariants.{Tables}
-use Rattle.lexer.specs.declared.refusals.Refusal.TheVariants.{NotSupported}
+use Rattle.refusals.specs.declared.limit.Limit.TheVariants.{Tables}
+use Rattle.refusals.specs.declared.refusal.Refusal.TheVariants.{NotSupported}
 use Rattle.ast.specs.declared.statement.AccessMode.{AccessMode as Written}
 use Rattle.ast.specs.declared.statement.AccessMode.TheVariants as written
 use Rattle.ast.specs.declared.statement.Statement.{Statement}

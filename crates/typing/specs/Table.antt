@@ -7,8 +7,8 @@ use Rattle.sqlval.specs.declared.storing.ColumnType.TheVariants as stored
 use Rattle.sqlval.specs.declared.value.ValueType.{ValueType}
 use Rattle.sqlval.specs.declared.value.ValueType.TheVariants as type
 use Rattle.sqlval.specs.Schema.{same_name}
-use Rattle.lexer.specs.declared.refusals.Limit.{Limit}
-use Rattle.lexer.specs.declared.refusals.Reason.TheVariants.{Name, Duplicate}
+use Rattle.refusals.specs.declared.limit.Limit.{Limit}
+use Rattle.refusals.specs.declared.reason.Reason.TheVariants.{Name, Duplicate}
 use Rattle.typing.specs.declared.scope.Offer.{Offer}
 use Rattle.typing.specs.declared.scope.Frame.{Frame}
 use Rattle.typing.specs.Known.{Known, KnownTable, place_in}

@@ -3,7 +3,7 @@
 //! With ample memory these tests compare replies. `rt try --test --fail-alloc 1..` refuses each allocation in turn.
 
 use disk::MemDisk;
-use lexer::Refusal;
+use refusals::Refusal;
 use sqlcore::{Core, Reply, SessionId, print_reply};
 use std::process::Abort;
 use std::test::Fail;

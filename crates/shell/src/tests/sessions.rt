@@ -1,7 +1,7 @@
 //! Sessions that have ended.
 
 use disk::MemDisk;
-use lexer::{Reason, Refusal};
+use refusals::{Reason, Refusal};
 use sqlcore::{Core, Refused, Reply, SessionId};
 use std::alloc::Global;
 use std::test::Fail;

@@ -1,14 +1,14 @@
 ghost use Rattle.std.specs.Prelude.{◌++◌, length, codes, is_ok};
 ghost use Rattle.sqlcore.specs.Printed.{printed_rows, printed_line, printed_lines, printed_count, printed_changed, printed_refusal, printed_reply};
 ghost use Rattle.sqlcore.specs.Writes.{Writes};
-ghost use Rattle.lexer.specs.Refusal.{with_detail};
+ghost use Rattle.refusals.specs.Refusal.{with_detail};
 
 use super::put::put;
 use super::row::print_row;
 use crate::reply::Reply;
 use items::{Items, Text};
 use itoa::Buffer;
-use lexer::Refusal;
+use refusals::Refusal;
 use sqlval::Value;
 use std::io;
 use std::io::Write;

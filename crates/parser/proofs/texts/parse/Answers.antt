@@ -1,7 +1,7 @@
 use Rattle.std.proofs.Common.{rules, arith, ◌≡◌, true, false, Some, None, Ok, refl, ap, inl, inr}
-use Rattle.lexer.specs.declared.refusals.Reason.TheVariants.{Syntax}
-use Rattle.lexer.specs.declared.refusals.Refusal.TheVariants.{Exceeded, Invalid}
-use Rattle.lexer.specs.declared.refusals.Limit.TheVariants.{Chain, Nesting}
+use Rattle.refusals.specs.declared.reason.Reason.TheVariants.{Syntax}
+use Rattle.refusals.specs.declared.refusal.Refusal.TheVariants.{Exceeded, Invalid}
+use Rattle.refusals.specs.declared.limit.Limit.TheVariants.{Chain, Nesting}
 use Rattle.terminals.specs.Readers.{kinds}
 use Rattle.statements.specs.ReadStatements.{text}
 use Rattle.expressions.specs.Levels.{inner_at}

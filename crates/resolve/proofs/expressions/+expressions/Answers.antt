@@ -1,6 +1,6 @@
 use Rattle.std.proofs.Common.{◌∙◌, Ok, ap, sym}
 use Rattle.std.proofs.lemmas.Result.{err_from_is_err_and}
-use Rattle.lexer.specs.declared.refusals.Reason.TheVariants.{Check}
+use Rattle.refusals.specs.declared.reason.Reason.TheVariants.{Check}
 use Rattle.typing.specs.Expression.{product_operator}
 use Rattle.resolve.specs.Here.{joined_text, multiplier, summand}
 use Rattle.resolve.proofs.FindsLemmas.{Finds-each_item, Finds-invalid, each-finds, each-next}

@@ -1,6 +1,6 @@
 use Rattle.std.proofs.Common.{◌≡◌, ◌∙◌, List, ℕ, Option, Result, Ok, Err}
 use Rattle.std.proofs.lemmas.Result.{err_from_is_err_and}
-use Rattle.lexer.specs.declared.refusals.Refusal.{Refusal}
+use Rattle.refusals.specs.declared.refusal.Refusal.{Refusal}
 use Rattle.ast.specs.declared.operator.Alias.{Alias}
 use Rattle.ast.specs.declared.tree.Select.{Select}
 use Rattle.typing.specs.declared.typed.Query.{Query}
