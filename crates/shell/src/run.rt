@@ -4,7 +4,8 @@ ghost use Rattle.shell.specs.Status.{IsStatus};
 use crate::options::Settings;
 use disk::Disk;
 use refusals::Refusal;
-use sqlcore::{Core, Reply, ScriptFault, print_reply, run};
+use replies::{Reply, print_reply};
+use sqlcore::{Core, ScriptFault, run};
 use std::alloc::Global;
 use std::io::{Read, Write};
 

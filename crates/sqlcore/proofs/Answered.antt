@@ -21,7 +21,7 @@ use Rattle.denote.specs.Evaluation.{faults_in}
 use Rattle.denote.specs.Bag.{Permutes}
 use Rattle.denote.specs.Meaning.{query_outcome}
 use Rattle.denote.specs.Stop.{GivesRows, IsFaultOf}
-use Rattle.sqlcore.specs.declared.reply.Reply.TheVariants as says
+use Rattle.replies.specs.declared.reply.Reply.TheVariants as says
 use Rattle.sqlcore.specs.declared.table_rows.TableRows.{TableRows}
 use Rattle.sqlcore.specs.Carried.{AnswersQuery, RefusesRows, denoted, refusal_at, stored_rows}
 use Rattle.sqlcore.specs.Contents.{Contents, all_rows, rows_under, schema_of}

@@ -16,13 +16,13 @@ use Rattle.typing.specs.Finding.{Finding, reasons_in}
 use Rattle.typing.specs.Finds.{IsReasonOf}
 use Rattle.typing.specs.Statement.{answered_found}
 use Rattle.sqlcore.specs.declared.engine.Core.{Core}
-use Rattle.sqlcore.specs.declared.reply.Reply.{Reply}
-use Rattle.sqlcore.specs.declared.reply.Reply.TheVariants as says
+use Rattle.replies.specs.declared.reply.Reply.{Reply}
+use Rattle.replies.specs.declared.reply.Reply.TheVariants as says
 use Rattle.sqlcore.specs.declared.store.Store.{Store}
 use Rattle.sqlcore.specs.Carried.{Calls, IsAgainst}
 use Rattle.sqlcore.specs.Contents.{kept, schema_of}
 use Rattle.sqlcore.specs.Held.{IsUnchanged, LeavesTables, SameTables, contents_of}
-use Rattle.sqlcore.specs.Reading.{IsRead, IsUnread}
+use Rattle.session_laws.specs.Reading.{IsRead, IsUnread}
 
 is_memory : (e : Refusal) → (e ≡ r.Memory) ⊎ (e ≢ r.Memory)
 is_memory (r.Invalid reason) = inr (λ x. cc)

@@ -7,8 +7,8 @@ use Rattle.refusals.specs.declared.refusal.Refusal.TheVariants.{Invalid}
 use Rattle.refusals.specs.declared.reason.Reason.TheVariants as reason
 use Rattle.sqlcore.specs.declared.engine.Core.{Core}
 use Rattle.sqlcore.specs.declared.engine.SessionId.{SessionId}
-use Rattle.sqlcore.specs.declared.reply.Reply.{Reply}
-use Rattle.sqlcore.specs.declared.reply.Reply.TheVariants as says
+use Rattle.replies.specs.declared.reply.Reply.{Reply}
+use Rattle.replies.specs.declared.reply.Reply.TheVariants as says
 use Rattle.sqlcore.specs.Held.{session_of, IsUnchanged, Leaves, HasMade, HasEnded, IsSettled, Knows}
 
 same_number : (t s : SessionId) → t.number ≡ s.number → t ≡ s

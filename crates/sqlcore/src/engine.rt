@@ -2,11 +2,11 @@
 ghost use Rattle.std.specs.Prelude.{◌≡◌, ◌≢◌, ◌↔◌, ◌<◌, ◌-◌, ◌^◌, true, IsOk, IfOk, IfErr, MatchBool, MatchResult};
 
 use crate::execution::{answer, carry_out_change, read_statement};
-use crate::reply::Reply;
 use crate::rollback::is_rollback;
 use crate::store::Store;
 use disk::Disk;
 use refusals::{Limit, Reason, Refusal};
+use replies::Reply;
 use resolve::resolve;
 use std::alloc::Global;
 use typing::Typed;
@@ -49,8 +49,8 @@ impl<D: Disk> Core<D> {
     ghost use Rattle.typing.specs.Evaluated.{is_evaluated};
     ghost use Rattle.sqlcore.specs.Carried.{Calls, Does};
     ghost use Rattle.sqlcore.specs.Held.{session_of, sessions_made, device_of, IsNew, HasMade, HasEnded, HasRolledBack, IsNoStatement, IsUnchanged, Leaves, RefusesUnread};
-    ghost use Rattle.sqlcore.specs.Reading.{IsUnread};
-    ghost use Rattle.sqlcore.specs.Step.{IsRollback};
+    ghost use Rattle.session_laws.specs.Reading.{IsUnread};
+    ghost use Rattle.session_laws.specs.Step.{IsRollback};
 
     /// A new database on a device of length 0, without tables and sessions, over a pool of `frames` pages.
     ///

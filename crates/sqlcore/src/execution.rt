@@ -10,10 +10,9 @@ ghost use Rattle.typing.specs.Evaluated.{change_evaluated, insert_evaluated, que
 ghost use Rattle.sqlcore.specs.Carried.{AnswersQuery, Carries, GivesStored, RefusesRows, refusal_at};
 ghost use Rattle.sqlcore.specs.Contents.{contents};
 ghost use Rattle.sqlcore.specs.Held.{SameTables, LeavesTables};
-ghost use Rattle.sqlcore.specs.Reading.{IsRead, IsUnread};
+ghost use Rattle.session_laws.specs.Reading.{IsRead, IsUnread};
 
 use crate::engine::LONGEST_STATEMENT;
-use crate::reply::Reply;
 use crate::store::Store;
 use ast::Statement;
 use denote::{Env, Fault, Rows, Stop, broken_not_null, query_rows, rows_to_insert};
@@ -21,6 +20,7 @@ use items::Items;
 use lexer::{Token, first_unsupported, tokens};
 use parser::parse;
 use refusals::{Limit, Reason, Refusal};
+use replies::Reply;
 use sqlval::Table;
 use std::alloc::Global;
 use typing::{Change, CreateTable, Insert, InsertSource, OrderedQuery};

@@ -3,11 +3,10 @@ ghost use Rattle.std.specs.Prelude.{◌≡◌, ◌≤◌, length, IfOk};
 ghost use Rattle.sqlcore.specs.Held.{IsUnchanged, IsSettled, Knows};
 
 use crate::engine::{Core, SessionId};
-use crate::input::{Cutter, Request};
-use crate::printing::print_reply;
-use crate::reply::Reply;
 use disk::Disk;
 use refusals::{Reason, Refusal};
+use replies::{Reply, print_reply};
+use script_pieces::{Cutter, Request};
 use std::alloc::{AllocError, Global};
 use std::io;
 use std::io::{ErrorKind, Read, Write};

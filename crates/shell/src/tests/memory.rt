@@ -4,7 +4,8 @@
 
 use disk::MemDisk;
 use refusals::Refusal;
-use sqlcore::{Core, Reply, SessionId, print_reply};
+use replies::{Reply, print_reply};
+use sqlcore::{Core, SessionId};
 use std::process::Abort;
 use std::test::Fail;
 

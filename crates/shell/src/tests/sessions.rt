@@ -2,7 +2,8 @@
 
 use disk::MemDisk;
 use refusals::{Reason, Refusal};
-use sqlcore::{Core, Refused, Reply, SessionId};
+use replies::Reply;
+use sqlcore::{Core, Refused, SessionId};
 use std::alloc::Global;
 use std::test::Fail;
 

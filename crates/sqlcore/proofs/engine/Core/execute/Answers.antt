@@ -1,6 +1,6 @@
 use Rattle.std.proofs.Common.{sym, subst}
 use Rattle.std.proofs.lemmas.Result.{err_from_is_err_and, MatchResult-weaker}
-use Rattle.sqlcore.specs.declared.reply.Reply.TheVariants as says
+use Rattle.replies.specs.declared.reply.Reply.TheVariants as says
 use Rattle.sqlcore.specs.Carried.{Calls, StandsFor}
 use Rattle.sqlcore.proofs.Called.{called_unread, called_wrong}
 use Rattle.sqlcore.proofs.engine.Core.execute.Goals as goal

@@ -1,0 +1,86 @@
+ghost use Rattle.std.specs.Prelude.{◌≡◌, is_ok};
+ghost use Rattle.replies.specs.Printed.{spelled_character, quotes_doubled, printed_text, printed_value, other_field, other_fields, printed_fields, printed_row};
+ghost use Rattle.replies.specs.Writes.{Writes};
+
+use super::put::put;
+use items::Items;
+use itoa::Buffer;
+use sqlval::Value;
+use std::io::Write;
+use std::{io, slice};
+
+/// A row on a line of its own.
+pub(crate) fn print_row<W: Write>(row: &Items<Value>, writer: &mut W) -> io::Result<()>
+    ensures { Writes (W.contents writer.old) (W.contents writer.new) (is_ok result) (printed_row row.now) }
+{
+    print_fields(row.as_slice(), writer)?;
+    put(writer, b"\n")
+}
+
+fn print_fields<W: Write>(row: &[Value], writer: &mut W) -> io::Result<()>
+    ensures { Writes (W.contents writer.old) (W.contents writer.new) (is_ok result) (printed_fields row.now) }
+{
+    match row {
+        [] => Ok(()),
+        [first, others @ ..] => {
+            print_value(first, writer)?;
+            print_others(others, writer)
+        }
+    }
+}
+
+fn print_others<W: Write>(values: &[Value], writer: &mut W) -> io::Result<()>
+    ensures { Writes (W.contents writer.old) (W.contents writer.new) (is_ok result) (other_fields values.now) }
+{
+    for value in values {
+        print_other(value, writer)?;
+    }
+    Ok(())
+}
+
+fn print_other<W: Write>(value: &Value, writer: &mut W) -> io::Result<()>
+    ensures { Writes (W.contents writer.old) (W.contents writer.new) (is_ok result) (other_field value.now) }
+{
+    put(writer, b"|")?;
+    print_value(value, writer)
+}
+
+fn print_value<W: Write>(value: &Value, writer: &mut W) -> io::Result<()>
+    ensures { Writes (W.contents writer.old) (W.contents writer.new) (is_ok result) (printed_value value.now) }
+{
+    match value {
+        Value::Null => put(writer, b"NULL"),
+        Value::Int(number) => put(writer, Buffer::new().format(*number).as_bytes()),
+        Value::Text(text) => print_text(text.as_slice(), writer),
+    }
+}
+
+/// A text in single quotes.
+fn print_text<W: Write>(text: &[u8], writer: &mut W) -> io::Result<()>
+    ensures { Writes (W.contents writer.old) (W.contents writer.new) (is_ok result) (printed_text text.now) }
+{
+    put(writer, b"'")?;
+    print_quoted(text, writer)?;
+    put(writer, b"'")
+}
+
+/// The characters of a text, each quote twice.
+fn print_quoted<W: Write>(text: &[u8], writer: &mut W) -> io::Result<()>
+    ensures { Writes (W.contents writer.old) (W.contents writer.new) (is_ok result) (quotes_doubled text.now) }
+{
+    for character in text {
+        put(writer, spelled(character))?;
+    }
+    Ok(())
+}
+
+/// The character as a string holds it: a quote is written twice.
+fn spelled(character: &u8) -> &[u8]
+    ensures { result.now ≡ spelled_character character.now }
+{
+    if *character == b'\'' {
+        b"''"
+    } else {
+        slice::from_ref(character)
+    }
+}

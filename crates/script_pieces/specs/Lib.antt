@@ -1,0 +1,4 @@
+pub mod Pieces
+pub mod PieceMeaning
+pub mod Place
+pub mod Cutter

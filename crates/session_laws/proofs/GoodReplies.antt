@@ -1,0 +1,123 @@
+-- What a reply's effect leaves is good, where the session's transaction and the one in which its statement runs are.
+use Rattle.std.proofs.Common.{◌≡◌, [], ◌∷◌, ◌++◌, Option, Some, None}
+use Rattle.refusals.specs.declared.refusal.Refusal.{Refusal}
+use Rattle.lexer.specs.Token.{Bytes}
+use Rattle.ast.specs.declared.statement.AccessMode.{AccessMode}
+use Rattle.ast.specs.declared.statement.DeclareCursor.{DeclareCursor}
+use Rattle.ast.specs.declared.statement.OrderedQuery.{OrderedQuery}
+use Rattle.ast.specs.declared.statement.Statement.{Statement}
+use Rattle.ast.specs.declared.statement.Statement.TheVariants as asks
+use Rattle.denote.specs.Database.{Name, IsGood}
+use Rattle.replies.specs.declared.reply.Reply.{Reply}
+use Rattle.session_laws.specs.Effect.{Effect}
+use Rattle.session_laws.specs.Rules.{Rules}
+use Rattle.session_laws.specs.Statements.{Queries, Explains, Changes, Ends, Undoes, SetsMode, Declares, Opens, Fetches, Closes, CarriesOut}
+use Rattle.session_laws.specs.Step.{Withholds, Replies}
+use Rattle.session_laws.specs.Transactions.{active, with_cursor, without_cursor}
+use Rattle.session_laws.specs.World.{Transaction, Session}
+use Rattle.session_laws.proofs.GoodDatabases.{accepted_good}
+
+module _ (rules : Rules) where
+  abbrev pub IsGoodTransaction : Transaction → Type 0
+  IsGoodTransaction t = IsGood rules.check t.found × IsGood rules.check t.working
+
+  abbrev pub IsGoodIfAny : Option Transaction → Type 0
+  IsGoodIfAny None = Unit {0}
+  IsGoodIfAny (Some t) = IsGoodTransaction t
+
+  -- what the effect leaves of the session, or commits, is good
+  abbrev pub LeavesGood : Effect → Type 0
+  LeavesGood Effect.Nothing = Unit {0}
+  LeavesGood (Effect.Becomes x) = IsGoodIfAny x.transaction
+  LeavesGood (Effect.Writes x) = IsGoodIfAny x.transaction
+  LeavesGood (Effect.Commits t) = IsGood rules.check t.working
+  LeavesGood Effect.RollsBack = Unit {0}
+
+  module _ (session : Session) (t : Transaction) (obstacle : Option Refusal) (reply : Reply) (effect : Effect)
+      (own : IsGoodIfAny session.transaction) (good : IsGoodTransaction t) where
+    nothing : effect ≡ Effect.Nothing → LeavesGood effect
+    nothing e = rw e tt
+
+    becomes : (u : Transaction) → IsGoodTransaction u → effect ≡ Effect.Becomes (active session u) → LeavesGood effect
+    becomes u h e = rw e h
+
+    queries_good : (x : OrderedQuery) → Queries rules session t x reply effect → LeavesGood effect
+    queries_good x (Queries.wrong refusal why r) = nothing r.leaves_all
+    queries_good x (Queries.gives query rows m a is e) = becomes t good e
+    queries_good x (Queries.raises query fault m a r) = nothing r.leaves_all
+
+    explains_good : (x : OrderedQuery) → Explains rules session t x reply effect → LeavesGood effect
+    explains_good x (Explains.wrong refusal why r) = nothing r.leaves_all
+    explains_good x (Explains.shows query lines m is e) = becomes t good e
+
+    changes_good : (x : Statement) → Changes rules session t obstacle x reply effect → LeavesGood effect
+    changes_good x (Changes.reads_only o r) = nothing r.leaves_all
+    changes_good x (Changes.has_cursor o r) = nothing r.leaves_all
+    changes_good x (Changes.overtaken o is e) = rw e tt
+    changes_good x (Changes.wrong refusal o why r) = nothing r.leaves_all
+    changes_good x (Changes.makes change db count o m a is e) = rw e (good.0, accepted_good rules.check t.working db change count good.1 a)
+    changes_good x (Changes.raises change fault o m f r) = nothing r.leaves_all
+    changes_good x (Changes.violates change name o m f r) = nothing r.leaves_all
+
+    ends_good : (u : Option Transaction) → IsGoodIfAny u → Ends u reply effect → LeavesGood effect
+    ends_good None is h = nothing h.1
+    ends_good (Some u) is h = rw h.1 is.1
+
+    undoes_good : (u : Option Transaction) → Undoes u reply effect → LeavesGood effect
+    undoes_good None h = nothing h.1
+    undoes_good (Some u) h = rw h.1 tt
+
+    sets_good : (u : Option Transaction) (mode : AccessMode) → SetsMode session u mode reply effect → LeavesGood effect
+    sets_good None mode h = rw h.1 own
+    sets_good (Some u) mode h = nothing h.leaves_all
+
+    declares_good : (x : DeclareCursor) → Declares session t x reply effect → LeavesGood effect
+    declares_good x (Declares.open_already is r) = nothing r.leaves_all
+    declares_good x (Declares.too_many is fails many r) = nothing r.leaves_all
+    declares_good x (Declares.declares is room says e) = rw e own
+
+    opens_good : (name : Name) → Opens rules session t name reply effect → LeavesGood effect
+    opens_good name (Opens.open_already is r) = nothing r.leaves_all
+    opens_good name (Opens.undeclared is r) = nothing r.leaves_all
+    opens_good name (Opens.wrong y refusal is d why r) = nothing r.leaves_all
+    opens_good name (Opens.opens y query outcome is d m same says e) = becomes (with_cursor t name (record { outcome = outcome; given = [] })) good e
+
+    fetches_good : (name : Name) → Fetches session t name reply effect → LeavesGood effect
+    fetches_good name (Fetches.not_open is r) = nothing r.leaves_all
+    fetches_good name (Fetches.gives cursor row is may says e) =
+        becomes (with_cursor t name (record cursor { given = cursor.given ++ row ∷ [] })) good e
+    fetches_good name (Fetches.ends cursor is end says e) = nothing e
+    fetches_good name (Fetches.raises cursor fault is may says e) = becomes (without_cursor t name) good e
+
+    closes_good : (name : Name) → Closes session t name reply effect → LeavesGood effect
+    closes_good name (Closes.not_open is r) = nothing r.leaves_all
+    closes_good name (Closes.closes is says e) = becomes (without_cursor t name) good e
+
+    carried_out_good : (x : Statement) → CarriesOut rules session t obstacle x reply effect → LeavesGood effect
+    carried_out_good (asks.Query x) h = queries_good x h
+    carried_out_good (asks.Explain x) h = explains_good x h
+    carried_out_good (asks.CreateTable x) h = changes_good (asks.CreateTable x) h
+    carried_out_good (asks.DropTable x) h = changes_good (asks.DropTable x) h
+    carried_out_good (asks.CreateIndex x) h = changes_good (asks.CreateIndex x) h
+    carried_out_good (asks.DropIndex x) h = changes_good (asks.DropIndex x) h
+    carried_out_good (asks.Insert x) h = changes_good (asks.Insert x) h
+    carried_out_good (asks.Update x) h = changes_good (asks.Update x) h
+    carried_out_good (asks.Delete x) h = changes_good (asks.Delete x) h
+    carried_out_good (asks.Commit work) h = ends_good session.transaction own h
+    carried_out_good (asks.Rollback work) h = undoes_good session.transaction h
+    carried_out_good (asks.SetTransaction mode) h = sets_good session.transaction mode h
+    carried_out_good (asks.DeclareCursor x) h = declares_good x h
+    carried_out_good (asks.OpenCursor name) h = opens_good name h
+    carried_out_good (asks.Fetch name) h = fetches_good name h
+    carried_out_good (asks.CloseCursor name) h = closes_good name h
+
+    withholds_good : (text : Bytes) → Withholds session t text reply effect → LeavesGood effect
+    withholds_good text (Withholds.of_memory other r) = nothing r.leaves_all
+    withholds_good text (Withholds.of_no_statement refusal other reserved why r) = nothing r.leaves_all
+    withholds_good text (Withholds.of_statement refusal x reserved read may r) = nothing r.leaves_all
+    withholds_good text (Withholds.closes refusal name reserved read is says e) = becomes (without_cursor t name) good e
+
+    pub replies_good : (text : Bytes) → Replies rules session t obstacle text reply effect → LeavesGood effect
+    replies_good text (Replies.unread refusal why r) = nothing r.leaves_all
+    replies_good text (Replies.carried_out x read h) = carried_out_good x h
+    replies_good text (Replies.withheld h) = withholds_good text h

@@ -1,0 +1,14 @@
+pub mod Maps
+pub mod Effects
+pub mod Shapes
+pub mod RefusedCalls
+pub mod SoundLemmas
+pub mod SoundSteps
+pub mod Alone
+pub mod Series
+pub mod Serializable
+pub mod Live
+pub mod Played
+pub mod GoodDatabases
+pub mod GoodReplies
+pub mod GoodSteps

@@ -1,0 +1,14 @@
+use Rattle.session_laws.proofs.GoodSteps.{good_alone, good_new, good_run, good_history}
+use Rattle.session_laws.proofs.runs.databases_stay_good.Goals as goal
+
+pub returns-clause-new_world : goal.returns-clause-new_world
+returns-clause-new_world c = good_new
+
+pub returns-clause-opened : goal.returns-clause-opened
+returns-clause-opened c = λ reading db good. good_alone reading 0 db good
+
+pub returns-clause-run : goal.returns-clause-run
+returns-clause-run c = good_run
+
+pub returns-clause-committed : goal.returns-clause-committed
+returns-clause-committed c = good_history

@@ -1,0 +1,12 @@
+use Rattle.session_laws.proofs.Live.{keeps_live, made_live, made_others, dropped_live, dropped_others}
+use Rattle.session_laws.proofs.runs.sessions_stand_until_they_end.Goals as goal
+
+pub returns : goal.returns
+returns c = record {
+  calls = keeps_live;
+  made = made_live;
+  was_free = λ old new s h. h.0;
+  made_alone = made_others;
+  dropped = dropped_live;
+  dropped_alone = dropped_others;
+}

@@ -1,0 +1,123 @@
+-- What happens to an engine over time: calls of sessions, the making and ending of sessions, flushes, and close with a later open
+-- (sessions begin and end by 4.30 and 15 of ISO/IEC 9075:1992; flushes, close and open are our own choice).
+use Rattle.std.specs.Prelude.{◌≡◌, ◌⊎◌, ℕ, ◌<◌, ◌≤◌, Bool, true, false, ◌||◌, List, [], ◌∷◌, ◌++◌, map, filter, Result, Ok, Err, Some, None, if◌then◌else◌}
+use Rattle.std.specs.List.{list_all}
+use Rattle.std.specs.FinMap.{get, remove, empty, len}
+use Rattle.refusals.specs.declared.refusal.Refusal.{Refusal}
+use Rattle.refusals.specs.declared.refusal.Refusal.TheVariants.{Memory, Disk, Exceeded}
+use Rattle.refusals.specs.declared.limit.Limit.TheVariants as limit
+use Rattle.lexer.specs.Token.{Bytes}
+use Rattle.denote.specs.Database.{Database}
+use Rattle.replies.specs.declared.reply.Reply.{Reply}
+use Rattle.session_laws.specs.Effect.{Effect, writer_without}
+use Rattle.session_laws.specs.Refusals.{StopsFlush}
+use Rattle.session_laws.specs.Rules.{Rules}
+use Rattle.session_laws.specs.Step.{Call}
+use Rattle.session_laws.specs.World.{Session, World, is_live, is_writer, new_session, opened, with_session}
+
+-- An event, with its reply. Of a call its effect is told too: text, reply and world do not always determine it (a FETCH that is refused for want of memory
+-- may have closed its cursor or not).
+pub data Event : Type 0 where
+  Makes : (made : Result ℕ Refusal) → Event
+  Calls : (session : ℕ) → (text : Bytes) → (reply : Reply) → (effect : Effect) → Event
+  Drops : (session : ℕ) → Event
+  Flushes : (left : Result ℕ Refusal) → Event
+  FailsToClose : (refusal : Refusal) → Event
+  Reopens : Event
+
+-- the greatest number of sessions at a time (our own choice): one until many sessions come, and 64 then
+abbrev pub most_sessions : ℕ
+most_sessions = 1
+
+-- a new session gets a number that no other has; none is made where as many stand as may, or for want of memory
+abbrev pub MakesSession : World → Result ℕ Refusal → World → Type 0
+MakesSession old (Ok s) new = (is_live old s ≡ false) × (len old.sessions < most_sessions) × (new ≡ with_session old s new_session)
+MakesSession old (Err refusal) new =
+    (((most_sessions ≤ len old.sessions) × (refusal ≡ Exceeded limit.Sessions)) ⊎ ((len old.sessions < most_sessions) × (refusal ≡ Memory))) × (new ≡ old)
+
+-- the world without a session, whose transaction is rolled back
+abbrev pub without_session : World → ℕ → World
+without_session w s = record w { writer = writer_without w s; sessions = remove w.sessions s }
+
+pub record DropsSession (old : World) (s : ℕ) (new : World) : Type 0 where
+  pub session : Session
+  pub stands : get old.sessions s ≡ Some session
+  pub leaves : new ≡ without_session old s
+
+-- the world in which all sessions have ended
+abbrev pub without_sessions : World → World
+without_sessions w = record w { writer = None; sessions = empty }
+
+-- a flush writes pages and changes no world; it is refused for want of memory or by the device alone
+abbrev pub FlushesPages : World → Result ℕ Refusal → World → Type 0
+FlushesPages old (Ok left) new = new ≡ old
+FlushesPages old (Err refusal) new = StopsFlush refusal × (new ≡ old)
+
+-- an event happens, and leaves this world
+abbrev pub Happens : Rules → World → Event → World → Type 0
+Happens rules old (Event.Makes made) new = MakesSession old made new
+Happens rules old (Event.Calls s text reply effect) new = Call rules old s text reply effect new
+Happens rules old (Event.Drops s) new = DropsSession old s new
+Happens rules old (Event.Flushes left) new = FlushesPages old left new
+Happens rules old (Event.FailsToClose refusal) new = (refusal ≡ Disk) × (new ≡ without_sessions old)
+Happens rules old Event.Reopens new = new ≡ opened old.last
+
+-- ---- runs
+
+-- an event, and the world in which it happened
+pub record Moment : Type 0 where
+  pub before : World
+  pub event : Event
+
+-- Events happened one after another, from one world to another. The latest stands first.
+abbrev pub Run : Rules → World → List Moment → World → Type 0
+Run rules start [] end = end ≡ start
+Run rules start (moment ∷ earlier) end = Run rules start earlier moment.before × Happens rules moment.before moment.event end
+
+-- what sessions do: they are made, also where that is refused, called, and ended
+abbrev pub is_call : Event → Bool
+is_call (Event.Makes made) = true
+is_call (Event.Calls s text reply effect) = true
+is_call (Event.Drops s) = true
+is_call (Event.Flushes left) = false
+is_call (Event.FailsToClose refusal) = false
+is_call Event.Reopens = false
+
+abbrev pub is_flush : Event → Bool
+is_flush (Event.Flushes left) = true
+is_flush (Event.Makes made) = false
+is_flush (Event.Calls s text reply effect) = false
+is_flush (Event.Drops s) = false
+is_flush (Event.FailsToClose refusal) = false
+is_flush Event.Reopens = false
+
+-- the calls among events
+abbrev pub calls_of : List Event → List Event
+calls_of = filter is_call
+
+-- Calls and flushes, the latest first, can have happened in this order from the one world to the other: a legal history.
+pub record IsLegal (rules : Rules) (start : World) (events : List Event) (end : World) : Type 0 where
+  pub shared : list_all (λ event. is_call event || is_flush event) events ≡ true
+  pub moments : List Moment
+  pub told : map (λ moment. moment.event) moments ≡ events
+  pub run : Run rules start moments end
+
+-- ---- the databases that were committed
+
+-- with what a COMMIT adds, if it is the writer's
+abbrev pub lengthened : World → Event → List Database → List Database
+lengthened w (Event.Calls s text reply (Effect.Commits t)) dbs = if is_writer w s then dbs ++ t.working ∷ [] else dbs
+lengthened w (Event.Calls s text reply Effect.Nothing) dbs = dbs
+lengthened w (Event.Calls s text reply (Effect.Becomes session)) dbs = dbs
+lengthened w (Event.Calls s text reply (Effect.Writes session)) dbs = dbs
+lengthened w (Event.Calls s text reply Effect.RollsBack) dbs = dbs
+lengthened w (Event.Makes made) dbs = dbs
+lengthened w (Event.Drops s) dbs = dbs
+lengthened w (Event.Flushes left) dbs = dbs
+lengthened w (Event.FailsToClose refusal) dbs = dbs
+lengthened w Event.Reopens dbs = w.last ∷ []
+
+-- The committed databases since the last open, in the order of their commits; the first is the one that was opened.
+abbrev pub history : World → List Moment → List Database
+history start [] = start.last ∷ []
+history start (moment ∷ earlier) = lengthened moment.before moment.event (history start earlier)

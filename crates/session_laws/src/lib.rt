@@ -1,0 +1,9 @@
+//! What sessions are: worlds, the steps and runs of calls, scripts; and the laws that follow from these definitions.
+#![tactic(auto)]
+
+mod runs;
+
+pub use runs::{
+    committed_databases_form_one_list, databases_stay_good, refusals_leave_the_world,
+    runs_are_serializable, scripts_are_runs, sessions_stand_until_they_end, worlds_stay_sound,
+};

@@ -1,8 +1,0 @@
-use Rattle.sqlcore.specs.declared.input.cutter.Cutter.{Cutter}
-use Rattle.sqlcore.proofs.Cutters.{ends_at}
-use Rattle.sqlcore.proofs.input.cutter.Cutter.end.Goals as goal
-
-pub returns : goal.returns
-returns c =
-    let new : Cutter = record c.args.self.now { text = c.push.new.self } in
-    ends_at c.args.self.now new c.request_at_end-request.result c.request_at_end-request.new.text c.requires c.request_at_end-request.ensures c.push.ensures

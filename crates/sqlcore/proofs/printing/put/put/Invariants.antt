@@ -1,5 +1,0 @@
-use Rattle.sqlcore.proofs.Written.{HasTaken}
-use Rattle.sqlcore.proofs.printing.put.put.Given as goal
-
-abbrev pub invariant-loop : goal.invariant-loop
-invariant-loop g l = HasTaken (g.W.Write.contents l.initial.writer) (g.W.Write.contents l.writer) l.bytes l.rest

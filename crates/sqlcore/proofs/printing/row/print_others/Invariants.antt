@@ -1,8 +1,0 @@
-use Rattle.std.proofs.Common.{drop}
-use Rattle.sqlcore.specs.Printed.{other_fields}
-use Rattle.sqlcore.proofs.Written.{HasTaken}
-use Rattle.sqlcore.proofs.printing.row.print_others.Given as goal
-
-abbrev pub invariant-loop-value : goal.invariant-loop-value
-invariant-loop-value g l =
-    HasTaken (g.W.Write.contents l.initial.writer) (g.W.Write.contents l.writer) (other_fields l.values) (other_fields (drop l.value-index l.values))
