@@ -298,7 +298,7 @@ module _ (k : Known) where
       go true (Err reasons) = refl
       go false found = refl
 
-  module _ (tree : OrderedTree) (h : (built.is_nil tree.order && built.query_built tree.query) ≡ true) where
+  module _ (tree : OrderedTree) (h : built.ordered_built tree ≡ true) where
     no_order : tree.order ≡ []
     no_order = nil_same tree.order (left (built.is_nil tree.order) (built.query_built tree.query) h)
 

@@ -2,8 +2,8 @@
 
 ghost use Rattle.std.specs.Prelude.{◌≡◌, [], ◌∷◌, ◌&&◌, true, List, Option, None, Ok, map, IfOk, IfErr};
 ghost use Rattle.std.specs.Option.{option_copied};
-ghost use Rattle.typing.specs.Built.{is_nil, query_built};
-ghost use Rattle.typing.specs.Evaluated.{query_evaluated};
+ghost use Rattle.typing.specs.Built.{ordered_built};
+ghost use Rattle.typing.specs.Evaluated.{ordered_evaluated, query_evaluated};
 ghost use Rattle.typing.specs.Finding.{Finding, each, reasons_in};
 ghost use Rattle.typing.specs.Finds.{Finds, IsReasonOf};
 ghost use Rattle.typing.specs.From.{shown_name};
@@ -40,9 +40,9 @@ pub fn typed_query(
     tree: &ast::OrderedQuery,
     schema: &Schema,
 ) -> Result<OrderedQuery, Refusal>
-    requires built { (is_nil tree.now.order && query_built tree.now.query) ≡ true }
+    requires built { ordered_built tree.now ≡ true }
     ensures finds { Finds result (query_answered (known schema.now) tree.now) }
-    ensures evaluated { IfOk result (λ query. (is_nil query.keys && query_evaluated query.query) ≡ true) }
+    ensures evaluated { IfOk result (λ query. ordered_evaluated query ≡ true) }
 {
     let Some(select) = only_select(&tree.query) else {
         return Err(Refusal::NotSupported);

@@ -2,7 +2,7 @@
 
 ghost use Rattle.std.specs.Prelude.{◌≡◌, ◌&&◌, true, IfOk};
 ghost use Rattle.std.specs.List.{list_all};
-ghost use Rattle.typing.specs.Built.{element_built, is_built, is_nil, query_built, rows_built};
+ghost use Rattle.typing.specs.Built.{element_built, is_built, ordered_built, rows_built};
 ghost use Rattle.typing.specs.CreateTable.{create_found};
 ghost use Rattle.typing.specs.Evaluated.{is_evaluated};
 ghost use Rattle.typing.specs.Finds.{Finds};
@@ -61,7 +61,7 @@ fn resolve_query(
     query: &ast::OrderedQuery,
     schema: &Schema,
 ) -> Result<Typed, Refusal>
-    requires built { (is_nil query.now.order && query_built query.now.query) ≡ true }
+    requires built { ordered_built query.now ≡ true }
     ensures finds { Finds result (of_query (query_answered (known schema.now) query.now)) }
     ensures evaluated { IfOk result (λ typed. is_evaluated typed ≡ true) }
 {

@@ -4,7 +4,7 @@ ghost use Rattle.std.specs.Prelude.{◌≡◌, ◌&&◌, not, is_none, map};
 ghost use Rattle.std.specs.List.{list_all};
 ghost use Rattle.std.specs.Option.{option_map};
 ghost use Rattle.ast.specs.declared.tree.Select.{out-Select};
-ghost use Rattle.typing.specs.Built.{all, element_built, expression_built, if_any, is_built, is_distinct, is_nil, is_not_null, items_built, query_built, rows_built, stored_built};
+ghost use Rattle.typing.specs.Built.{all, element_built, expression_built, if_any, is_built, is_distinct, is_nil, is_not_null, items_built, ordered_built, rows_built, stored_built};
 ghost use Rattle.resolve.specs.BuiltParts.{condition_built, conjunction_built, factor_built, item_built, negation_built, reference_built, select_built, term_built};
 
 use crate::queries::only_select;
@@ -118,7 +118,7 @@ fn is_source_built(source: &StoredSource) -> bool
 
 #[tactic(auto, using(crate::proofs::BuiltSteps::query_steps))]
 fn is_query_built(query: &OrderedQuery) -> bool
-    ensures { result ≡ (is_nil query.now.order && query_built query.now.query) }
+    ensures { result ≡ ordered_built query.now }
 {
     match only_select(&query.query) {
         Some(select) => query.order.is_empty() && is_select_built(select),

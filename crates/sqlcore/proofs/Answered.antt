@@ -13,7 +13,7 @@ use Rattle.typing.specs.declared.typed.OrderedQuery.{OrderedQuery}
 use Rattle.sqlval.specs.declared.schema.Table.{Table}
 use Rattle.typing.specs.declared.statement.Insert.{Insert}
 use Rattle.typing.specs.Built.{is_nil}
-use Rattle.typing.specs.Evaluated.{insert_evaluated, query_evaluated}
+use Rattle.typing.specs.Evaluated.{insert_evaluated, ordered_evaluated, query_evaluated}
 use Rattle.denote.specs.declared.fault.Stop.{Stop}
 use Rattle.denote.specs.declared.fault.Stop.TheVariants as stop
 use Rattle.denote.specs.Answer.{Answers, by_keys}
@@ -48,15 +48,15 @@ rows_answer c q rows none gives =
     (gives.ok.0, subst (λ r. Permutes (query_outcome (rows_under c) q.query []).rows r) gives.ok.1 (permutes_itself (query_outcome (rows_under c) q.query []).rows), sorted_by_nothing q.keys rows none)
 
 -- who stops at a query that is evaluated names one of its faults
-pub query_refused : (c : Contents) (q : OrderedQuery) (s : Stop) → (is_nil q.keys && query_evaluated q.query) ≡ true → (s ≡ stop.NotBuilt → query_evaluated q.query ≡ false)
+pub query_refused : (c : Contents) (q : OrderedQuery) (s : Stop) → ordered_evaluated q ≡ true → (s ≡ stop.NotBuilt → query_evaluated q.query ≡ false)
     → IsFaultOf (query_outcome (rows_under c) q.query []).faults s → AnswersQuery c q (says.Refused (refusal_at s))
 query_refused c q stop.Memory e n h = inl refl
 query_refused c q stop.NotBuilt e n h = absurd (cc (second (is_nil q.keys) (query_evaluated q.query) e, n refl))
 query_refused c q (stop.Fault fault) e n h = inr (fault, refl, h)
 
 -- a query that is evaluated has no ORDER BY
-pub unordered : (c : Contents) (q : OrderedQuery) (r : Refusal) → (is_nil q.keys && query_evaluated q.query) ≡ true → (q.keys ≡ [] → ⊥) → AnswersQuery c q (says.Refused r)
-unordered c q r e n = absurd (n (none q.keys (first (is_nil q.keys) (query_evaluated q.query) e)))
+pub unordered : (q : OrderedQuery) → ordered_evaluated q ≡ true → q.keys ≡ []
+unordered q e = none q.keys (first (is_nil q.keys) (query_evaluated q.query) e)
   where
     none : {A : Type 0} (xs : List A) → is_nil xs ≡ true → xs ≡ []
     none [] h = refl

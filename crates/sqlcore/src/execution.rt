@@ -5,8 +5,7 @@ ghost use Rattle.refusals.specs.declared.refusal.Refusal.TheVariants.{Memory};
 ghost use Rattle.lexer.specs.Support as unsupported;
 ghost use Rattle.sqlval.specs.declared.schema.Table as declared;
 ghost use Rattle.typing.specs.declared.statement.Change.TheVariants as does;
-ghost use Rattle.typing.specs.Built.{is_nil};
-ghost use Rattle.typing.specs.Evaluated.{change_evaluated, insert_evaluated, query_evaluated};
+ghost use Rattle.typing.specs.Evaluated.{change_evaluated, insert_evaluated, ordered_evaluated};
 ghost use Rattle.sqlcore.specs.Carried.{AnswersQuery, Carries, GivesStored, RefusesRows, refusal_at};
 ghost use Rattle.sqlcore.specs.Contents.{contents};
 ghost use Rattle.sqlcore.specs.Held.{SameTables, LeavesTables};
@@ -50,12 +49,9 @@ fn are_supported(tokens: &[Token]) -> bool
 
 /// The rows of a query, over the tables as the session sees them.
 pub(crate) fn answer(alloc: Global, store: &Store, query: &OrderedQuery) -> Result<Reply, Refusal>
-    requires evaluated { (is_nil query.now.keys && query_evaluated query.now.query) ≡ true }
+    requires evaluated { ordered_evaluated query.now ≡ true }
     ensures { MatchResult result (λ reply. AnswersQuery (contents store.now) query.now reply) (λ refusal. AnswersQuery (contents store.now) query.now (Reply.Refused refusal)) }
 {
-    if !query.keys.is_empty() {
-        return Err(Refusal::NotSupported);
-    }
     match query_rows(alloc, store, &Env::Outermost, &query.query) {
         Ok(rows) => Ok(Reply::Rows(rows)),
         Err(stop) => Err(refusal_of(stop)),

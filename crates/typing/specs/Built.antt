@@ -26,6 +26,7 @@ use Rattle.ast.specs.declared.statement.ColumnRule.{ColumnRule}
 use Rattle.ast.specs.declared.statement.ColumnRule.TheVariants as rule
 use Rattle.ast.specs.declared.statement.InsertRows.{InsertRows}
 use Rattle.ast.specs.declared.statement.InsertRows.TheVariants as rows
+use Rattle.ast.specs.declared.statement.OrderedQuery.{OrderedQuery}
 use Rattle.ast.specs.declared.statement.StoredSource.{StoredSource}
 use Rattle.ast.specs.declared.statement.StoredSource.TheVariants as source
 use Rattle.ast.specs.declared.statement.TableElement.{TableElement}
@@ -153,8 +154,12 @@ abbrev pub rows_built : InsertRows → Bool
 rows_built (rows.Values values) = list_all (list_all stored_built) values
 rows_built (rows.Query query) = false
 
+-- a query without ORDER BY
+abbrev pub ordered_built : OrderedQuery → Bool
+ordered_built query = is_nil query.order && query_built query.query
+
 abbrev pub is_built : Statement → Bool
-is_built (statement.Query query) = is_nil query.order && query_built query.query
+is_built (statement.Query query) = ordered_built query
 is_built (statement.CreateTable table) = list_all element_built table.elements
 is_built (statement.Insert insert) = rows_built insert.rows
 is_built (statement.Commit has_work) = true

@@ -12,6 +12,7 @@ use Rattle.typing.specs.declared.typed.Condition.{Condition, Condition-F, fold-C
 use Rattle.typing.specs.declared.typed.Expression.{Expression, Expression-F, fold-Expression}
 use Rattle.typing.specs.declared.typed.Grouping.{Grouping, Grouping-F, fold-Grouping}
 use Rattle.typing.specs.declared.typed.Item.{Item, Item-F, fold-Item}
+use Rattle.typing.specs.declared.typed.OrderedQuery.{OrderedQuery}
 use Rattle.typing.specs.declared.typed.Query.{Query, Query-F, fold-Query}
 use Rattle.typing.specs.declared.typed.Select.{Select, Select-F, fold-Select}
 use Rattle.typing.specs.declared.typed.SetFunction.{SetFunction-F}
@@ -105,9 +106,13 @@ change_evaluated (does.CreateTable table) = true
 change_evaluated (does.Insert insert) = insert_evaluated insert.source
 change_evaluated other = false
 
+-- a query without ORDER BY
+abbrev pub ordered_evaluated : OrderedQuery → Bool
+ordered_evaluated query = is_nil query.keys && query_evaluated query.query
+
 -- a statement that is carried out: a query without ORDER BY, CREATE TABLE, INSERT of VALUES, COMMIT and ROLLBACK
 abbrev pub is_evaluated : Typed → Bool
-is_evaluated (asks.Query query) = is_nil query.keys && query_evaluated query.query
+is_evaluated (asks.Query query) = ordered_evaluated query
 is_evaluated (asks.Change change) = change_evaluated change
 is_evaluated asks.Commit = true
 is_evaluated asks.Rollback = true
