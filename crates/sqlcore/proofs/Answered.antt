@@ -1,11 +1,12 @@
 -- Replies to queries and changes over the tables that a core holds.
-use Rattle.std.proofs.Common.{◌≡◌, ◌⊎◌, ◌<◌, ◌+◌, ℕ, suc, Bool, true, false, ◌&&◌, List, [], ◌∷◌, Option, Some, None, Ok, length, map, slice_get, refl, sym, ap, ◌∙◌, subst, inl, inr, arith}
+use Rattle.std.proofs.Common.{◌≡◌, ◌≢◌, ◌⊎◌, ◌<◌, ◌+◌, ℕ, suc, Bool, true, false, ◌&&◌, List, [], ◌∷◌, Option, Some, None, Ok, length, map, slice_get, refl, sym, ap, ◌∙◌, subst, inl, inr, arith}
 use Rattle.std.specs.List.{position_from}
 use Rattle.std.proofs.lemmas.List.{length-map}
 use Rattle.std.proofs.lemmas.Option.{slice_get_within, slice_get_cases}
 use Rattle.std.specs.Prelude.{IsSorted}
 use Rattle.std.proofs.lemmas.Bool.{eqb-true}
 use Rattle.refusals.specs.declared.refusal.Refusal.{Refusal}
+use Rattle.refusals.specs.declared.refusal.Refusal.TheVariants.{Memory}
 use Rattle.sqlval.specs.Schema.{same_name, table_place}
 use Rattle.sqlval.specs.Value.{Row}
 use Rattle.typing.specs.declared.typed.OrderKey.{OrderKey}
@@ -49,10 +50,10 @@ rows_answer c q rows none gives =
 
 -- who stops at a query that is evaluated names one of its faults
 pub query_refused : (c : Contents) (q : OrderedQuery) (s : Stop) → ordered_evaluated q ≡ true → (s ≡ stop.NotBuilt → query_evaluated q.query ≡ false)
-    → IsFaultOf (query_outcome (rows_under c) q.query []).faults s → AnswersQuery c q (says.Refused (refusal_at s))
-query_refused c q stop.Memory e n h = inl refl
-query_refused c q stop.NotBuilt e n h = absurd (cc (second (is_nil q.keys) (query_evaluated q.query) e, n refl))
-query_refused c q (stop.Fault fault) e n h = inr (fault, refl, h)
+    → IsFaultOf (query_outcome (rows_under c) q.query []).faults s → refusal_at s ≢ Memory → AnswersQuery c q (says.Refused (refusal_at s))
+query_refused c q stop.Memory e n h other = absurd (other refl)
+query_refused c q stop.NotBuilt e n h other = absurd (cc (second (is_nil q.keys) (query_evaluated q.query) e, n refl))
+query_refused c q (stop.Fault fault) e n h other = (fault, refl, h)
 
 -- a query that is evaluated has no ORDER BY
 pub unordered : (q : OrderedQuery) → ordered_evaluated q ≡ true → q.keys ≡ []
@@ -64,10 +65,10 @@ unordered q e = none q.keys (first (is_nil q.keys) (query_evaluated q.query) e)
 
 -- who stops at the rows of an INSERT that is evaluated refuses them
 pub rows_refused : (c : Contents) (i : Insert) (table : Table) (s : Stop) → insert_evaluated i.source ≡ true → (s ≡ stop.NotBuilt → insert_evaluated i.source ≡ false)
-    → IsFaultOf (faults_in (stored_rows c i table)) s → RefusesRows c i table (refusal_at s)
-rows_refused c i table stop.Memory e n h = inl refl
-rows_refused c i table stop.NotBuilt e n h = absurd (cc (e, n refl))
-rows_refused c i table (stop.Fault fault) e n h = inr (inl (fault, h, refl))
+    → IsFaultOf (faults_in (stored_rows c i table)) s → refusal_at s ≢ Memory → RefusesRows c i table (refusal_at s)
+rows_refused c i table stop.Memory e n h other = absurd (other refl)
+rows_refused c i table stop.NotBuilt e n h other = absurd (cc (e, n refl))
+rows_refused c i table (stop.Fault fault) e n h other = inl (fault, h, refl)
 
 -- what is found at a place stands there
 pub record Stands {A : Type 0} (at : ℕ) (xs : List A) (place : ℕ) : Type 0 where

@@ -19,9 +19,9 @@ use Rattle.sqlcore.specs.declared.engine.Core.{Core}
 use Rattle.replies.specs.declared.reply.Reply.{Reply}
 use Rattle.replies.specs.declared.reply.Reply.TheVariants as says
 use Rattle.sqlcore.specs.declared.store.Store.{Store}
-use Rattle.sqlcore.specs.Carried.{Calls, IsAgainst}
+use Rattle.sqlcore.specs.Carried.{Calls, Does, IsAgainst, StandsFor}
 use Rattle.sqlcore.specs.Contents.{kept, schema_of}
-use Rattle.sqlcore.specs.Held.{IsUnchanged, LeavesTables, SameTables, contents_of}
+use Rattle.sqlcore.specs.Held.{IsUnchanged, Leaves, LeavesTables, SameTables, contents_of}
 use Rattle.session_laws.specs.Reading.{IsRead, IsUnread}
 
 is_memory : (e : Refusal) → (e ≡ r.Memory) ⊎ (e ≢ r.Memory)
@@ -78,6 +78,17 @@ called_wrong core text x e read reason =
       | inl memory ↦ Calls.wanting (ap (λ x. says.Refused x) memory) (unchanged core)
       | inr one ↦ Calls.wrong e (record { statement = x; read = read; reasons = reasons_in found; found = reasons_found found e one; one = one }) refl (unchanged core)
     ]
+
+-- what a typed statement does is the call's, and want of memory leaves all as it was
+pub carried_out : {D : Type 0} (old new : Core D) (text : Bytes) {typed : Typed} → StandsFor old text typed → (result : Result Reply Refusal)
+    → MatchResult result (λ reply. Leaves old reply new) (λ _. IsUnchanged old new)
+    → MatchResult result (λ reply. Does old typed reply new) (λ e. e ≢ r.Memory → Does old typed (says.Refused e) new)
+    → MatchResult result (λ reply. Calls old text reply new) (λ e. Calls old text (says.Refused e) new)
+carried_out old new text {typed} stands (Ok reply) leaves does_so = Calls.carried_out typed stands does_so
+carried_out old new text {typed} stands (Err e) leaves does_so = elim (is_memory e) [
+  | inl memory ↦ Calls.wanting (ap (λ x. says.Refused x) memory) leaves
+  | inr other ↦ Calls.carried_out typed stands (does_so other)
+]
 
 -- a change keeps what is committed
 kept_when : (old new : Store) (reply : Reply) → LeavesTables old reply new → kept new ≡ kept old

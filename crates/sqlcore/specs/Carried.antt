@@ -1,8 +1,8 @@
 -- Which reply a call of a core has, and which tables it leaves: over the tables that a core holds, what `Step` says over databases. Of a
 -- session there is no more yet than its tables: transactions begin by themselves, and nothing stands in the way of a change.
--- Want of memory may stand in place of any reply (`wanting`); never of ROLLBACK's, by a clause of its own of `step`. That something is not supported (0A000) is said of words whose forms are not built (`unread`)
--- and of statements that the rules of names and types refuse so, as those with a form that comes later (`wrong`); of no statement that stands for
--- something.
+-- Want of memory may stand in place of any reply (`wanting` of `Calls`), and leaves all as it was; never of ROLLBACK's, by a clause of its own of
+-- `step`. That something is not supported (0A000) is said of words whose forms are not built (`unread`) and of statements that the rules of names
+-- and types refuse so, as those with a form that comes later (`wrong`); of no statement that stands for something.
 use Rattle.std.specs.Prelude.{◌≡◌, ◌⊎◌, ℕ, List, [], length, slice_get, Option, Some, None, Ok, Err, Contains}
 use Rattle.refusals.specs.declared.reason.Reason.TheVariants.{Name}
 use Rattle.refusals.specs.declared.refusal.Refusal.{Refusal}
@@ -49,10 +49,10 @@ refusal_at (stop.Fault fault) = refusal_of fault
 abbrev pub denoted : Contents → OrderedQuery → OrderedOutcome
 denoted c q = record { unordered = query_outcome (rows_under c) q.query []; keys = q.keys }
 
--- the reply answers the query: its rows, in an order that its keys allow, or one of its faults, or want of memory
+-- the reply answers the query: its rows, in an order that its keys allow, or one of its faults
 abbrev pub AnswersQuery : Contents → OrderedQuery → Reply → Type 0
 AnswersQuery c q (says.Rows rows) = Answers (Ok rows) (denoted c q)
-AnswersQuery c q (says.Refused refusal) = (refusal ≡ Memory) ⊎ ((fault : Fault) × (refusal ≡ refusal_of fault) × Answers (Err fault) (denoted c q))
+AnswersQuery c q (says.Refused refusal) = (fault : Fault) × (refusal ≡ refusal_of fault) × Answers (Err fault) (denoted c q)
 AnswersQuery c q reply = ⊥
 
 -- ---- changes
@@ -61,11 +61,10 @@ AnswersQuery c q reply = ⊥
 abbrev pub stored_rows : Contents → Insert → Table → Evaluation (List Row)
 stored_rows c i table = inserted_rows [] (rows_under c) (table_of table []) i.columns i.source
 
--- why no rows are stored: want of memory, a fault of theirs, or a NOT NULL that they violate
+-- why no rows are stored: a fault of theirs, or a NOT NULL that they violate
 abbrev pub RefusesRows : Contents → Insert → Table → Refusal → Type 0
 RefusesRows c i table refusal =
-    (refusal ≡ Memory)
-    ⊎ ((fault : Fault) × Contains (faults_in (stored_rows c i table)) fault × (refusal ≡ refusal_of fault))
+    ((fault : Fault) × Contains (faults_in (stored_rows c i table)) fault × (refusal ≡ refusal_of fault))
     ⊎ ((rows : List Row) × (name : List ℕ) × (stored_rows c i table ≡ Ok rows) × Contains (broken_not_nulls table.constraints rows) name × (refusal ≡ Violated name))
 
 -- the rows that are stored, which violate no NOT NULL
@@ -82,7 +81,6 @@ declared t = record { name = t.name; columns = t.columns; constraints = t.constr
 
 -- A change: CREATE TABLE adds a table; an INSERT puts its rows at the end of its table, or is refused. That there is no such table the rules of names exclude.
 pub data Carries (old : Contents) (change : Change) (reply : Reply) (new : Contents) : Type 0 where
-  wanting : reply ≡ says.Refused Memory → new ≡ old → Carries old change reply new
   creates : (t : CreateTable) → change ≡ does.CreateTable t → reply ≡ says.Done → new ≡ with_table old (declared t) → Carries old change reply new
   stores : (i : Insert) (place : ℕ) (table : Table) (rows : List Row) → change ≡ does.Insert i → IsAt old i place table
       → GivesStored old i table rows → reply ≡ says.Changed (length rows) → HasAppended old place rows new → Carries old change reply new

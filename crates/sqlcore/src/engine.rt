@@ -171,7 +171,7 @@ impl<D: Disk> Core<D> {
     fn carry_out(&mut self, typed: Typed) -> Result<Reply, Refusal>
         requires evaluated { is_evaluated typed ≡ true }
         ensures leaves { MatchResult result (λ reply. Leaves self.old reply self.new) (λ _. IsUnchanged self.old self.new) }
-        ensures does { MatchResult result (λ reply. Does self.old typed reply self.new) (λ refusal. Does self.old typed (Reply.Refused refusal) self.new) }
+        ensures does { MatchResult result (λ reply. Does self.old typed reply self.new) (λ refusal. refusal ≢ refusals.Memory → Does self.old typed (Reply.Refused refusal) self.new) }
     {
         match typed {
             Typed::Query(query) => answer(self.alloc, &self.store, &query),

@@ -50,7 +50,7 @@ fn are_supported(tokens: &[Token]) -> bool
 /// The rows of a query, over the tables as the session sees them.
 pub(crate) fn answer(alloc: Global, store: &Store, query: &OrderedQuery) -> Result<Reply, Refusal>
     requires evaluated { ordered_evaluated query.now ≡ true }
-    ensures { MatchResult result (λ reply. AnswersQuery (contents store.now) query.now reply) (λ refusal. AnswersQuery (contents store.now) query.now (Reply.Refused refusal)) }
+    ensures { MatchResult result (λ reply. AnswersQuery (contents store.now) query.now reply) (λ refusal. refusal ≢ Memory → AnswersQuery (contents store.now) query.now (Reply.Refused refusal)) }
 {
     match query_rows(alloc, store, &Env::Outermost, &query.query) {
         Ok(rows) => Ok(Reply::Rows(rows)),
@@ -66,7 +66,7 @@ pub(crate) fn carry_out_change(
 ) -> Result<Reply, Refusal>
     requires evaluated { change_evaluated change ≡ true }
     ensures leaves { MatchResult result (λ reply. LeavesTables store.old reply store.new) (λ _. SameTables store.old store.new) }
-    ensures carries { MatchResult result (λ reply. Carries (contents store.old) change reply (contents store.new)) (λ refusal. Carries (contents store.old) change (Reply.Refused refusal) (contents store.new)) }
+    ensures carries { MatchResult result (λ reply. Carries (contents store.old) change reply (contents store.new)) (λ refusal. refusal ≢ Memory → Carries (contents store.old) change (Reply.Refused refusal) (contents store.new)) }
 {
     match change {
         Change::CreateTable(table) => create_table(alloc, store, table),
@@ -77,7 +77,7 @@ pub(crate) fn carry_out_change(
 
 fn create_table(alloc: Global, store: &mut Store, table: CreateTable) -> Result<Reply, Refusal>
     ensures leaves { MatchResult result (λ reply. LeavesTables store.old reply store.new) (λ _. SameTables store.old store.new) }
-    ensures carries { MatchResult result (λ reply. Carries (contents store.old) (does.CreateTable table) reply (contents store.new)) (λ refusal. Carries (contents store.old) (does.CreateTable table) (Reply.Refused refusal) (contents store.new)) }
+    ensures carries { MatchResult result (λ reply. Carries (contents store.old) (does.CreateTable table) reply (contents store.new)) (λ refusal. refusal ≢ Memory → Carries (contents store.old) (does.CreateTable table) (Reply.Refused refusal) (contents store.new)) }
 {
     let CreateTable {
         name,
@@ -97,7 +97,7 @@ fn create_table(alloc: Global, store: &mut Store, table: CreateTable) -> Result<
 fn insert_rows(alloc: Global, store: &mut Store, insert: &Insert) -> Result<Reply, Refusal>
     requires evaluated { insert_evaluated insert.now.source ≡ true }
     ensures leaves { MatchResult result (λ reply. LeavesTables store.old reply store.new) (λ _. SameTables store.old store.new) }
-    ensures carries { MatchResult result (λ reply. Carries (contents store.old) (does.Insert insert.now) reply (contents store.new)) (λ refusal. Carries (contents store.old) (does.Insert insert.now) (Reply.Refused refusal) (contents store.new)) }
+    ensures carries { MatchResult result (λ reply. Carries (contents store.old) (does.Insert insert.now) reply (contents store.new)) (λ refusal. refusal ≢ Memory → Carries (contents store.old) (does.Insert insert.now) (Reply.Refused refusal) (contents store.new)) }
 {
     let Some(place) = store.schema().find_table(insert.table.as_slice()) else {
         return Err(Refusal::Invalid(Reason::Name));
@@ -112,7 +112,7 @@ fn insert_rows(alloc: Global, store: &mut Store, insert: &Insert) -> Result<Repl
 fn new_rows(alloc: Global, store: &Store, place: usize, insert: &Insert) -> Result<Rows, Refusal>
     requires evaluated { insert_evaluated insert.now.source ≡ true }
     ensures { (table : declared.Table) → slice_get (contents store.now).tables place ≡ Some table
-        → MatchResult result (GivesStored (contents store.now) insert.now table) (RefusesRows (contents store.now) insert.now table) }
+        → MatchResult result (GivesStored (contents store.now) insert.now table) (λ refusal. refusal ≢ Memory → RefusesRows (contents store.now) insert.now table refusal) }
 {
     let Some(table) = store.schema().tables.get(place) else {
         return Err(Refusal::Invalid(Reason::Name));

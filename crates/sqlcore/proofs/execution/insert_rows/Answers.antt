@@ -8,7 +8,7 @@ use Rattle.sqlcore.proofs.execution.insert_rows.Goals as goal
 
 pub returns-in_default-clause-carries : goal.returns-in_default-clause-carries
 returns-in_default-clause-carries c =
-    Carries.lost c.args.insert.now refl (rw (← c.as_slice.ensures.codes, ← c.schema.ensures) (sym c.find_table.ensures ∙ c.in_default.is)) refl refl
+    λ other. Carries.lost c.args.insert.now refl (rw (← c.as_slice.ensures.codes, ← c.schema.ensures) (sym c.find_table.ensures ∙ c.in_default.is)) refl refl
 
 pub returns-in_err-rows-clause-carries : goal.returns-in_err-rows-clause-carries
 returns-in_err-rows-clause-carries c =
@@ -16,8 +16,7 @@ returns-in_err-rows-clause-carries c =
     rw (← c.as_slice.ensures.codes, ← c.schema.ensures) (sym c.find_table.ensures ∙ c.in-Some.is) in
     let table = table_there (contents c.args.store.now) c.args.insert.now.table c.in-Some.place place in
     let p = err_from_is_err_and c.from_residual.result c.from_residual.ensures.1 in
-    rw p.1 (Carries.refuses c.args.insert.now c.in-Some.place table.0 p.0 refl (place, table.1)
-    (subst (RefusesRows (contents c.args.store.now) c.args.insert.now table.0) (sym p.2) (c.in_err-rows.ensures table.0 table.1)) refl refl)
+    rw (p.1, p.2) (λ other. Carries.refuses c.args.insert.now c.in-Some.place table.0 _ refl (place, table.1) (c.in_err-rows.ensures table.0 table.1 other) refl refl)
 
 pub returns-in_err-append-clause-carries : goal.returns-in_err-append-clause-carries
 returns-in_err-append-clause-carries c =
@@ -26,7 +25,7 @@ returns-in_err-append-clause-carries c =
     let table = table_there (contents c.args.store.now) c.args.insert.now.table c.in-Some.place place in
     let p = err_from_is_err_and c.from_residual-in_err-append.result c.from_residual-in_err-append.ensures.1 in
     elim c.in_err-append.ensures.refusal [
-      | inl memory ↦ rw (p.1, p.2, memory) (Carries.wanting refl c.in_err-append.ensures.refused)
+      | inl memory ↦ rw (p.1, p.2, memory) (λ other. absurd (other refl))
       | inr none ↦ absurd (rows_stand c.args.store.now.schema.tables c.args.store.now.rows c.in-Some.place table.0 c.args.store.now.paired table.1 none)
     ]
 

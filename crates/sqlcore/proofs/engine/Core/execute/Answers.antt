@@ -1,8 +1,8 @@
 use Rattle.std.proofs.Common.{sym, subst}
-use Rattle.std.proofs.lemmas.Result.{err_from_is_err_and, MatchResult-weaker}
+use Rattle.std.proofs.lemmas.Result.{err_from_is_err_and}
 use Rattle.replies.specs.declared.reply.Reply.TheVariants as says
 use Rattle.sqlcore.specs.Carried.{Calls, StandsFor}
-use Rattle.sqlcore.proofs.Called.{called_unread, called_wrong}
+use Rattle.sqlcore.proofs.Called.{called_unread, called_wrong, carried_out}
 use Rattle.sqlcore.proofs.engine.Core.execute.Goals as goal
 
 pub returns-in_err-statement-clause-calls : goal.returns-in_err-statement-clause-calls
@@ -23,4 +23,4 @@ returns-clause-calls g c =
     let found = rw c.schema.ensures at c.in_ok-typed.ensures.finds.ok in
     let stands : StandsFor c.args.self.now c.args.text.now c.in_ok-typed.typed =
     record { statement = c.in_ok-statement.statement; read = c.in_ok-statement.ensures.read; found = found } in
-    MatchResult-weaker c.carry_out.result c.carry_out.ensures.does (λ reply h. Calls.carried_out c.in_ok-typed.typed stands h) (λ refusal h. Calls.carried_out c.in_ok-typed.typed stands h)
+    carried_out _ _ _ stands c.carry_out.result c.carry_out.ensures.leaves c.carry_out.ensures.does
