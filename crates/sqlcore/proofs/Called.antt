@@ -1,5 +1,5 @@
 -- What the steps of a call say together.
-use Rattle.std.proofs.Common.{◌≡◌, ◌≢◌, ◌⊎◌, false, List, [], Result, Ok, Err, refl, ap, inl, inr, arith}
+use Rattle.std.proofs.Common.{◌≡◌, ◌≢◌, ◌⊎◌, false, List, Result, Ok, Err, refl, ap, inl, inr, arith}
 use Rattle.std.specs.Prelude.{Contains, MatchResult}
 use Rattle.refusals.specs.declared.refusal.Refusal.{Refusal}
 use Rattle.refusals.specs.declared.refusal.Refusal.TheVariants as r
@@ -19,7 +19,7 @@ use Rattle.sqlcore.specs.declared.engine.Core.{Core}
 use Rattle.replies.specs.declared.reply.Reply.{Reply}
 use Rattle.replies.specs.declared.reply.Reply.TheVariants as says
 use Rattle.sqlcore.specs.declared.store.Store.{Store}
-use Rattle.sqlcore.specs.Carried.{Calls, Does, IsAgainst, StandsFor}
+use Rattle.sqlcore.specs.Carried.{Calls, Does, StandsFor}
 use Rattle.sqlcore.specs.Contents.{kept, schema_of}
 use Rattle.sqlcore.specs.Held.{IsUnchanged, Leaves, LeavesTables, SameTables, contents_of}
 use Rattle.session_laws.specs.Reading.{IsRead, IsUnread}

@@ -1,5 +1,5 @@
 -- What the steps from a text to its statement say together.
-use Rattle.std.proofs.Common.{◌≡◌, ◌≢◌, ◌⊎◌, ℕ, ◌+◌, ◌≤◌, ◌<◌, Bool, true, false, List, ◌++◌, length, Option, Some, None, Result, Ok, Err, refl, sym, ap, ◌∙◌, subst, inl, inr, arith}
+use Rattle.std.proofs.Common.{◌≡◌, ◌≢◌, ◌⊎◌, ◌+◌, ◌≤◌, List, length, Some, None, Result, Ok, Err, refl, sym, ap, subst, inl, inr, arith}
 use Rattle.std.specs.Prelude.{◌↔◌, IfOk, IfErr, MatchResult}
 use Rattle.std.proofs.lemmas.Bool.Decides.{leb_tells}
 use Rattle.lexer.specs.declared.kinds.Token.{Token}

@@ -3,7 +3,7 @@
 -- Want of memory may stand in place of any reply (`wanting` of `Calls`), and leaves all as it was; never of ROLLBACK's, by a clause of its own of
 -- `step`. That something is not supported (0A000) is said of words whose forms are not built (`unread`) and of statements that the rules of names
 -- and types refuse so, as those with a form that comes later (`wrong`); of no statement that stands for something.
-use Rattle.std.specs.Prelude.{◌≡◌, ◌⊎◌, ℕ, List, [], length, slice_get, Option, Some, None, Ok, Err, Contains}
+use Rattle.std.specs.Prelude.{◌≡◌, ◌⊎◌, ℕ, List, [], length, slice_get, Some, None, Ok, Err, Contains}
 use Rattle.refusals.specs.declared.reason.Reason.TheVariants.{Name}
 use Rattle.refusals.specs.declared.refusal.Refusal.{Refusal}
 use Rattle.refusals.specs.declared.refusal.Refusal.TheVariants.{Memory, NotSupported, Invalid, Violated}

@@ -1,7 +1,7 @@
-use Rattle.std.proofs.Common.{◌≡◌, Some, refl, sym, ap, ◌∙◌, subst, inl, inr}
+use Rattle.std.proofs.Common.{◌≡◌, Some, refl, sym, ◌∙◌, inl, inr}
 use Rattle.std.proofs.lemmas.Result.{err_from_is_err_and}
 use Rattle.sqlval.specs.Schema.{table_place}
-use Rattle.sqlcore.specs.Carried.{Carries, RefusesRows}
+use Rattle.sqlcore.specs.Carried.{Carries}
 use Rattle.sqlcore.specs.Contents.{contents, schema_of}
 use Rattle.sqlcore.proofs.Answered.{table_there, rows_stand}
 use Rattle.sqlcore.proofs.execution.insert_rows.Goals as goal

@@ -1,6 +1,5 @@
 use Rattle.std.proofs.Common.{◌≡◌, Some, slice_get, sym, ap, ◌∙◌}
 use Rattle.std.specs.Option.{option_copied}
-use Rattle.sqlval.specs.declared.schema.Table.{Table}
 use Rattle.sqlcore.proofs.Answered.{rows_refused}
 use Rattle.sqlcore.proofs.execution.new_rows.Goals as goal
 
