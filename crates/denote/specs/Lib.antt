@@ -9,6 +9,7 @@ pub mod Select
 pub mod SetOperator
 pub mod Meaning
 pub mod Database
+pub mod SchemaOf
 pub mod Query
 pub mod Answer
 pub mod StoredRow
