@@ -4,7 +4,7 @@
 use Rattle.std.specs.Prelude.{ℕ, ◌+◌, ◌<◌, ◌==◌, max, not, if◌then◌else◌, List, [], ◌∷◌, ◌++◌, map, filter, length, slice_index_or, Option, Some, None}
 use Rattle.std.specs.List.{enumerate_from}
 use Rattle.std.specs.Option.{option_map}
-use Rattle.std.specs.FinMap.{FinMap, get, insert, remove, entries, from_entries}
+use Rattle.std.specs.FinMap.{FinMap, get, contains_key, insert, remove, entries, from_entries}
 use Rattle.sqlval.specs.declared.schema.Column.{Column}
 use Rattle.sqlval.specs.declared.schema.Constraint.{Constraint}
 use Rattle.sqlval.specs.declared.schema.Index.{Index}
@@ -96,8 +96,9 @@ replaced c name number row = changed (with_row number row) c name
 abbrev pub deleted : Contents → Name → ℕ → Contents
 deleted c name number = changed (without_row number) c name
 
+-- a new table, where its name is free
 abbrev pub with_table : Contents → schema.Table → Contents
-with_table c t = insert c t.name (new_table t)
+with_table c t = if contains_key c t.name then c else insert c t.name (new_table t)
 
 abbrev pub without_table : Contents → Name → Contents
 without_table c name = remove c name

@@ -149,9 +149,9 @@ pub trait Store: Drop {
     fn schema(&self) -> &Schema
         ensures { result.now ≡ prepared self.now };
 
-    /// A new table without rows. Where the name is not free, what is left is open.
+    /// A new table without rows, as it is declared. Where a table has that name, nothing changes.
     fn create_table(&mut self, table: Table) -> Result<(), StoreError>
-        ensures shows { is_sound self.old → get (shows self.old).working table.name ≡ None → OnOk result (shows self.new ≡ working_on (shows self.old) (with_table (shows self.old).working table)) }
+        ensures shows { is_sound self.old → OnOk result (shows self.new ≡ working_on (shows self.old) (with_table (shows self.old).working table)) }
         ensures undone { OnErr result (shows self.new ≡ undone (shows self.old)) }
         ensures sound { is_sound self.old → is_sound self.new }
         ensures refused { IfErr result (MayFail (is_sound self.old) (refused self.old) (refused self.new) (ChangingReaches (counted self.old))) }
