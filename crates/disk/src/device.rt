@@ -1,4 +1,4 @@
-ghost use Rattle.std.specs.Prelude.{◌≡◌, ℕ, Bool, List, length, IsTrue, IfOk, IfErr, OnOk, OnErr};
+ghost use Rattle.std.specs.Prelude.{◌≡◌, ◌+◌, ◌≤◌, ℕ, Bool, List, length, IsTrue, IsOk, IfOk, IfErr, OnOk, OnErr};
 ghost use Rattle.disk.specs.Contents.{Holds, IsTorn, IsEitherLength, overwritten, resized};
 ghost use Rattle.disk.specs.Refused.{CountsRefusal, CountsSync};
 ghost use Rattle.disk.specs.declared.error.DiskError.{DiskError as Cause};
@@ -9,12 +9,16 @@ use crate::DiskError;
 ///
 /// Its contract is what is known of a device: always, that each refused call raises the count of
 /// refused calls and no other call does, that each sync raises the count of syncs and nothing else
-/// does, and that a cause is one that the device told; and of an honest one, what each call gives and
-/// leaves.
+/// does, and that a cause is one that the device told; of an honest one, what each call gives and
+/// leaves; and of one that always reads, that it does.
 /// Offsets and lengths are in bytes.
 pub trait Disk {
     /// Whether it gives back what was last written. Each law on bytes holds of an honest device alone.
     ghost is_honest: { Bool };
+
+    /// Whether it always tells its length, and reads what lies within it. So a layer above can promise
+    /// which answer must come of such a device, and not only when it may.
+    ghost always_reads: { Bool };
 
     /// Its bytes, as a read gives them.
     ghost bytes: { Self → List ℕ };
@@ -32,6 +36,7 @@ pub trait Disk {
     /// The number of bytes.
     fn len(&mut self) -> Result<u64, DiskError>
         ensures value { IfOk result (λ n. IsTrue is_honest → n ≡ length (bytes self.old)) }
+        ensures told_always { IsTrue always_reads → IsOk result }
         ensures same { IsTrue is_honest → bytes self.new ≡ bytes self.old }
         ensures count { CountsRefusal result (refused self.old) (refused self.new) }
         ensures cause { IfErr result (told self.new) }
@@ -41,6 +46,7 @@ pub trait Disk {
     /// refused. After a refusal `into` may hold anything.
     fn read_at(&mut self, at: u64, into: &mut [u8]) -> Result<(), DiskError>
         ensures value { OnOk result (IsTrue is_honest → Holds (bytes self.old) at into.new) }
+        ensures read_always { IsTrue is_honest → IsTrue always_reads → at + length into.old ≤ length (bytes self.old) → IsOk result }
         ensures same { IsTrue is_honest → bytes self.new ≡ bytes self.old }
         ensures count { CountsRefusal result (refused self.old) (refused self.new) }
         ensures cause { IfErr result (told self.new) }

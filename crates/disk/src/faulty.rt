@@ -77,6 +77,8 @@ impl<D: Disk> Disk for FaultyDisk<D> {
 
     ghost is_honest = { D.is_honest };
 
+    ghost always_reads = { false };
+
     ghost bytes = { λ f. D.bytes f.inner };
 
     ghost refused = { λ f. all_refusals D.refused f };

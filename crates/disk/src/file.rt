@@ -79,6 +79,8 @@ fn length(file: &File) -> io::Result<u64> {
 impl Disk for FileDisk {
     ghost is_honest = { false };
 
+    ghost always_reads = { false };
+
     ghost bytes = { λ _. [] };
 
     ghost refused = { λ d. d.refused };

@@ -92,6 +92,8 @@ fn overwrite(file: &mut Vec<u8>, at: usize, bytes: &[u8]) -> Result<(), AllocErr
 impl Disk for MemDisk {
     ghost is_honest = { true };
 
+    ghost always_reads = { true };
+
     ghost bytes = { λ d. d.bytes };
 
     ghost refused = { λ d. d.refused };
