@@ -8,13 +8,13 @@ use Rattle.ast.specs.declared.statement.Statement.{Statement}
 use Rattle.ast.specs.declared.statement.Statement.TheVariants as asks
 use Rattle.denote.specs.Database.{Database}
 use Rattle.replies.specs.declared.reply.Reply.{Reply}
-use Rattle.session_laws.specs.Effect.{Effect, after}
-use Rattle.session_laws.specs.Reading.{IsRead}
-use Rattle.session_laws.specs.Rules.{Rules}
-use Rattle.session_laws.specs.Statements.{Changes, CarriesOut}
-use Rattle.session_laws.specs.Step.{Replies, Call}
-use Rattle.session_laws.specs.Transactions.{begun, has_other, began_earlier, is_overtaken, obstacle, is_read_only, has_open}
-use Rattle.session_laws.specs.World.{Transaction, Session, World, is_session}
+use Rattle.session_definitions.specs.Effect.{Effect, after}
+use Rattle.session_definitions.specs.Reading.{IsRead}
+use Rattle.session_definitions.specs.Rules.{Rules}
+use Rattle.session_definitions.specs.Statements.{Changes, CarriesOut}
+use Rattle.session_definitions.specs.Step.{Replies, Call}
+use Rattle.session_definitions.specs.Transactions.{begun, has_other, began_earlier, is_overtaken, obstacle, is_read_only, has_open}
+use Rattle.session_definitions.specs.World.{Transaction, Session, World, is_session}
 use Rattle.session_laws.proofs.Effects.{same_key}
 use Rattle.session_laws.proofs.Maps.{get_here, insert_twice}
 

@@ -4,9 +4,9 @@ use Rattle.std.proofs.lemmas.Bool.{eqb-true, eq-eqb, ne_eqb}
 use Rattle.std.specs.Ordering.{nat_cmp}
 use Rattle.std.specs.Prelude.{◌==◌}
 use Rattle.std.specs.FinMap.{FinMap, get, insert}
-use Rattle.session_laws.specs.Effect.{Effect, idle, writer_without, committed, after}
-use Rattle.session_laws.specs.Transactions.{has_other}
-use Rattle.session_laws.specs.World.{Transaction, Session, World, is_session, is_writer}
+use Rattle.session_definitions.specs.Effect.{Effect, idle, writer_without, committed, after}
+use Rattle.session_definitions.specs.Transactions.{has_other}
+use Rattle.session_definitions.specs.World.{Transaction, Session, World, is_session, is_writer}
 use Rattle.session_laws.proofs.Maps.{get_here, get_there}
 
 -- the session after an effect

@@ -1,5 +1,5 @@
 -- What a reply's effect leaves is good, where the session's transaction and the one in which its statement runs are.
-use Rattle.std.proofs.Common.{◌≡◌, [], ◌∷◌, ◌++◌, Option, Some, None}
+use Rattle.std.proofs.Common.{◌≡◌, [], ◌∷◌, ◌++◌, Option, Some, None, subst}
 use Rattle.refusals.specs.declared.refusal.Refusal.{Refusal}
 use Rattle.lexer.specs.Token.{Bytes}
 use Rattle.ast.specs.declared.statement.AccessMode.{AccessMode}
@@ -9,12 +9,12 @@ use Rattle.ast.specs.declared.statement.Statement.{Statement}
 use Rattle.ast.specs.declared.statement.Statement.TheVariants as asks
 use Rattle.denote.specs.Database.{Name, IsGood}
 use Rattle.replies.specs.declared.reply.Reply.{Reply}
-use Rattle.session_laws.specs.Effect.{Effect}
-use Rattle.session_laws.specs.Rules.{Rules}
-use Rattle.session_laws.specs.Statements.{Queries, Explains, Changes, Ends, Undoes, SetsMode, Declares, Opens, Fetches, Closes, CarriesOut}
-use Rattle.session_laws.specs.Step.{Withholds, Replies}
-use Rattle.session_laws.specs.Transactions.{active, with_cursor, without_cursor}
-use Rattle.session_laws.specs.World.{Transaction, Session}
+use Rattle.session_definitions.specs.Effect.{Effect}
+use Rattle.session_definitions.specs.Rules.{Rules}
+use Rattle.session_definitions.specs.Statements.{Queries, Explains, Changes, Ends, Undoes, SetsMode, Declares, Opens, FetchesIn, Fetches, ClosesIn, Closes, CarriesOut}
+use Rattle.session_definitions.specs.Step.{Withholds, Replies}
+use Rattle.session_definitions.specs.Transactions.{active, with_cursor, without_cursor}
+use Rattle.session_definitions.specs.World.{Transaction, Session}
 use Rattle.session_laws.proofs.GoodDatabases.{accepted_good}
 
 module _ (rules : Rules) where
@@ -71,7 +71,7 @@ module _ (rules : Rules) where
     sets_good None mode h = rw h.1 own
     sets_good (Some u) mode h = nothing h.leaves_all
 
-    declares_good : (x : DeclareCursor) → Declares session t x reply effect → LeavesGood effect
+    declares_good : (x : DeclareCursor) → Declares session x reply effect → LeavesGood effect
     declares_good x (Declares.open_already is r) = nothing r.leaves_all
     declares_good x (Declares.too_many is fails many r) = nothing r.leaves_all
     declares_good x (Declares.declares is room says e) = rw e own
@@ -82,16 +82,24 @@ module _ (rules : Rules) where
     opens_good name (Opens.wrong y refusal is d why r) = nothing r.leaves_all
     opens_good name (Opens.opens y query outcome is d m same says e) = becomes (with_cursor t name (record { outcome = outcome; given = [] })) good e
 
-    fetches_good : (name : Name) → Fetches session t name reply effect → LeavesGood effect
-    fetches_good name (Fetches.not_open is r) = nothing r.leaves_all
-    fetches_good name (Fetches.gives cursor row is may says e) =
-        becomes (with_cursor t name (record cursor { given = cursor.given ++ row ∷ [] })) good e
-    fetches_good name (Fetches.ends cursor is end says e) = nothing e
-    fetches_good name (Fetches.raises cursor fault is may says e) = becomes (without_cursor t name) good e
+    fetches_in_good : (u : Transaction) → IsGoodTransaction u → (name : Name) → FetchesIn session u name reply effect → LeavesGood effect
+    fetches_in_good u is_good name (FetchesIn.not_open is r) = nothing r.leaves_all
+    fetches_in_good u is_good name (FetchesIn.gives cursor row is may says e) =
+        becomes (with_cursor u name (record cursor { given = cursor.given ++ row ∷ [] })) is_good e
+    fetches_in_good u is_good name (FetchesIn.ends cursor is end says e) = nothing e
+    fetches_in_good u is_good name (FetchesIn.raises cursor fault is may says e) = becomes (without_cursor u name) is_good e
 
-    closes_good : (name : Name) → Closes session t name reply effect → LeavesGood effect
-    closes_good name (Closes.not_open is r) = nothing r.leaves_all
-    closes_good name (Closes.closes is says e) = becomes (without_cursor t name) good e
+    fetches_good : (u : Option Transaction) → IsGoodIfAny u → (name : Name) → Fetches session u name reply effect → LeavesGood effect
+    fetches_good None is name r = nothing r.leaves_all
+    fetches_good (Some u) is name h = fetches_in_good u is name h
+
+    closes_in_good : (u : Transaction) → IsGoodTransaction u → (name : Name) → ClosesIn session u name reply effect → LeavesGood effect
+    closes_in_good u is_good name (ClosesIn.not_open is r) = nothing r.leaves_all
+    closes_in_good u is_good name (ClosesIn.closes is says e) = becomes (without_cursor u name) is_good e
+
+    closes_good : (u : Option Transaction) → IsGoodIfAny u → (name : Name) → Closes session u name reply effect → LeavesGood effect
+    closes_good None is name r = nothing r.leaves_all
+    closes_good (Some u) is name h = closes_in_good u is name h
 
     carried_out_good : (x : Statement) → CarriesOut rules session t obstacle x reply effect → LeavesGood effect
     carried_out_good (asks.Query x) h = queries_good x h
@@ -108,14 +116,14 @@ module _ (rules : Rules) where
     carried_out_good (asks.SetTransaction mode) h = sets_good session.transaction mode h
     carried_out_good (asks.DeclareCursor x) h = declares_good x h
     carried_out_good (asks.OpenCursor name) h = opens_good name h
-    carried_out_good (asks.Fetch name) h = fetches_good name h
-    carried_out_good (asks.CloseCursor name) h = closes_good name h
+    carried_out_good (asks.Fetch name) h = fetches_good session.transaction own name h
+    carried_out_good (asks.CloseCursor name) h = closes_good session.transaction own name h
 
-    withholds_good : (text : Bytes) → Withholds session t text reply effect → LeavesGood effect
+    withholds_good : (text : Bytes) → Withholds session text reply effect → LeavesGood effect
     withholds_good text (Withholds.of_memory other r) = nothing r.leaves_all
-    withholds_good text (Withholds.of_no_statement refusal other reserved why r) = nothing r.leaves_all
-    withholds_good text (Withholds.of_statement refusal x reserved read may r) = nothing r.leaves_all
-    withholds_good text (Withholds.closes refusal name reserved read is says e) = becomes (without_cursor t name) good e
+    withholds_good text (Withholds.of_store refusal of other fetch r) = nothing r.leaves_all
+    withholds_good text (Withholds.closes refusal u name reserved read has is says e) =
+        becomes (without_cursor u name) (subst IsGoodIfAny has own) e
 
     pub replies_good : (text : Bytes) → Replies rules session t obstacle text reply effect → LeavesGood effect
     replies_good text (Replies.unread refusal why r) = nothing r.leaves_all

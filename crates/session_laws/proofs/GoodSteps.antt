@@ -11,13 +11,13 @@ use Rattle.refusals.specs.declared.refusal.Refusal.{Refusal}
 use Rattle.lexer.specs.Token.{Bytes}
 use Rattle.denote.specs.Database.{Database, IsGood, CheckReading}
 use Rattle.replies.specs.declared.reply.Reply.{Reply}
-use Rattle.session_laws.specs.Effect.{Effect, after}
-use Rattle.session_laws.specs.Rules.{Rules}
-use Rattle.session_laws.specs.Run.{Event, MakesSession, FlushesPages, Happens, without_session, Moment, Run, lengthened, history}
+use Rattle.session_definitions.specs.Effect.{Effect, after}
+use Rattle.session_definitions.specs.Rules.{Rules}
+use Rattle.session_definitions.specs.Run.{Event, MakesSession, FlushesPages, Happens, without_session, Moment, Run, lengthened, history}
 use Rattle.session_laws.specs.Sound.{IsGoodWorld}
-use Rattle.session_laws.specs.Step.{Call}
-use Rattle.session_laws.specs.Transactions.{starting, begun, obstacle}
-use Rattle.session_laws.specs.World.{Transaction, Session, World, is_writer, new_session, new_world, with_session}
+use Rattle.session_definitions.specs.Step.{Call}
+use Rattle.session_definitions.specs.Transactions.{starting, begun, obstacle}
+use Rattle.session_definitions.specs.World.{Transaction, Session, World, is_writer, new_session, new_world, with_session}
 use Rattle.session_laws.proofs.Effects.{left_as, others_stay, own_session}
 use Rattle.session_laws.proofs.GoodReplies.{IsGoodTransaction, IsGoodIfAny, LeavesGood, replies_good}
 use Rattle.session_laws.proofs.Maps.{get_here, get_there, get_gone, get_left}

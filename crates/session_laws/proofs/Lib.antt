@@ -1,6 +1,7 @@
 pub mod Maps
 pub mod Effects
 pub mod Shapes
+pub mod Modes
 pub mod RefusedCalls
 pub mod SoundLemmas
 pub mod SoundSteps

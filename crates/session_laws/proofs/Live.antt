@@ -4,11 +4,11 @@ use Rattle.std.proofs.lemmas.Bool.{cases_eq}
 use Rattle.std.specs.FinMap.{get}
 use Rattle.lexer.specs.Token.{Bytes}
 use Rattle.replies.specs.declared.reply.Reply.{Reply}
-use Rattle.session_laws.specs.Effect.{Effect, after}
-use Rattle.session_laws.specs.Rules.{Rules}
-use Rattle.session_laws.specs.Run.{MakesSession, DropsSession}
-use Rattle.session_laws.specs.Step.{Step}
-use Rattle.session_laws.specs.World.{Session, World, is_live, new_session}
+use Rattle.session_definitions.specs.Effect.{Effect, after}
+use Rattle.session_definitions.specs.Rules.{Rules}
+use Rattle.session_definitions.specs.Run.{MakesSession, DropsSession}
+use Rattle.session_definitions.specs.Step.{Step}
+use Rattle.session_definitions.specs.World.{Session, World, is_live, new_session}
 use Rattle.session_laws.proofs.Effects.{others_stay, own_session}
 use Rattle.session_laws.proofs.Maps.{get_here, get_there, get_gone, get_left}
 

@@ -4,11 +4,11 @@ use Rattle.std.specs.FinMap.{values}
 use Rattle.lexer.specs.Token.{Bytes}
 use Rattle.replies.specs.declared.reply.Reply.{Reply}
 use Rattle.script_pieces.specs.PieceMeaning.{Request}
-use Rattle.session_laws.specs.Rules.{Rules}
-use Rattle.session_laws.specs.Run.{Event, MakesSession, DropsSession, Moment, Run}
-use Rattle.session_laws.specs.Script.{Scene, first_scene, choosing, Plays, Performs, ArePlayed, EndsSessions, IsPlayed}
-use Rattle.session_laws.specs.Step.{Step}
-use Rattle.session_laws.specs.World.{World}
+use Rattle.session_definitions.specs.Rules.{Rules}
+use Rattle.session_definitions.specs.Run.{Event, MakesSession, DropsSession, Moment, Run}
+use Rattle.session_definitions.specs.Script.{Scene, first_scene, choosing, Plays, Performs, ArePlayed, EndsSessions, IsPlayed}
+use Rattle.session_definitions.specs.Step.{Step}
+use Rattle.session_definitions.specs.World.{World}
 
 -- some events lead from one world to the other
 abbrev pub Leads : Rules → World → World → Type 0

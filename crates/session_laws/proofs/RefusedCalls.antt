@@ -1,5 +1,5 @@
 -- What a refused call leaves.
-use Rattle.std.proofs.Common.{◌≡◌, ◌≢◌, ◌⊎◌, ℕ, zero, suc, Option, Some, None, ap, ◌∙◌, inl, inr}
+use Rattle.std.proofs.Common.{◌≡◌, ◌≢◌, ◌⊎◌, ℕ, zero, suc, true, Option, Some, None, refl, ap, ◌∙◌, inl, inr, is_some}
 use Rattle.refusals.specs.declared.refusal.Refusal.{Refusal}
 use Rattle.refusals.specs.declared.refusal.Refusal.TheVariants.{SerializationFailure}
 use Rattle.lexer.specs.Token.{Bytes}
@@ -10,21 +10,21 @@ use Rattle.ast.specs.declared.statement.Statement.{Statement}
 use Rattle.ast.specs.declared.statement.Statement.TheVariants as asks
 use Rattle.denote.specs.Database.{Name}
 use Rattle.replies.specs.declared.reply.Reply.TheVariants as says
-use Rattle.session_laws.specs.Effect.{Effect, after}
+use Rattle.session_definitions.specs.Effect.{Effect, after}
 use Rattle.session_laws.specs.Left.{IsFetch, LeavesAlmostAll}
-use Rattle.session_laws.specs.Reading.{IsRead}
-use Rattle.session_laws.specs.Rules.{Rules}
-use Rattle.session_laws.specs.Statements.{Queries, Explains, Changes, Ends, Undoes, SetsMode, Declares, Opens, Fetches, Closes, CarriesOut, counted}
-use Rattle.session_laws.specs.Step.{Withholds, Replies, Step}
-use Rattle.session_laws.specs.Transactions.{begun, active, obstacle, without_cursor}
-use Rattle.session_laws.specs.World.{Transaction, Session, World}
+use Rattle.session_definitions.specs.Reading.{IsRead}
+use Rattle.session_definitions.specs.Rules.{Rules}
+use Rattle.session_definitions.specs.Statements.{Queries, Explains, Changes, Ends, Undoes, SetsMode, Declares, Opens, FetchesIn, Fetches, ClosesIn, Closes, CarriesOut, counted}
+use Rattle.session_definitions.specs.Step.{Withholds, Replies, Step}
+use Rattle.session_definitions.specs.Transactions.{begun, active, is_open, obstacle, without_cursor}
+use Rattle.session_definitions.specs.World.{Transaction, Session, World}
 
 -- what the effect of a refused statement can be
 abbrev pub IsSlight : Session → Transaction → Refusal → Bytes → Effect → Type 0
 IsSlight session t refusal text effect =
     (effect ≡ Effect.Nothing)
     ⊎ ((refusal ≡ SerializationFailure) × (effect ≡ Effect.RollsBack))
-    ⊎ ((name : Name) × IsRead text (asks.Fetch name) × (effect ≡ Effect.Becomes (active session (without_cursor t name))))
+    ⊎ ((u : Transaction) × (name : Name) × IsRead text (asks.Fetch name) × (session.transaction ≡ Some u) × (is_open u name ≡ true) × (effect ≡ Effect.Becomes (active session (without_cursor u name))))
 
 never_counted : {A : Type 0} {refusal : Refusal} (count : Option ℕ) → says.Refused refusal ≡ counted count → A
 never_counted None is = cc
@@ -62,7 +62,7 @@ module _ (rules : Rules) (session : Session) (t : Transaction) (obstacle : Optio
   sets_slight None mode h = let is : says.Refused refusal ≡ says.Done = h.0 in cc
   sets_slight (Some u) mode h = inl h.leaves_all
 
-  declares_slight : (x : DeclareCursor) → Declares session t x (says.Refused refusal) effect → IsSlight session t refusal text effect
+  declares_slight : (x : DeclareCursor) → Declares session x (says.Refused refusal) effect → IsSlight session t refusal text effect
   declares_slight x (Declares.open_already is r) = inl r.leaves_all
   declares_slight x (Declares.too_many is fails many r) = inl r.leaves_all
   declares_slight x (Declares.declares is room done e) = cc
@@ -73,15 +73,25 @@ module _ (rules : Rules) (session : Session) (t : Transaction) (obstacle : Optio
   opens_slight name (Opens.wrong y other is d why r) = inl r.leaves_all
   opens_slight name (Opens.opens y query outcome is d m same done e) = cc
 
-  fetches_slight : (name : Name) → IsRead text (asks.Fetch name) → Fetches session t name (says.Refused refusal) effect → IsSlight session t refusal text effect
-  fetches_slight name read (Fetches.not_open is r) = inl r.leaves_all
-  fetches_slight name read (Fetches.gives cursor row is may given e) = cc
-  fetches_slight name read (Fetches.ends cursor is end given e) = cc
-  fetches_slight name read (Fetches.raises cursor fault is may given e) = inr (inr (name, read, e))
+  fetches_in_slight : (u : Transaction) → session.transaction ≡ Some u → (name : Name) → IsRead text (asks.Fetch name)
+      → FetchesIn session u name (says.Refused refusal) effect → IsSlight session t refusal text effect
+  fetches_in_slight u has name read (FetchesIn.not_open is r) = inl r.leaves_all
+  fetches_in_slight u has name read (FetchesIn.gives cursor row is may given e) = cc
+  fetches_in_slight u has name read (FetchesIn.ends cursor is end given e) = cc
+  fetches_in_slight u has name read (FetchesIn.raises cursor fault is may given e) = inr (inr (u, name, read, has, ap is_some is, e))
 
-  closes_slight : (name : Name) → Closes session t name (says.Refused refusal) effect → IsSlight session t refusal text effect
-  closes_slight name (Closes.not_open is r) = inl r.leaves_all
-  closes_slight name (Closes.closes is done e) = cc
+  fetches_slight : (u : Option Transaction) → session.transaction ≡ u → (name : Name) → IsRead text (asks.Fetch name)
+      → Fetches session u name (says.Refused refusal) effect → IsSlight session t refusal text effect
+  fetches_slight None is name read r = inl r.leaves_all
+  fetches_slight (Some u) is name read h = fetches_in_slight u is name read h
+
+  closes_in_slight : (u : Transaction) (name : Name) → ClosesIn session u name (says.Refused refusal) effect → IsSlight session t refusal text effect
+  closes_in_slight u name (ClosesIn.not_open is r) = inl r.leaves_all
+  closes_in_slight u name (ClosesIn.closes is done e) = cc
+
+  closes_slight : (u : Option Transaction) (name : Name) → Closes session u name (says.Refused refusal) effect → IsSlight session t refusal text effect
+  closes_slight None name r = inl r.leaves_all
+  closes_slight (Some u) name h = closes_in_slight u name h
 
   carried_out_slight : (x : Statement) → IsRead text x → CarriesOut rules session t obstacle x (says.Refused refusal) effect → IsSlight session t refusal text effect
   carried_out_slight (asks.Query x) read h = queries_slight x h
@@ -98,14 +108,13 @@ module _ (rules : Rules) (session : Session) (t : Transaction) (obstacle : Optio
   carried_out_slight (asks.SetTransaction mode) read h = sets_slight session.transaction mode h
   carried_out_slight (asks.DeclareCursor x) read h = declares_slight x h
   carried_out_slight (asks.OpenCursor name) read h = opens_slight name h
-  carried_out_slight (asks.Fetch name) read h = fetches_slight name read h
-  carried_out_slight (asks.CloseCursor name) read h = closes_slight name h
+  carried_out_slight (asks.Fetch name) read h = fetches_slight session.transaction refl name read h
+  carried_out_slight (asks.CloseCursor name) read h = closes_slight session.transaction name h
 
-  withholds_slight : Withholds session t text (says.Refused refusal) effect → IsSlight session t refusal text effect
+  withholds_slight : Withholds session text (says.Refused refusal) effect → IsSlight session t refusal text effect
   withholds_slight (Withholds.of_memory other r) = inl r.leaves_all
-  withholds_slight (Withholds.of_no_statement other why reserved unread r) = inl r.leaves_all
-  withholds_slight (Withholds.of_statement other x reserved read may r) = inl r.leaves_all
-  withholds_slight (Withholds.closes other name reserved read there is e) = inr (inr (name, read, e))
+  withholds_slight (Withholds.of_store other of rollback fetch r) = inl r.leaves_all
+  withholds_slight (Withholds.closes other u name reserved read has there is e) = inr (inr (u, name, read, has, there, e))
 
   slight : Replies rules session t obstacle text (says.Refused refusal) effect → IsSlight session t refusal text effect
   slight (Replies.unread other why r) = inl r.leaves_all
@@ -120,8 +129,15 @@ almost_all rules old new s text refusal (effect, call) =
     decide : (e : Effect) → new ≡ after old s call.session e → IsSlight call.session (begun old call.session) refusal text e → LeavesAlmostAll old s text refusal new
     decide e is (inl none) = inl (is ∙ ap (after old s call.session) none)
     decide e is (inr (inl (failed, back))) = inr (inl (failed, record { session = call.session; stands = call.stands; leaves = is ∙ ap (after old s call.session) back }))
-    decide e is (inr (inr (name, read, closed))) =
-        inr (inr (name, read, record { session = call.session; stands = call.stands; leaves = is ∙ ap (after old s call.session) closed }))
+    decide e is (inr (inr (u, name, read, has, there, closed))) =
+        inr (inr (name, read, record {
+          session = call.session;
+          stands = call.stands;
+          transaction = u;
+          has = has;
+          was_open = there;
+          leaves = is ∙ ap (after old s call.session) closed;
+        }))
 
 pub unchanged : (rules : Rules) (old new : World) (s : ℕ) (text : Bytes) (refusal : Refusal)
     → Step rules old s text (says.Refused refusal) new → refusal ≢ SerializationFailure → (IsFetch text → ⊥) → new ≡ old

@@ -10,19 +10,20 @@ use Rattle.lexer.specs.Token.{Bytes}
 use Rattle.denote.specs.Bag.{Permutes}
 use Rattle.denote.specs.Database.{Database}
 use Rattle.replies.specs.declared.reply.Reply.{Reply}
-use Rattle.session_laws.specs.Effect.{Effect, after}
-use Rattle.session_laws.specs.Rules.{Rules}
-use Rattle.session_laws.specs.Run.{Event, MakesSession, FlushesPages, Happens, Moment, Run, lengthened, history, without_session, without_sessions}
-use Rattle.session_laws.specs.Serial.{Saying, Talk, talked, talked_by, talk_with, talk, Committed, committed_by, with_ended, transactions, Says, RunsAlone, IsWriter, InSeries, IsSerializable}
+use Rattle.session_definitions.specs.Effect.{Effect, after}
+use Rattle.session_definitions.specs.Rules.{Rules}
+use Rattle.session_definitions.specs.Run.{Event, MakesSession, FlushesPages, Happens, Moment, Run, lengthened, history, without_session, without_sessions}
+use Rattle.session_definitions.specs.Serial.{Saying, Talk, talked, talked_by, talk_with, talk, Committed, committed_by, with_ended, transactions, Says, RunsAlone, IsWriter, InSeries, IsSerializable}
 use Rattle.session_laws.specs.Sound.{IsSoundTransaction, IsSoundSession, IsSound}
-use Rattle.session_laws.specs.Step.{Call, Replies}
-use Rattle.session_laws.specs.Transactions.{starting, begun, obstacle}
-use Rattle.session_laws.specs.World.{Transaction, Session, World, is_writer, new_session, opened, with_session}
+use Rattle.session_definitions.specs.Step.{Call, Replies}
+use Rattle.session_definitions.specs.Transactions.{starting, begun, obstacle}
+use Rattle.session_definitions.specs.World.{Transaction, Session, World, is_writer, new_session, opened, with_session}
 use Rattle.session_laws.proofs.Alone.{lonely, BeganAt, call_alone, becomes_alone, writes_alone, commits_alone}
 use Rattle.session_laws.proofs.Effects.{left_as, writes_after, IsAllowed, others_stay, own_session, others_write, own_writes, without_other, same_key}
 use Rattle.session_laws.proofs.Maps.{get_here, get_there, get_gone, get_left}
 use Rattle.session_laws.proofs.Series.{to_the_end, with_writer, Placed, with_reader, MadeBy, made_in_series, in_permuted, contains_from_in}
-use Rattle.session_laws.proofs.Shapes.{BeganWith, IsShaped, shape}
+use Rattle.session_laws.proofs.Modes.{LeavesMode, replies_mode}
+use Rattle.session_laws.proofs.Shapes.{BeganWith, IsShaped, shape, runs_in}
 use Rattle.session_laws.proofs.SoundSteps.{same_Some, allowed, committed_commits, committed_last, sound_after, sound_event, sound_empty}
 
 -- ---- lists
@@ -247,9 +248,9 @@ module _ (rules : Rules) (dbs : List Database) (cs : List Committed) (talks : �
   -- ---- an effect that commits nothing
 
   story_keeps : (e : Effect) → (after w s session e).commits ≡ w.commits → (after w s session e).last ≡ w.last → OwnIsKept e
-      → IsShaped session (begun w session) (obstacle w s session) e → Story rules dbs cs (talks_now e) (after w s session e)
-  story_keeps e c l kept h = record {
-    sound = sound_after w s session story.sound stands e h;
+      → IsShaped session (begun w session) (obstacle w s session) e → LeavesMode e → Story rules dbs cs (talks_now e) (after w s session e)
+  story_keeps e c l kept h m = record {
+    sound = sound_after w s session story.sound stands e h m;
     counted = story.counted ∙ ap (λ n. n + 1) (sym c);
     latest = ap (slice_get dbs) c ∙ story.latest ∙ ap Some (sym l);
     found = λ k x t is has. found_after e kept k x t is has (cases_eq k s);
@@ -263,7 +264,7 @@ module _ (rules : Rules) (dbs : List Database) (cs : List Committed) (talks : �
   own_goes : (e : Effect) → GoesOn e → Replies rules session (begun w session) (obstacle w s session) text reply e → OwnIsKept e
   own_goes e goes r t has =
       let b : BeganWith t (begun w session) = kept_began w session (obstacle w s session) e goes
-      (shape rules session (begun w session) (obstacle w s session) reply e text r) t has in
+      (shape rules session (begun w session) (obstacle w s session) reply e (runs_in w session) text r) t has in
       (b, in_talk e goes (called_alone e r) t b)
 
   -- ---- a COMMIT
@@ -348,7 +349,7 @@ module _ (rules : Rules) (dbs : List Database) (cs : List Committed) (talks : �
       let ls : Lists (committed_by s (talks_now (Effect.Commits t) s) t (is_writer w s)) t.working (is_writer w s) =
       lists (committed_by s (talks_now (Effect.Commits t) s) t (is_writer w s)) t (is_writer w s) refl is runs refl refl refl refl in
       record {
-        sound = sound_after w s session story.sound stands (Effect.Commits t) is;
+        sound = sound_after w s session story.sound stands (Effect.Commits t) is tt;
         counted = ls.counted ∙ ap (λ n. n + 1) (sym (committed_commits w s session t));
         latest = ap (slice_get (cond (is_writer w s) (dbs ++ t.working ∷ []) dbs)) (committed_commits w s session t)
             ∙ ls.latest ∙ ap Some (sym (committed_last w s session t));
@@ -364,16 +365,18 @@ module _ (rules : Rules) (dbs : List Database) (cs : List Committed) (talks : �
   story_call : (e : Effect) → Replies rules session (begun w session) (obstacle w s session) text reply e
       → Story rules (lengthened w (Event.Calls s text reply e) dbs) (with_ended w (Event.Calls s text reply e) (talks_now e) cs) (talks_now e)
       (after w s session e)
-  story_call Effect.Nothing r = story_keeps Effect.Nothing refl refl (own_goes Effect.Nothing tt r) tt
+  story_call Effect.Nothing r = story_keeps Effect.Nothing refl refl (own_goes Effect.Nothing tt r) tt tt
   story_call (Effect.Becomes x) r =
       story_keeps (Effect.Becomes x) refl refl (own_goes (Effect.Becomes x) tt r)
-      (shape rules session (begun w session) (obstacle w s session) reply (Effect.Becomes x) text r)
+      (shape rules session (begun w session) (obstacle w s session) reply (Effect.Becomes x) (runs_in w session) text r)
+      (replies_mode rules session (begun w session) (obstacle w s session) reply (Effect.Becomes x) (story.sound.modes s session stands) text r)
   story_call (Effect.Writes x) r =
       story_keeps (Effect.Writes x) refl refl (own_goes (Effect.Writes x) tt r)
-      (shape rules session (begun w session) (obstacle w s session) reply (Effect.Writes x) text r)
+      (shape rules session (begun w session) (obstacle w s session) reply (Effect.Writes x) (runs_in w session) text r)
+      (replies_mode rules session (begun w session) (obstacle w s session) reply (Effect.Writes x) (story.sound.modes s session stands) text r)
   story_call (Effect.Commits t) r =
-      story_commits t (shape rules session (begun w session) (obstacle w s session) reply (Effect.Commits t) text r) r
-  story_call Effect.RollsBack r = story_keeps Effect.RollsBack refl refl (nothing_left Effect.RollsBack refl) tt
+      story_commits t (shape rules session (begun w session) (obstacle w s session) reply (Effect.Commits t) (runs_in w session) text r) r
+  story_call Effect.RollsBack r = story_keeps Effect.RollsBack refl refl (nothing_left Effect.RollsBack refl) tt tt
 
 -- ---- any event
 

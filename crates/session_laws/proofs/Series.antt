@@ -3,8 +3,8 @@ use Rattle.std.proofs.Common.{◌≡◌, ◌⊎◌, ℕ, zero, suc, ◌+◌, tru
 use Rattle.std.specs.Prelude.{slice_get, Contains}
 use Rattle.denote.specs.Bag.{Permutes}
 use Rattle.denote.specs.Database.{Database}
-use Rattle.session_laws.specs.Rules.{Rules}
-use Rattle.session_laws.specs.Serial.{Committed, RunsAlone, IsWriter, InSeries}
+use Rattle.session_definitions.specs.Rules.{Rules}
+use Rattle.session_definitions.specs.Serial.{Committed, RunsAlone, IsWriter, InSeries}
 
 pub permutes_itself : {A : Type 0} (xs : List A) → Permutes xs xs
 permutes_itself [] = Permutes.nothing

@@ -1,5 +1,5 @@
 -- What the effect of a reply is like, whatever the statement.
-use Rattle.std.proofs.Common.{◌≡◌, ◌⊎◌, [], ◌∷◌, ◌++◌, Option, Some, None, refl, inl, inr}
+use Rattle.std.proofs.Common.{◌≡◌, ◌⊎◌, [], ◌∷◌, ◌++◌, Option, Some, None, refl, sym, ap, ◌∙◌, inl, inr}
 use Rattle.refusals.specs.declared.refusal.Refusal.{Refusal}
 use Rattle.lexer.specs.Token.{Bytes}
 use Rattle.ast.specs.declared.statement.AccessMode.{AccessMode}
@@ -9,12 +9,13 @@ use Rattle.ast.specs.declared.statement.Statement.{Statement}
 use Rattle.ast.specs.declared.statement.Statement.TheVariants as asks
 use Rattle.denote.specs.Database.{Name}
 use Rattle.replies.specs.declared.reply.Reply.{Reply}
-use Rattle.session_laws.specs.Effect.{Effect}
-use Rattle.session_laws.specs.Rules.{Rules}
-use Rattle.session_laws.specs.Statements.{Queries, Explains, Changes, Ends, Undoes, SetsMode, Declares, Opens, Fetches, Closes, CarriesOut}
-use Rattle.session_laws.specs.Step.{Withholds, Replies}
-use Rattle.session_laws.specs.Transactions.{active, with_cursor, without_cursor}
-use Rattle.session_laws.specs.World.{Transaction, Session}
+use Rattle.session_definitions.specs.Effect.{Effect}
+use Rattle.session_definitions.specs.Rules.{Rules}
+use Rattle.session_definitions.specs.Statements.{Queries, Explains, Changes, Ends, Undoes, SetsMode, Declares, Opens, FetchesIn, Fetches, ClosesIn, Closes, CarriesOut}
+use Rattle.session_definitions.specs.Step.{Withholds, Replies}
+use Rattle.std.specs.Option.{unwrap_or}
+use Rattle.session_definitions.specs.Transactions.{begun, active, with_cursor, without_cursor}
+use Rattle.session_definitions.specs.World.{Transaction, Session, World}
 
 -- the same but for mode, working database and cursors
 pub record BeganWith (t u : Transaction) : Type 0 where
@@ -34,7 +35,11 @@ IsShaped session t obstacle (Effect.Writes x) = (obstacle ≡ None) × ((u : Tra
 IsShaped session t obstacle (Effect.Commits u) = session.transaction ≡ Some u
 IsShaped session t obstacle Effect.RollsBack = Unit {0}
 
-module _ (rules : Rules) (session : Session) (t : Transaction) (obstacle : Option Refusal) (reply : Reply) (effect : Effect) where
+-- a statement runs in the session's own transaction, where it has one
+abbrev pub RunsIn : Session → Transaction → Type 0
+RunsIn session t = (u : Transaction) → session.transaction ≡ Some u → u ≡ t
+
+module _ (rules : Rules) (session : Session) (t : Transaction) (obstacle : Option Refusal) (reply : Reply) (effect : Effect) (own : RunsIn session t) where
   leaves_nothing : effect ≡ Effect.Nothing → IsShaped session t obstacle effect
   leaves_nothing e = rw e tt
 
@@ -73,7 +78,7 @@ module _ (rules : Rules) (session : Session) (t : Transaction) (obstacle : Optio
   sets_shape None mode h = rw h.1 (inl refl)
   sets_shape (Some u) mode h = leaves_nothing h.leaves_all
 
-  declares_shape : (x : DeclareCursor) → Declares session t x reply effect → IsShaped session t obstacle effect
+  declares_shape : (x : DeclareCursor) → Declares session x reply effect → IsShaped session t obstacle effect
   declares_shape x (Declares.open_already is r) = leaves_nothing r.leaves_all
   declares_shape x (Declares.too_many is fails many r) = leaves_nothing r.leaves_all
   declares_shape x (Declares.declares is room says e) = rw e (inl refl)
@@ -84,15 +89,31 @@ module _ (rules : Rules) (session : Session) (t : Transaction) (obstacle : Optio
   opens_shape name (Opens.wrong y refusal is d why r) = leaves_nothing r.leaves_all
   opens_shape name (Opens.opens y query outcome is d m same says e) = becomes (with_cursor t name (record { outcome = outcome; given = [] })) refl refl refl e
 
-  fetches_shape : (name : Name) → Fetches session t name reply effect → IsShaped session t obstacle effect
-  fetches_shape name (Fetches.not_open is r) = leaves_nothing r.leaves_all
-  fetches_shape name (Fetches.gives cursor row is may says e) = becomes (with_cursor t name (record cursor { given = cursor.given ++ row ∷ [] })) refl refl refl e
-  fetches_shape name (Fetches.ends cursor is end says e) = leaves_nothing e
-  fetches_shape name (Fetches.raises cursor fault is may says e) = becomes (without_cursor t name) refl refl refl e
+  -- other cursors in the session's own transaction
+  other_cursors : (u v : Transaction) → session.transaction ≡ Some u → v.beginning ≡ u.beginning → v.found ≡ u.found → v.working ≡ u.working
+      → effect ≡ Effect.Becomes (active session v) → IsShaped session t obstacle effect
+  other_cursors u v has b f k e =
+      let same : u ≡ t = own u has in
+      becomes v (b ∙ ap (λ (x : Transaction). x.beginning) same) (f ∙ ap (λ (x : Transaction). x.found) same) (k ∙ ap (λ (x : Transaction). x.working) same) e
 
-  closes_shape : (name : Name) → Closes session t name reply effect → IsShaped session t obstacle effect
-  closes_shape name (Closes.not_open is r) = leaves_nothing r.leaves_all
-  closes_shape name (Closes.closes is says e) = becomes (without_cursor t name) refl refl refl e
+  fetches_in_shape : (u : Transaction) → session.transaction ≡ Some u → (name : Name) → FetchesIn session u name reply effect → IsShaped session t obstacle effect
+  fetches_in_shape u has name (FetchesIn.not_open is r) = leaves_nothing r.leaves_all
+  fetches_in_shape u has name (FetchesIn.gives cursor row is may says e) =
+      other_cursors u (with_cursor u name (record cursor { given = cursor.given ++ row ∷ [] })) has refl refl refl e
+  fetches_in_shape u has name (FetchesIn.ends cursor is end says e) = leaves_nothing e
+  fetches_in_shape u has name (FetchesIn.raises cursor fault is may says e) = other_cursors u (without_cursor u name) has refl refl refl e
+
+  fetches_shape : (u : Option Transaction) → session.transaction ≡ u → (name : Name) → Fetches session u name reply effect → IsShaped session t obstacle effect
+  fetches_shape None is name r = leaves_nothing r.leaves_all
+  fetches_shape (Some u) is name h = fetches_in_shape u is name h
+
+  closes_in_shape : (u : Transaction) → session.transaction ≡ Some u → (name : Name) → ClosesIn session u name reply effect → IsShaped session t obstacle effect
+  closes_in_shape u has name (ClosesIn.not_open is r) = leaves_nothing r.leaves_all
+  closes_in_shape u has name (ClosesIn.closes is says e) = other_cursors u (without_cursor u name) has refl refl refl e
+
+  closes_shape : (u : Option Transaction) → session.transaction ≡ u → (name : Name) → Closes session u name reply effect → IsShaped session t obstacle effect
+  closes_shape None is name r = leaves_nothing r.leaves_all
+  closes_shape (Some u) is name h = closes_in_shape u is name h
 
   carried_out_shape : (x : Statement) → CarriesOut rules session t obstacle x reply effect → IsShaped session t obstacle effect
   carried_out_shape (asks.Query x) h = queries_shape x h
@@ -109,16 +130,22 @@ module _ (rules : Rules) (session : Session) (t : Transaction) (obstacle : Optio
   carried_out_shape (asks.SetTransaction mode) h = sets_shape session.transaction mode h
   carried_out_shape (asks.DeclareCursor x) h = declares_shape x h
   carried_out_shape (asks.OpenCursor name) h = opens_shape name h
-  carried_out_shape (asks.Fetch name) h = fetches_shape name h
-  carried_out_shape (asks.CloseCursor name) h = closes_shape name h
+  carried_out_shape (asks.Fetch name) h = fetches_shape session.transaction refl name h
+  carried_out_shape (asks.CloseCursor name) h = closes_shape session.transaction refl name h
 
-  withholds_shape : (text : Bytes) → Withholds session t text reply effect → IsShaped session t obstacle effect
+  withholds_shape : (text : Bytes) → Withholds session text reply effect → IsShaped session t obstacle effect
   withholds_shape text (Withholds.of_memory other r) = leaves_nothing r.leaves_all
-  withholds_shape text (Withholds.of_no_statement refusal other reserved why r) = leaves_nothing r.leaves_all
-  withholds_shape text (Withholds.of_statement refusal x reserved read may r) = leaves_nothing r.leaves_all
-  withholds_shape text (Withholds.closes refusal name reserved read is says e) = becomes (without_cursor t name) refl refl refl e
+  withholds_shape text (Withholds.of_store refusal of other fetch r) = leaves_nothing r.leaves_all
+  withholds_shape text (Withholds.closes refusal u name reserved read has is says e) = other_cursors u (without_cursor u name) has refl refl refl e
 
   pub shape : (text : Bytes) → Replies rules session t obstacle text reply effect → IsShaped session t obstacle effect
   shape text (Replies.unread refusal why r) = leaves_nothing r.leaves_all
   shape text (Replies.carried_out x read h) = carried_out_shape x h
   shape text (Replies.withheld h) = withholds_shape text h
+
+pub runs_in : (w : World) (session : Session) → RunsIn session (begun w session)
+runs_in w session u has = sym (by session.transaction _ has)
+  where
+    by : (o : Option Transaction) (d : Transaction) → o ≡ Some u → unwrap_or o d ≡ u
+    by (Some v) d is = cc
+    by None d is = cc

@@ -6,8 +6,8 @@ use Rattle.std.proofs.lemmas.Bool.{eqb-true}
 use Rattle.refusals.specs.declared.refusal.Refusal.TheVariants.{CursorState, TransactionState, SerializationFailure}
 use Rattle.denote.specs.Database.{Database}
 use Rattle.session_laws.specs.Sound.{IsSoundTransaction, IsSoundSession}
-use Rattle.session_laws.specs.Transactions.{begun, began_earlier, is_overtaken, obstacle, is_read_only, has_open}
-use Rattle.session_laws.specs.World.{Transaction, Session, World}
+use Rattle.session_definitions.specs.Transactions.{begun, began_earlier, is_overtaken, obstacle, is_read_only, has_open}
+use Rattle.session_definitions.specs.World.{Transaction, Session, World}
 use Rattle.session_laws.proofs.Shapes.{BeganWith, Keeps}
 
 -- ---- what stands in the way of nothing

@@ -7,16 +7,17 @@ use Rattle.refusals.specs.declared.refusal.Refusal.{Refusal}
 use Rattle.lexer.specs.Token.{Bytes}
 use Rattle.denote.specs.Database.{Database}
 use Rattle.replies.specs.declared.reply.Reply.{Reply}
-use Rattle.session_laws.specs.Effect.{Effect, after, committed}
-use Rattle.session_laws.specs.Rules.{Rules}
-use Rattle.session_laws.specs.Run.{Event, MakesSession, FlushesPages, Happens, without_session}
-use Rattle.session_laws.specs.Sound.{IsSoundTransaction, IsSoundSession, IsSound}
-use Rattle.session_laws.specs.Step.{Call}
-use Rattle.session_laws.specs.Transactions.{starting, begun, has_other, obstacle}
-use Rattle.session_laws.specs.World.{Transaction, Session, World, is_live, is_session, is_writer, new_session, with_session}
+use Rattle.session_definitions.specs.Effect.{Effect, after, committed}
+use Rattle.session_definitions.specs.Rules.{Rules}
+use Rattle.session_definitions.specs.Run.{Event, MakesSession, FlushesPages, Happens, without_session}
+use Rattle.session_laws.specs.Sound.{IsSoundTransaction, IsSoundSession, IsSoundMode, IsSound}
+use Rattle.session_definitions.specs.Step.{Call}
+use Rattle.session_definitions.specs.Transactions.{starting, begun, has_other, obstacle}
+use Rattle.session_definitions.specs.World.{Transaction, Session, World, is_live, is_session, is_writer, new_session, with_session}
 use Rattle.session_laws.proofs.Effects.{left_as, writes_after, IsAllowed, others_stay, own_session, others_write, own_writes, without_other, without_itself}
 use Rattle.session_laws.proofs.Maps.{get_here, get_there, get_gone, get_left}
-use Rattle.session_laws.proofs.Shapes.{IsShaped, shape}
+use Rattle.session_laws.proofs.Modes.{LeavesMode, replies_mode}
+use Rattle.session_laws.proofs.Shapes.{IsShaped, shape, runs_in}
 use Rattle.session_laws.proofs.SoundLemmas.{neither, not_overtaken, sound_begun, sound_kept, began_now, sound_wrote, later}
 
 pub same_Some : {A : Type 0} (x y : A) → Some x ≡ Some y → x ≡ y
@@ -95,9 +96,18 @@ module _ (w : World) (s : ℕ) (session : Session) (sound : IsSound w) (stands :
       (sym (committed_last w s session t)) before)
   sound_other Effect.RollsBack k x ne is = sound.sessions k x is
 
-  pub sound_after : (e : Effect) → IsShaped session (begun w session) (obstacle w s session) e → IsSound (after w s session e)
-  sound_after e h = record {
+  -- the mode of the session itself
+  own_mode : (e : Effect) → LeavesMode e → IsSoundMode (left_as session e).next (left_as session e).transaction
+  own_mode Effect.Nothing m = sound.modes s session stands
+  own_mode (Effect.Becomes x) m = m
+  own_mode (Effect.Writes x) m = m
+  own_mode (Effect.Commits t) m = tt
+  own_mode Effect.RollsBack m = tt
+
+  pub sound_after : (e : Effect) → IsShaped session (begun w session) (obstacle w s session) e → LeavesMode e → IsSound (after w s session e)
+  sound_after e h m = record {
     sessions = λ k x is. each_session k x is (cases_eq k s);
+    modes = λ k x is. each_mode k x is (cases_eq k s);
     writer = λ k holds. live k holds (cases_eq k s);
   }
     where
@@ -110,6 +120,13 @@ module _ (w : World) (s : ℕ) (session : Session) (sound : IsSound w) (stands :
       each_session k x is (inr ne) =
           rw (others_write w s session e k ne (allowed w s session e h)) (sound_other e k x ne (sym (others_stay w s session e k ne) ∙ is))
 
+      each_mode : (k : ℕ) (x : Session) → get (after w s session e).sessions k ≡ Some x → (k ≡ s) ⊎ (k ≡ s → ⊥) → IsSoundMode x.next x.transaction
+      each_mode k x is (inl same) =
+          let own : get (after w s session e).sessions s ≡ Some x = subst (λ q. get (after w s session e).sessions q ≡ Some x) same is in
+          let f : left_as session e ≡ x = same_Some (left_as session e) x (sym (own_session w s session e stands) ∙ own) in
+          subst (λ (y : Session). IsSoundMode y.next y.transaction) f (own_mode e m)
+      each_mode k x is (inr ne) = sound.modes k x (sym (others_stay w s session e k ne) ∙ is)
+
       live : (k : ℕ) → is_writer (after w s session e) k ≡ true → (k ≡ s) ⊎ (k ≡ s → ⊥) → is_live (after w s session e) k ≡ true
       live k holds (inl same) = rw same (ap is_some (own_session w s session e stands))
       live k holds (inr ne) =
@@ -120,7 +137,8 @@ pub sound_call : (rules : Rules) (old : World) (s : ℕ) (text : Bytes) (reply :
     → IsSound old → Call rules old s text reply effect new → IsSound new
 sound_call rules old s text reply effect new sound call =
     subst IsSound (sym call.leaves) (sound_after old s call.session sound call.stands effect
-    (shape rules call.session (begun old call.session) (obstacle old s call.session) reply effect text call.replies))
+    (shape rules call.session (begun old call.session) (obstacle old s call.session) reply effect (runs_in old call.session) text call.replies)
+    (replies_mode rules call.session (begun old call.session) (obstacle old s call.session) reply effect (sound.modes s call.session call.stands) text call.replies))
 
 -- ---- other events
 
@@ -134,6 +152,7 @@ unlive_writes old s sound free =
 sound_made : (old : World) (s : ℕ) → is_live old s ≡ false → IsSound old → IsSound (with_session old s new_session)
 sound_made old s free sound = record {
   sessions = λ k x is. each_session k x is (cases_eq k s);
+  modes = λ k x is. each_mode k x is (cases_eq k s);
   writer = λ k holds. live k holds (cases_eq k s);
 }
   where
@@ -145,6 +164,13 @@ sound_made old s free sound = record {
         rw (same, f) (unlive_writes old s sound free)
     each_session k x is (inr ne) = sound.sessions k x (sym (get_there old.sessions s new_session k ne) ∙ is)
 
+    each_mode : (k : ℕ) (x : Session) → get (with_session old s new_session).sessions k ≡ Some x → (k ≡ s) ⊎ (k ≡ s → ⊥) → IsSoundMode x.next x.transaction
+    each_mode k x is (inl same) =
+        let own : get (with_session old s new_session).sessions s ≡ Some x = subst (λ q. get (with_session old s new_session).sessions q ≡ Some x) same is in
+        let f : new_session ≡ x = same_Some new_session x (sym (get_here old.sessions s new_session) ∙ own) in
+        subst (λ (y : Session). IsSoundMode y.next y.transaction) f tt
+    each_mode k x is (inr ne) = sound.modes k x (sym (get_there old.sessions s new_session k ne) ∙ is)
+
     live : (k : ℕ) → is_writer old k ≡ true → (k ≡ s) ⊎ (k ≡ s → ⊥) → is_live (with_session old s new_session) k ≡ true
     live k holds (inl same) = rw same (ap is_some (get_here old.sessions s new_session))
     live k holds (inr ne) = ap is_some (get_there old.sessions s new_session k ne) ∙ sound.writer k holds
@@ -152,6 +178,7 @@ sound_made old s free sound = record {
 sound_dropped : (old : World) (s : ℕ) → IsSound old → IsSound (without_session old s)
 sound_dropped old s sound = record {
   sessions = λ k x is. each_session k x is (cases_eq k s);
+  modes = λ k x is. each_mode k x is (cases_eq k s);
   writer = λ k holds. live k holds (cases_eq k s);
 }
   where
@@ -164,6 +191,12 @@ sound_dropped old s sound = record {
         subst (λ v. IsSoundSession old.commits old.last v x.transaction) (sym (without_other s k old.writer ne))
         (sound.sessions k x (sym (get_left old.sessions s k ne) ∙ is))
 
+    each_mode : (k : ℕ) (x : Session) → get (without_session old s).sessions k ≡ Some x → (k ≡ s) ⊎ (k ≡ s → ⊥) → IsSoundMode x.next x.transaction
+    each_mode k x is (inl same) =
+        let own : get (without_session old s).sessions s ≡ Some x = subst (λ q. get (without_session old s).sessions q ≡ Some x) same is in
+        let none : None ≡ Some x = sym (get_gone old.sessions s) ∙ own in absurd (cc)
+    each_mode k x is (inr ne) = sound.modes k x (sym (get_left old.sessions s k ne) ∙ is)
+
     live : (k : ℕ) → is_writer (without_session old s) k ≡ true → (k ≡ s) ⊎ (k ≡ s → ⊥) → is_live (without_session old s) k ≡ true
     live k holds (inl same) =
         let own : is_writer (without_session old s) s ≡ true = subst (λ q. is_writer (without_session old s) q ≡ true) same holds in
@@ -174,11 +207,12 @@ sound_dropped old s sound = record {
 pub sound_empty : (commits : ℕ) (db : Database) → IsSound (record { commits = commits; last = db; writer = None; sessions = empty })
 sound_empty commits db = record {
   sessions = λ k x is. let none : None ≡ Some x = sym (get-empty nat_cmp k) ∙ is in cc;
+  modes = λ k x is. let none : None ≡ Some x = sym (get-empty nat_cmp k) ∙ is in absurd (cc);
   writer = λ k holds. let fails : false ≡ true = holds in cc;
 }
 
 sound_made_or_not : (old : World) (made : Result ℕ Refusal) (new : World) → IsSound old → MakesSession old made new → IsSound new
-sound_made_or_not old (Ok s) new sound h = subst IsSound (sym h.2) (sound_made old s h.0 sound)
+sound_made_or_not old (Ok s) new sound h = subst IsSound (sym h.2) (sound_made old s h.0.free sound)
 sound_made_or_not old (Err refusal) new sound h = subst IsSound (sym h.1) sound
 
 sound_flushed : (old : World) (left : Result ℕ Refusal) (new : World) → IsSound old → FlushesPages old left new → IsSound new

@@ -1,16 +1,2 @@
-pub mod World
-pub mod Effect
-pub mod Transactions
-pub mod Refusals
-pub mod Reading
-pub mod Rules
-pub mod Cursor
-pub mod Statements
-pub mod Step
-pub mod Run
-pub mod Serial
-pub mod Script
-pub mod Engine
 pub mod Sound
 pub mod Left
-pub mod WorldCode

@@ -1,4 +1,4 @@
-//! What sessions are: worlds, the steps and runs of calls, scripts; and the laws that follow from these definitions.
+//! Laws that follow from the definitions of sessions, runs and scripts.
 #![tactic(auto)]
 
 mod runs;

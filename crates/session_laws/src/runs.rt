@@ -8,13 +8,13 @@ ghost use Rattle.denote.specs.Database.{Database, CheckReading, IsGood};
 ghost use Rattle.replies.specs.declared.reply.Reply.{Reply};
 ghost use Rattle.replies.specs.declared.reply.Reply.TheVariants as says;
 ghost use Rattle.session_laws.specs.Left.{IsFetch, LeavesAlmostAll};
-ghost use Rattle.session_laws.specs.Rules.{Rules};
-ghost use Rattle.session_laws.specs.Run.{Event, Happens, MakesSession, DropsSession, Moment, Run, history};
-ghost use Rattle.session_laws.specs.Script.{IsPlayed};
-ghost use Rattle.session_laws.specs.Serial.{Committed, transactions, IsWriter, IsSerializable};
+ghost use Rattle.session_definitions.specs.Rules.{Rules};
+ghost use Rattle.session_definitions.specs.Run.{Event, Happens, MakesSession, DropsSession, Moment, Run, history};
+ghost use Rattle.session_definitions.specs.Script.{IsPlayed};
+ghost use Rattle.session_definitions.specs.Serial.{Committed, transactions, IsWriter, IsSerializable};
 ghost use Rattle.session_laws.specs.Sound.{IsSound, IsGoodWorld};
-ghost use Rattle.session_laws.specs.Step.{Step};
-ghost use Rattle.session_laws.specs.World.{World, is_live, new_world, opened};
+ghost use Rattle.session_definitions.specs.Step.{Step};
+ghost use Rattle.session_definitions.specs.World.{World, is_live, new_world, opened};
 
 /// A refused call leaves the world as it was; but a serialization failure has rolled back the session's transaction, and a FETCH
 /// has closed its cursor.

@@ -5,7 +5,7 @@ pub returns : goal.returns
 returns c = record {
   calls = keeps_live;
   made = made_live;
-  was_free = λ old new s h. h.0;
+  was_free = λ old new s h. h.0.free;
   made_alone = made_others;
   dropped = dropped_live;
   dropped_alone = dropped_others;

@@ -5,11 +5,11 @@ use Rattle.lexer.specs.Token.{Bytes}
 use Rattle.denote.specs.Bag.{Permutes}
 use Rattle.denote.specs.Database.{Database}
 use Rattle.replies.specs.declared.reply.Reply.{Reply}
-use Rattle.session_laws.specs.Effect.{Effect}
-use Rattle.session_laws.specs.Rules.{Rules}
-use Rattle.session_laws.specs.Run.{Event, Moment, history}
-use Rattle.session_laws.specs.Step.{Step}
-use Rattle.session_laws.specs.World.{Transaction, Session, World, is_writer, new_session}
+use Rattle.session_definitions.specs.Effect.{Effect}
+use Rattle.session_definitions.specs.Rules.{Rules}
+use Rattle.session_definitions.specs.Run.{Event, Moment, history}
+use Rattle.session_definitions.specs.Step.{Step}
+use Rattle.session_definitions.specs.World.{Transaction, Session, World, is_writer, new_session}
 
 -- a text and the reply to it
 pub record Saying : Type 0 where

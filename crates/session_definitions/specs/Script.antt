@@ -12,11 +12,11 @@ use Rattle.replies.specs.declared.reply.Reply.TheVariants as says
 use Rattle.script_pieces.specs.PieceMeaning.{Request, Asks}
 use Rattle.replies.specs.Printed.{printed_reply}
 use Rattle.replies.specs.Refused.{is_refusal}
-use Rattle.session_laws.specs.Refusals.{StopsFlush}
-use Rattle.session_laws.specs.Rules.{Rules}
-use Rattle.session_laws.specs.Run.{MakesSession, DropsSession}
-use Rattle.session_laws.specs.Step.{Step}
-use Rattle.session_laws.specs.World.{World}
+use Rattle.session_definitions.specs.Refusals.{StopsFlush}
+use Rattle.session_definitions.specs.Rules.{Rules}
+use Rattle.session_definitions.specs.Run.{MakesSession, DropsSession}
+use Rattle.session_definitions.specs.Step.{Step}
+use Rattle.session_definitions.specs.World.{World}
 
 -- Where a script stands: the world, the chosen session's number in the script, and, by these numbers, the sessions that were made.
 pub record Scene : Type 0 where

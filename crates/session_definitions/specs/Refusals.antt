@@ -8,7 +8,7 @@ use Rattle.denote.specs.declared.fault.Fault.{Fault}
 use Rattle.denote.specs.declared.fault.Fault.TheVariants as fault
 use Rattle.replies.specs.declared.reply.Reply.{Reply}
 use Rattle.replies.specs.declared.reply.Reply.TheVariants as says
-use Rattle.session_laws.specs.Effect.{Effect}
+use Rattle.session_definitions.specs.Effect.{Effect}
 
 abbrev pub refusal_of : Fault → Refusal
 refusal_of fault.ManyRows = refused.ManyRows
@@ -25,12 +25,16 @@ IsStoreLimit limit.Private = Unit {0}
 IsStoreLimit limit.Kept = Unit {0}
 IsStoreLimit _ = ⊥
 
--- want of memory, a device that refused, or a limit of the store
+-- a device that refused, or a limit of the store
+abbrev pub IsOfStore : Refusal → Type 0
+IsOfStore refused.Disk = Unit {0}
+IsOfStore (refused.Exceeded which) = IsStoreLimit which
+IsOfStore _ = ⊥
+
+-- these, or want of memory
 abbrev pub IsReserved : Refusal → Type 0
 IsReserved refused.Memory = Unit {0}
-IsReserved refused.Disk = Unit {0}
-IsReserved (refused.Exceeded which) = IsStoreLimit which
-IsReserved _ = ⊥
+IsReserved refusal = IsOfStore refusal
 
 -- a flush is refused for want of memory, or by the device
 abbrev pub StopsFlush : Refusal → Type 0

@@ -1,19 +1,19 @@
 -- What happens to an engine over time: calls of sessions, the making and ending of sessions, flushes, and close with a later open
 -- (sessions begin and end by 4.30 and 15 of ISO/IEC 9075:1992; flushes, close and open are our own choice).
-use Rattle.std.specs.Prelude.{◌≡◌, ◌⊎◌, ℕ, ◌<◌, ◌≤◌, Bool, true, false, ◌||◌, List, [], ◌∷◌, ◌++◌, map, filter, Result, Ok, Err, Some, None, if◌then◌else◌}
+use Rattle.std.specs.Prelude.{◌≡◌, ◌⊎◌, ℕ, ◌<◌, Bool, true, false, ◌||◌, List, [], ◌∷◌, ◌++◌, map, filter, Result, Ok, Err, Some, None, if◌then◌else◌}
 use Rattle.std.specs.List.{list_all}
-use Rattle.std.specs.FinMap.{get, remove, empty, len}
+use Rattle.std.specs.FinMap.{get, remove, empty}
 use Rattle.refusals.specs.declared.refusal.Refusal.{Refusal}
 use Rattle.refusals.specs.declared.refusal.Refusal.TheVariants.{Memory, Disk, Exceeded}
 use Rattle.refusals.specs.declared.limit.Limit.TheVariants as limit
 use Rattle.lexer.specs.Token.{Bytes}
 use Rattle.denote.specs.Database.{Database}
 use Rattle.replies.specs.declared.reply.Reply.{Reply}
-use Rattle.session_laws.specs.Effect.{Effect, writer_without}
-use Rattle.session_laws.specs.Refusals.{StopsFlush}
-use Rattle.session_laws.specs.Rules.{Rules}
-use Rattle.session_laws.specs.Step.{Call}
-use Rattle.session_laws.specs.World.{Session, World, is_live, is_writer, new_session, opened, with_session}
+use Rattle.session_definitions.specs.Effect.{Effect, writer_without}
+use Rattle.session_definitions.specs.Refusals.{StopsFlush}
+use Rattle.session_definitions.specs.Rules.{Rules}
+use Rattle.session_definitions.specs.Step.{Call}
+use Rattle.session_definitions.specs.World.{Session, World, is_live, is_writer, new_session, opened, with_session}
 
 -- An event, with its reply. Of a call its effect is told too: text, reply and world do not always determine it (a FETCH that is refused for want of memory
 -- may have closed its cursor or not).
@@ -25,15 +25,23 @@ pub data Event : Type 0 where
   FailsToClose : (refusal : Refusal) → Event
   Reopens : Event
 
--- the greatest number of sessions at a time (our own choice): one until many sessions come, and 64 then
+-- the greatest number of sessions at a time (our own choice)
 abbrev pub most_sessions : ℕ
-most_sessions = 1
+most_sessions = 64
 
--- a new session gets a number that no other has; none is made where as many stand as may, or for want of memory
+-- the least number, from 0, that no session has
+pub record IsLeastFree (w : World) (s : ℕ) : Type 0 where
+  pub free : is_live w s ≡ false
+  pub least : (k : ℕ) → k < s → is_live w k ≡ true
+
+-- as many sessions stand as may: each number is one's
+abbrev pub IsFull : World → Type 0
+IsFull w = (k : ℕ) → k < most_sessions → is_live w k ≡ true
+
+-- a new session gets the least number that no other has; none is made where as many stand as may, or for want of memory
 abbrev pub MakesSession : World → Result ℕ Refusal → World → Type 0
-MakesSession old (Ok s) new = (is_live old s ≡ false) × (len old.sessions < most_sessions) × (new ≡ with_session old s new_session)
-MakesSession old (Err refusal) new =
-    (((most_sessions ≤ len old.sessions) × (refusal ≡ Exceeded limit.Sessions)) ⊎ ((len old.sessions < most_sessions) × (refusal ≡ Memory))) × (new ≡ old)
+MakesSession old (Ok s) new = IsLeastFree old s × (s < most_sessions) × (new ≡ with_session old s new_session)
+MakesSession old (Err refusal) new = ((IsFull old × (refusal ≡ Exceeded limit.Sessions)) ⊎ ((IsFull old → ⊥) × (refusal ≡ Memory))) × (new ≡ old)
 
 -- the world without a session, whose transaction is rolled back
 abbrev pub without_session : World → ℕ → World

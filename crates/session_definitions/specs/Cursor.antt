@@ -5,7 +5,7 @@ use Rattle.denote.specs.declared.fault.Fault.{Fault}
 use Rattle.denote.specs.Answer.{by_keys}
 use Rattle.denote.specs.Bag.{Permutes}
 use Rattle.denote.specs.Outcome.{OrderedOutcome}
-use Rattle.session_laws.specs.World.{Cursor}
+use Rattle.session_definitions.specs.World.{Cursor}
 
 -- All rows of an outcome in an order in which a cursor may give them: sorted by the order keys where there are no faults, so that
 -- they answer the outcome; and in any order where there are some (our own choice).

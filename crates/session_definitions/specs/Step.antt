@@ -1,6 +1,6 @@
 -- One call of a session: a text, its reply, and the world after it (ISO/IEC 9075:1992, 20.1). The refusals come in this order, which is our own choice: the statement's length, its tokens,
 -- words that are not supported, nesting, grammar; the state of transaction and cursors; names and types; evaluation and constraints.
-use Rattle.std.specs.Prelude.{◌≡◌, ◌⊎◌, ℕ, Bool, true, false, List, [], ◌∷◌, Option, Some}
+use Rattle.std.specs.Prelude.{◌≡◌, ℕ, Bool, true, false, List, [], ◌∷◌, Option, Some}
 use Rattle.std.specs.FinMap.{get}
 use Rattle.refusals.specs.declared.refusal.Refusal.{Refusal}
 use Rattle.refusals.specs.declared.refusal.Refusal.TheVariants.{Memory}
@@ -12,13 +12,13 @@ use Rattle.ast.specs.declared.statement.Statement.TheVariants as asks
 use Rattle.denote.specs.Database.{Name}
 use Rattle.replies.specs.declared.reply.Reply.{Reply}
 use Rattle.replies.specs.declared.reply.Reply.TheVariants as says
-use Rattle.session_laws.specs.Effect.{Effect, after}
-use Rattle.session_laws.specs.Reading.{IsRead, IsUnread}
-use Rattle.session_laws.specs.Refusals.{IsReserved, Refuses}
-use Rattle.session_laws.specs.Rules.{Rules}
-use Rattle.session_laws.specs.Statements.{CarriesOut}
-use Rattle.session_laws.specs.Transactions.{begun, active, is_open, obstacle, without_cursor}
-use Rattle.session_laws.specs.World.{Transaction, Session, World}
+use Rattle.session_definitions.specs.Effect.{Effect, after}
+use Rattle.session_definitions.specs.Reading.{IsRead, IsUnread}
+use Rattle.session_definitions.specs.Refusals.{IsOfStore, IsReserved, Refuses}
+use Rattle.session_definitions.specs.Rules.{Rules}
+use Rattle.session_definitions.specs.Statements.{CarriesOut}
+use Rattle.session_definitions.specs.Transactions.{begun, active, is_open, is_open_in, obstacle, without_cursor}
+use Rattle.session_definitions.specs.World.{Transaction, Session, World}
 
 -- the reserved words of ROLLBACK [WORK] (14.4)
 abbrev pub rollback_words : Bool → List Word
@@ -29,28 +29,27 @@ rollback_words true = Rollback ∷ Work ∷ []
 abbrev pub IsRollback : Bytes → Type 0
 IsRollback text = (work : Bool) × IsRead text (asks.Rollback work)
 
--- whether a reserved refusal may stand in place of the reply to this statement, and leave the world as it was
-abbrev pub MayBeWithheld : Transaction → Statement → Refusal → Type 0
-MayBeWithheld t (asks.Rollback work) refusal = ⊥
-MayBeWithheld t (asks.Fetch name) refusal = (is_open t name ≡ false) ⊎ (refusal ≡ Memory)
-MayBeWithheld t _ refusal = Unit {0}
+-- the text is a FETCH of a cursor that is open
+pub record FetchesOpen (session : Session) (text : Bytes) : Type 0 where
+  pub name : Name
+  pub read : IsRead text (asks.Fetch name)
+  pub open_there : is_open_in session.transaction name ≡ true
 
 -- Want of memory, a device that refused or a limit of the store may stand in place of any reply but that of ROLLBACK. The world then
 -- stays as it was; but a FETCH has closed its cursor, and only after want of memory it may stand as it was.
-pub data Withholds (session : Session) (t : Transaction) (text : Bytes) (reply : Reply) (effect : Effect) : Type 0 where
-  of_memory : (IsRollback text → ⊥) → Refuses Memory reply effect → Withholds session t text reply effect
-  of_no_statement : (refusal other : Refusal) → IsReserved refusal → IsUnread text other
-      → Refuses refusal reply effect → Withholds session t text reply effect
-  of_statement : (refusal : Refusal) (x : Statement) → IsReserved refusal → IsRead text x → MayBeWithheld t x refusal
-      → Refuses refusal reply effect → Withholds session t text reply effect
-  closes : (refusal : Refusal) (name : Name) → IsReserved refusal → IsRead text (asks.Fetch name) → is_open t name ≡ true
-      → reply ≡ says.Refused refusal → effect ≡ Effect.Becomes (active session (without_cursor t name)) → Withholds session t text reply effect
+pub data Withholds (session : Session) (text : Bytes) (reply : Reply) (effect : Effect) : Type 0 where
+  of_memory : (IsRollback text → ⊥) → Refuses Memory reply effect → Withholds session text reply effect
+  of_store : (refusal : Refusal) → IsOfStore refusal → (IsRollback text → ⊥) → (FetchesOpen session text → ⊥)
+      → Refuses refusal reply effect → Withholds session text reply effect
+  closes : (refusal : Refusal) (t : Transaction) (name : Name) → IsReserved refusal → IsRead text (asks.Fetch name)
+      → session.transaction ≡ Some t → is_open t name ≡ true
+      → reply ≡ says.Refused refusal → effect ≡ Effect.Becomes (active session (without_cursor t name)) → Withholds session text reply effect
 
 -- the reply to a text, and its effect
 pub data Replies (rules : Rules) (session : Session) (t : Transaction) (obstacle : Option Refusal) (text : Bytes) (reply : Reply) (effect : Effect) : Type 0 where
   unread : (refusal : Refusal) → IsUnread text refusal → Refuses refusal reply effect → Replies rules session t obstacle text reply effect
   carried_out : (x : Statement) → IsRead text x → CarriesOut rules session t obstacle x reply effect → Replies rules session t obstacle text reply effect
-  withheld : Withholds session t text reply effect → Replies rules session t obstacle text reply effect
+  withheld : Withholds session text reply effect → Replies rules session t obstacle text reply effect
 
 -- A call of the session of this number, with its effect.
 pub record Call (rules : Rules) (old : World) (s : ℕ) (text : Bytes) (reply : Reply) (effect : Effect) (new : World) : Type 0 where

@@ -23,12 +23,12 @@ use Rattle.denote.specs.Outcome.{OrderedOutcome}
 use Rattle.denote.specs.Query.{denotes}
 use Rattle.replies.specs.declared.reply.Reply.{Reply}
 use Rattle.replies.specs.declared.reply.Reply.TheVariants as says
-use Rattle.session_laws.specs.Cursor.{MayGive, IsAtEnd, MayRaise}
-use Rattle.session_laws.specs.Effect.{Effect}
-use Rattle.session_laws.specs.Refusals.{refusal_of, Refuses}
-use Rattle.session_laws.specs.Rules.{Rules, Means, IsReason}
-use Rattle.session_laws.specs.Transactions.{active, is_open, with_cursor, without_cursor}
-use Rattle.session_laws.specs.World.{Cursor, Transaction, Session}
+use Rattle.session_definitions.specs.Cursor.{MayGive, IsAtEnd, MayRaise}
+use Rattle.session_definitions.specs.Effect.{Effect}
+use Rattle.session_definitions.specs.Refusals.{refusal_of, Refuses}
+use Rattle.session_definitions.specs.Rules.{Rules, Means, IsReason}
+use Rattle.session_definitions.specs.Transactions.{active, is_open, is_open_in, with_cursor, without_cursor}
+use Rattle.session_definitions.specs.World.{Cursor, Transaction, Session}
 
 -- ---- queries
 
@@ -102,13 +102,13 @@ most_cursors = 8
 
 -- DECLARE (13.1): the session keeps the query. That it takes the place of one of that name whose cursor is not open, and is 24000 where it is open, is our
 -- own choice. It begins no transaction.
-pub data Declares (session : Session) (t : Transaction) (x : DeclareCursor) (reply : Reply) (effect : Effect) : Type 0 where
-  open_already : is_open t x.cursor ≡ true → Refuses CursorState reply effect → Declares session t x reply effect
-  too_many : is_open t x.cursor ≡ false → contains_key session.declared x.cursor ≡ false → most_cursors ≤ len session.declared
-      → Refuses (Exceeded limit.Cursors) reply effect → Declares session t x reply effect
-  declares : is_open t x.cursor ≡ false → (contains_key session.declared x.cursor ≡ true) ⊎ (len session.declared < most_cursors)
+pub data Declares (session : Session) (x : DeclareCursor) (reply : Reply) (effect : Effect) : Type 0 where
+  open_already : is_open_in session.transaction x.cursor ≡ true → Refuses CursorState reply effect → Declares session x reply effect
+  too_many : is_open_in session.transaction x.cursor ≡ false → contains_key session.declared x.cursor ≡ false → most_cursors ≤ len session.declared
+      → Refuses (Exceeded limit.Cursors) reply effect → Declares session x reply effect
+  declares : is_open_in session.transaction x.cursor ≡ false → (contains_key session.declared x.cursor ≡ true) ⊎ (len session.declared < most_cursors)
       → reply ≡ says.Done → effect ≡ Effect.Becomes (record session { declared = insert session.declared x.cursor x.query })
-      → Declares session t x reply effect
+      → Declares session x reply effect
 
 -- the same bag, the same faults and the same order keys
 pub record IsSameOutcome (o p : OrderedOutcome) : Type 0 where
@@ -128,22 +128,32 @@ pub data Opens (rules : Rules) (session : Session) (t : Transaction) (name : Nam
       → Opens rules session t name reply effect
 
 -- FETCH (13.3): a row, the end, or a fault of the query, which closes the cursor (our own choice).
-pub data Fetches (session : Session) (t : Transaction) (name : Name) (reply : Reply) (effect : Effect) : Type 0 where
-  not_open : get t.cursors name ≡ None → Refuses CursorState reply effect → Fetches session t name reply effect
+pub data FetchesIn (session : Session) (t : Transaction) (name : Name) (reply : Reply) (effect : Effect) : Type 0 where
+  not_open : get t.cursors name ≡ None → Refuses CursorState reply effect → FetchesIn session t name reply effect
   gives : (cursor : Cursor) (row : Row) → get t.cursors name ≡ Some cursor → MayGive cursor row
       → reply ≡ says.Row row → effect ≡ Effect.Becomes (active session (with_cursor t name (record cursor { given = cursor.given ++ row ∷ [] })))
-      → Fetches session t name reply effect
+      → FetchesIn session t name reply effect
   ends : (cursor : Cursor) → get t.cursors name ≡ Some cursor → IsAtEnd cursor
-      → reply ≡ says.EndOfRows → effect ≡ Effect.Nothing → Fetches session t name reply effect
+      → reply ≡ says.EndOfRows → effect ≡ Effect.Nothing → FetchesIn session t name reply effect
   raises : (cursor : Cursor) (fault : Fault) → get t.cursors name ≡ Some cursor → MayRaise cursor fault
       → reply ≡ says.Refused (refusal_of fault) → effect ≡ Effect.Becomes (active session (without_cursor t name))
-      → Fetches session t name reply effect
+      → FetchesIn session t name reply effect
+
+-- In an idle session no cursor is open. FETCH begins no transaction.
+abbrev pub Fetches : Session → Option Transaction → Name → Reply → Effect → Type 0
+Fetches session None name reply effect = Refuses CursorState reply effect
+Fetches session (Some t) name reply effect = FetchesIn session t name reply effect
 
 -- CLOSE (13.4).
-pub data Closes (session : Session) (t : Transaction) (name : Name) (reply : Reply) (effect : Effect) : Type 0 where
-  not_open : is_open t name ≡ false → Refuses CursorState reply effect → Closes session t name reply effect
+pub data ClosesIn (session : Session) (t : Transaction) (name : Name) (reply : Reply) (effect : Effect) : Type 0 where
+  not_open : is_open t name ≡ false → Refuses CursorState reply effect → ClosesIn session t name reply effect
   closes : is_open t name ≡ true → reply ≡ says.Done → effect ≡ Effect.Becomes (active session (without_cursor t name))
-      → Closes session t name reply effect
+      → ClosesIn session t name reply effect
+
+-- CLOSE begins no transaction either.
+abbrev pub Closes : Session → Option Transaction → Name → Reply → Effect → Type 0
+Closes session None name reply effect = Refuses CursorState reply effect
+Closes session (Some t) name reply effect = ClosesIn session t name reply effect
 
 -- ---- any statement
 
@@ -160,7 +170,7 @@ CarriesOut rules session t obstacle (asks.Delete x) = Changes rules session t ob
 CarriesOut rules session t obstacle (asks.Commit work) = Ends session.transaction
 CarriesOut rules session t obstacle (asks.Rollback work) = Undoes session.transaction
 CarriesOut rules session t obstacle (asks.SetTransaction mode) = SetsMode session session.transaction mode
-CarriesOut rules session t obstacle (asks.DeclareCursor x) = Declares session t x
+CarriesOut rules session t obstacle (asks.DeclareCursor x) = Declares session x
 CarriesOut rules session t obstacle (asks.OpenCursor name) = Opens rules session t name
-CarriesOut rules session t obstacle (asks.Fetch name) = Fetches session t name
-CarriesOut rules session t obstacle (asks.CloseCursor name) = Closes session t name
+CarriesOut rules session t obstacle (asks.Fetch name) = Fetches session session.transaction name
+CarriesOut rules session t obstacle (asks.CloseCursor name) = Closes session session.transaction name

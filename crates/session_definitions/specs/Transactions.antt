@@ -7,7 +7,7 @@ use Rattle.refusals.specs.declared.refusal.Refusal.TheVariants.{CursorState, Tra
 use Rattle.ast.specs.declared.statement.AccessMode.{AccessMode}
 use Rattle.ast.specs.declared.statement.AccessMode.TheVariants.{ReadOnly, ReadWrite}
 use Rattle.denote.specs.Database.{Name}
-use Rattle.session_laws.specs.World.{Cursor, Transaction, Session, World, is_writer}
+use Rattle.session_definitions.specs.World.{Cursor, Transaction, Session, World, is_writer}
 
 -- a transaction that begins now, at the last committed database
 abbrev pub starting : World → AccessMode → Transaction
@@ -26,6 +26,11 @@ active session t = record { declared = session.declared; next = ReadWrite; trans
 
 abbrev pub is_open : Transaction → Name → Bool
 is_open t cursor = contains_key t.cursors cursor
+
+-- whether a session without a transaction, or with one, has an open cursor of this name
+abbrev pub is_open_in : Option Transaction → Name → Bool
+is_open_in None cursor = false
+is_open_in (Some t) cursor = is_open t cursor
 
 abbrev pub has_open : Transaction → Bool
 has_open t = nat_lt 0 (len t.cursors)

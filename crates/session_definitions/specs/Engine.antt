@@ -2,11 +2,11 @@
 use Rattle.std.specs.Prelude.{ℕ, List}
 use Rattle.lexer.specs.Token.{Bytes}
 use Rattle.replies.specs.declared.reply.Reply.{Reply}
-use Rattle.session_laws.specs.Rules.{Rules, AreRules}
-use Rattle.session_laws.specs.Run.{Moment, Run}
-use Rattle.session_laws.specs.Script.{IsPlayed}
-use Rattle.session_laws.specs.Step.{Step}
-use Rattle.session_laws.specs.World.{World}
+use Rattle.session_definitions.specs.Rules.{Rules, AreRules}
+use Rattle.session_definitions.specs.Run.{Moment, Run}
+use Rattle.session_definitions.specs.Script.{IsPlayed}
+use Rattle.session_definitions.specs.Step.{Step}
+use Rattle.session_definitions.specs.World.{World}
 
 -- in the session s, in this world, the text may get this reply, and leave the world new (ISO/IEC 9075:1992, 20.1)
 pub record IsStep (old : World) (s : ℕ) (text : Bytes) (reply : Reply) (new : World) : Type 0 where

@@ -1,0 +1,13 @@
+pub mod World
+pub mod Effect
+pub mod Transactions
+pub mod Refusals
+pub mod Reading
+pub mod Rules
+pub mod Cursor
+pub mod Statements
+pub mod Step
+pub mod Run
+pub mod Serial
+pub mod Script
+pub mod Engine

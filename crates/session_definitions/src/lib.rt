@@ -1,0 +1,2 @@
+//! What sessions are: worlds, the steps and runs of calls, scripts. Definitions alone, in `specs/`: nothing of it runs.
+#![tactic(auto)]
