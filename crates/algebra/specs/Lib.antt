@@ -5,3 +5,5 @@ pub mod TreeOutcome
 pub mod OrderKeys
 pub mod Sorted
 pub mod Listing
+pub mod Translated
+pub mod Described

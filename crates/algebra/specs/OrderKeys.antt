@@ -2,7 +2,7 @@
 use Rattle.std.specs.Prelude.{ℕ, nat_eq, zero, suc, Bool, true, false, List, [], ◌∷◌, Option, Some, None}
 use Rattle.std.specs.List.{position_from}
 use Rattle.typing.specs.declared.typed.OrderKey.{OrderKey}
-use Rattle.algebra.specs.declared.tree.Expression.{Expression-F}
+use Rattle.algebra.specs.declared.tree.Expression.{Expression, Expression-F, fold-Expression}
 use Rattle.algebra.specs.declared.tree.Condition.{Condition-F}
 use Rattle.algebra.specs.declared.tree.SetFunction.{SetFunction-F}
 use Rattle.algebra.specs.declared.tree.Tree.{Tree, Tree-F, fold-Tree}
@@ -62,7 +62,11 @@ order_step (Tree-F.Seek table columns key) = []
 order_step (Tree-F.Range table columns low high) = ascending columns
 order_step (Tree-F.IndexLoop on left places table columns) = []
 order_step (Tree-F.HashJoin on left right left_places right_places) = []
-order_step (Tree-F.Member operand is_negated members keys) = []
+order_step (Tree-F.Member operand is_negated members keys) = keys
+
+-- which column of the innermost row an expression is, if it is one
+unfoldable pub column_of : Expression → Option ℕ
+column_of = fold-Expression _ _ _ _ condition_key_step column_step function_key_step order_step
 
 unfoldable pub order_keys : Tree → List OrderKey
 order_keys = fold-Tree _ _ _ _ condition_key_step column_step function_key_step order_step
