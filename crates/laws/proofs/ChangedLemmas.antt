@@ -33,12 +33,12 @@ use Rattle.denote.specs.Query.{denotes}
 use Rattle.typing.specs.declared.typed.OrderedQuery.{OrderedQuery}
 use Rattle.denote.specs.Database.{Name, IndexDeclaration, Table, Database, rows_of, rows_in, CheckReading, checks_of, violated_by, IsSameTable, AreSame, IsSameDatabase}
 use Rattle.denote.specs.Change.{inserted_rows, is_touched, assigned, updated_if, updated_rows, deleted_rows, Changed, Makes, Raises, Violates, unless_violated, with_rows, unless_raised, insert_into, update_in, delete_from, created, index_on, without_index, on_table, changed, IsAccepted, IsRaised, IsNamed}
-use Rattle.laws.proofs.Permuting.{Permutes-refl, Permutes-sym, Permutes-map, Permutes-flat_map, Permutes-append, HasSame-permutes}
-use Rattle.laws.specs.Same.{IsAlikeBy, IsSameValue, IsSameBag, Each, IfBoth}
+use Rattle.operator_laws.proofs.Permuting.{Permutes-refl, Permutes-sym, Permutes-map, Permutes-flat_map, Permutes-append, HasSame-permutes}
+use Rattle.operator_laws.specs.Same.{IsAlikeBy, IsSameValue, IsSameBag, Each, IfBoth}
 use Rattle.laws.specs.Changed.{AreSameTables, IsSameChange, after}
 use Rattle.laws.proofs.Maps.{is_name, found-insert, found-remove, found-mapped}
-use Rattle.laws.proofs.Orders.{length-permutes, count_by-permutes, Permutes-filter}
-use Rattle.laws.proofs.Same.{HasSame-some, IsSameValue-refl, next-same, then-same, unless-alike, adding-alike, together-same, together-rows, Each-maps}
+use Rattle.operator_laws.proofs.Orders.{length-permutes, count_by-permutes, Permutes-filter}
+use Rattle.operator_laws.proofs.Same.{HasSame-some, IsSameValue-refl, next-same, then-same, unless-alike, adding-alike, together-same, together-rows, Each-maps}
 use Rattle.laws.proofs.Tables.{violated_by-same}
 use Rattle.laws.proofs.Trees.{values-same, truths-same, queries-same}
 

@@ -31,8 +31,8 @@ use Rattle.denote.specs.StoredRow.{given_for, value_for, row_with, row_faults, a
 use Rattle.denote.specs.Meaning.{Tables, value_of, query_outcome}
 use Rattle.denote.specs.Database.{Name, IndexDeclaration, Table, Database, rows_in, CheckReading, checks_of, violated_by, fits_columns, IsGoodTable, IsGood}
 use Rattle.denote.specs.Change.{inserted_rows, is_touched, assigned, updated_if, updated_rows, deleted_rows, Changed, Makes, Raises, Violates, unless_violated, with_rows, unless_raised, insert_into, update_in, delete_from, created, index_on, without_index, on_table, changed}
-use Rattle.laws.proofs.Permuting.{Permutes-refl}
-use Rattle.laws.specs.Sound.{Every}
+use Rattle.operator_laws.proofs.Permuting.{Permutes-refl}
+use Rattle.operator_laws.specs.Same.{Every}
 use Rattle.laws.proofs.Maps.{is_name, is_name-equal, found-insert, found-remove, found-mapped}
 use Rattle.laws.proofs.Tables.{violated_by-same, nothing-violated}
 

@@ -20,7 +20,8 @@ use Rattle.denote.specs.Outcome.{Outcome, whole}
 use Rattle.denote.specs.Group.{total, aggregated, taken, beyond_count, set_function}
 use Rattle.laws.specs.Law.{IsSound, AreSound}
 use Rattle.laws.proofs.Soundness.{next-sound, unless-sound, together-sound, calculated-sound, concatenation-sound, in_range-sound}
-use Rattle.laws.specs.Sound.{Every, IsSoundMeaning}
+use Rattle.operator_laws.specs.Same.{Every}
+use Rattle.laws.specs.Sound.{IsSoundMeaning}
 
 -- ---- lists of parts
 

@@ -22,7 +22,7 @@ use Rattle.denote.specs.Group.{SetFunctionMeaning}
 use Rattle.denote.specs.Meaning.{Tables, condition_step, expression_step, set_function_step, value_of, truth_at, query_outcome, function_value, item_value}
 use Rattle.laws.specs.Law.{IsSound}
 use Rattle.laws.specs.Sound.{IsSoundMeaning}
-use Rattle.laws.proofs.Rolled.{Node, condition_meant, condition_rolled, expression_meant, expression_rolled, function_meant, function_rolled, item_rolled}
+use Rattle.operator_laws.proofs.Rolled.{Node, condition_meant, condition_rolled, expression_meant, expression_rolled, function_meant, function_rolled, item_rolled}
 use Rattle.laws.proofs.Soundness.{next-sound, in_range-sound, calculated-sound}
 use Rattle.laws.proofs.Sound.{Every-mapped, IsSoundOperand, chained-sound, concatenated-sound, scalar-sound, whole-sound, then-sound, conjunction-sound, disjunction-sound, compared-sound, between-sound, set_function-sound}
 

@@ -17,7 +17,7 @@ use Rattle.sqlval.specs.Truth.{truth_of, same_truth}
 use Rattle.sqlval.specs.Value.{Row, is_null}
 use Rattle.denote.specs.Bag.{Permutes, nothing, keeps, exchanges, goes_on}
 use Rattle.denote.specs.Database.{Name, Table, CheckReading, check_at, is_false, has_null, has_twins, is_violated, violated_by}
-use Rattle.laws.proofs.Orders.{list_any-permutes}
+use Rattle.operator_laws.proofs.Orders.{list_any-permutes}
 
 is_equal-symm : (x y : Value) → is_equal x y ≡ is_equal y x
 is_equal-symm Null Null = refl

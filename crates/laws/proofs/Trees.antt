@@ -22,13 +22,13 @@ use Rattle.denote.specs.Group.{SetFunctionMeaning}
 use Rattle.denote.specs.Select.{shown, only}
 use Rattle.denote.specs.Bag.{IsSame}
 use Rattle.denote.specs.Meaning.{Tables, QueryMeaning, GroupingMeaning, as_grouped, condition_step, expression_step, query_step, set_function_step, source_step, grouping_step, item_step, select_step, value_of, truth_at, query_outcome, function_value, source_outcome, groups_of, item_value, select_outcome}
-use Rattle.laws.specs.Same.{IfBoth, Agree, AgreeOnRows, AgreeOnGroups, AgreeOnParts}
+use Rattle.operator_laws.specs.Same.{IfBoth, Agree, AgreeOnRows, AgreeOnGroups, AgreeOnParts}
 use Rattle.laws.specs.Changed.{AreSameTables}
-use Rattle.laws.proofs.LawLemmas.{product-same}
-use Rattle.laws.proofs.Same.{HasSame-refl, then-same, Each-mapped}
-use Rattle.laws.proofs.Rows.{filtered-agree, list-agree, inner_join-agree, left_join-agree, only-same, AgreeOnOperand, set_chain-agree, count-agree, set_function-agree, grouped-agree}
-use Rattle.laws.proofs.Steps.{AgreeOnNext, chained-agree, concatenation-agree, scalar-same, exists-same, in_query-same, conjunction-agree, disjunction-agree, two-agree, compared-agree, between-agree}
-use Rattle.laws.proofs.Rolled.{Node, condition_meant, condition_rolled, expression_meant, expression_rolled, query_meant, query_rolled, function_meant, function_rolled, source_meant, source_rolled, grouping_meant, grouping_rolled, item_meant, item_rolled, select_meant, select_rolled}
+use Rattle.operator_laws.proofs.LawLemmas.{product-same}
+use Rattle.operator_laws.proofs.Same.{HasSame-refl, then-same, Each-mapped}
+use Rattle.operator_laws.proofs.Rows.{filtered-agree, list-agree, inner_join-agree, left_join-agree, only-same, AgreeOnOperand, set_chain-agree, count-agree, set_function-agree, grouped-agree}
+use Rattle.operator_laws.proofs.Steps.{AgreeOnNext, chained-agree, concatenation-agree, scalar-same, exists-same, in_query-same, conjunction-agree, disjunction-agree, two-agree, compared-agree, between-agree}
+use Rattle.operator_laws.proofs.Rolled.{Node, condition_meant, condition_rolled, expression_meant, expression_rolled, query_meant, query_rolled, function_meant, function_rolled, source_meant, source_rolled, grouping_meant, grouping_rolled, item_meant, item_rolled, select_meant, select_rolled}
 
 as_grouped-agree : (f g : Option GroupingMeaning) → IfBoth AgreeOnParts f g → AgreeOnParts (as_grouped f) (as_grouped g)
 as_grouped-agree None None h env o p k = k

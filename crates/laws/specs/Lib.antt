@@ -1,4 +1,3 @@
 pub mod Law
-pub mod Same
 pub mod Sound
 pub mod Changed

@@ -1,13 +1,8 @@
 -- Evaluations and changes that are not an empty failure.
-use Rattle.std.specs.Prelude.{List, [], ◌∷◌}
+use Rattle.std.specs.Prelude.{[], ◌∷◌}
 use Rattle.denote.specs.Evaluation.{Env, Evaluation}
 use Rattle.laws.specs.Law.{IsSound}
 use Rattle.denote.specs.Change.{Changed, Makes, Raises, Violates}
-
--- a fact of each element
-abbrev pub Every : {A : Type 0} → (A → Type 0) → List A → Type 0
-Every P [] = Unit {0}
-Every P (x ∷ xs) = P x × Every P xs
 
 -- an expression or a condition that is a value or at least one fault at each row
 abbrev pub IsSoundMeaning : {A : Type 0} → (Env → Evaluation A) → Type 0

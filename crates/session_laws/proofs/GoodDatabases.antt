@@ -7,7 +7,7 @@ use Rattle.typing.specs.declared.statement.Change.{Change}
 use Rattle.denote.specs.Change.{Changed, Makes, Raises, Violates, changed, IsAccepted}
 use Rattle.denote.specs.Database.{Name, Table, Database, CheckReading, fits_columns, IsGoodTable, IsGood, IsSameTable, AreSame, IsSameDatabase}
 use Rattle.laws.proofs.Good.{changed-good}
-use Rattle.laws.proofs.Orders.{list_all-permutes}
+use Rattle.operator_laws.proofs.Orders.{list_all-permutes}
 use Rattle.laws.proofs.Tables.{violated_by-same}
 
 module _ (reading : CheckReading) where

@@ -1,0 +1,4 @@
+mod Kept
+mod Made
+mod NoKeys
+mod Ordered

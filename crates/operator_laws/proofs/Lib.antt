@@ -1,0 +1,10 @@
+pub mod Alike
+pub mod LawLemmas
+pub mod Multiplicity
+pub mod Orders
+pub mod Permuting
+pub mod Rolled
+pub mod Rows
+pub mod Same
+pub mod SetFunctions
+pub mod Steps
