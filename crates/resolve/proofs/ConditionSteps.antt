@@ -34,7 +34,7 @@ use Rattle.typing.specs.Typing.{conjunction_part, negation_part}
 use Rattle.typing.proofs.Nodes as node
 use Rattle.resolve.specs.Here.{here, expression_found, condition_found, conjunction_found, negation_found, predicate_found, test_found}
 use Rattle.resolve.specs.Parts.{of_type}
-use Rattle.resolve.proofs.FindsLemmas.{Finds-then_err, Finds-also_first, Finds-also_second, Finds-each_item, Finds-before_first, Finds-before_others, Finds-invalid}
+use Rattle.findings.proofs.FindsLemmas.{Finds-then_err, Finds-also_first, Finds-also_second, Finds-each_item, Finds-before_first, Finds-before_others, Finds-invalid}
 use Rattle.resolve.proofs.Nodes.{in_turn-here}
 
 -- ---- the nodes

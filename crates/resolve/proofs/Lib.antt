@@ -5,9 +5,7 @@ pub mod EvaluatedTrees
 pub mod Fitting
 pub mod ConditionSteps
 pub mod Everywhere
-pub mod FindsLemmas
 pub mod InsertSteps
-pub mod NameLists
 pub mod Nodes
 pub mod Plain
 pub mod Rolled

@@ -54,7 +54,7 @@ use Rattle.resolve.specs.Here.{condition_found}
 use Rattle.resolve.specs.Select.{column_name, filter_found, item_found, items_found, made_item, made_select, name_of, only_select, query_answered, select_answered, select_in, select_of, select_over, shown_from, stored_select, typed_items}
 use Rattle.resolve.proofs.BuiltSteps.{item_built_is, not-nil, reference_built-table, reference_built-derived, query_built-none, query_built-some, select_built_is}
 use Rattle.resolve.proofs.Everywhere.{expressions-same, conditions-same}
-use Rattle.resolve.proofs.FindsLemmas.{Finds-then_err, Finds-also_first, Finds-also_second, Finds-exceeded, IsReasonOf-left}
+use Rattle.findings.proofs.FindsLemmas.{Finds-then_err, Finds-also_first, Finds-also_second, Finds-exceeded, IsReasonOf-left}
 use Rattle.resolve.proofs.Plain.{Sees, sees-past, left, right}
 
 -- a limit that is passed

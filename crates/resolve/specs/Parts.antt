@@ -26,6 +26,3 @@ calculation_of found = found >>= (λ p. Ok (integer (expression.Calculation p.0 
 
 abbrev pub concatenation_of : Finding (Expression × List Expression) → Finding TypedExpression
 concatenation_of found = found >>= (λ p. Ok (text (expression.Concatenation p.0 p.1)))
-
-abbrev pub second_of : {A B : Type 0} → Finding (A × B) → Finding B
-second_of found = found >>= (λ p. Ok p.1)

@@ -8,7 +8,7 @@ ghost use Rattle.resolve.specs.Here.{condition_found, conjunction_found, express
 ghost use Rattle.resolve.specs.Parts.{of_type};
 
 use crate::expressions::{of_type, typed_expression, with_sign};
-use crate::parts::{both, boxed};
+use findings::{both, boxed};
 use ast::{Comparison, Conjunction, Literal, Negation, Predicate, Test, TruthTest, TruthValue};
 use items::{Boxed, Items};
 use refusals::{Reason, Refusal};

@@ -7,7 +7,7 @@ ghost use Rattle.typing.specs.Expression.{calculation, concatenation, leading_op
 ghost use Rattle.resolve.specs.Here.{expression_found, factor_found, joined_text, multiplier, primary_found, summand, term_found};
 ghost use Rattle.resolve.specs.Parts.{after_sign, calculation_of, concatenation_of, number_of, of_type};
 
-use crate::parts::{both, boxed, second};
+use findings::{both, boxed, second};
 use crate::scope::column;
 use ast::{AddOperator, Factor, MultiplyOperator, Primary, Sign, Term};
 use items::{Boxed, Items, Text};

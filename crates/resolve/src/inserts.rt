@@ -12,8 +12,8 @@ ghost use Rattle.typing.specs.Table.{are_distinct};
 ghost use Rattle.resolve.specs.Rows.{rows_in, source_stored, stored_found};
 
 use crate::expressions::{of_type, typed_expression};
-use crate::names::are_distinct;
-use crate::parts::both;
+use scopes::are_distinct;
+use findings::both;
 use crate::queries::{table_named, value_type_of};
 use ast::{InsertRows, StoredSource};
 use items::{Items, Text};

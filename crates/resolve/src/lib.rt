@@ -4,8 +4,6 @@
 mod conditions;
 mod expressions;
 mod inserts;
-mod names;
-mod parts;
 mod queries;
 mod resolving;
 mod scope;

@@ -16,7 +16,7 @@ ghost use Rattle.resolve.specs.Select.{column_name, factor_column, filter_found,
 
 use crate::conditions::typed_condition;
 use crate::expressions::typed_expression;
-use crate::parts::both;
+use findings::both;
 use ast::{Addend, Alias, Factor, Operand, Primary, SelectItem, TableSource, Term};
 use items::{Boxed, Items, Text};
 use lexer::Name;

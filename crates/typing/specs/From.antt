@@ -70,20 +70,30 @@ on_found on left right outer =
     joined_columns left right outer >>= (λ columns.
     on.found (record { scope = frame_over (left.names ++ right.names) columns ∷ outer; clause = Plain }))
 
-abbrev pub joined_on : (List Offer → Condition → Source → Source → Source) → Part Condition → From → From → From
+-- what is found of both sides of a join: their rows, how many columns the right one has, and ON
+pub record Sides : Type 0 where
+  pub left : Source
+  pub right : Source
+  pub right_width : ℕ
+  pub on : Condition
+
+abbrev pub sides_found : Part Condition → From → From → Scope → Finding Sides
+sides_found on left right outer =
+    also (also (left.source outer) (right.source outer)) (also (right.columns outer) (on_found on left right outer)) >>= (λ p.
+    Ok (record { left = (p.0).0; right = (p.0).1; right_width = length (p.1).0; on = (p.1).1 }))
+
+abbrev pub joined_on : (Sides → Source) → Part Condition → From → From → From
 joined_on joined on left right = record {
   names = left.names ++ right.names;
   columns = joined_columns left right;
-  source = λ outer.
-      also (also (left.source outer) (right.source outer)) (also (right.columns outer) (on_found on left right outer)) >>= (λ p.
-      Ok (joined (p.1).0 (p.1).1 (p.0).0 (p.0).1));
+  source = λ outer. sides_found on left right outer >>= (λ sides. Ok (joined sides));
 }
 
-abbrev pub inner_join : List Offer → Condition → Source → Source → Source
-inner_join right_columns on left right = source.Inner on left right
+abbrev pub inner_join : Sides → Source
+inner_join sides = source.Inner sides.on sides.left sides.right
 
-abbrev pub left_join : List Offer → Condition → Source → Source → Source
-left_join right_columns on left right = source.Left on left right (length right_columns)
+abbrev pub left_join : Sides → Source
+left_join sides = source.Left sides.on sides.left sides.right sides.right_width
 
 -- a table, and the joins after it, one after the other
 abbrev pub joined_by : List (From → From) → From → From

@@ -120,24 +120,30 @@ column_of item = record { name = item.name; value_type = item.value_type }
 abbrev pub typed_item : ShownItem → Item
 typed_item item = roll-Item (record { expression = item.expression; name = item.name })
 
-abbrev pub typed_select : Clauses → Source → Option Condition → List SetFunction → Groups → TypedQuery
-typed_select select from filter functions groups = record {
-  query = query.Select (roll-Select (record {
-    distinct = select.is_distinct;
-    items = map typed_item groups.items;
-    from = from;
-    filter = filter;
-    grouping = grouping_of select.groups functions groups.having groups.key;
-  }));
-  columns = map column_of groups.items;
-}
+-- what depends on the columns that the FROM offers: WHERE, the set functions, and the rest
+pub record Settled : Type 0 where
+  pub filter : Option Condition
+  pub functions : List SetFunction
+  pub groups : Groups
 
--- all that depends on the columns that the FROM offers: WHERE, the set functions, and the rest
-abbrev pub clauses_over : Clauses → Scope → List Offer → Finding (Option Condition × (List SetFunction × Groups))
-clauses_over select outer columns =
+abbrev pub settled_over : Clauses → Scope → List Offer → Finding Settled
+settled_over select outer columns =
     let frame = frame_over select.from.names columns in
     also ((if_written select.filter).found (record { scope = frame ∷ outer; clause = Plain }))
-    (also (functions_found select (frame ∷ outer)) (groups_found select frame outer))
+    (also (functions_found select (frame ∷ outer)) (groups_found select frame outer)) >>= (λ p.
+    Ok (record { filter = p.0; functions = (p.1).0; groups = (p.1).1 }))
+
+abbrev pub typed_select : Clauses → Source → Settled → TypedQuery
+typed_select select from settled = record {
+  query = query.Select (roll-Select (record {
+    distinct = select.is_distinct;
+    items = map typed_item settled.groups.items;
+    from = from;
+    filter = settled.filter;
+    grouping = grouping_of select.groups settled.functions settled.groups.having settled.groups.key;
+  }));
+  columns = map column_of settled.groups.items;
+}
 
 -- at most 8 tables in one FROM, our own choice, and no two of one name
 abbrev pub tables_found : List (List ℕ) → Finding (Unit {0} × Unit {0})
@@ -145,5 +151,5 @@ tables_found names = also (at_most 8 limit.Tables (length names)) (distinct_foun
 
 abbrev pub clauses_found : Clauses → Scope → Finding TypedQuery
 clauses_found select outer =
-    also (tables_found select.from.names) (also (select.from.source outer) (select.from.columns outer >>= clauses_over select outer)) >>= (λ p.
-    Ok (typed_select select (p.1).0 ((p.1).1).0 (((p.1).1).1).0 (((p.1).1).1).1))
+    also (tables_found select.from.names) (also (select.from.source outer) (select.from.columns outer >>= settled_over select outer)) >>= (λ p.
+    Ok (typed_select select (p.1).0 (p.1).1))

@@ -6,7 +6,7 @@ use Rattle.ast.specs.declared.tree.Condition.{out-Condition}
 use Rattle.ast.specs.declared.tree.Conjunction.{out-Conjunction}
 use Rattle.resolve.specs.Here.{conjunction_found, negation_found}
 use Rattle.refusals.specs.declared.reason.Reason.TheVariants.{Check}
-use Rattle.resolve.proofs.FindsLemmas.{Finds-invalid, Finds-then_err}
+use Rattle.findings.proofs.FindsLemmas.{Finds-invalid, Finds-then_err}
 use Rattle.resolve.proofs.ConditionSteps.{condition_is, conjunction_is, negation_is, test_is, disjunction_refused, conjunction_refused, predicate_nested, predicate_compare, predicate_between, predicate_in_list, predicate_like, predicate_is_null, predicate_exists, in_query_refused, disjunct_refused, conjunct_refused, disjunction-done, conjunction-done, flattened-next, flattened-start}
 use Rattle.resolve.proofs.conditions.+conditions.Goals as goal
 

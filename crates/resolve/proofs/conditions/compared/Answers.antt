@@ -1,6 +1,6 @@
 use Rattle.std.proofs.lemmas.Result.{err_from_is_err_and}
 use Rattle.resolve.proofs.ConditionSteps.{compared_first, compared-parts}
-use Rattle.resolve.proofs.FindsLemmas.{Finds-ok, then-err, then-ok}
+use Rattle.findings.proofs.FindsLemmas.{Finds-ok, then-err, then-ok}
 use Rattle.resolve.proofs.conditions.compared.Goals as goal
 
 pub returns-in_err-typed : goal.returns-in_err-typed

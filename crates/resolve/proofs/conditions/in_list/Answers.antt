@@ -1,6 +1,6 @@
 use Rattle.std.proofs.lemmas.Result.{err_from_is_err_and}
 use Rattle.resolve.proofs.ConditionSteps.{in_list-parts}
-use Rattle.resolve.proofs.FindsLemmas.{Finds-ok, Finds-then_err, then-err, then-ok}
+use Rattle.findings.proofs.FindsLemmas.{Finds-ok, Finds-then_err, then-err, then-ok}
 use Rattle.resolve.proofs.conditions.in_list.Goals as goal
 
 pub returns-in_err-typed : goal.returns-in_err-typed

@@ -1,5 +1,5 @@
 use Rattle.std.proofs.lemmas.Result.{err_from_is_err_and}
-use Rattle.resolve.proofs.FindsLemmas.{then-err, then-ok}
+use Rattle.findings.proofs.FindsLemmas.{then-err, then-ok}
 use Rattle.resolve.proofs.conditions.like.Goals as goal
 
 pub returns-in_err-x : goal.returns-in_err-x

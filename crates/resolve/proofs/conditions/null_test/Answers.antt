@@ -1,5 +1,5 @@
 use Rattle.std.proofs.lemmas.Result.{err_from_is_err_and}
-use Rattle.resolve.proofs.FindsLemmas.{Finds-then_err}
+use Rattle.findings.proofs.FindsLemmas.{Finds-then_err}
 use Rattle.resolve.proofs.conditions.null_test.Goals as goal
 
 pub returns-in_err-typed : goal.returns-in_err-typed

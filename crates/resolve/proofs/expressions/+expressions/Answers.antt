@@ -3,7 +3,7 @@ use Rattle.std.proofs.lemmas.Result.{err_from_is_err_and}
 use Rattle.refusals.specs.declared.reason.Reason.TheVariants.{Check}
 use Rattle.typing.specs.Expression.{product_operator}
 use Rattle.resolve.specs.Here.{joined_text, multiplier, summand}
-use Rattle.resolve.proofs.FindsLemmas.{Finds-each_item, Finds-invalid, each-finds, each-next}
+use Rattle.findings.proofs.FindsLemmas.{Finds-each_item, Finds-invalid, each-finds, each-next}
 use Rattle.resolve.proofs.Nodes.{factor_is, product_operand_is, primary_number, primary_text, primary_column, primary_parenthesized, primary_count_rows, primary_aggregate, primary_subquery, expression_alone, expression_sum, expression_concatenation, term_alone, term_product}
 use Rattle.resolve.proofs.expressions.+expressions.Goals as goal
 

@@ -1,7 +1,7 @@
 use Rattle.std.proofs.Common.{◌≡◌, drop, map}
 use Rattle.typing.specs.Finding.{each}
 use Rattle.resolve.specs.Here.{joined_text, multiplier, summand}
-use Rattle.resolve.proofs.FindsLemmas.{after}
+use Rattle.findings.proofs.FindsLemmas.{after}
 use Rattle.resolve.proofs.expressions.+expressions.Given as goal
 
 -- what is found so far, and then what the operands that are left give, is what all give

@@ -1,5 +1,5 @@
 use Rattle.std.proofs.lemmas.Result.{err_from_is_err_and}
-use Rattle.resolve.proofs.FindsLemmas.{Finds-ok, then-err, then-ok}
+use Rattle.findings.proofs.FindsLemmas.{Finds-ok, then-err, then-ok}
 use Rattle.resolve.proofs.InsertSteps.{rows-parts}
 use Rattle.resolve.proofs.inserts.inserted.Goals as goal
 

@@ -2,7 +2,7 @@ use Rattle.std.proofs.Common.{◌≡◌, drop, map}
 use Rattle.std.specs.List.{zip}
 use Rattle.typing.specs.Finding.{each}
 use Rattle.resolve.specs.Rows.{stored_found}
-use Rattle.resolve.proofs.FindsLemmas.{after}
+use Rattle.findings.proofs.FindsLemmas.{after}
 use Rattle.resolve.proofs.inserts.typed_sources.Given as goal
 
 -- the sources so far, and then those that are left, are all

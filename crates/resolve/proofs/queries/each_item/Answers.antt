@@ -1,7 +1,7 @@
 use Rattle.std.proofs.Common.{◌∙◌}
 use Rattle.std.proofs.lemmas.Result.{err_from_is_err_and}
 use Rattle.resolve.specs.Select.{made_item}
-use Rattle.resolve.proofs.FindsLemmas.{Finds-each_item, each-finds, each-next}
+use Rattle.findings.proofs.FindsLemmas.{Finds-each_item, each-finds, each-next}
 use Rattle.resolve.proofs.queries.each_item.Goals as goal
 
 pub returns-in_err-made_item : goal.returns-in_err-made_item

@@ -1,7 +1,7 @@
 use Rattle.std.proofs.Common.{◌≡◌, drop, map}
 use Rattle.typing.specs.Finding.{each}
 use Rattle.resolve.specs.Select.{made_item}
-use Rattle.resolve.proofs.FindsLemmas.{after}
+use Rattle.findings.proofs.FindsLemmas.{after}
 use Rattle.resolve.proofs.queries.each_item.Given as goal
 
 -- the items so far, and then those that are left, are all

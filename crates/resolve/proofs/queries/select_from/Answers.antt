@@ -10,7 +10,7 @@ use Rattle.typing.specs.From.{shown_name}
 use Rattle.typing.specs.Known.{Known, KnownTable, known, known_table}
 use Rattle.typing.specs.Table.{frame_of, table_found}
 use Rattle.resolve.specs.Select.{select_over, stored_select}
-use Rattle.resolve.proofs.FindsLemmas.{Finds-then_err}
+use Rattle.findings.proofs.FindsLemmas.{Finds-then_err}
 use Rattle.resolve.proofs.queries.select_from.Goals as goal
 
 stored : (k : Known) (name : List ℕ) (alias : Option Alias) (tree : Select) (t : KnownTable) (r : Result Query Refusal) → table_found k name ≡ Ok t →

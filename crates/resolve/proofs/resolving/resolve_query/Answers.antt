@@ -1,5 +1,5 @@
 use Rattle.std.proofs.lemmas.Result.{err_from_is_err_and}
-use Rattle.resolve.proofs.FindsLemmas.{Finds-ok, Finds-then_err}
+use Rattle.findings.proofs.FindsLemmas.{Finds-ok, Finds-then_err}
 use Rattle.resolve.proofs.resolving.resolve_query.Goals as goal
 
 pub returns-in_err-query-clause-finds : goal.returns-in_err-query-clause-finds

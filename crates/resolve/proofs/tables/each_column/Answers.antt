@@ -1,7 +1,7 @@
 use Rattle.std.proofs.Common.{◌∙◌}
 use Rattle.std.proofs.lemmas.Result.{err_from_is_err_and}
 use Rattle.resolve.specs.Constraints.{element_found}
-use Rattle.resolve.proofs.FindsLemmas.{Finds-each_item, each-finds, each-next}
+use Rattle.findings.proofs.FindsLemmas.{Finds-each_item, each-finds, each-next}
 use Rattle.resolve.proofs.tables.each_column.Goals as goal
 
 pub returns-in_err-element_column : goal.returns-in_err-element_column

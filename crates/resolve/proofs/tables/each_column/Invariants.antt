@@ -1,7 +1,7 @@
 use Rattle.std.proofs.Common.{◌≡◌, drop, map}
 use Rattle.typing.specs.Finding.{each}
 use Rattle.resolve.specs.Constraints.{element_found}
-use Rattle.resolve.proofs.FindsLemmas.{after}
+use Rattle.findings.proofs.FindsLemmas.{after}
 use Rattle.resolve.proofs.tables.each_column.Given as goal
 
 -- the columns so far, and then those of the elements that are left, are all

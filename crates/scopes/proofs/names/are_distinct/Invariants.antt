@@ -1,6 +1,6 @@
 use Rattle.std.proofs.Common.{◌≡◌, length}
 use Rattle.typing.specs.Table.{are_distinct}
-use Rattle.resolve.proofs.names.are_distinct.Given as goal
+use Rattle.scopes.proofs.names.are_distinct.Given as goal
 
 -- the answer is that for the names that are left
 abbrev pub invariant-loop-name : goal.invariant-loop-name

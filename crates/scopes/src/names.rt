@@ -23,7 +23,7 @@ pub fn are_distinct(names: &[Text]) -> bool
 }
 
 #[tactic(auto, using(crate::proofs::NameLists::any_steps))]
-fn is_among(names: &[Text], name: &Text) -> bool
+pub fn is_among(names: &[Text], name: &Text) -> bool
     ensures { result ≡ list_any (λ other. same_name other name.now) names.now }
 {
     for other in names {

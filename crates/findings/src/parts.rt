@@ -3,7 +3,7 @@
 
 ghost use Rattle.typing.specs.Finding.{Finding, also};
 ghost use Rattle.typing.specs.Finds.{Finds};
-ghost use Rattle.resolve.specs.Parts.{second_of};
+ghost use Rattle.findings.specs.Parts.{second_of};
 
 use items::Boxed;
 use refusals::Refusal;

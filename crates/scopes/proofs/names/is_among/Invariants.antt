@@ -1,7 +1,7 @@
 use Rattle.std.proofs.Common.{◌≡◌, drop}
 use Rattle.std.specs.List.{list_any}
 use Rattle.sqlval.specs.Schema.{same_name}
-use Rattle.resolve.proofs.names.is_among.Given as goal
+use Rattle.scopes.proofs.names.is_among.Given as goal
 
 -- the answer is that for what is left
 abbrev pub invariant-loop-other : goal.invariant-loop-other
