@@ -9,6 +9,8 @@ use Rattle.typing.specs.declared.typed.Source.TheVariants as source
 use Rattle.typing.specs.declared.scope.Offer.{Offer}
 use Rattle.typing.specs.declared.scope.Frame.{Frame}
 use Rattle.typing.specs.declared.scope.ResultColumn.{ResultColumn}
+use Rattle.typing.specs.declared.scope.Sides.{Sides}
+use Rattle.typing.specs.declared.scope.TypedFrom.{TypedFrom}
 use Rattle.typing.specs.declared.scope.TypedQuery.{TypedQuery}
 use Rattle.typing.specs.Finding.{Finding, ◌>>=◌, also, invalid}
 use Rattle.typing.specs.Scope.{Scope}
@@ -70,13 +72,7 @@ on_found on left right outer =
     joined_columns left right outer >>= (λ columns.
     on.found (record { scope = frame_over (left.names ++ right.names) columns ∷ outer; clause = Plain }))
 
--- what is found of both sides of a join: their rows, how many columns the right one has, and ON
-pub record Sides : Type 0 where
-  pub left : Source
-  pub right : Source
-  pub right_width : ℕ
-  pub on : Condition
-
+-- what is found of both sides of a join, and of its ON
 abbrev pub sides_found : Part Condition → From → From → Scope → Finding Sides
 sides_found on left right outer =
     also (also (left.source outer) (right.source outer)) (also (right.columns outer) (on_found on left right outer)) >>= (λ p.
@@ -108,3 +104,8 @@ all_crossed (other ∷ others) from = all_crossed others (crossed from other)
 abbrev pub from_of : List From → From
 from_of [] = record { names = []; columns = λ outer. invalid Syntax; source = λ outer. invalid Syntax }
 from_of (first ∷ others) = all_crossed others first
+
+-- what a FROM, or a part of it, is found to be as a whole
+abbrev pub from_found : From → Scope → Finding TypedFrom
+from_found from outer =
+    also (from.columns outer) (from.source outer) >>= (λ p. Ok (record { frame = frame_over from.names p.0; source = p.1 }))

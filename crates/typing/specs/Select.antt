@@ -14,8 +14,11 @@ use Rattle.typing.specs.declared.typed.Select.{roll-Select}
 use Rattle.typing.specs.declared.typed.SetFunction.{SetFunction}
 use Rattle.typing.specs.declared.typed.Source.{Source}
 use Rattle.typing.specs.declared.scope.Frame.{Frame}
+use Rattle.typing.specs.declared.scope.Groups.{Groups}
 use Rattle.typing.specs.declared.scope.Offer.{Offer}
 use Rattle.typing.specs.declared.scope.ResultColumn.{ResultColumn}
+use Rattle.typing.specs.declared.scope.Settled.{Settled}
+use Rattle.typing.specs.declared.scope.ShownItem.{ShownItem}
 use Rattle.typing.specs.declared.scope.TypedExpression.{TypedExpression}
 use Rattle.typing.specs.declared.scope.TypedQuery.{TypedQuery}
 use Rattle.typing.specs.Finding.{Finding, ◌>>=◌, also, each}
@@ -25,12 +28,6 @@ use Rattle.typing.specs.Table.{at_most, distinct_found}
 use Rattle.typing.specs.From.{From, frame_over}
 
 -- ---- the select list
-
--- an item with its name, if it has one, and its type
-pub record ShownItem : Type 0 where
-  pub expression : Expression
-  pub name : Option (List ℕ)
-  pub value_type : ValueType
 
 abbrev pub shown_item : Option (List ℕ) → TypedExpression → ShownItem
 shown_item name x = record { expression = x.expression; name = name; value_type = x.value_type }
@@ -99,12 +96,7 @@ shown select = of_two also (select_list select.items) (if_written select.having)
 abbrev pub is_grouped : Clauses → Bool
 is_grouped select = not (length select.groups == 0 && is_none select.having && length (shown select).functions == 0)
 
--- what the groups, the select list and HAVING are found to be
-pub record Groups : Type 0 where
-  pub key : Option (List ℕ)
-  pub items : List ShownItem
-  pub having : Option Condition
-
+-- the groups, the select list and HAVING
 abbrev pub groups_found : Clauses → Frame → Scope → Finding Groups
 groups_found select frame outer =
     key_found (is_grouped select) select.groups (frame ∷ outer) >>= (λ key.
@@ -120,12 +112,7 @@ column_of item = record { name = item.name; value_type = item.value_type }
 abbrev pub typed_item : ShownItem → Item
 typed_item item = roll-Item (record { expression = item.expression; name = item.name })
 
--- what depends on the columns that the FROM offers: WHERE, the set functions, and the rest
-pub record Settled : Type 0 where
-  pub filter : Option Condition
-  pub functions : List SetFunction
-  pub groups : Groups
-
+-- what depends on the columns that the FROM offers
 abbrev pub settled_over : Clauses → Scope → List Offer → Finding Settled
 settled_over select outer columns =
     let frame = frame_over select.from.names columns in

@@ -33,7 +33,8 @@ use Rattle.typing.specs.Part.{Part, of_none, of_one, of_two, of_three, of_all, i
 use Rattle.typing.specs.SetFunction.{column_part, query_part, count_rows, aggregate_found, aggregate_part, is_distinct}
 use Rattle.typing.specs.Table.{table_found}
 use Rattle.typing.specs.From.{From, shown_name, stored_table, derived_table, crossed, joined_on, inner_join, left_join, joined_by, from_of}
-use Rattle.typing.specs.Select.{ShownItem, named_item, clauses_found}
+use Rattle.typing.specs.declared.scope.ShownItem.{ShownItem}
+use Rattle.typing.specs.Select.{named_item, clauses_found}
 use Rattle.typing.specs.SetOperator.{operation, intersection, set_chain, of_one_column, scalar, in_query, exists}
 
 abbrev pub ExpressionPart : Type 0

@@ -8,7 +8,10 @@ mod scope;
 mod statement;
 mod typed;
 
-pub use scope::{Found, Frame, Matches, Offer, ResultColumn, TypedExpression, TypedQuery};
+pub use scope::{
+    Found, Frame, Groups, Matches, Offer, ResultColumn, Settled, ShownItem, Sides, TypedExpression,
+    TypedFrom, TypedQuery,
+};
 pub use statement::{
     AccessMode, Assignment, Change, CreateIndex, CreateTable, Delete, Insert, InsertSource, Typed,
     Update,

@@ -1,6 +1,6 @@
 //! What the places of a text see, and what is found there.
 
-use crate::typed::{Expression, Query};
+use crate::typed::{Condition, Expression, Query, SetFunction, Source};
 use items::{Items, Text};
 use sqlval::ValueType;
 
@@ -56,4 +56,45 @@ pub struct ResultColumn {
 pub struct TypedQuery {
     pub query: Query,
     pub columns: Items<ResultColumn>,
+}
+
+/// A FROM or a part of it: what it shows, and what gives its rows.
+#[derive(Drop)]
+pub struct TypedFrom {
+    pub frame: Frame,
+    pub source: Source,
+}
+
+/// Both sides of a join, how many columns the right one has, and ON.
+#[derive(Drop)]
+pub struct Sides {
+    pub left: Source,
+    pub right: Source,
+    pub right_width: usize,
+    pub on: Condition,
+}
+
+/// An item of a select list, with its name if it has one, and its type.
+#[derive(Drop)]
+pub struct ShownItem {
+    pub expression: Expression,
+    pub name: Option<Text>,
+    pub value_type: ValueType,
+}
+
+/// What the groups of a SELECT, its select list and HAVING are found to be. `key` has the grouping columns, by their places
+/// in FROM's row; `None` where the SELECT is not grouped.
+#[derive(Drop)]
+pub struct Groups {
+    pub key: Option<Items<usize>>,
+    pub items: Items<ShownItem>,
+    pub having: Option<Condition>,
+}
+
+/// What depends on the columns that the FROM of a SELECT offers: WHERE, the set functions, and the rest.
+#[derive(Drop)]
+pub struct Settled {
+    pub filter: Option<Condition>,
+    pub functions: Items<SetFunction>,
+    pub groups: Groups,
 }
