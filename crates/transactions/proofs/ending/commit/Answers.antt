@@ -1,0 +1,28 @@
+use Rattle.std.proofs.Common.{◌≡◌, not, refl, sym, ap, ◌∙◌}
+use Rattle.store.specs.Stored.{Stored, ended, committed}
+use Rattle.transactions.proofs.Orders.{writer_is, same}
+use Rattle.transactions.proofs.Steps.{commits_as_writer, commits_as_reader, commits_idle, nothing_moves, withholds}
+use Rattle.transactions.proofs.Tests.{none_is, some_is, reserved}
+use Rattle.transactions.proofs.ending.commit.Goals as goal
+
+pub returns-then-is_none-clause-moves : goal.returns-then-is_none-clause-moves
+returns-then-is_none-clause-moves g c = λ rules text work read other sound order.
+    commits_idle rules _ text work _ _ _ _ order (none_is _ _ c.number.ensures (c.is_none.ensures ∙ ap not c.if-is_none.true)) read refl
+
+pub returns-in-Err-clause-moves : goal.returns-in-Err-clause-moves
+returns-in-Err-clause-moves g c = λ rules text work read other sound order.
+    rw c.refusal_of.ensures
+    (nothing_moves rules _ _ _ _ text _ _ order
+    (withholds rules _ _ _ _ text _ other (reserved _ _ _ _ _ (rw c.in-Err.is at c.commit.ensures.refused) sound (λ bad. bad) (λ bad. bad)))
+    (same _ _ (rw c.in-Err.is at c.commit.ensures.same)))
+
+pub returns-then-is_writer-clause-moves : goal.returns-then-is_writer-clause-moves
+returns-then-is_writer-clause-moves g c = λ rules text work read other sound order.
+    let writes = writer_is c.args.session c.args.writer.now (sym c.is_writer.ensures ∙ c.if-is_writer.true) in
+    let commits : g.S.Store.shows c.commit.new.self ≡ committed (g.S.Store.shows c.args.store.now) = rw c.in_default.is at c.commit.ensures.shows in
+    rw writes (commits_as_writer rules _ text work _ _ _ (rw writes at order) read (c.end.ensures.shows ∙ ap (λ (x : Stored). ended x c.args.session) commits))
+
+pub returns-clause-moves : goal.returns-clause-moves
+returns-clause-moves g c = λ rules text work read other sound order.
+    let active = some_is _ _ c.number.ensures (c.is_none.ensures ∙ ap not c.if-is_none.false) in
+    commits_as_reader rules _ text work _ _ _ active.0 _ order (sym c.is_writer.ensures ∙ c.if-is_writer.false) active.1 read c.end-2.ensures.shows

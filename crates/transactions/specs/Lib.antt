@@ -1,0 +1,4 @@
+pub mod Shown
+pub mod Orderly
+pub mod Moves
+pub mod Refused

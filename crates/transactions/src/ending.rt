@@ -1,0 +1,85 @@
+//! How transactions and sessions end.
+ghost use Rattle.std.specs.Prelude.{◌≡◌, ◌≢◌, ◌≤◌, ℕ, Bool, Some, None, slice_set};
+ghost use Rattle.std.specs.FinMap.{get};
+ghost use Rattle.ast.specs.declared.statement.AccessMode.{AccessMode as Mode};
+ghost use Rattle.ast.specs.declared.statement.Statement.TheVariants as asks;
+ghost use Rattle.lexer.specs.Token.{Bytes};
+ghost use Rattle.session_definitions.specs.Reading.{IsRead};
+ghost use Rattle.session_definitions.specs.Rules.{Rules};
+ghost use Rattle.session_definitions.specs.Run.{without_session};
+ghost use Rattle.session_definitions.specs.Step.{IsRollback};
+ghost use Rattle.transactions.specs.Moves.{Moves};
+ghost use Rattle.transactions.specs.Orderly.{IsOrderly};
+ghost use Rattle.transactions.specs.Refused.{Counts};
+ghost use Rattle.transactions.specs.Shown.{Slots, slot_at, shown};
+
+use crate::refusal::refusal_of;
+use crate::writing::is_writer;
+use ast::AccessMode;
+use replies::Reply;
+use store::Store;
+
+/// COMMIT. A refusal leaves the transaction open.
+pub fn commit<S: Store>(store: &mut S, writer: &mut Option<u64>, mode: &mut AccessMode, session: u64) -> Reply
+    ensures moves { (rules : Rules) (text : Bytes) (work : Bool) → IsRead text (asks.Commit work) → (IsRollback text → ⊥) → S.is_sound store.old → IsOrderly (S.shows store.old) writer.old
+        → Moves rules session text result (S.shows store.old) writer.old mode.old (S.shows store.new) writer.new mode.new }
+    ensures sound { S.is_sound store.old → S.is_sound store.new }
+    ensures refused { Counts result (S.refused store.old) (S.refused store.new) }
+    ensures counts { S.refused store.old ≤ S.refused store.new }
+{
+    if store.number(session).is_none() {
+        return Reply::Done;
+    }
+    if is_writer(*writer, session) {
+        if let Err(error) = store.commit() {
+            return Reply::Refused(refusal_of(error));
+        }
+        *writer = None;
+        store.end(session);
+        *mode = AccessMode::ReadWrite;
+        return Reply::Done;
+    }
+    store.end(session);
+    *mode = AccessMode::ReadWrite;
+    Reply::Done
+}
+
+/// ROLLBACK. Takes no memory and always succeeds.
+pub fn roll_back<S: Store>(store: &mut S, writer: &mut Option<u64>, mode: &mut AccessMode, session: u64) -> Reply
+    ensures moves { (rules : Rules) (text : Bytes) (work : Bool) → IsRead text (asks.Rollback work) → IsOrderly (S.shows store.old) writer.old
+        → Moves rules session text result (S.shows store.old) writer.old mode.old (S.shows store.new) writer.new mode.new }
+    ensures sound { S.is_sound store.old → S.is_sound store.new }
+    ensures done { result ≡ Reply.Done }
+    ensures counts { S.refused store.old ≤ S.refused store.new }
+{
+    if store.number(session).is_none() {
+        return Reply::Done;
+    }
+    if is_writer(*writer, session) {
+        *writer = None;
+        store.discard();
+        store.end(session);
+        *mode = AccessMode::ReadWrite;
+        return Reply::Done;
+    }
+    store.end(session);
+    *mode = AccessMode::ReadWrite;
+    Reply::Done
+}
+
+/// The end of a session, whose transaction is rolled back. Takes no memory.
+pub fn drop_session<S: Store>(store: &mut S, writer: &mut Option<u64>, session: u64)
+    ensures drops { (slots : Slots) (mode : Mode) → slot_at slots session ≡ Some mode
+        → shown (S.shows store.new) writer.new (slice_set slots session None) ≡ without_session (shown (S.shows store.old) writer.old slots) session }
+    ensures order { IsOrderly (S.shows store.old) writer.old → IsOrderly (S.shows store.new) writer.new }
+    ensures others { (q : ℕ) → q ≢ session → get (S.shows store.new).readers q ≡ get (S.shows store.old).readers q }
+    ensures gone { get (S.shows store.new).readers session ≡ None }
+    ensures sound { S.is_sound store.old → S.is_sound store.new }
+    ensures counts { S.refused store.old ≤ S.refused store.new }
+{
+    if is_writer(*writer, session) {
+        *writer = None;
+        store.discard();
+    }
+    store.end(session);
+}
