@@ -2,7 +2,6 @@ pub mod World
 pub mod Effect
 pub mod Transactions
 pub mod Refusals
-pub mod Reading
 pub mod Rules
 pub mod Cursor
 pub mod Statements

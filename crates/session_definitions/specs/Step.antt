@@ -1,33 +1,23 @@
 -- One call of a session: a text, its reply, and the world after it (ISO/IEC 9075:1992, 20.1). The refusals come in this order, which is our own choice: the statement's length, its tokens,
 -- words that are not supported, nesting, grammar; the state of transaction and cursors; names and types; evaluation and constraints.
-use Rattle.std.specs.Prelude.{◌≡◌, ℕ, Bool, true, false, List, [], ◌∷◌, Option, Some}
+use Rattle.std.specs.Prelude.{◌≡◌, ℕ, true, false, Option, Some}
 use Rattle.std.specs.FinMap.{get}
 use Rattle.refusals.specs.declared.refusal.Refusal.{Refusal}
 use Rattle.refusals.specs.declared.refusal.Refusal.TheVariants.{Memory}
-use Rattle.lexer.specs.declared.words.Word.{Word}
-use Rattle.lexer.specs.declared.words.Word.TheVariants.{Rollback, Work}
 use Rattle.lexer.specs.Token.{Bytes}
 use Rattle.ast.specs.declared.statement.Statement.{Statement}
 use Rattle.ast.specs.declared.statement.Statement.TheVariants as asks
 use Rattle.denote.specs.Database.{Name}
+use Rattle.statement_reading.specs.Reading.{IsRead, IsUnread}
+use Rattle.statement_reading.specs.Rollback.{IsRollback}
 use Rattle.replies.specs.declared.reply.Reply.{Reply}
 use Rattle.replies.specs.declared.reply.Reply.TheVariants as says
 use Rattle.session_definitions.specs.Effect.{Effect, after}
-use Rattle.session_definitions.specs.Reading.{IsRead, IsUnread}
 use Rattle.session_definitions.specs.Refusals.{IsOfStore, IsReserved, Refuses}
 use Rattle.session_definitions.specs.Rules.{Rules}
 use Rattle.session_definitions.specs.Statements.{CarriesOut}
 use Rattle.session_definitions.specs.Transactions.{begun, active, is_open, is_open_in, obstacle, without_cursor}
 use Rattle.session_definitions.specs.World.{Transaction, Session, World}
-
--- the reserved words of ROLLBACK [WORK] (14.4)
-abbrev pub rollback_words : Bool → List Word
-rollback_words false = Rollback ∷ []
-rollback_words true = Rollback ∷ Work ∷ []
-
--- the text is ROLLBACK, which is never refused
-abbrev pub IsRollback : Bytes → Type 0
-IsRollback text = (work : Bool) × IsRead text (asks.Rollback work)
 
 -- the text is a FETCH of a cursor that is open
 pub record FetchesOpen (session : Session) (text : Bytes) : Type 0 where

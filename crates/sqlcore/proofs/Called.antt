@@ -22,7 +22,7 @@ use Rattle.sqlcore.specs.declared.store.Store.{Store}
 use Rattle.sqlcore.specs.Carried.{Calls, Does, StandsFor}
 use Rattle.sqlcore.specs.Contents.{kept, schema_of}
 use Rattle.sqlcore.specs.Held.{IsUnchanged, Leaves, LeavesTables, SameTables, contents_of}
-use Rattle.session_definitions.specs.Reading.{IsRead, IsUnread}
+use Rattle.statement_reading.specs.Reading.{IsRead, IsUnread}
 
 is_memory : (e : Refusal) → (e ≡ r.Memory) ⊎ (e ≢ r.Memory)
 is_memory (r.Invalid reason) = inr (λ x. cc)

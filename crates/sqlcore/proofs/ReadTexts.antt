@@ -15,7 +15,7 @@ use Rattle.ast.specs.Grammar.{IsText}
 use Rattle.ast.specs.Nesting.{lefts, rights, IsNestedWithin}
 use Rattle.ast.specs.Notation.{Tokens}
 use Rattle.parser.specs.Trees.{HasStatement}
-use Rattle.session_definitions.specs.Reading.{IsRead, IsUnread, IsSpelled, deepest, longest_statement}
+use Rattle.statement_reading.specs.Reading.{IsRead, IsUnread, IsSpelled, deepest, longest_statement}
 
 -- what is not nested too deep is nested within the limit
 nested_unless : (ts : Tokens) → ((IsNestedWithin deepest ts → ⊥) → ⊥) → IsNestedWithin deepest ts

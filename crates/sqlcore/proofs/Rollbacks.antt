@@ -16,8 +16,8 @@ use Rattle.ast.specs.Grammar.{IsText}
 use Rattle.ast.specs.Nesting.{left_of, lefts, IsNestedWithin}
 use Rattle.ast.specs.Notation.{Tokens, Written}
 use Rattle.ast.specs.Words.{ROLLBACK, WORK, SEMICOLON}
-use Rattle.session_definitions.specs.Reading.{IsRead, deepest, longest_chain, longest_statement}
-use Rattle.session_definitions.specs.Step.{IsRollback, rollback_words}
+use Rattle.statement_reading.specs.Reading.{IsRead, deepest, longest_chain, longest_statement}
+use Rattle.statement_reading.specs.Rollback.{IsRollback, rollback_words}
 
 -- ---- few tokens nest no deeper than the limit
 

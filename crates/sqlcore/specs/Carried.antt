@@ -34,7 +34,7 @@ use Rattle.replies.specs.declared.reply.Reply.{Reply}
 use Rattle.replies.specs.declared.reply.Reply.TheVariants as says
 use Rattle.sqlcore.specs.Contents.{Contents, HasAppended, rows_under, schema_of, with_table}
 use Rattle.sqlcore.specs.Held.{HasCommitted, HasRolledBack, IsUnchanged, SameSessions, contents_of, kept_of}
-use Rattle.session_definitions.specs.Reading.{IsRead, IsUnread}
+use Rattle.statement_reading.specs.Reading.{IsRead, IsUnread}
 use Rattle.session_definitions.specs.Refusals.{refusal_of}
 
 -- the refusal of a statement whose evaluation stopped

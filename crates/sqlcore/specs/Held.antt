@@ -9,7 +9,7 @@ use Rattle.replies.specs.declared.reply.Reply.{Reply}
 use Rattle.replies.specs.declared.reply.Reply.TheVariants as says
 use Rattle.sqlcore.specs.declared.store.Store.{Store}
 use Rattle.sqlcore.specs.Contents.{Contents, no_contents, contents, kept}
-use Rattle.session_definitions.specs.Reading.{IsRead, IsUnread}
+use Rattle.statement_reading.specs.Reading.{IsRead, IsUnread}
 
 -- the tables as the session sees them, and as they are committed
 abbrev pub contents_of : {D : Type 0} → Core D → Contents

@@ -49,8 +49,8 @@ impl<D: Disk> Core<D> {
     ghost use Rattle.typing.specs.Evaluated.{is_evaluated};
     ghost use Rattle.sqlcore.specs.Carried.{Calls, Does};
     ghost use Rattle.sqlcore.specs.Held.{session_of, sessions_made, device_of, IsNew, HasMade, HasEnded, HasRolledBack, IsNoStatement, IsUnchanged, Leaves, RefusesUnread};
-    ghost use Rattle.session_definitions.specs.Reading.{IsUnread};
-    ghost use Rattle.session_definitions.specs.Step.{IsRollback};
+    ghost use Rattle.statement_reading.specs.Reading.{IsUnread};
+    ghost use Rattle.statement_reading.specs.Rollback.{IsRollback};
 
     /// A new database on a device of length 0, without tables and sessions, over a pool of `frames` pages.
     ///

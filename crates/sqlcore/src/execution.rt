@@ -9,7 +9,7 @@ ghost use Rattle.typing.specs.Evaluated.{change_evaluated, insert_evaluated, ord
 ghost use Rattle.sqlcore.specs.Carried.{AnswersQuery, Carries, GivesStored, RefusesRows, refusal_at};
 ghost use Rattle.sqlcore.specs.Contents.{contents};
 ghost use Rattle.sqlcore.specs.Held.{SameTables, LeavesTables};
-ghost use Rattle.session_definitions.specs.Reading.{IsRead, IsUnread};
+ghost use Rattle.statement_reading.specs.Reading.{IsRead, IsUnread};
 
 use crate::engine::LONGEST_STATEMENT;
 use crate::store::Store;

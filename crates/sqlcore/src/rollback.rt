@@ -2,7 +2,7 @@
 
 ghost use Rattle.std.specs.Prelude.{◌↔◌, ◌⊎◌, IsTrue, true, false};
 ghost use Rattle.lexer.specs.Recognition.{IsMadeOf};
-ghost use Rattle.session_definitions.specs.Step.{IsRollback, rollback_words};
+ghost use Rattle.statement_reading.specs.Rollback.{IsRollback, rollback_words};
 
 use crate::engine::LONGEST_STATEMENT;
 use lexer::{Word, is_made_of};

@@ -16,11 +16,12 @@ use Rattle.denote.specs.Database.{Name, Database}
 use Rattle.replies.specs.declared.reply.Reply.{Reply}
 use Rattle.replies.specs.declared.reply.Reply.TheVariants as says
 use Rattle.session_definitions.specs.Effect.{Effect, after, idle, writer_without, rolled_back, committed as commits_to}
-use Rattle.session_definitions.specs.Reading.{IsRead, IsUnread}
+use Rattle.statement_reading.specs.Reading.{IsRead, IsUnread}
 use Rattle.session_definitions.specs.Refusals.{IsReserved, IsOfStore, Refuses}
 use Rattle.session_definitions.specs.Rules.{Rules}
 use Rattle.session_definitions.specs.Statements.{Ends, Undoes, SetsMode}
-use Rattle.session_definitions.specs.Step.{IsRollback, FetchesOpen, Withholds, Replies}
+use Rattle.statement_reading.specs.Rollback.{IsRollback}
+use Rattle.session_definitions.specs.Step.{FetchesOpen, Withholds, Replies}
 use Rattle.session_definitions.specs.Transactions.{active, is_open_in}
 use Rattle.session_definitions.specs.World.{Cursor, Transaction, Session, World, is_session, with_session}
 use Rattle.store.specs.Contents.{Contents, database_of}

@@ -4,10 +4,10 @@ ghost use Rattle.std.specs.FinMap.{get};
 ghost use Rattle.ast.specs.declared.statement.AccessMode.{AccessMode as Mode};
 ghost use Rattle.ast.specs.declared.statement.Statement.TheVariants as asks;
 ghost use Rattle.lexer.specs.Token.{Bytes};
-ghost use Rattle.session_definitions.specs.Reading.{IsRead};
+ghost use Rattle.statement_reading.specs.Reading.{IsRead};
 ghost use Rattle.session_definitions.specs.Rules.{Rules};
 ghost use Rattle.session_definitions.specs.Run.{without_session};
-ghost use Rattle.session_definitions.specs.Step.{IsRollback};
+ghost use Rattle.statement_reading.specs.Rollback.{IsRollback};
 ghost use Rattle.transactions.specs.Moves.{Moves};
 ghost use Rattle.transactions.specs.Orderly.{IsOrderly};
 ghost use Rattle.transactions.specs.Refused.{Counts};
@@ -80,6 +80,8 @@ pub fn drop_session<S: Store>(store: &mut S, writer: &mut Option<u64>, session: 
     if is_writer(*writer, session) {
         *writer = None;
         store.discard();
+        store.end(session);
+        return;
     }
     store.end(session);
 }

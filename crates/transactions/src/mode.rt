@@ -2,7 +2,7 @@
 ghost use Rattle.std.specs.Prelude.{◌≡◌};
 ghost use Rattle.ast.specs.declared.statement.Statement.TheVariants as asks;
 ghost use Rattle.lexer.specs.Token.{Bytes};
-ghost use Rattle.session_definitions.specs.Reading.{IsRead};
+ghost use Rattle.statement_reading.specs.Reading.{IsRead};
 ghost use Rattle.session_definitions.specs.Rules.{Rules};
 ghost use Rattle.transactions.specs.Moves.{Moves};
 ghost use Rattle.transactions.specs.Orderly.{IsOrderly};

@@ -2,7 +2,7 @@ use Rattle.std.proofs.Common.{refl, sym, ◌∙◌, ap, subst, arith}
 use Rattle.std.proofs.lemmas.Result.{err_from_is_err_and}
 use Rattle.lexer.specs.Support.{first_unsupported}
 use Rattle.lexer.specs.Tokens.{AreTokens}
-use Rattle.session_definitions.specs.Reading.{IsUnread}
+use Rattle.statement_reading.specs.Reading.{IsUnread}
 use Rattle.sqlcore.proofs.ReadTexts.{AreReadable, Parses, read_if, unread_if, only_one}
 use Rattle.sqlcore.proofs.execution.read_statement.Goals as goal
 

@@ -11,10 +11,11 @@ returns-then-is_none-clause-moves g c = λ rules text work read other sound orde
 
 pub returns-in-Err-clause-moves : goal.returns-in-Err-clause-moves
 returns-in-Err-clause-moves g c = λ rules text work read other sound order.
+    let st : Stored = g.S.Store.shows c.args.store.now in
     rw c.refusal_of.ensures
-    (nothing_moves rules _ _ _ _ text _ _ order
-    (withholds rules _ _ _ _ text _ other (reserved _ _ _ _ _ (rw c.in-Err.is at c.commit.ensures.refused) sound (λ bad. bad) (λ bad. bad)))
-    (same _ _ (rw c.in-Err.is at c.commit.ensures.same)))
+    (nothing_moves rules st _ _ _ text _ _ order
+    (withholds rules st _ _ _ text _ other (reserved _ _ _ _ _ (rw c.in-Err.is at c.commit.ensures.refused) sound (λ bad. bad) (λ bad. bad)))
+    (same st _ (rw c.in-Err.is at c.commit.ensures.same)))
 
 pub returns-then-is_writer-clause-moves : goal.returns-then-is_writer-clause-moves
 returns-then-is_writer-clause-moves g c = λ rules text work read other sound order.
