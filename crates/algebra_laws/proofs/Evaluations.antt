@@ -63,7 +63,7 @@ follows {A} {C} x y f g h k = next-shows (λ (a b : A). a ≡ b) (λ (a b : C). 
 pub then-shows : {A C : Type 0} (x y : Evaluation A) (f : A → Evaluation C) → Shows x y → Shows (x >>= f) (y >>= f)
 then-shows x y f h = follows x y f f h (λ a. Shows-refl (f a))
 
-faults_in-shown : {A : Type 0} (x y : Evaluation A) → Shows x y → IsShown (faults_in x) (faults_in y)
+pub faults_in-shown : {A : Type 0} (x y : Evaluation A) → Shows x y → IsShown (faults_in x) (faults_in y)
 faults_in-shown (Ok x) (Ok y) h = IsShown-refl []
 faults_in-shown (Ok x) (Err faults) h = absurd h
 faults_in-shown (Err shown) (Ok y) h = absurd h

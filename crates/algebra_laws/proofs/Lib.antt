@@ -8,3 +8,5 @@ mod Queries
 mod Joins
 mod Sides
 mod Sets
+mod Groups
+mod Trees

@@ -7,14 +7,16 @@ use Rattle.denote.specs.declared.fault.Fault.{Fault}
 use Rattle.denote.specs.Evaluation.{Env, Evaluation, ◌>>=◌}
 use Rattle.denote.specs.Outcome.{Outcome, before, each, through, nothing_at_all}
 use Rattle.denote.specs.Condition.{ConditionMeaning}
+use Rattle.denote.specs.Expression.{ExpressionMeaning}
+use Rattle.denote.specs.Select.{values_of, shown_row}
 use Rattle.denote.specs.From.{kept_row, kept, only_true, beside, product, inner_join, padded, left_join}
 use Rattle.denote.specs.Bag.{Permutes, nothing, keeps, exchanges, goes_on, IsSame, HasSame}
 use Rattle.operator_laws.proofs.Permuting.{Permutes-refl, Permutes-of, Permutes-sym, Permutes-append, Permutes-before, Permutes-after, Permutes-exchange, Permutes-map, Permutes-flat_map, Permutes-middle, IsWithin-permutes, HasSame-permutes, HasSame-append, HasSame-trans}
-use Rattle.operator_laws.proofs.LawLemmas.{each-orderless}
+use Rattle.operator_laws.proofs.Same.{Each-map}
 use Rattle.operator_laws.specs.Same.{Each}
 use Rattle.algebra.specs.Listing.{first_only, listed_rows, end_by, ended, unless_ended, then_list, in_order, row_by_row, onwards, whole_first, pairs_of}
 use Rattle.algebra_laws.specs.Shown.{IsShown, ShowsBy, Shows, ShowsAt, Lists, ListsAt}
-use Rattle.algebra_laws.proofs.Evaluations.{follows, then-shows}
+use Rattle.algebra_laws.proofs.Evaluations.{follows, then-shows, together-shows}
 
 -- the one fault that ends a list is one of those there
 pub first_only-within : (faults : List Fault) (f : Fault) → Contains (first_only faults) f → Contains faults f
@@ -210,3 +212,10 @@ whole-lists l o p made h within k = at l.faults refl
 
 pub kept-shows : (f g : ConditionMeaning) (env : Env) (row : Row) → ShowsAt f g → Shows (kept_row f env row) (kept_row g env row)
 kept-shows f g env row h = then-shows (f (row ∷ env)) (g (row ∷ env)) (λ t. Ok (only_true t row)) (h (row ∷ env))
+
+-- ---- select lists
+
+pub shown-shows : (fs gs : List ExpressionMeaning) (env : Env) (row : Row) → Each ShowsAt fs gs → Shows (shown_row fs env row) (shown_row gs env row)
+shown-shows fs gs env row h = then-shows (values_of fs (row ∷ env)) (values_of gs (row ∷ env)) (λ values. Ok (values ∷ []))
+    (together-shows (map (λ item. item (row ∷ env)) fs) (map (λ item. item (row ∷ env)) gs)
+    (Each-map ShowsAt Shows (λ item. item (row ∷ env)) (λ item. item (row ∷ env)) fs gs h (λ f g k. k (row ∷ env))))
