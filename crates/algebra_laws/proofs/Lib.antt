@@ -1,4 +1,12 @@
-mod Kept
 mod Made
+mod Kept
 mod NoKeys
 mod Ordered
+mod Evaluations
+mod Rows
+mod Queries
+mod Joins
+mod Sides
+mod Sets
+mod Groups
+mod Trees

@@ -1,1 +1,2 @@
 pub mod TreeNodes
+pub mod Taken

@@ -124,5 +124,6 @@ pub fn sorted(
     if keys.is_empty() {
         return Ok(tree);
     }
-    Ok(Tree::Sort(keys, boxed(alloc, Ok(tree))?))
+    let tree = boxed(alloc, Ok(tree))?;
+    Ok(Tree::Sort(keys, tree))
 }
