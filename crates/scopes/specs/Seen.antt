@@ -1,11 +1,10 @@
 -- What a view of the code is, in the words of the definitions.
-use Rattle.std.specs.Prelude.{ℕ, ◌+◌, List, [], ◌∷◌, Option}
+use Rattle.std.specs.Prelude.{ℕ, ◌+◌, ◌-◌, ◌^◌, min, List, [], ◌∷◌, length, Option}
 use Rattle.std.specs.Option.{option_copied}
 use Rattle.typing.specs.declared.scope.Frame.{Frame}
-use Rattle.typing.specs.Known.{Known, known}
 use Rattle.typing.specs.Scope.{Located, Scope as Frames, ungrouped}
 use Rattle.typing.specs.Part as part
-use Rattle.typing.specs.Part.{View as Seen}
+use Rattle.typing.specs.Part.{Part, View as Seen}
 use Rattle.scopes.specs.declared.columns.Located.{Located as Place}
 use Rattle.scopes.specs.declared.view.Clause.{Clause}
 use Rattle.scopes.specs.declared.view.Clause.TheVariants.{Shown, Plain, Argument, Checked}
@@ -42,10 +41,6 @@ scope_of view = scope_in view.clause (frames view.scope.now)
 abbrev pub seen : View → Seen
 seen view = record { scope = scope_of view; clause = clause_of view }
 
--- what is known of its schema
-abbrev pub knows : View → Known
-knows view = known view.schema.now
-
 -- after so many set functions
 abbrev pub moved_in : ℕ → Clause → Clause
 moved_in count (Shown first) = Shown (first + count)
@@ -58,3 +53,11 @@ moved_on count view = record view { clause = moved_in count view.clause }
 
 abbrev pub located_of : Place → Located
 located_of l = record { depth = l.depth; frame = record l.frame.now { key = option_copied l.key }; column = l.column }
+
+-- as far as the numbers of the machine reach
+abbrev pub capped : ℕ → ℕ
+capped n = min n (2 ^ 64 - 1)
+
+-- how many set functions a part has
+abbrev pub count_of : {A : Type 0} → Part A → ℕ
+count_of x = length x.functions
