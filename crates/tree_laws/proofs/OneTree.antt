@@ -1,6 +1,5 @@
 -- Tokens have one tree at most.
-use Rattle.std.proofs.Common.{◌≡◌, ℕ, zero, suc, ◌+◌, ◌≤◌, true, false, [], ◌∷◌, List, Option, Some, refl, sym, ap, ◌∙◌, subst, arith}
-use Rattle.lexer.specs.declared.kinds.Kind.{Kind}
+use Rattle.std.proofs.Common.{◌≡◌, ℕ, zero, suc, ◌≤◌, true, [], ◌∷◌, List, Option, refl, ap, subst, arith}
 use Rattle.lexer.specs.declared.kinds.Kind.TheVariants as kind
 use Rattle.lexer.specs.declared.kinds.Symbol.TheVariants as s
 use Rattle.lexer.specs.declared.kinds.Token.{Token}
@@ -10,9 +9,8 @@ use Rattle.lexer.proofs.Unique.{AreTokens-unique}
 use Rattle.ast.specs.declared.statement.Statement.{Statement}
 use Rattle.ast.specs.declared.tree.Condition.{Condition}
 use Rattle.ast.specs.Notation.{Tokens}
-use Rattle.ast.specs.Nesting.{lefts, left_of}
+use Rattle.ast.specs.Nesting.{lefts}
 use Rattle.ast.specs.Grammar.{IsText, IsConditionText}
-use Rattle.terminals.specs.Readers.{is_symbol}
 use Rattle.parser.specs.Shallow.{is_shallow}
 use Rattle.parser.proofs.AgainText.{text_again, text_only, condition_text_again, condition_text_only}
 
