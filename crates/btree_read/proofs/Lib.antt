@@ -1,0 +1,9 @@
+pub mod ListLemmas
+pub mod OrderLemmas
+pub mod Kids
+pub mod NodeLemmas
+pub mod ChainLemmas
+pub mod PageLemmas
+pub mod PlaceLemmas
+pub mod SearchLemmas
+pub mod CountLemmas

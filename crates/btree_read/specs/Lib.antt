@@ -1,0 +1,5 @@
+pub mod Lists
+pub mod Nodes
+pub mod Sorted
+pub mod Tree
+pub mod Search

@@ -1,0 +1,17 @@
+//! Search in B+trees over pages.
+#![tactic(auto)]
+
+mod entry;
+mod node;
+mod place;
+mod value;
+mod walk;
+
+pub use entry::{Branch, Entry, Start};
+pub use node::read_node;
+pub use place::{child_at, first_place, is_before};
+pub use value::get;
+pub use walk::{next, seek};
+
+/// The most levels of inner pages above the leaves of a tree.
+pub const MAXIMUM_LEVELS: u32 = 15;
