@@ -11,8 +11,6 @@ mod laws;
 mod page;
 mod row;
 mod sound;
-#[cfg(test)]
-mod tests;
 
 pub use build::{build_page, fits};
 pub use cell::{are_cells, inner_cell, leaf_cell};
