@@ -22,6 +22,3 @@ pub use recognition::is_made_of;
 pub use scan::tokens;
 pub use support::first_unsupported;
 pub use words::{Support, WORDS, Word, reserved_word};
-
-#[cfg(test)]
-mod tests;

@@ -8,6 +8,3 @@ mod statement;
 mod writer;
 
 pub use printing::{print, print_condition, print_condition_tokens, print_tokens};
-
-#[cfg(test)]
-mod tests;

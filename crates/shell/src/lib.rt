@@ -5,8 +5,6 @@ mod command_line;
 mod options;
 mod program;
 mod run;
-#[cfg(test)]
-mod tests;
 
 pub use command_line::settings;
 pub use options::{DEFAULT_FRAMES, Frames, GREATEST_FRAMES, LEAST_FRAMES, Settings};

@@ -12,8 +12,6 @@ mod page;
 mod row;
 mod row_check;
 mod sound;
-#[cfg(test)]
-mod tests;
 
 pub use build::{build_page, fits};
 pub use cell::{are_cells, inner_cell, leaf_cell};

@@ -15,6 +15,3 @@ pub use conditions::copy_condition;
 pub use expressions::copy_expression;
 pub use queries::copy_query;
 pub use statements::copy_statement;
-
-#[cfg(test)]
-mod tests;

@@ -1,6 +1,5 @@
 //! Small trees are copied, with ample memory.
 
-use crate::{copy_condition, copy_expression, copy_query, copy_statement};
 use ast::{
     Addend, Condition, Conjunction, Delete, Expression, Factor, Negation, Operand, Predicate,
     Primary, Query, Select, Statement, TableReference, TableSource, Term, Test,
@@ -10,6 +9,7 @@ use lexer::Name;
 use std::alloc::{AllocError, Global};
 use std::process::Abort;
 use std::test::Fail;
+use tree_copies::{copy_condition, copy_expression, copy_query, copy_statement};
 
 fn text_of(rt: &impl Abort, alloc: Global, codes: &[u8]) -> Result<Text, AllocError> {
     let codes = Items::from_slice(alloc, codes)?;

@@ -1,4 +1,4 @@
-use crate::{DEFAULT_FRAMES, settings, sqlsh};
+use shell::{DEFAULT_FRAMES, settings, sqlsh};
 use std::test::Fail;
 
 #[test]

@@ -1,8 +1,8 @@
 //! Readers and writers that fail.
 
 use super::plain;
-use crate::run_on;
 use disk::MemDisk;
+use shell::run_on;
 use std::io;
 use std::io::{Read, Write};
 use std::test::Fail;

@@ -1,9 +1,9 @@
-use crate::{
+use items::{Items, Text};
+use sqlrecord::{
     DecodeError, EncodeError, PAGE_SIZE, PageKind, SlotPage, are_cells, build_page, decode_key,
     decode_row, encode_index_key, encode_key, encode_row, fits, inner_cell, leaf_cell,
     row_number_of,
 };
-use items::{Items, Text};
 use sqlval::Value;
 use std::alloc::Global;
 use std::process::Abort;

@@ -10,16 +10,16 @@ mod refused;
 mod sessions;
 mod values;
 
-use crate::{Settings, run_on};
 use clap::Error;
 use disk::MemDisk;
+use shell::{Settings, run_on};
 use std::alloc::Global;
 use std::process::Abort;
 use std::test::Fail;
 
 /// The settings of `sqlsh run` without options.
 fn plain(alloc: Global) -> Result<Settings, Fail> {
-    Ok(crate::settings(alloc, &["sqlsh", "run"])?)
+    Ok(shell::settings(alloc, &["sqlsh", "run"])?)
 }
 
 /// Whether a script over a new device prints this.
@@ -27,7 +27,7 @@ fn play(alloc: Global, script: &[u8], printed: &[u8]) -> Result<bool, Error> {
     let mut reader = script;
     let mut writer = Vec::new(alloc);
     let disk = MemDisk::new(alloc);
-    let settings = crate::settings(alloc, &["sqlsh", "run"])?;
+    let settings = shell::settings(alloc, &["sqlsh", "run"])?;
     run_on(alloc, &settings, disk, &mut reader, &mut writer);
     Ok(writer.as_slice() == printed)
 }

@@ -1,5 +1,5 @@
-use crate::{FileHeader, FreePage, OpenError, PAGE_SIZE, Page, PageFile};
 use disk::{Disk, FaultyDisk, MemDisk};
+use pagefile::{FileHeader, FreePage, OpenError, PAGE_SIZE, Page, PageFile};
 use std::alloc::{AllocError, Global};
 use std::process::Abort;
 use std::test::Fail;

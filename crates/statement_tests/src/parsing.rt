@@ -1,5 +1,5 @@
-use crate::{parse, parse_condition};
 use lexer::{Token, tokens};
+use parser::{parse, parse_condition};
 use refusals::{Limit, Reason, Refusal};
 use std::alloc::{AllocError, Global};
 use std::test::Fail;

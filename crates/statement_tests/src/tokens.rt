@@ -1,5 +1,5 @@
-use crate::{Kind, Name, Number, Token, first_unsupported, print_kinds, tokens};
 use items::{Items, Text};
+use lexer::{Kind, Name, Number, Token, first_unsupported, print_kinds, tokens};
 use std::alloc::{AllocError, Global};
 use std::fmt::Write;
 use std::test::Fail;

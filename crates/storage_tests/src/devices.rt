@@ -1,4 +1,4 @@
-use crate::{Disk, DiskError, FaultyDisk, FileDisk, MemDisk};
+use disk::{Disk, DiskError, FaultyDisk, FileDisk, MemDisk};
 use std::fs;
 use std::fs::File;
 use std::io::ErrorKind;

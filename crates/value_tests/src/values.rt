@@ -1,11 +1,11 @@
 //! Vectors from outside, and that each call that takes memory succeeds where there is enough of it.
 
-use crate::{
+use items::{Items, Text};
+use sqlval::{
     Code, Column, ColumnType, CompOp, Constraint, Index, IndexPlace, Rule, Schema, Table, Truth,
     Value, ValueType, add, coded_index_key_length, coded_key_length, coded_row_length, compare,
     concat, div, like, mul, negate, row_matches, sort_order, store_as, sub,
 };
-use items::{Items, Text};
 use std::alloc::Global;
 use std::cmp::Ordering;
 use std::test::Fail;

@@ -1,6 +1,5 @@
 //! What is printed of trees made by hand, with ample memory.
 
-use crate::{print, print_condition, print_condition_tokens, print_tokens};
 use ast::{
     AccessMode, AddOperator, Addend, Column, Comparison, Condition, Conjunction, Direction,
     Expression, Factor, Literal, Negation, Operand, OrderedQuery, Predicate, Primary, Query,
@@ -9,6 +8,7 @@ use ast::{
 };
 use items::{Boxed, Items, Text};
 use lexer::{Name, Number};
+use printer::{print, print_condition, print_condition_tokens, print_tokens};
 use std::alloc::{AllocError, Global};
 use std::process::Abort;
 use std::test::Fail;

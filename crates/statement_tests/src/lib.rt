@@ -1,0 +1,11 @@
+//! Tests of a statement's way from its text to its tree and back.
+#![tactic(auto)]
+
+#[cfg(test)]
+mod copies;
+#[cfg(test)]
+mod parsing;
+#[cfg(test)]
+mod printing;
+#[cfg(test)]
+mod tokens;

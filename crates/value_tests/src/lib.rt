@@ -1,0 +1,5 @@
+//! Tests of values and of their operations.
+#![tactic(auto)]
+
+#[cfg(test)]
+mod values;
