@@ -1,0 +1,319 @@
+//! Versions as beginnings of one list of changes.
+ghost use Rattle.std.specs.Prelude.{◌≡◌, ◌≤◌, nat_le, true, length};
+ghost use Rattle.std.specs.List.{list_all};
+ghost use Rattle.store.specs.View.{count_of};
+
+use crate::change::Change;
+use crate::declared_tables::declared_tables;
+use crate::lists::Lists;
+use crate::readers::{Reader, add_reader, find_reader, remove_reader};
+use crate::table_rows::{numbered_rows, row_after};
+use denote::{Row, Rows};
+use items::{Items, Text};
+use sqlval::{Index, Schema, Table, Value};
+use std::alloc::Global;
+use std::ops::Bound;
+use store::{Numbered, NumberedRow, Position, Returned, Store, StoreError, StoreLimit, View};
+
+/// Tables in memory, as the list of the changes that made them. Each version is a beginning of that list, so that a version takes a number, and what is taken back is cut off.
+///
+/// Memory is all that it refuses for, and more than 2^64 - 1 commits. What is not carried out yet (dropping tables, making and dropping indexes, replacing and deleting rows, and
+/// reading by an index) is refused as for want of memory.
+#[derive(Drop)]
+pub struct ListStore {
+    alloc: Global,
+    /// All changes; they make the newest version.
+    changes: Items<Change>,
+    /// How many of them are committed, and how many there were at the mark.
+    committed: usize,
+    marked: usize,
+    readers: Vec<Reader>,
+    commits: u64,
+    read: u64,
+    prepared: Schema,
+    ghost kept: { committed ≤ marked },
+    ghost within: { marked ≤ length changes },
+    ghost begun: { list_all (λ r. nat_le r.length committed) readers.items ≡ true },
+}
+
+impl ListStore {
+    ghost use Rattle.std.specs.Prelude.{◌≡◌, ◌≤◌, length, take, IfErr, OnOk, OnErr, Err};
+    ghost use Rattle.store.specs.declared.error.StoreError.TheVariants.{Memory};
+    ghost use Rattle.store.specs.Stored.{working_on, undone};
+    ghost use Rattle.store.specs.View.{seen_by, counted_on};
+    ghost use Rattle.list_store.specs.Versions.{made, replayed};
+    ghost use Rattle.list_store.specs.Shown.{versions_of};
+
+    /// Makes one more change. A refusal is for want of memory, and goes back to the mark.
+    fn make(&mut self, change: Change) -> Result<(), StoreError>
+        ensures shows { OnOk result (versions_of self.new ≡ working_on (versions_of self.old) (made (versions_of self.old).working change)) }
+        ensures undone { OnErr result (versions_of self.new ≡ undone (versions_of self.old)) }
+        ensures refused { IfErr result (λ error. error ≡ Memory) }
+    {
+        if self.changes.push(change).is_err() {
+            self.changes.truncate(self.marked);
+            return Err(StoreError::Memory);
+        }
+        Ok(())
+    }
+
+    /// Goes back to the mark, for want of memory.
+    fn give_up(&mut self) -> Result<(), StoreError>
+        ensures undone { versions_of self.new ≡ undone (versions_of self.old) }
+        ensures refused { result ≡ Err Memory }
+    {
+        self.changes.truncate(self.marked);
+        Err(StoreError::Memory)
+    }
+
+    /// How many changes a view sees.
+    fn length_seen(&self, view: View) -> usize
+        ensures seen { replayed (take result self.now.changes) ≡ seen_by (versions_of self.now) view }
+        ensures within { result ≤ length self.now.changes }
+    {
+        match view {
+            View::Found(reader) => match find_reader(&self.readers, reader) {
+                Some(found) => found.length,
+                None => self.committed,
+            },
+            View::Working => self.changes.len(),
+        }
+    }
+
+    /// The changes that a view sees.
+    fn changes_seen(&self, view: View) -> &[Change]
+        ensures { replayed result.now ≡ seen_by (versions_of self.now) view }
+    {
+        let length = self.length_seen(view);
+        &self.changes.as_slice()[..length]
+    }
+
+    /// Counts rows that were read.
+    fn count(&mut self, rows: usize)
+        ensures read { self.new.read ≡ counted_on self.old.read rows }
+        ensures read_on { self.old.read ≤ self.new.read }
+        ensures same { versions_of self.new ≡ versions_of self.old }
+    {
+        self.read = self.read.saturating_add(rows as u64);
+    }
+}
+
+/// One row, or none.
+fn rows_in(found: &Option<NumberedRow>) -> usize
+    ensures { result ≡ count_of found.now }
+{
+    match found {
+        Some(_) => 1,
+        None => 0,
+    }
+}
+
+impl Store for ListStore {
+    ghost use Rattle.std.specs.Prelude.{◌≡◌, ⊤};
+    ghost use Rattle.store.specs.Contents.{database_of};
+    ghost use Rattle.list_store.specs.Versions.{replayed};
+    ghost use Rattle.list_store.specs.Shown.{versions_of};
+    ghost use Rattle.list_store.specs.TableLemmas.{rises-seen};
+
+    type Device = Lists;
+
+    ghost is_sound = { λ s. ⊤ };
+
+    ghost shows = { versions_of };
+
+    ghost refused = { λ s. 0 };
+
+    ghost calls_refused = { λ device. 0 };
+
+    ghost read = { λ s. s.read };
+
+    ghost counted = { λ s limit. ⊥ };
+
+    ghost prepared = { λ s. s.prepared };
+
+    ghost unwritten = { λ s. 0 };
+
+    ghost saved = { λ device db. database_of (replayed device.changes) ≡ db };
+
+    ghost numbers_rise = { λ s view name table sound found. rises-seen s.commits s.changes s.committed s.marked s.readers.items view name table found };
+
+    fn open(alloc: Global, device: Lists, frames: usize) -> Result<Self, Returned<Lists>> {
+        let changes = device.changes;
+        let committed = changes.len();
+        Ok(ListStore {
+            alloc,
+            changes,
+            committed,
+            marked: committed,
+            readers: Vec::new(alloc),
+            commits: 0,
+            read: 0,
+            prepared: Schema {
+                tables: Items::new(alloc),
+            },
+        })
+    }
+
+    fn close(self) -> Result<Lists, Returned<Self>> {
+        let alloc = self.alloc;
+        let committed = self.committed;
+        let mut changes = self.changes;
+        changes.truncate(committed);
+        Ok(Lists { alloc, changes })
+    }
+
+    fn flush(&mut self) -> Result<u32, StoreError> {
+        Ok(0)
+    }
+
+    fn commits(&self) -> u64 {
+        self.commits
+    }
+
+    fn number(&self, reader: u64) -> Option<u64> {
+        match find_reader(&self.readers, reader) {
+            Some(found) => Some(found.number),
+            None => None,
+        }
+    }
+
+    fn begin(&mut self, reader: u64) -> Result<(), StoreError> {
+        match find_reader(&self.readers, reader) {
+            Some(_) => Ok(()),
+            None => {
+                let begun = Reader {
+                    reader,
+                    number: self.commits,
+                    length: self.committed,
+                };
+                add_reader(&mut self.readers, begun)?;
+                Ok(())
+            }
+        }
+    }
+
+    fn end(&mut self, reader: u64) {
+        remove_reader(&mut self.readers, reader);
+    }
+
+    fn mark(&mut self) -> Result<(), StoreError> {
+        self.marked = self.changes.len();
+        Ok(())
+    }
+
+    fn undo(&mut self) {
+        self.changes.truncate(self.marked);
+    }
+
+    fn commit(&mut self) -> Result<(), StoreError> {
+        if self.commits == u64::MAX {
+            return Err(StoreError::Exceeded(StoreLimit::Pages));
+        }
+        self.commits += 1;
+        self.marked = self.changes.len();
+        self.committed = self.marked;
+        Ok(())
+    }
+
+    fn discard(&mut self) {
+        self.changes.truncate(self.committed);
+        self.marked = self.committed;
+    }
+
+    fn prepare(&mut self, view: View) -> Result<(), StoreError> {
+        let tables = declared_tables(self.alloc, self.changes_seen(view))?;
+        self.prepared = Schema { tables };
+        Ok(())
+    }
+
+    fn schema(&self) -> &Schema {
+        &self.prepared
+    }
+
+    fn create_table(&mut self, table: Table) -> Result<(), StoreError> {
+        self.make(Change::CreateTable(table))
+    }
+
+    fn drop_table(&mut self, name: &Text) -> Result<(), StoreError> {
+        self.give_up()
+    }
+
+    fn create_index(&mut self, name: &Text, index: Index) -> Result<(), StoreError> {
+        self.give_up()
+    }
+
+    fn drop_index(&mut self, name: &Text) -> Result<(), StoreError> {
+        self.give_up()
+    }
+
+    fn append(&mut self, name: &Text, rows: Rows) -> Result<(), StoreError> {
+        match name.copy(self.alloc) {
+            Ok(table) => self.make(Change::Append(table, rows)),
+            Err(_) => self.give_up(),
+        }
+    }
+
+    fn replace(&mut self, name: &Text, number: u64, row: Row) -> Result<(), StoreError> {
+        self.give_up()
+    }
+
+    fn delete(&mut self, name: &Text, number: u64) -> Result<(), StoreError> {
+        self.give_up()
+    }
+
+    fn scan(&mut self, alloc: Global, view: View, name: &Text) -> Result<Numbered, StoreError> {
+        let found = numbered_rows(alloc, self.changes_seen(view), name)?;
+        self.count(found.rows.len());
+        Ok(found)
+    }
+
+    fn next(
+        &mut self,
+        alloc: Global,
+        view: View,
+        name: &Text,
+        after: Option<u64>,
+    ) -> Result<Option<NumberedRow>, StoreError> {
+        let found = row_after(alloc, self.changes_seen(view), name, after)?;
+        self.count(rows_in(&found));
+        Ok(found)
+    }
+
+    fn seek(
+        &mut self,
+        alloc: Global,
+        view: View,
+        name: &Text,
+        index: usize,
+        key: &[Value],
+    ) -> Result<Numbered, StoreError> {
+        Err(StoreError::Memory)
+    }
+
+    fn range(
+        &mut self,
+        alloc: Global,
+        view: View,
+        name: &Text,
+        index: usize,
+        low: &Bound<Value>,
+        high: &Bound<Value>,
+    ) -> Result<Numbered, StoreError> {
+        Err(StoreError::Memory)
+    }
+
+    fn next_in(
+        &mut self,
+        alloc: Global,
+        view: View,
+        name: &Text,
+        index: usize,
+        after: Option<&Position>,
+    ) -> Result<Option<NumberedRow>, StoreError> {
+        Err(StoreError::Memory)
+    }
+
+    fn rows_read(&self) -> u64 {
+        self.read
+    }
+}
