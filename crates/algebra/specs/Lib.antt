@@ -7,3 +7,4 @@ pub mod Sorted
 pub mod Listing
 pub mod Translated
 pub mod Described
+pub mod Raising

@@ -1,7 +1,7 @@
 -- The listing of a tree: its rows in the order in which they come, ended by at most one fault.
 -- It is written as an outcome in which the order of rows counts, and of the faults there is at most one. That rows without ORDER BY come in this
 -- order, and that of several faults this one is shown, is our own choice (ISO/IEC 9075:1992, 13.1, 22.1, leave both open).
-use Rattle.std.specs.Prelude.{ℕ, nat_lt, Bool, true, false, if◌then◌else◌, List, [], ◌∷◌, ◌++◌, map, flat_map, Option, Ok, Err}
+use Rattle.std.specs.Prelude.{ℕ, nat_lt, Bool, true, false, if◌then◌else◌, List, [], ◌∷◌, ◌++◌, map, flat_map, Option, Result, Ok, Err}
 use Rattle.sqlval.specs.Value.{Row}
 use Rattle.sqlval.specs.Matching.{rows_matching}
 use Rattle.typing.specs.declared.typed.SetOperation.{SetOperation}
@@ -71,6 +71,10 @@ onwards part made = then_list (made part.rows) (end_by part.faults)
 -- what takes a part whole: the part's fault stands before all rows
 abbrev pub whole_first : Outcome → (List Row → Outcome) → Outcome
 whole_first part made = unless_ended part.faults (made part.rows)
+
+-- the reply that shows a list: its rows, or its fault
+abbrev pub reply_of : Outcome → Result (List Row) Fault
+reply_of listed = elim listed.faults [ [] ↦ Ok listed.rows | fault ∷ faults ↦ Err fault ]
 
 -- ---- joins
 

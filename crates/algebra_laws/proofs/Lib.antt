@@ -10,3 +10,8 @@ mod Sides
 mod Sets
 mod Groups
 mod Trees
+mod Sorting
+mod Replies
+mod RolledTrees
+mod Safe
+mod Plain

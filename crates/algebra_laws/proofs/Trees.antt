@@ -22,6 +22,7 @@ use Rattle.denote.specs.Meaning.{Tables}
 use Rattle.denote.specs.Outcome.{whole}
 use Rattle.denote.specs.Select.{shown_row}
 use Rattle.operator_laws.proofs.Same.{Each-mapped}
+use Rattle.algebra_laws.proofs.RolledTrees.{Node, condition_meant, condition_rolled, expression_meant, expression_rolled, function_meant, function_rolled, tree_meant, tree_rolled}
 use Rattle.algebra_laws.specs.Shown.{Shows, ShowsAt, Lists, ListsAt}
 use Rattle.algebra_laws.proofs.Evaluations.{Shows-refl, ShowsNext, then-shows, two-shows, chained-shows, concatenation-shows, conjunction-shows, disjunction-shows, compared-shows, between-shows}
 use Rattle.algebra_laws.proofs.Queries.{scalar-shows, exists-shows, in_query-shows}
@@ -30,39 +31,6 @@ use Rattle.algebra_laws.proofs.Joins.{Lists-refl, product-lists, inner-lists}
 use Rattle.algebra_laws.proofs.Sides.{left-lists, half-lists, hash-lists, index-lists}
 use Rattle.algebra_laws.proofs.Sets.{distinct-lists, set-lists, reordered-lists, sorted-permutes, range-lists}
 use Rattle.algebra_laws.proofs.Groups.{ShowsFunction, group-lists}
-
-abbrev Node : ((A B C D : Type 0) → Type 0) → Type 0
-Node T = T Condition Expression SetFunction Tree
-
--- a node with its parts' meanings in their places
-module _ (step : Layer Tree-F → TreeMeaning) where
-  abbrev condition_meant : Node Condition-F → Layer Condition-F
-  condition_meant d = map-Condition _ _ _ _ _ _ _ _ (truth_by step) (value_by step) (function_by step) (tree_by step) d
-
-  condition_rolled : (d : Node Condition-F) → truth_by step (roll-Condition d) ≡ condition_step (condition_meant d)
-  unfolding truth_by value_by function_by tree_by
-  condition_rolled d = fold-roll-Condition _ _ _ _ condition_step expression_step function_step step d
-
-  abbrev expression_meant : Node Expression-F → Layer Expression-F
-  expression_meant d = map-Expression _ _ _ _ _ _ _ _ (truth_by step) (value_by step) (function_by step) (tree_by step) d
-
-  expression_rolled : (d : Node Expression-F) → value_by step (roll-Expression d) ≡ expression_step (expression_meant d)
-  unfolding truth_by value_by function_by tree_by
-  expression_rolled d = fold-roll-Expression _ _ _ _ condition_step expression_step function_step step d
-
-  abbrev function_meant : Node SetFunction-F → Layer SetFunction-F
-  function_meant d = map-SetFunction _ _ _ _ _ _ _ _ (truth_by step) (value_by step) (function_by step) (tree_by step) d
-
-  function_rolled : (d : Node SetFunction-F) → function_by step (roll-SetFunction d) ≡ function_step (function_meant d)
-  unfolding truth_by value_by function_by tree_by
-  function_rolled d = fold-roll-SetFunction _ _ _ _ condition_step expression_step function_step step d
-
-  abbrev tree_meant : Node Tree-F → Layer Tree-F
-  tree_meant d = map-Tree _ _ _ _ _ _ _ _ (truth_by step) (value_by step) (function_by step) (tree_by step) d
-
-  tree_rolled : (d : Node Tree-F) → tree_by step (roll-Tree d) ≡ step (tree_meant d)
-  unfolding truth_by value_by function_by tree_by
-  tree_rolled d = fold-roll-Tree _ _ _ _ condition_step expression_step function_step step d
 
 module _ (tables : Tables) where
   abbrev listed : Layer Tree-F → TreeMeaning

@@ -2,7 +2,9 @@
 #![tactic(auto)]
 
 mod listing;
+mod raising;
 mod translation;
 
-pub use listing::listings_answer_outcomes;
+pub use listing::{listings_answer_outcomes, listings_answer_queries};
+pub use raising::denials_are_certain;
 pub use translation::translation_keeps_the_meaning;
