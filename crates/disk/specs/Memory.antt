@@ -5,3 +5,4 @@ use Rattle.std.specs.Prelude.{ℕ, List}
 pub record Held : Type 0 where
   pub bytes : List ℕ
   pub refused : ℕ
+  pub synced : ℕ

@@ -1,5 +1,7 @@
-ghost use Rattle.std.specs.Prelude.{◌≡◌, ◌+◌, Option, None, Some};
-ghost use Rattle.disk.specs.Refused.{CountsRefusal};
+ghost use Rattle.std.specs.Prelude.{◌≡◌, ◌-◌, ◌↔◌, length, option_map, Option, None, Some, IsTrue, true, false, IsErr, IfOk, IfErr, OnOk, OnErr};
+ghost use Rattle.disk.specs.Causes.{IsInjected};
+ghost use Rattle.disk.specs.Contents.{Holds, IsTorn, IsEitherLength, overwritten, resized};
+ghost use Rattle.disk.specs.Refused.{CountsRefusal, CountsSync};
 
 use crate::memory::refuse;
 use crate::{Disk, DiskError};
@@ -51,7 +53,11 @@ impl<D: Disk> FaultyDisk<D> {
 
 /// Lets a call pass, or refuses it.
 fn pass(waiting: &mut Option<u64>, refused: &mut u64) -> Result<(), DiskError>
-    ensures { CountsRefusal result refused.old refused.new }
+    ensures one { IsErr result ↔ (waiting.old ≡ Some 0) }
+    ensures cause { IfErr result IsInjected }
+    ensures last { OnErr result (waiting.new ≡ None) }
+    ensures waiting { OnOk result (waiting.new ≡ option_map (λ left. left - 1) waiting.old) }
+    ensures count { CountsRefusal result refused.old refused.new }
 {
     match *waiting {
         None => Ok(()),
@@ -67,23 +73,59 @@ fn pass(waiting: &mut Option<u64>, refused: &mut u64) -> Result<(), DiskError>
 }
 
 impl<D: Disk> Disk for FaultyDisk<D> {
+    ghost use Rattle.disk.specs.Faulty.{inner_of, tears_of, all_refusals, IsTold, RefusesNext, RefusesOne, PassesOn, IsHalfWritten};
+
     ghost is_honest = { D.is_honest };
+
+    ghost always_reads = { false };
 
     ghost bytes = { λ f. D.bytes f.inner };
 
-    ghost refused = { λ f. D.refused f.inner + f.refused };
+    ghost refused = { λ f. all_refusals D.refused f };
 
-    fn len(&mut self) -> Result<u64, DiskError> {
+    ghost synced = { λ f. D.synced f.inner };
+
+    ghost told = { λ f cause. IsTold D.told f cause };
+
+    fn len(&mut self) -> Result<u64, DiskError>
+        ensures value { IfOk result (λ n. IsTrue D.is_honest → n ≡ length (D.bytes (inner_of self.old))) }
+        ensures same { IsTrue D.is_honest → D.bytes (inner_of self.new) ≡ D.bytes (inner_of self.old) }
+        ensures count { CountsRefusal result (all_refusals D.refused self.old) (all_refusals D.refused self.new) }
+        ensures cause { IfErr result (IsTold D.told self.new) }
+        ensures synced { D.synced (inner_of self.new) ≡ D.synced (inner_of self.old) }
+        ensures refuses { RefusesNext self.old → RefusesOne result self.old self.new }
+        ensures passes { (RefusesNext self.old → ⊥) → PassesOn D.refused D.told result self.old self.new }
+        ensures kept { RefusesNext self.old → inner_of self.new ≡ inner_of self.old }
+    {
         pass(&mut self.waiting, &mut self.refused)?;
         self.inner.len()
     }
 
-    fn read_at(&mut self, at: u64, into: &mut [u8]) -> Result<(), DiskError> {
+    fn read_at(&mut self, at: u64, into: &mut [u8]) -> Result<(), DiskError>
+        ensures value { OnOk result (IsTrue D.is_honest → Holds (D.bytes (inner_of self.old)) at into.new) }
+        ensures same { IsTrue D.is_honest → D.bytes (inner_of self.new) ≡ D.bytes (inner_of self.old) }
+        ensures count { CountsRefusal result (all_refusals D.refused self.old) (all_refusals D.refused self.new) }
+        ensures cause { IfErr result (IsTold D.told self.new) }
+        ensures synced { D.synced (inner_of self.new) ≡ D.synced (inner_of self.old) }
+        ensures refuses { RefusesNext self.old → RefusesOne result self.old self.new }
+        ensures passes { (RefusesNext self.old → ⊥) → PassesOn D.refused D.told result self.old self.new }
+        ensures kept { RefusesNext self.old → inner_of self.new ≡ inner_of self.old }
+    {
         pass(&mut self.waiting, &mut self.refused)?;
         self.inner.read_at(at, into)
     }
 
-    fn write_at(&mut self, at: u64, from: &[u8]) -> Result<(), DiskError> {
+    fn write_at(&mut self, at: u64, from: &[u8]) -> Result<(), DiskError>
+        ensures written { OnOk result (IsTrue D.is_honest → D.bytes (inner_of self.new) ≡ overwritten (D.bytes (inner_of self.old)) at from.now) }
+        ensures torn { OnErr result (IsTrue D.is_honest → IsTorn at (length from.now) (D.bytes (inner_of self.old)) (D.bytes (inner_of self.new))) }
+        ensures count { CountsRefusal result (all_refusals D.refused self.old) (all_refusals D.refused self.new) }
+        ensures cause { IfErr result (IsTold D.told self.new) }
+        ensures synced { D.synced (inner_of self.new) ≡ D.synced (inner_of self.old) }
+        ensures refuses { RefusesNext self.old → RefusesOne result self.old self.new }
+        ensures passes { (RefusesNext self.old → ⊥) → PassesOn D.refused D.told result self.old self.new }
+        ensures kept { RefusesNext self.old → tears_of self.old ≡ false → inner_of self.new ≡ inner_of self.old }
+        ensures half { RefusesNext self.old → tears_of self.old ≡ true → IsTrue D.is_honest → IsHalfWritten at from.now (D.bytes (inner_of self.old)) (D.bytes (inner_of self.new)) }
+    {
         if let Err(refusal) = pass(&mut self.waiting, &mut self.refused) {
             if self.tears {
                 let _ = self.inner.write_at(at, &from[..from.len() / 2]);
@@ -93,12 +135,29 @@ impl<D: Disk> Disk for FaultyDisk<D> {
         self.inner.write_at(at, from)
     }
 
-    fn set_len(&mut self, len: u64) -> Result<(), DiskError> {
+    fn set_len(&mut self, len: u64) -> Result<(), DiskError>
+        ensures resized { OnOk result (IsTrue D.is_honest → D.bytes (inner_of self.new) ≡ resized (D.bytes (inner_of self.old)) len) }
+        ensures either { OnErr result (IsTrue D.is_honest → IsEitherLength len (D.bytes (inner_of self.old)) (D.bytes (inner_of self.new))) }
+        ensures count { CountsRefusal result (all_refusals D.refused self.old) (all_refusals D.refused self.new) }
+        ensures cause { IfErr result (IsTold D.told self.new) }
+        ensures synced { D.synced (inner_of self.new) ≡ D.synced (inner_of self.old) }
+        ensures refuses { RefusesNext self.old → RefusesOne result self.old self.new }
+        ensures passes { (RefusesNext self.old → ⊥) → PassesOn D.refused D.told result self.old self.new }
+        ensures kept { RefusesNext self.old → inner_of self.new ≡ inner_of self.old }
+    {
         pass(&mut self.waiting, &mut self.refused)?;
         self.inner.set_len(len)
     }
 
-    fn sync(&mut self) -> Result<(), DiskError> {
+    fn sync(&mut self) -> Result<(), DiskError>
+        ensures same { IsTrue D.is_honest → D.bytes (inner_of self.new) ≡ D.bytes (inner_of self.old) }
+        ensures count { CountsRefusal result (all_refusals D.refused self.old) (all_refusals D.refused self.new) }
+        ensures cause { IfErr result (IsTold D.told self.new) }
+        ensures synced { CountsSync result (D.synced (inner_of self.old)) (D.synced (inner_of self.new)) }
+        ensures refuses { RefusesNext self.old → RefusesOne result self.old self.new }
+        ensures passes { (RefusesNext self.old → ⊥) → PassesOn D.refused D.told result self.old self.new }
+        ensures kept { RefusesNext self.old → inner_of self.new ≡ inner_of self.old }
+    {
         pass(&mut self.waiting, &mut self.refused)?;
         self.inner.sync()
     }

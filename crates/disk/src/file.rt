@@ -1,5 +1,6 @@
-ghost use Rattle.std.specs.Prelude.{◌≡◌, [], false, is_ok, IfOk};
+ghost use Rattle.std.specs.Prelude.{◌≡◌, [], false, is_ok, IfOk, IfErr};
 ghost use Rattle.disk.specs.Refused.{CountsRefusal};
+ghost use Rattle.disk.specs.Causes.{IsSystem};
 
 use crate::memory::refuse;
 use crate::{Disk, DiskError};
@@ -12,33 +13,39 @@ use std::os::unix::fs::FileExt;
 ///
 /// No contract can say what a file gives or takes, so a `FileDisk` does not claim to be honest: what
 /// is proved of every honest device speaks of a file under the premise that it is one. That it counts
-/// its refused calls is proved.
+/// its refused calls and its syncs is proved; that the system was asked is tested alone.
 #[derive(Drop)]
 pub struct FileDisk {
     file: File,
     refused: u64,
+    synced: u64,
 }
 
 impl Model for FileDisk {
-    ghost use Rattle.std.specs.Prelude.{ℕ};
+    ghost use Rattle.disk.specs.File.{Counts};
 
-    ghost Value = { ℕ };
+    ghost Value = { Counts };
 
-    ghost view = { λ d. d.refused };
+    ghost view = { λ d. record { refused = d.refused; synced = d.synced } };
 }
 
 impl FileDisk {
     /// The device over an open file.
     pub fn new(file: File) -> FileDisk
-        ensures { result ≡ 0 }
+        ensures { result ≡ record { refused = 0; synced = 0 } }
     {
-        FileDisk { file, refused: 0 }
+        FileDisk {
+            file,
+            refused: 0,
+            synced: 0,
+        }
     }
 
     /// Opens the file at this path to read and write, and makes it where there is none. Refused where
     /// the system does not open it so, and where another process has it open as a device.
     pub fn open<R: Files<File = File>>(rt: &R, path: &str) -> Result<FileDisk, DiskError>
-        ensures { IfOk result (λ disk. disk ≡ 0) }
+        ensures fresh { IfOk result (λ disk. disk ≡ record { refused = 0; synced = 0 }) }
+        ensures cause { IfErr result IsSystem }
     {
         let mut options = OpenOptions::new();
         options.read(true);
@@ -56,6 +63,7 @@ impl FileDisk {
 fn counted<T>(refused: &mut u64, answer: io::Result<T>) -> Result<T, DiskError>
     ensures variant { is_ok result ≡ is_ok answer }
     ensures count { CountsRefusal result refused.old refused.new }
+    ensures cause { IfErr result IsSystem }
 {
     match answer {
         Ok(value) => Ok(value),
@@ -71,9 +79,15 @@ fn length(file: &File) -> io::Result<u64> {
 impl Disk for FileDisk {
     ghost is_honest = { false };
 
+    ghost always_reads = { false };
+
     ghost bytes = { λ _. [] };
 
-    ghost refused = { λ d. d };
+    ghost refused = { λ d. d.refused };
+
+    ghost synced = { λ d. d.synced };
+
+    ghost told = { λ _ cause. IsSystem cause };
 
     fn len(&mut self) -> Result<u64, DiskError> {
         counted(&mut self.refused, length(&self.file))
@@ -92,6 +106,8 @@ impl Disk for FileDisk {
     }
 
     fn sync(&mut self) -> Result<(), DiskError> {
-        counted(&mut self.refused, self.file.sync_all())
+        counted(&mut self.refused, self.file.sync_all())?;
+        self.synced = self.synced.saturating_add(1);
+        Ok(())
     }
 }

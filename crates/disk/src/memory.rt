@@ -1,6 +1,7 @@
 ghost use Rattle.std.specs.Prelude.{◌≡◌, ◌+◌, ◌-◌, ◌++◌, take, drop, replicate, ◌<◌, ◌≤◌, ◌↔◌, [], true, length, IsOk, IfErr, OnOk, OnErr};
+ghost use Rattle.disk.specs.Causes.{IsOfMemory};
 ghost use Rattle.disk.specs.Contents.{Holds, overwritten, resized};
-ghost use Rattle.disk.specs.Refused.{CountsRefusal};
+ghost use Rattle.disk.specs.Refused.{CountsRefusal, HasRisen};
 
 use crate::{Disk, DiskError};
 use std::alloc::{AllocError, Global};
@@ -11,6 +12,7 @@ use std::marker::Model;
 pub struct MemDisk {
     bytes: Vec<u8>,
     refused: u64,
+    synced: u64,
 }
 
 impl Model for MemDisk {
@@ -18,25 +20,26 @@ impl Model for MemDisk {
 
     ghost Value = { Held };
 
-    ghost view = { λ d. record { bytes = d.bytes.items; refused = d.refused } };
+    ghost view = { λ d. record { bytes = d.bytes.items; refused = d.refused; synced = d.synced } };
 }
 
 impl MemDisk {
     /// An empty device.
     pub fn new(alloc: Global) -> MemDisk
-        ensures { result ≡ record { bytes = []; refused = 0 } }
+        ensures { result ≡ record { bytes = []; refused = 0; synced = 0 } }
     {
-        MemDisk {
-            bytes: Vec::new(alloc),
-            refused: 0,
-        }
+        MemDisk::from_bytes(Vec::new(alloc))
     }
 
     /// A device that holds these bytes.
     pub fn from_bytes(bytes: Vec<u8>) -> MemDisk
-        ensures { result ≡ record { bytes = bytes.items; refused = 0 } }
+        ensures { result ≡ record { bytes = bytes.items; refused = 0; synced = 0 } }
     {
-        MemDisk { bytes, refused: 0 }
+        MemDisk {
+            bytes,
+            refused: 0,
+            synced: 0,
+        }
     }
 
     /// Its bytes.
@@ -89,9 +92,15 @@ fn overwrite(file: &mut Vec<u8>, at: usize, bytes: &[u8]) -> Result<(), AllocErr
 impl Disk for MemDisk {
     ghost is_honest = { true };
 
+    ghost always_reads = { true };
+
     ghost bytes = { λ d. d.bytes };
 
     ghost refused = { λ d. d.refused };
+
+    ghost synced = { λ d. d.synced };
+
+    ghost told = { λ _ cause. IsOfMemory cause };
 
     /// Never refused.
     fn len(&mut self) -> Result<u64, DiskError>
@@ -104,9 +113,11 @@ impl Disk for MemDisk {
     /// Refused just where the range does not lie within the device.
     fn read_at(&mut self, at: u64, into: &mut [u8]) -> Result<(), DiskError>
         ensures within { IsOk result ↔ (at + length into.old ≤ length self.old.bytes) }
+        ensures cause { IfErr result (λ e. e ≡ DiskError.PastEnd) }
         ensures value { OnOk result (Holds self.old.bytes at into.new) }
         ensures same { self.new.bytes ≡ self.old.bytes }
         ensures count { CountsRefusal result self.old.refused self.new.refused }
+        ensures synced { self.new.synced ≡ self.old.synced }
     {
         let len = self.bytes.len();
         let at = at as usize;
@@ -123,6 +134,7 @@ impl Disk for MemDisk {
         ensures cause { IfErr result (λ e. e ≡ DiskError.Memory) }
         ensures unchanged { OnErr result (self.new.bytes ≡ self.old.bytes) }
         ensures count { CountsRefusal result self.old.refused self.new.refused }
+        ensures synced { self.new.synced ≡ self.old.synced }
     {
         match overwrite(&mut self.bytes, at as usize, from) {
             Ok(()) => Ok(()),
@@ -136,6 +148,7 @@ impl Disk for MemDisk {
         ensures cause { IfErr result (λ e. (e ≡ DiskError.Memory) × (length self.old.bytes < len)) }
         ensures unchanged { OnErr result (self.new.bytes ≡ self.old.bytes) }
         ensures count { CountsRefusal result self.old.refused self.new.refused }
+        ensures synced { self.new.synced ≡ self.old.synced }
     {
         match self.bytes.resize(len as usize, 0) {
             Ok(()) => Ok(()),
@@ -146,9 +159,12 @@ impl Disk for MemDisk {
     /// Never refused: memory is all the medium that there is.
     fn sync(&mut self) -> Result<(), DiskError>
         ensures value { IsOk result }
-        ensures same { self.new ≡ self.old }
+        ensures same { self.new.bytes ≡ self.old.bytes }
+        ensures count { self.new.refused ≡ self.old.refused }
+        ensures synced { HasRisen self.old.synced self.new.synced }
     {
         // There is no medium beneath it.
+        self.synced = self.synced.saturating_add(1);
         Ok(())
     }
 }

@@ -44,7 +44,8 @@ fn a_file_gives_back_what_was_written(rt: HostRuntime) -> Result<(), Fail> {
     disk.set_len(8)?;
     disk.sync()?;
     assert_eq!(rt; disk.len()?, 8);
-    assert!(rt; FileDisk::open(&rt, PATH).is_err(), "it is open already");
+    let held = FileDisk::open(&rt, PATH);
+    assert!(rt; matches!(held, Err(DiskError::System(e)) if e.kind() == ErrorKind::WouldBlock));
     drop(disk);
     assert_eq!(rt; fs::read(&rt, PATH)?.as_slice(), b"\0\0abcd\0\0".as_slice());
     let mut again = FileDisk::open(&rt, PATH)?;
@@ -68,6 +69,17 @@ fn a_full_device_refuses(rt: HostRuntime) -> Result<(), Fail> {
             matches!(refused, Err(DiskError::System(e)) if e.kind() == ErrorKind::StorageFull)
         );
     }
+    Ok(())
+}
+
+// POSIX lets `fsync` of a special file fail with EINVAL, and Linux does so. So the system was asked.
+#[test]
+fn a_sync_asks_the_system(rt: HostRuntime) -> Result<(), Fail> {
+    let mut special = FileDisk::new(File::open(&rt, "/dev/null")?);
+    let refused = special.sync();
+    assert!(rt;
+        matches!(refused, Err(DiskError::System(e)) if e.kind() == ErrorKind::InvalidInput)
+    );
     Ok(())
 }
 

@@ -1,20 +1,19 @@
 -- The table of reserved words: a word has one text, and a text one word.
-use Rattle.std.proofs.Common.{◌≡◌, ℕ, Bool, true, List, [], ◌∷◌, Some, map, refl, ◌∙◌, subst, inl, inr}
+use Rattle.std.proofs.Common.{◌≡◌, ℕ, Bool, true, List, [], ◌∷◌, Some, refl, ◌∙◌, subst, inl, inr}
 use Rattle.std.specs.List.{list_all}
 use Rattle.std.specs.Str.{bytes_eq}
 use Rattle.std.proofs.lemmas.Bool.{cases_Bool, and_parts}
 use Rattle.std.proofs.lemmas.Slice.Eq.{bytes_eq-Decides}
 use Rattle.lexer.specs.declared.words.Word.{Word}
 use Rattle.lexer.specs.declared.words.Word.TheVariants.{All}
-use Rattle.lexer.specs.declared.words.TheConstants.{WORDS}
 use Rattle.lexer.specs.Name.{is_identifier}
-use Rattle.lexer.specs.Words.{Entry, reserved, word_text, word_with}
+use Rattle.lexer.specs.Words.{Entry, reserved, vocabulary, word_text, word_with}
 
 abbrev agrees : Entry → Bool
 agrees entry = bytes_eq (word_text entry.1) entry.0
 
 -- each line's text is the text of its word
-lines_agree : list_all agrees (map (λ entry. (entry.0.now, entry.1, entry.2)) WORDS) ≡ true
+lines_agree : list_all agrees vocabulary ≡ true
 unfolding word_text
 lines_agree = refl
 
@@ -33,7 +32,7 @@ word_with_found (entry ∷ entries) text w h agree =
 
 pub word_text-reserved : (text : List ℕ) (word : Word) → reserved text ≡ Some word → word_text word ≡ text
 unfolding reserved
-word_text-reserved text word h = word_with_found (map (λ entry. (entry.0.now, entry.1, entry.2)) WORDS) text word h lines_agree
+word_text-reserved text word h = word_with_found vocabulary text word h lines_agree
 
 pub reserved-word_text : (word : Word) → reserved (word_text word) ≡ Some word
 unfolding reserved word_text

@@ -1,20 +1,138 @@
--- The reserved words.
-use Rattle.std.specs.Prelude.{ℕ, Bool, false, List, [], ◌∷◌, map, Option, Some, None, if◌then◌else◌}
+-- The reserved words: those of SQL-92, 5.2, that the language uses now or keeps for later; EXPLAIN, INDEX and SAVEPOINT are
+-- our own.
+use Rattle.std.specs.Prelude.{ℕ, Bool, false, List, [], ◌∷◌, codes, Option, Some, None, if◌then◌else◌}
 use Rattle.std.specs.Str.{bytes_eq}
 use denote.Enum.Bare.{sameb}
-use Rattle.lexer.specs.contracts.words.Word as word
+use Rattle.lexer.specs.contracts.words.Word as word_contract
 use Rattle.lexer.specs.contracts.words.Support as support
-use Rattle.lexer.specs.declared.words.Support.TheVariants.{Now}
+use Rattle.lexer.specs.declared.words.Support.TheVariants.{Now, Later}
 use Rattle.lexer.specs.declared.words.Support.{Support}
 use Rattle.lexer.specs.declared.words.Word.{Word}
-use Rattle.lexer.specs.declared.words.TheConstants.{WORDS}
+use Rattle.lexer.specs.declared.words.Word.TheVariants as word
 
 -- a line of the table: a text, its word, and whether the forms that use it are built
 abbrev pub Entry : Type 0
 Entry = List ℕ × Word × Support
 
+-- Each reserved word with its spelling, and whether it is in use. Whoever builds new forms changes `Later` to `Now` on the
+-- lines of their words, here and in the table of the code, which the prover finds to be this one
+abbrev pub vocabulary : List Entry
+vocabulary =
+    (codes "ALL", word.All, Now)
+    ∷ (codes "ALTER", word.Alter, Later)
+    ∷ (codes "AND", word.And, Now)
+    ∷ (codes "ANY", word.Any, Later)
+    ∷ (codes "AS", word.As, Now)
+    ∷ (codes "ASC", word.Asc, Later)
+    ∷ (codes "ASSERTION", word.Assertion, Later)
+    ∷ (codes "AVG", word.Avg, Later)
+    ∷ (codes "BETWEEN", word.Between, Now)
+    ∷ (codes "BY", word.By, Later)
+    ∷ (codes "CASCADE", word.Cascade, Later)
+    ∷ (codes "CASE", word.Case, Later)
+    ∷ (codes "CAST", word.Cast, Later)
+    ∷ (codes "CHAR", word.Char, Later)
+    ∷ (codes "CHARACTER", word.Character, Now)
+    ∷ (codes "CHECK", word.Check, Later)
+    ∷ (codes "CLOSE", word.Close, Later)
+    ∷ (codes "COALESCE", word.Coalesce, Later)
+    ∷ (codes "COLLATE", word.Collate, Later)
+    ∷ (codes "COMMIT", word.Commit, Now)
+    ∷ (codes "CONSTRAINT", word.Constraint, Later)
+    ∷ (codes "CORRESPONDING", word.Corresponding, Later)
+    ∷ (codes "COUNT", word.Count, Later)
+    ∷ (codes "CREATE", word.Create, Now)
+    ∷ (codes "CROSS", word.Cross, Later)
+    ∷ (codes "CURRENT", word.Current, Later)
+    ∷ (codes "CURSOR", word.Cursor, Later)
+    ∷ (codes "DATE", word.Date, Later)
+    ∷ (codes "DECIMAL", word.Decimal, Later)
+    ∷ (codes "DECLARE", word.Declare, Later)
+    ∷ (codes "DEFAULT", word.Default, Later)
+    ∷ (codes "DELETE", word.Delete, Later)
+    ∷ (codes "DESC", word.Desc, Later)
+    ∷ (codes "DISTINCT", word.Distinct, Later)
+    ∷ (codes "DOMAIN", word.Domain, Later)
+    ∷ (codes "DROP", word.Drop, Later)
+    ∷ (codes "ESCAPE", word.Escape, Later)
+    ∷ (codes "EXCEPT", word.Except, Later)
+    ∷ (codes "EXISTS", word.Exists, Later)
+    ∷ (codes "EXPLAIN", word.Explain, Later)
+    ∷ (codes "FALSE", word.False, Now)
+    ∷ (codes "FETCH", word.Fetch, Later)
+    ∷ (codes "FLOAT", word.Float, Later)
+    ∷ (codes "FOR", word.For, Later)
+    ∷ (codes "FOREIGN", word.Foreign, Later)
+    ∷ (codes "FROM", word.From, Now)
+    ∷ (codes "FULL", word.Full, Later)
+    ∷ (codes "GRANT", word.Grant, Later)
+    ∷ (codes "GROUP", word.Group, Later)
+    ∷ (codes "HAVING", word.Having, Later)
+    ∷ (codes "IN", word.In, Now)
+    ∷ (codes "INDEX", word.Index, Later)
+    ∷ (codes "INNER", word.Inner, Later)
+    ∷ (codes "INSERT", word.Insert, Now)
+    ∷ (codes "INT", word.Int, Now)
+    ∷ (codes "INTEGER", word.Integer, Now)
+    ∷ (codes "INTERSECT", word.Intersect, Later)
+    ∷ (codes "INTERVAL", word.Interval, Later)
+    ∷ (codes "INTO", word.Into, Now)
+    ∷ (codes "IS", word.Is, Now)
+    ∷ (codes "ISOLATION", word.Isolation, Later)
+    ∷ (codes "JOIN", word.Join, Later)
+    ∷ (codes "KEY", word.Key, Later)
+    ∷ (codes "LEFT", word.Left, Later)
+    ∷ (codes "LIKE", word.Like, Now)
+    ∷ (codes "MAX", word.Max, Later)
+    ∷ (codes "MIN", word.Min, Later)
+    ∷ (codes "NATURAL", word.Natural, Later)
+    ∷ (codes "NOT", word.Not, Now)
+    ∷ (codes "NULL", word.Null, Now)
+    ∷ (codes "NULLIF", word.Nullif, Later)
+    ∷ (codes "NUMERIC", word.Numeric, Later)
+    ∷ (codes "ON", word.On, Later)
+    ∷ (codes "ONLY", word.Only, Later)
+    ∷ (codes "OPEN", word.Open, Later)
+    ∷ (codes "OR", word.Or, Now)
+    ∷ (codes "ORDER", word.Order, Later)
+    ∷ (codes "OUTER", word.Outer, Later)
+    ∷ (codes "PRIMARY", word.Primary, Later)
+    ∷ (codes "READ", word.Read, Later)
+    ∷ (codes "REAL", word.Real, Later)
+    ∷ (codes "REFERENCES", word.References, Later)
+    ∷ (codes "RESTRICT", word.Restrict, Later)
+    ∷ (codes "REVOKE", word.Revoke, Later)
+    ∷ (codes "RIGHT", word.Right, Later)
+    ∷ (codes "ROLLBACK", word.Rollback, Now)
+    ∷ (codes "SAVEPOINT", word.Savepoint, Later)
+    ∷ (codes "SCHEMA", word.Schema, Later)
+    ∷ (codes "SCROLL", word.Scroll, Later)
+    ∷ (codes "SELECT", word.Select, Now)
+    ∷ (codes "SET", word.Set, Later)
+    ∷ (codes "SMALLINT", word.Smallint, Later)
+    ∷ (codes "SOME", word.Some, Later)
+    ∷ (codes "SUM", word.Sum, Later)
+    ∷ (codes "TABLE", word.Table, Now)
+    ∷ (codes "TIME", word.Time, Later)
+    ∷ (codes "TIMESTAMP", word.Timestamp, Later)
+    ∷ (codes "TRANSACTION", word.Transaction, Later)
+    ∷ (codes "TRUE", word.True, Now)
+    ∷ (codes "UNION", word.Union, Later)
+    ∷ (codes "UNIQUE", word.Unique, Later)
+    ∷ (codes "UNKNOWN", word.Unknown, Now)
+    ∷ (codes "UPDATE", word.Update, Later)
+    ∷ (codes "USING", word.Using, Later)
+    ∷ (codes "VALUES", word.Values, Now)
+    ∷ (codes "VARCHAR", word.Varchar, Now)
+    ∷ (codes "VARYING", word.Varying, Now)
+    ∷ (codes "VIEW", word.View, Later)
+    ∷ (codes "WHERE", word.Where, Now)
+    ∷ (codes "WORK", word.Work, Now)
+    ∷ (codes "WRITE", word.Write, Later)
+    ∷ []
+
 abbrev pub is_word : Word → Word → Bool
-is_word = sameb word.the_type
+is_word = sameb word_contract.the_type
 
 -- the word on the first line with this text
 abbrev pub word_with : List Entry → List ℕ → Option Word
@@ -33,12 +151,12 @@ supports (entry ∷ entries) w = if is_word entry.1 w then sameb support.the_typ
 
 -- the reserved word that has this text
 unfoldable pub reserved : List ℕ → Option Word
-reserved = word_with (map (λ entry. (entry.0.now, entry.1, entry.2)) WORDS)
+reserved = word_with vocabulary
 
 -- the text of a reserved word
 unfoldable pub word_text : Word → List ℕ
-word_text = text_with (map (λ entry. (entry.0.now, entry.1, entry.2)) WORDS)
+word_text = text_with vocabulary
 
 -- whether the forms that use a reserved word are built
 unfoldable pub is_supported : Word → Bool
-is_supported = supports (map (λ entry. (entry.0.now, entry.1, entry.2)) WORDS)
+is_supported = supports vocabulary

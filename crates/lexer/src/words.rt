@@ -1,8 +1,7 @@
 //! The reserved words.
 
 ghost use Rattle.std.specs.Prelude.{◌≡◌, map};
-ghost use Rattle.lexer.specs.declared.words.TheConstants.{WORDS};
-ghost use Rattle.lexer.specs.Words.{Entry as Line, is_supported, reserved, supports, text_with, word_text, word_with};
+ghost use Rattle.lexer.specs.Words.{Entry as Line, is_supported, reserved, supports, text_with, vocabulary, word_text, word_with};
 
 use std::fmt;
 
@@ -136,8 +135,7 @@ pub enum Word {
 /// A text, its word, and whether the forms that use it are built.
 type Entry = (&'static str, Word, Support);
 
-/// Each reserved word with its text and its support, in the order of `Word`.
-/// A later request edits one line for each word that it brings.
+/// Each reserved word with its text and its support, in the order of `Word`: the `vocabulary` of the definitions, line by line.
 pub const WORDS: [Entry; 111] = [
     ("ALL", Word::All, Support::Now),
     ("ALTER", Word::Alter, Support::Later),
@@ -254,7 +252,7 @@ pub const WORDS: [Entry; 111] = [
 
 /// The lines of `WORDS`.
 fn lines() -> &'static [Entry]
-    ensures { map {B = Line} (λ entry. (entry.0.now, entry.1, entry.2)) result.now ≡ map {B = Line} (λ entry. (entry.0.now, entry.1, entry.2)) WORDS }
+    ensures { map {B = Line} (λ entry. (entry.0.now, entry.1, entry.2)) result.now ≡ vocabulary }
 {
     &WORDS
 }
@@ -286,6 +284,11 @@ impl Word {
 }
 
 impl fmt::Debug for Word {
+    ghost use Rattle.std.specs.Prelude.{Some};
+
+    ghost debug_output = { λ word. Some (word_text word) };
+
+    #[tactic(auto, unfolding(crate::specs::Words::word_text))]
     fn fmt<W: fmt::Write>(&self, f: &mut fmt::Formatter<W>) -> fmt::Result {
         f.write_str(text_with(lines(), *self))
     }

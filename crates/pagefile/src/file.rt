@@ -1,8 +1,8 @@
-ghost use Rattle.std.specs.Prelude.{◌≡◌, ◌+◌, ◌*◌, IsTrue, IfOk, IfErr, OnOk, OnErr, MatchResult, Some};
-ghost use Rattle.disk.specs.Refused.{CountsRefusal, HasRisen};
+ghost use Rattle.std.specs.Prelude.{◌≡◌, ◌+◌, ◌*◌, IsTrue, IsOk, IsSome, IfOk, IfErr, OnOk, OnErr, MatchResult, Some};
+ghost use Rattle.disk.specs.Refused.{CountsRefusal, CountsSync, HasRisen};
 ghost use Rattle.pagefile.specs.Header.{header_bytes, IsInBounds};
 ghost use Rattle.pagefile.specs.Pages.{page_of, IsWritten, KeepsOthers};
-ghost use Rattle.pagefile.specs.Whole.{IsWhole, IsDamaged, IsPartlyMade, IsCounted};
+ghost use Rattle.pagefile.specs.Whole.{IsWhole, IsDamaged, IsPartlyMade, IsCounted, IsTold};
 
 use crate::{FileHeader, OpenError, PAGE_SIZE, Page, Refused};
 use disk::{Disk, DiskError};
@@ -28,6 +28,9 @@ fn read_header<D: Disk>(disk: &mut D) -> Result<FileHeader, OpenError>
     ensures whole { IfOk result (λ h. IsTrue D.is_honest → IsWhole (D.bytes disk.old) h) }
     ensures bounds { IfOk result IsInBounds }
     ensures damaged { IfErr result (λ e. e ≡ OpenError.Damaged → IsTrue D.is_honest → IsDamaged (D.bytes disk.old)) }
+    ensures only_damaged { IfErr result (λ e. IsTrue D.is_honest → IsTrue D.always_reads → e ≡ OpenError.Damaged) }
+    ensures cause { IfErr result (IsTold (D.told disk.new)) }
+    ensures synced { D.synced disk.new ≡ D.synced disk.old }
     ensures same { IsTrue D.is_honest → D.bytes disk.new ≡ D.bytes disk.old }
     ensures count { MatchResult result (λ _. D.refused disk.new ≡ D.refused disk.old) (λ e. IsCounted e (D.refused disk.old) (D.refused disk.new)) }
 {
@@ -54,6 +57,8 @@ impl<D: Disk> PageFile<D> {
         ensures whole { IfOk result (λ file. IsTrue D.is_honest → IsWhole (D.bytes (disk_of file)) FileHeader.NEW) }
         ensures left { IfErr result (λ r. IsTrue D.is_honest → IsPartlyMade (D.bytes disk) (D.bytes r.disk)) }
         ensures count { MatchResult result (λ file. D.refused (disk_of file) ≡ D.refused disk) (λ r. HasRisen (D.refused disk) (D.refused r.disk)) }
+        ensures cause { IfErr result (λ r. D.told r.disk r.cause) }
+        ensures synced { MatchResult result (λ file. D.synced (disk_of file) ≡ D.synced disk) (λ r. D.synced r.disk ≡ D.synced disk) }
     {
         match write_new(&mut disk) {
             Ok(()) => Ok(PageFile { disk }),
@@ -64,12 +69,17 @@ impl<D: Disk> PageFile<D> {
     /// Opens the file that a device holds, and gives its header too.
     ///
     /// `Damaged` where the length is not the page count times 4,096, the magic differs, the page count
-    /// is 0 or above 65,536, or one of the two page numbers is not below it. A refusal hands the device
-    /// back. The device keeps its bytes.
+    /// is 0 or above 65,536, or one of the two page numbers is not below it; a device that always reads
+    /// is refused for nothing else. A refusal hands the device back. The device keeps its bytes.
     pub fn open(mut disk: D) -> Result<(PageFile<D>, FileHeader), Refused<D, OpenError>>
         ensures whole { IfOk result (λ opened. IsTrue D.is_honest → IsWhole (D.bytes disk) opened.1) }
         ensures bounds { IfOk result (λ opened. IsInBounds opened.1) }
         ensures damaged { IfErr result (λ r. r.cause ≡ OpenError.Damaged → IsTrue D.is_honest → IsDamaged (D.bytes disk)) }
+        ensures only_damaged { IfErr result (λ r. IsTrue D.is_honest → IsTrue D.always_reads → r.cause ≡ OpenError.Damaged) }
+        ensures cause { IfErr result (λ r. IsTold (D.told r.disk) r.cause) }
+        ensures synced { MatchResult result
+            (λ opened. D.synced (disk_of opened.0) ≡ D.synced disk)
+            (λ r. D.synced r.disk ≡ D.synced disk) }
         ensures same { MatchResult result
             (λ opened. IsTrue D.is_honest → D.bytes (disk_of opened.0) ≡ D.bytes disk)
             (λ r. IsTrue D.is_honest → D.bytes r.disk ≡ D.bytes disk) }
@@ -86,8 +96,11 @@ impl<D: Disk> PageFile<D> {
     /// Reads a page. Refused where the device refuses; a page that the file does not have all of is refused too.
     pub fn read_page(&mut self, number: u32, into: &mut Page) -> Result<(), DiskError>
         ensures value { OnOk result (IsTrue D.is_honest → page_of (D.bytes (disk_of self.old)) number ≡ Some into.new) }
+        ensures read_always { IsTrue D.is_honest → IsTrue D.always_reads → IsSome (page_of (D.bytes (disk_of self.old)) number) → IsOk result }
         ensures same { IsTrue D.is_honest → D.bytes (disk_of self.new) ≡ D.bytes (disk_of self.old) }
         ensures count { CountsRefusal result (D.refused (disk_of self.old)) (D.refused (disk_of self.new)) }
+        ensures cause { IfErr result (D.told (disk_of self.new)) }
+        ensures synced { D.synced (disk_of self.new) ≡ D.synced (disk_of self.old) }
     {
         self.disk.read_at(offset_of(number), into)
     }
@@ -98,6 +111,8 @@ impl<D: Disk> PageFile<D> {
         ensures written { OnOk result (IsTrue D.is_honest → IsWritten number page.now (D.bytes (disk_of self.old)) (D.bytes (disk_of self.new))) }
         ensures others { IsTrue D.is_honest → KeepsOthers number (D.bytes (disk_of self.old)) (D.bytes (disk_of self.new)) }
         ensures count { CountsRefusal result (D.refused (disk_of self.old)) (D.refused (disk_of self.new)) }
+        ensures cause { IfErr result (D.told (disk_of self.new)) }
+        ensures synced { D.synced (disk_of self.new) ≡ D.synced (disk_of self.old) }
     {
         self.disk.write_at(offset_of(number), page)
     }
@@ -106,6 +121,8 @@ impl<D: Disk> PageFile<D> {
     pub fn sync(&mut self) -> Result<(), DiskError>
         ensures same { IsTrue D.is_honest → D.bytes (disk_of self.new) ≡ D.bytes (disk_of self.old) }
         ensures count { CountsRefusal result (D.refused (disk_of self.old)) (D.refused (disk_of self.new)) }
+        ensures cause { IfErr result (D.told (disk_of self.new)) }
+        ensures synced { CountsSync result (D.synced (disk_of self.old)) (D.synced (disk_of self.new)) }
     {
         self.disk.sync()
     }
@@ -125,6 +142,8 @@ fn write_new<D: Disk>(disk: &mut D) -> Result<(), DiskError>
     ensures whole { OnOk result (IsTrue D.is_honest → IsWhole (D.bytes disk.new) FileHeader.NEW) }
     ensures left { OnErr result (IsTrue D.is_honest → IsPartlyMade (D.bytes disk.old) (D.bytes disk.new)) }
     ensures count { CountsRefusal result (D.refused disk.old) (D.refused disk.new) }
+    ensures cause { IfErr result (D.told disk.new) }
+    ensures synced { D.synced disk.new ≡ D.synced disk.old }
 {
     disk.set_len(PAGE_SIZE as u64)?;
     disk.write_at(0, &FileHeader::NEW.encode())

@@ -6,7 +6,7 @@ use Rattle.std.proofs.Math.Seq.{drop-append_seam, take-append_seam}
 use Rattle.std.proofs.Math.Nat.{div-add-mod}
 use Rattle.sqlrecord.specs.declared.kind.PageKind.{PageKind}
 use Rattle.sqlrecord.specs.Page.{kind_byte, count_of, offset_of, length_of, cell_of, cells_of, cells_upto, lowest_of, two_at, AreCells, IsSound}
-use Rattle.sqlrecord.specs.Build.{total_of, Fits, flatten, slots_of, head_of, two_bytes}
+use Rattle.sqlrecord.specs.Build.{total_of, Fits, flatten, slots_of, head_of, page_of, two_bytes}
 
 -- the cells from slot j on lie one behind another from `at` on
 abbrev IsLaid : List ℕ → ℕ → ℕ → List (List ℕ) → Type 0
@@ -132,6 +132,15 @@ built kind start link cs mid page room whole are e m =
 
 length_head : (kind count low link : ℕ) → length (head_of kind count low link) ≡ 16
 length_head kind count low link = refl
+
+-- the parts, one behind another
+pub put_together : (kind link : ℕ) (cs : List (List ℕ)) (p1 p2 p3 p4 : List ℕ) (start n at1 at2 : ℕ) → start ≡ 4096 - total_of cs → n ≡ length cs
+    → at1 ≡ 16 → take at1 p1 ≡ head_of kind n start link → at2 ≡ at1 + 4 * n → take at2 p2 ≡ take at1 p1 ++ slots_of start cs
+    → take start p3 ≡ take at2 p2 ++ replicate (start - at2) 0 → p4 ≡ take start p3 ++ flatten cs → p4 ≡ page_of kind link cs
+put_together kind link cs p1 p2 p3 p4 start n at1 at2 s en e1 t1 e2 t2 t3 t4 =
+    let between : start - at2 ≡ 4080 - 4 * length cs - total_of cs = omega (arith, s, en, e1, e2) in
+    let page : p4 ≡ ((head_of kind n start link ++ slots_of start cs) ++ replicate (start - at2) 0) ++ flatten cs = t4 ∙ rw (t3, t2, t1) refl in
+    page ∙ rw (between, en, s) refl
 
 pub assembled : (kind : PageKind) (link : ℕ) (cs : List (List ℕ)) (p1 p2 p3 p4 : List ℕ) (start n at1 at2 : ℕ) → Fits cs → AreCells kind cs → start ≡ 4096 - total_of cs → n ≡ length cs
     → at1 ≡ 16 → take at1 p1 ≡ head_of (kind_byte kind) n start link → at2 ≡ at1 + 4 * n → take at2 p2 ≡ take at1 p1 ++ slots_of start cs

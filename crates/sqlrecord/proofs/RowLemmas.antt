@@ -10,8 +10,8 @@ use Rattle.sqlval.specs.declared.value.Value.{Value}
 use Rattle.sqlval.specs.declared.value.Value.TheVariants.{Text}
 use Rattle.sqlval.specs.CodedLength.{row_length}
 use Rattle.sqlrecord.specs.Storable.{AllStorable}
-use Rattle.sqlrecord.specs.Row.{value_code, row_code, IsPartOf, IsCodeOf, HasNoPart}
-use Rattle.sqlrecord.proofs.CodeLemmas.{value_unique, value_some, list_unique, list_goes_on, length_row}
+use Rattle.sqlrecord.specs.Row.{value_code, row_code, IsPartOf, IsCodeOf, HasPart, HasNoPart, HasRow, IsNoCode}
+use Rattle.sqlrecord.proofs.CodeLemmas.{storable_push, value_unique, value_some, list_unique, list_goes_on, length_row}
 
 -- the text that was read
 pub text_from : (b : Bool) (codes text : List ℕ) → is_text codes ≡ b → Some text ≡ (if b then Some codes else None) → (text ≡ codes) × IsTrue (is_text text)
@@ -80,3 +80,36 @@ row_only bytes row other a b = list_unique value_code value_some value_unique ot
 pub row_stuck : (bytes : List ℕ) (row other : List Value) (at : ℕ) → AllStorable row → row_code row ++ drop at bytes ≡ bytes → at < length bytes → HasNoPart (drop at bytes) → IsCodeOf bytes other → ⊥
 row_stuck bytes row other at all e within none code =
     list_goes_on value_code value_some value_unique row other (drop at bytes) all code.storable (simp length-drop (omega (arith, within))) (e ∙ sym code.code) none
+
+-- some values' codes, up to a place
+pub record HasRead (bytes : List ℕ) (at : ℕ) : Type 0 where
+  pub row : List Value
+  pub storable : AllStorable row
+  pub code : row_code row ++ drop at bytes ≡ bytes
+
+pub read_none : (bytes : List ℕ) → HasRead bytes 0
+read_none bytes = record { row = []; storable = tt; code = refl }
+
+pub read_more : (bytes : List ℕ) (at n : ℕ) → HasRead bytes at → HasPart (drop at bytes) n → HasRead bytes (at + n)
+read_more bytes at n r p = record {
+  row = r.row ++ p.value ∷ [];
+  storable = storable_push r.row p.value r.storable p.part.storable;
+  code = row_step bytes r.row at n p.value r.code p.part;
+}
+
+pub read_all : (bytes : List ℕ) (at : ℕ) → HasRead bytes at → length bytes ≤ at → length bytes ≤ 1000 → HasRow bytes
+read_all bytes at r past short = record { row = r.row; code = row_read bytes r.row at r.storable r.code past short }
+
+pub read_stuck : (bytes : List ℕ) (at : ℕ) → HasRead bytes at → at < length bytes → HasNoPart (drop at bytes) → IsNoCode bytes
+read_stuck bytes at r within none other code = row_stuck bytes r.row other at r.storable r.code within none code
+
+-- the text of these codes
+pub has_text : (bytes : List ℕ) (n : ℕ) (b : Bool) → bytes ≡ 2 ∷ drop 1 bytes → 3 + n ≤ length bytes → ((i : ℕ) → get_or bytes i 0 < 256)
+    → n ≡ from_be_bytes w16 (get_or bytes 1 0 ∷ get_or bytes 2 0 ∷ []) → b ≡ is_text (slice_range bytes 3 (3 + n)) → b ≡ true → HasPart bytes (3 + n)
+has_text bytes n b tag fits small size is h = record {
+  value = Text (slice_range bytes 3 (3 + n));
+  part = text_part bytes (slice_range bytes 3 (3 + n)) n tag fits small size (some_text (slice_range bytes 3 (3 + n)) (sym is ∙ h));
+}
+  where
+    some_text : (codes : List ℕ) → is_text codes ≡ true → Some codes ≡ as_text codes
+    some_text codes e = rw e refl

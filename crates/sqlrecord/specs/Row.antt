@@ -22,12 +22,25 @@ pub record IsCodeOf (bytes : List ℕ) (row : List Value) : Type 0 where
   pub code : row_code row ≡ bytes
   pub short : length bytes ≤ 1000
 
+-- the bytes are the code of some row, and of none
+pub record HasRow (bytes : List ℕ) : Type 0 where
+  pub row : List Value
+  pub code : IsCodeOf bytes row
+
+abbrev pub IsNoCode : List ℕ → Type 0
+IsNoCode bytes = (row : List Value) → IsCodeOf bytes row → ⊥
+
 -- the bytes begin with the code of this value, which takes n bytes
 pub record IsPartOf (bytes : List ℕ) (value : Value) (n : ℕ) : Type 0 where
   pub storable : IsStorable value
   pub code : value_code value ++ drop n bytes ≡ bytes
   pub some : 1 ≤ n
   pub within : n ≤ length bytes
+
+-- the bytes begin with the code of some value, which takes n bytes
+pub record HasPart (bytes : List ℕ) (n : ℕ) : Type 0 where
+  pub value : Value
+  pub part : IsPartOf bytes value n
 
 -- the bytes begin with the code of no value
 abbrev pub HasNoPart : List ℕ → Type 0

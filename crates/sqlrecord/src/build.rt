@@ -2,7 +2,7 @@
 
 ghost use Rattle.std.specs.Prelude.{◌≡◌, ◌+◌, ◌*◌, ◌≤◌, ◌<◌, ◌++◌, ◌∷◌, [], ◌↔◌, ◌-◌, take, replicate, length, IsTrue};
 ghost use Rattle.sqlrecord.specs.Page.{kind_byte, cells_of, link_of, AreCells, IsSound};
-ghost use Rattle.sqlrecord.specs.Build.{lent, total_of, Fits, flatten, slots_of, head_of, two_bytes};
+ghost use Rattle.sqlrecord.specs.Build.{lent, total_of, Fits, flatten, slots_of, head_of, page_of, two_bytes};
 
 use crate::sound::byte_of;
 use crate::{PAGE_SIZE, PageKind};
@@ -106,10 +106,12 @@ pub fn fits(cells: &[&[u8]]) -> bool
     true
 }
 
-/// Makes a page of these cells, which are those of its kind with their keys strictly rising.
+/// Makes a page of these cells, which are those of its kind with their keys strictly rising. Nothing
+/// stays of what the page held before: between the slots and the cells are zeros.
 pub fn build_page(page: &mut [u8; PAGE_SIZE], kind: PageKind, link: u32, cells: &[&[u8]])
     requires fits { Fits (lent cells.now) }
     requires cells { AreCells kind (lent cells.now) }
+    ensures bytes { page.new ≡ page_of (kind_byte kind) link (lent cells.now) }
     ensures sound { IsSound page.new kind }
     ensures cells { cells_of page.new ≡ lent cells.now }
     ensures link { link_of page.new ≡ link }

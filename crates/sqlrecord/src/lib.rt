@@ -10,6 +10,7 @@ mod kind;
 mod laws;
 mod page;
 mod row;
+mod row_check;
 mod sound;
 #[cfg(test)]
 mod tests;

@@ -1,12 +1,13 @@
-ghost use Rattle.std.specs.Prelude.{is_ok};
-ghost use Rattle.replies.specs.Writes.{Writes};
+ghost use Rattle.std.specs.Prelude.{is_ok, IfErr};
+ghost use Rattle.replies.specs.Writes.{IsNoInterruption, Writes};
 
 use std::io;
 use std::io::{ErrorKind, Write};
 
 /// Writes all the bytes, or a beginning of them where the writer refuses.
 pub(crate) fn put<W: Write>(writer: &mut W, bytes: &[u8]) -> io::Result<()>
-    ensures { Writes (W.contents writer.old) (W.contents writer.new) (is_ok result) bytes.now }
+    ensures writes { Writes (W.contents writer.old) (W.contents writer.new) (is_ok result) bytes.now }
+    ensures tried_again { IfErr result IsNoInterruption }
 {
     let mut rest = bytes;
     for _ in 0..u64::MAX {

@@ -1,6 +1,6 @@
-ghost use Rattle.std.specs.Prelude.{◌≡◌, is_ok};
+ghost use Rattle.std.specs.Prelude.{◌≡◌, is_ok, IfErr};
 ghost use Rattle.replies.specs.Printed.{spelled_character, quotes_doubled, printed_text, printed_value, other_field, other_fields, printed_fields, printed_row};
-ghost use Rattle.replies.specs.Writes.{Writes};
+ghost use Rattle.replies.specs.Writes.{IsNoInterruption, Writes};
 
 use super::put::put;
 use items::Items;
@@ -11,14 +11,16 @@ use std::{io, slice};
 
 /// A row on a line of its own.
 pub(crate) fn print_row<W: Write>(row: &Items<Value>, writer: &mut W) -> io::Result<()>
-    ensures { Writes (W.contents writer.old) (W.contents writer.new) (is_ok result) (printed_row row.now) }
+    ensures writes { Writes (W.contents writer.old) (W.contents writer.new) (is_ok result) (printed_row row.now) }
+    ensures tried_again { IfErr result IsNoInterruption }
 {
     print_fields(row.as_slice(), writer)?;
     put(writer, b"\n")
 }
 
 fn print_fields<W: Write>(row: &[Value], writer: &mut W) -> io::Result<()>
-    ensures { Writes (W.contents writer.old) (W.contents writer.new) (is_ok result) (printed_fields row.now) }
+    ensures writes { Writes (W.contents writer.old) (W.contents writer.new) (is_ok result) (printed_fields row.now) }
+    ensures tried_again { IfErr result IsNoInterruption }
 {
     match row {
         [] => Ok(()),
@@ -30,7 +32,8 @@ fn print_fields<W: Write>(row: &[Value], writer: &mut W) -> io::Result<()>
 }
 
 fn print_others<W: Write>(values: &[Value], writer: &mut W) -> io::Result<()>
-    ensures { Writes (W.contents writer.old) (W.contents writer.new) (is_ok result) (other_fields values.now) }
+    ensures writes { Writes (W.contents writer.old) (W.contents writer.new) (is_ok result) (other_fields values.now) }
+    ensures tried_again { IfErr result IsNoInterruption }
 {
     for value in values {
         print_other(value, writer)?;
@@ -39,14 +42,16 @@ fn print_others<W: Write>(values: &[Value], writer: &mut W) -> io::Result<()>
 }
 
 fn print_other<W: Write>(value: &Value, writer: &mut W) -> io::Result<()>
-    ensures { Writes (W.contents writer.old) (W.contents writer.new) (is_ok result) (other_field value.now) }
+    ensures writes { Writes (W.contents writer.old) (W.contents writer.new) (is_ok result) (other_field value.now) }
+    ensures tried_again { IfErr result IsNoInterruption }
 {
     put(writer, b"|")?;
     print_value(value, writer)
 }
 
 fn print_value<W: Write>(value: &Value, writer: &mut W) -> io::Result<()>
-    ensures { Writes (W.contents writer.old) (W.contents writer.new) (is_ok result) (printed_value value.now) }
+    ensures writes { Writes (W.contents writer.old) (W.contents writer.new) (is_ok result) (printed_value value.now) }
+    ensures tried_again { IfErr result IsNoInterruption }
 {
     match value {
         Value::Null => put(writer, b"NULL"),
@@ -57,7 +62,8 @@ fn print_value<W: Write>(value: &Value, writer: &mut W) -> io::Result<()>
 
 /// A text in single quotes.
 fn print_text<W: Write>(text: &[u8], writer: &mut W) -> io::Result<()>
-    ensures { Writes (W.contents writer.old) (W.contents writer.new) (is_ok result) (printed_text text.now) }
+    ensures writes { Writes (W.contents writer.old) (W.contents writer.new) (is_ok result) (printed_text text.now) }
+    ensures tried_again { IfErr result IsNoInterruption }
 {
     put(writer, b"'")?;
     print_quoted(text, writer)?;
@@ -66,7 +72,8 @@ fn print_text<W: Write>(text: &[u8], writer: &mut W) -> io::Result<()>
 
 /// The characters of a text, each quote twice.
 fn print_quoted<W: Write>(text: &[u8], writer: &mut W) -> io::Result<()>
-    ensures { Writes (W.contents writer.old) (W.contents writer.new) (is_ok result) (quotes_doubled text.now) }
+    ensures writes { Writes (W.contents writer.old) (W.contents writer.new) (is_ok result) (quotes_doubled text.now) }
+    ensures tried_again { IfErr result IsNoInterruption }
 {
     for character in text {
         put(writer, spelled(character))?;

@@ -3,11 +3,11 @@ use Rattle.replies.specs.Printed.{printed_value}
 use Rattle.replies.proofs.Written.{HasTaken-none, HasTaken-next, Writes-stop, Writes-last}
 use Rattle.replies.proofs.printing.row.print_other.Goals as goal
 
-pub returns-in_err-put : goal.returns-in_err-put
-returns-in_err-put g c =
+pub returns-in_err-put-clause-writes : goal.returns-in_err-put-clause-writes
+returns-in_err-put-clause-writes g c =
     let p = err_from_is_err_and c.from_residual.result c.from_residual.ensures.1 in
-    Writes-stop _ _ _ _ _ (printed_value c.args.value.now) _ _ _ _ c.in_err-put.was p.1 (HasTaken-none _ _) c.put.ensures
+    Writes-stop _ _ _ _ _ (printed_value c.args.value.now) _ _ _ _ c.in_err-put.was p.1 (HasTaken-none _ _) c.put.ensures.writes
 
-pub returns : goal.returns
-returns g c =
-    Writes-last _ _ _ _ _ _ (HasTaken-next _ _ _ _ _ (printed_value c.args.value.now) _ _ c.in_ok-put.was (HasTaken-none _ _) c.put.ensures) c.print_value.ensures
+pub returns-clause-writes : goal.returns-clause-writes
+returns-clause-writes g c =
+    Writes-last _ _ _ _ _ _ (HasTaken-next _ _ _ _ _ (printed_value c.args.value.now) _ _ c.in_ok-put.was (HasTaken-none _ _) c.put.ensures.writes) c.print_value.ensures.writes

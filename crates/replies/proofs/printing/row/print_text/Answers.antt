@@ -4,22 +4,22 @@ use Rattle.replies.specs.Printed.{quotes_doubled}
 use Rattle.replies.proofs.Written.{HasTaken-none, HasTaken-next, Writes-stop, Writes-last}
 use Rattle.replies.proofs.printing.row.print_text.Goals as goal
 
-pub returns-in_err-put : goal.returns-in_err-put
-returns-in_err-put g c =
+pub returns-in_err-put-clause-writes : goal.returns-in_err-put-clause-writes
+returns-in_err-put-clause-writes g c =
     let p = err_from_is_err_and c.from_residual.result c.from_residual.ensures.1 in
-    Writes-stop _ _ _ _ _ (quotes_doubled c.args.text.now ++ 39 ∷ []) _ _ _ _ c.in_err-put.was p.1 (HasTaken-none _ _) c.put.ensures
+    Writes-stop _ _ _ _ _ (quotes_doubled c.args.text.now ++ 39 ∷ []) _ _ _ _ c.in_err-put.was p.1 (HasTaken-none _ _) c.put.ensures.writes
 
-pub returns-in_err-print_quoted : goal.returns-in_err-print_quoted
-returns-in_err-print_quoted g c =
+pub returns-in_err-print_quoted-clause-writes : goal.returns-in_err-print_quoted-clause-writes
+returns-in_err-print_quoted-clause-writes g c =
     let p = err_from_is_err_and c.from_residual-in_err-print_quoted.result c.from_residual-in_err-print_quoted.ensures.1 in
     Writes-stop _ _ _ _ _ (39 ∷ []) _ _ _ _ c.in_err-print_quoted.was p.1
-    (HasTaken-next _ _ _ _ _ (quotes_doubled c.args.text.now ++ 39 ∷ []) _ _ c.in_ok-put.was (HasTaken-none _ _) c.put.ensures)
-    c.print_quoted.ensures
+    (HasTaken-next _ _ _ _ _ (quotes_doubled c.args.text.now ++ 39 ∷ []) _ _ c.in_ok-put.was (HasTaken-none _ _) c.put.ensures.writes)
+    c.print_quoted.ensures.writes
 
-pub returns : goal.returns
-returns g c =
+pub returns-clause-writes : goal.returns-clause-writes
+returns-clause-writes g c =
     Writes-last _ _ _ _ _ _
     (HasTaken-next _ _ _ _ _ (39 ∷ []) _ _ c.in_ok-print_quoted.was
-    (HasTaken-next _ _ _ _ _ (quotes_doubled c.args.text.now ++ 39 ∷ []) _ _ c.in_ok-put.was (HasTaken-none _ _) c.put.ensures)
-    c.print_quoted.ensures)
-    c.put-2.ensures
+    (HasTaken-next _ _ _ _ _ (quotes_doubled c.args.text.now ++ 39 ∷ []) _ _ c.in_ok-put.was (HasTaken-none _ _) c.put.ensures.writes)
+    c.print_quoted.ensures.writes)
+    c.put-2.ensures.writes

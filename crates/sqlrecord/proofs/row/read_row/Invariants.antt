@@ -1,7 +1,7 @@
 use Rattle.std.proofs.Common.{◌≡◌, ◌≤◌, ◌-◌, ◌++◌, length, drop}
 use Rattle.sqlrecord.specs.Storable.{AllStorable}
 use Rattle.sqlrecord.specs.Row.{row_code}
-use Rattle.sqlrecord.proofs.row.decode_row.Given as goal
+use Rattle.sqlrecord.proofs.row.read_row.Given as goal
 
 abbrev pub invariant-loop-at : goal.invariant-loop-at
 invariant-loop-at l = record {
