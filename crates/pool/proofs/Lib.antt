@@ -1,0 +1,5 @@
+pub mod PinLemmas
+pub mod SlotLemmas
+pub mod CommitLemmas
+pub mod SetLemmas
+pub mod PoolLemmas

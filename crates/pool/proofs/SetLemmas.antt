@@ -1,0 +1,73 @@
+-- Sets of pages, by their entries.
+use Rattle.std.proofs.Common.{◌≡◌, ◌≢◌, ℕ, ◌<◌, ◌==◌, Bool, true, false, List, [], ◌∷◌, Option, Some, None, refl, sym, ap, subst, ◌∙◌, cond, arith, length, get_or, suc, IsSome, map, ◌⊎◌, inl, inr}
+use Rattle.std.specs.Cmp.{unsigned_tied}
+use Rattle.std.proofs.lemmas.Bool.{eq-eqb, eqb-true, eqb-false, cases_Bool}
+use Rattle.pool.specs.declared.slot.Newest.{Newest}
+use Rattle.pool.specs.declared.slot.Newest.TheVariants.{Dirty}
+use Rattle.pool.specs.declared.slot.Slot.{Slot}
+use Rattle.pool.specs.Pages.{pages_in, numbers_of}
+use Rattle.pool.specs.Slots.{slot_at, placed}
+use Rattle.pool.specs.Stands.{AreListed}
+use Rattle.pool.proofs.SlotLemmas.{by_place}
+use Rattle.std.specs.List.{list_any}
+
+pub pages_cons : (n k : ℕ) (page : List ℕ) (rest : List (ℕ × List ℕ)) → pages_in ((k, page) ∷ rest) n ≡ cond (n == k) (Some page) (pages_in rest n)
+pages_cons n k page rest = ap (λ b. cond b (Some page) (pages_in rest n)) (unsigned_tied n k)
+
+pub pages_here : (k : ℕ) (page : List ℕ) (rest : List (ℕ × List ℕ)) → pages_in ((k, page) ∷ rest) k ≡ Some page
+pages_here k page rest = pages_cons k k page rest ∙ ap (λ b. cond b (Some page) (pages_in rest k)) (eq-eqb k k refl)
+
+pub pages_apart : (n k : ℕ) (page : List ℕ) (rest : List (ℕ × List ℕ)) → n ≢ k → pages_in ((k, page) ∷ rest) n ≡ pages_in rest n
+pages_apart n k page rest differs = pages_cons n k page rest ∙ by (n == k) refl
+  where
+    by : (b : Bool) → (n == k) ≡ b → cond b (Some page) (pages_in rest n) ≡ pages_in rest n
+    by true e = absurd (differs (eqb-true n k e))
+    by false e = refl
+
+not_some : IsSome {T = List ℕ} None → ⊥
+not_some h = let bad : false ≡ true = h in cc
+
+-- what holds of each number, holds of each page
+pub of_numbers : (P : ℕ → Type 0) (set : List (ℕ × List ℕ)) → ((k : ℕ) → k < length (numbers_of set) → P (get_or (numbers_of set) k 0)) → (n : ℕ) → IsSome (pages_in set n) → P n
+of_numbers P [] each n there = absurd (not_some there)
+of_numbers P (e ∷ rest) each n there = choose P n e.0 (IsSome (pages_in rest n)) (each 0 (omega arith))
+    (of_numbers P rest (λ k less. each (suc k) (omega arith)) n)
+    (split n e.0 e.1 (pages_in rest n) (subst (λ (o : Option (List ℕ)). IsSome o) (pages_cons n e.0 e.1 rest) there))
+  where
+    choose : (Q : ℕ → Type 0) (n k : ℕ) (Rest : Type 0) → Q k → (Rest → Q n) → (n ≡ k) ⊎ Rest → Q n
+    choose Q n k Rest here f (inl e) = subst Q (sym e) here
+    choose Q n k Rest here f (inr r) = f r
+
+    split : (n k : ℕ) (page : List ℕ) (o : Option (List ℕ)) → IsSome (cond (n == k) (Some page) o) → (n ≡ k) ⊎ IsSome o
+    split n k page o h = by (n == k) refl h
+      where
+        by : (b : Bool) → (n == k) ≡ b → IsSome (cond b (Some page) o) → (n ≡ k) ⊎ IsSome o
+        by true e h = inl (eqb-true n k e)
+        by false e h = inr h
+
+-- one page less in the set, and in its place
+module _ (set rest : List (ℕ × List ℕ)) (slots new_slots : List Slot) (k : ℕ) (page : List ℕ)
+    (is : set ≡ (k, page) ∷ rest) (gone : pages_in rest k ≡ None)
+    (here : slot_at new_slots k ≡ record { newest = Dirty page; images = (slot_at slots k).images })
+    (others : (n : ℕ) → n ≢ k → slot_at new_slots n ≡ slot_at slots n) where
+
+  pub newest_placed : (n : ℕ) → placed (pages_in rest n) (slot_at new_slots n).newest ≡ placed (pages_in set n) (slot_at slots n).newest
+  newest_placed = by_place (λ n. placed (pages_in rest n) (slot_at new_slots n).newest ≡ placed (pages_in set n) (slot_at slots n).newest) k
+      (ap (λ o. placed o (slot_at new_slots k).newest) gone ∙ ap (λ (s : Slot). s.newest) here
+        ∙ sym (ap (λ o. placed o (slot_at slots k).newest) (ap (λ es. pages_in es k) is ∙ pages_here k page rest)))
+      (λ n differs. ap (λ o. placed o (slot_at new_slots n).newest) (sym (ap (λ es. pages_in es n) is ∙ pages_apart n k page rest differs))
+        ∙ ap (λ (s : Slot). placed (pages_in set n) s.newest) (others n differs))
+
+  pub images_placed : (n : ℕ) → (slot_at new_slots n).images ≡ (slot_at slots n).images
+  images_placed = by_place (λ n. (slot_at new_slots n).images ≡ (slot_at slots n).images) k (ap (λ (s : Slot). s.images) here) (λ n differs. ap (λ (s : Slot). s.images) (others n differs))
+
+  pub still_in_set : (n : ℕ) → IsSome (pages_in rest n) → IsSome (pages_in set n)
+  still_in_set n there = by_place (λ m. IsSome (pages_in rest m) → IsSome (pages_in set m)) k
+      (λ h. absurd (not_some (subst (λ (o : Option (List ℕ)). IsSome o) gone h)))
+      (λ m differs h. subst (λ (o : Option (List ℕ)). IsSome o) (sym (ap (λ es. pages_in es m) is ∙ pages_apart m k page rest differs)) h) n there
+
+  pub listed_placed : (unwritten new_unwritten : List ℕ) → AreListed slots unwritten
+      → ((n : ℕ) → list_any (λ i. i == n) unwritten ≡ true → list_any (λ i. i == n) new_unwritten ≡ true) → list_any (λ i. i == k) new_unwritten ≡ true
+      → AreListed new_slots new_unwritten
+  listed_placed unwritten new_unwritten were more now = by_place (λ n. (p : List ℕ) → (slot_at new_slots n).newest ≡ Dirty p → list_any (λ i. i == n) new_unwritten ≡ true) k
+      (λ p e. now) (λ n differs p e. more n (were n p (sym (ap (λ (s : Slot). s.newest) (others n differs)) ∙ e)))

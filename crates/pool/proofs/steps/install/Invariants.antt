@@ -1,0 +1,18 @@
+use Rattle.std.proofs.Common.{◌≡◌, ℕ, ◌<◌, ◌≤◌, ◌+◌, List, IsSome, length}
+use Rattle.std.specs.Prelude.{vec_len, vec_capacity}
+use Rattle.pool.specs.Pages.{pages_in}
+use Rattle.pool.specs.Slots.{slot_at, placed}
+use Rattle.pool.specs.Stands.{AreListed}
+use Rattle.pool.proofs.steps.install.Given as goal
+
+abbrev pub invariant-loop-page : goal.invariant-loop-page
+invariant-loop-page l = record {
+  room : (n : ℕ) → IsSome (pages_in l.set n) → n < length l.slots;
+  space : vec_len l.unwritten + length l.set ≤ vec_capacity l.unwritten;
+  newest : (n : ℕ) → placed (pages_in l.set n) (slot_at l.slots n).newest ≡ placed (pages_in l.fn.set n) (slot_at l.fn.slots n).newest;
+  images : (n : ℕ) → (slot_at l.slots n).images ≡ (slot_at l.fn.slots n).images;
+  listed : AreListed l.fn.slots l.fn.unwritten.items → AreListed l.slots l.unwritten.items;
+}
+
+abbrev pub decreases-loop-page : goal.decreases-loop-page
+decreases-loop-page l = length l.set

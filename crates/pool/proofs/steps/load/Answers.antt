@@ -1,0 +1,9 @@
+use Rattle.std.proofs.Common.{List, ℕ, Some, sym, ap, ◌∙◌, arith}
+use Rattle.pool.proofs.SlotLemmas.{loaded}
+use Rattle.pool.proofs.steps.load.Goals as goal
+
+pub returns-clause-same : goal.returns-clause-same
+returns-clause-same g c = λ honest last unwritten stands. rw (c.in_ok-read_page.ensures.same honest)
+    (loaded _ c.args.began last c.args.slots.now c.set_newest.new.slots unwritten c.args.page c.in_ok-stored.stored c.set_newest.ensures.here c.set_newest.ensures.others
+    (rw c.as_slice.ensures at c.if-not-is_in_file.ensures) (omega arith)
+    (c.in_ok-read_page.ensures.value honest ∙ ap (λ (p : List ℕ). Some p) (sym c.in_ok-stored.ensures)) stands)

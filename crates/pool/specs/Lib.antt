@@ -1,0 +1,7 @@
+pub mod Pages
+pub mod Slots
+pub mod Stands
+pub mod Refused
+pub mod Pins
+pub mod Ready
+pub mod Versions

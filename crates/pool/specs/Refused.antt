@@ -1,0 +1,16 @@
+-- Why a pool refuses a call.
+use Rattle.std.specs.Prelude.{◌≡◌, ℕ, ◌≤◌, ⊤}
+use Rattle.disk.specs.Refused.{HasRisen}
+use Rattle.pool.specs.declared.error.PoolError.{PoolError}
+use Rattle.pool.specs.declared.error.PoolError.TheVariants.{Memory, Device, Pages, Kept}
+
+-- what is known where a call was refused, with the counts of refused device calls before and after
+abbrev pub IsRefused : Type 0 → Type 0 → ℕ → ℕ → PoolError → Type 0
+IsRefused AtPages AtKept before after Memory = ⊤
+IsRefused AtPages AtKept before after (Device e) = HasRisen before after
+IsRefused AtPages AtKept before after Pages = AtPages
+IsRefused AtPages AtKept before after Kept = AtKept
+
+-- the count of refused device calls does not fall
+abbrev pub Rises : ℕ → ℕ → Type 0
+Rises before after = before ≤ after

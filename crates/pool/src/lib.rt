@@ -1,0 +1,15 @@
+//! Versions of the pages of a file, by the numbers of commits.
+#![tactic(auto)]
+
+mod error;
+mod images;
+mod page_set;
+mod pins;
+mod pool;
+mod slot;
+mod steps;
+mod table;
+
+pub use error::PoolError;
+pub use page_set::PageSet;
+pub use pool::Pool;

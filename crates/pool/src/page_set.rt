@@ -1,0 +1,81 @@
+ghost use Rattle.std.specs.Prelude.{◌≡◌, ◌+◌, ◌≤◌, ◌<◌, ◌∷◌, [], length, OnOk, OnErr, IfOk, IfSome, IfNone, IsTrue, ◌↔◌, None};
+ghost use Rattle.std.specs.Option.{option_copied};
+ghost use Rattle.pool.specs.Pages.{over, only, pages_in, numbers_of};
+
+use items::Boxed;
+use pagefile::Page;
+use std::alloc::{AllocError, Global};
+use std::collections::BTreeMap;
+use std::marker::Model;
+
+/// A map from page numbers to pages. Contracts see its entries, in the order of the numbers.
+#[derive(Drop)]
+pub struct PageSet {
+    pages: BTreeMap<u32, Boxed<Page>>,
+    alloc: Global,
+}
+
+impl Model for PageSet {
+    ghost use Rattle.std.specs.Prelude.{ℕ, List};
+
+    ghost Value = { List (ℕ × List ℕ) };
+
+    ghost view = { λ s. s.pages.entries };
+}
+
+impl PageSet {
+    /// The empty set. Takes no memory until the first page.
+    pub fn new(alloc: Global) -> PageSet
+        ensures { result ≡ [] }
+    {
+        PageSet {
+            pages: BTreeMap::new(alloc),
+            alloc,
+        }
+    }
+
+    /// How many pages it has.
+    pub fn len(&self) -> usize
+        ensures { result ≡ length self.now }
+    {
+        self.pages.len()
+    }
+
+    /// The page of this number; `None` where it has none.
+    pub fn get(&self, number: u32) -> Option<&Page>
+        ensures { option_copied result ≡ pages_in self.now number }
+    {
+        match self.pages.get(&number) {
+            Some(page) => Some(page.get()),
+            None => None,
+        }
+    }
+
+    /// Makes this the page of its number. Refuses for want of memory alone, and then stays as it was.
+    pub fn put(&mut self, number: u32, page: &Page) -> Result<(), AllocError>
+        ensures put { OnOk result (pages_in self.new ≡ over (only number page.now) (pages_in self.old)) }
+        ensures len { OnOk result (length self.new ≤ length self.old + 1) }
+        ensures left { OnErr result (self.new ≡ self.old) }
+    {
+        let boxed = Boxed::new(self.alloc, *page)?;
+        self.pages.insert(number, boxed)?;
+        Ok(())
+    }
+
+    /// The numbers of its pages, in order. Refuses for want of memory alone.
+    pub(crate) fn numbers(&self, alloc: Global) -> Result<Vec<u32>, AllocError>
+        ensures { IfOk result (λ numbers. numbers.items ≡ numbers_of self.now) }
+    {
+        self.pages.keys().copied().collect(alloc)
+    }
+
+    /// Takes the page of the lowest number out; `None` where there is none.
+    pub(crate) fn pop_first(&mut self) -> Option<(u32, Boxed<Page>)>
+        ensures some { IfSome result (λ p. self.old ≡ (p.0, p.1) ∷ self.new) }
+        ensures gone { IfSome result (λ p. pages_in self.new p.0 ≡ None) }
+        ensures none { IfNone result (self.old ≡ []) }
+        ensures same { IfNone result (self.new ≡ []) }
+    {
+        self.pages.pop_first()
+    }
+}
