@@ -2,10 +2,8 @@
 #![tactic(auto)]
 
 #[cfg(test)]
-mod copies;
-#[cfg(test)]
 mod parsing;
 #[cfg(test)]
-mod printing;
-#[cfg(test)]
 mod tokens;
+#[cfg(test)]
+mod trees;
