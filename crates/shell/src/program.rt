@@ -1,8 +1,11 @@
-ghost use Rattle.std.specs.Prelude.{◌≡◌, ◌⊎◌};
+ghost use Rattle.std.specs.Prelude.{◌≡◌, ◌≢◌, ◌⊎◌};
+ghost use Rattle.clap.specs.Words.{kind_of};
 ghost use Rattle.shell.specs.Status.{IsStatus};
 
 use crate::command_line::settings;
 use crate::run::run_on;
+use clap::Error;
+use clap::error::ErrorKind;
 use disk::MemDisk;
 use std::alloc::Global;
 use std::io::BufWriter;
@@ -22,13 +25,7 @@ pub fn sqlsh<R: Env + Input + Print + Eprint + AllocGlobal>(rt: &R) -> u8
     };
     let settings = match settings(alloc, words.as_slice()) {
         Ok(settings) => settings,
-        Err(error) => {
-            let _ = error.print(rt);
-            if error.use_stderr() {
-                return WRONG_WORDS;
-            }
-            return 0;
-        }
+        Err(error) => return told(rt, &error),
     };
     let disk = MemDisk::new(alloc);
     let mut reader = rt.reader();
@@ -36,6 +33,15 @@ pub fn sqlsh<R: Env + Input + Print + Eprint + AllocGlobal>(rt: &R) -> u8
         Ok(mut writer) => run_on(alloc, &settings, disk, &mut reader, &mut writer),
         Err(_) => run_on(alloc, &settings, disk, &mut reader, &mut io::writer(rt)),
     }
+}
+
+/// Prints help, or what is wrong with the words, and answers the exit status: 0 for help and 2 for a fault.
+fn told<R: Print + Eprint>(rt: &R, error: &Error) -> u8
+    ensures help { (kind_of error.now ≡ ErrorKind.DisplayHelp) ⊎ (kind_of error.now ≡ ErrorKind.DisplayVersion) → result ≡ 0 }
+    ensures fault { kind_of error.now ≢ ErrorKind.DisplayHelp → kind_of error.now ≢ ErrorKind.DisplayVersion → result ≡ 2 }
+{
+    let _ = error.print(rt);
+    if error.use_stderr() { WRONG_WORDS } else { 0 }
 }
 
 /// The words of the command line, the program's name first.

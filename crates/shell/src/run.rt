@@ -1,5 +1,5 @@
 ghost use Rattle.std.specs.Prelude.{◌≡◌};
-ghost use Rattle.shell.specs.Status.{IsStatus};
+ghost use Rattle.shell.specs.Status.{refusal_of, status_of, IsStatus};
 
 use crate::options::Settings;
 use disk::Disk;
@@ -28,8 +28,7 @@ pub fn run_on<D: Disk + Drop, R: Read, W: Write>(
 ) -> u8
     ensures { IsStatus result }
 {
-    let frames = settings.frames.get() as usize;
-    let mut core = match Core::open(alloc, disk, frames) {
+    let mut core = match Core::open(alloc, disk, frames_of(settings)) {
         Ok(core) => core,
         Err(refused) => return fail(refused.refusal, writer),
     };
@@ -38,6 +37,13 @@ pub fn run_on<D: Disk + Drop, R: Read, W: Write>(
         Ok(_disk) => status,
         Err(refused) => fail(refused.refusal, writer),
     }
+}
+
+/// How many pages the pool may keep in memory.
+fn frames_of(settings: &Settings) -> usize
+    ensures { result ≡ settings.now.frames.count }
+{
+    settings.frames.get() as usize
 }
 
 /// Carries out the script, and answers the exit status.
@@ -49,12 +55,29 @@ fn carry_out<D: Disk, R: Read, W: Write>(
 ) -> u8
     ensures { IsStatus result }
 {
-    match run(alloc, core, reader, writer) {
+    let outcome = run(alloc, core, reader, writer);
+    ended(outcome, writer)
+}
+
+/// The exit status of a script that ended so. Of a fault it says `ERROR` and the code, where it can be written.
+fn ended<W: Write>(outcome: Result<bool, ScriptFault>, writer: &mut W) -> u8
+    ensures { result ≡ status_of outcome }
+{
+    match outcome {
         Ok(true) => REFUSED,
         Ok(false) => 0,
-        Err(ScriptFault::Memory) => fail(Refusal::Memory, writer),
-        Err(ScriptFault::Reader(_)) => fail(Refusal::Disk, writer),
-        Err(ScriptFault::Writer(_)) => fail(Refusal::Disk, writer),
+        Err(fault) => fail(refusal_of(&fault), writer),
+    }
+}
+
+/// What is said of a fault.
+fn refusal_of(fault: &ScriptFault) -> Refusal
+    ensures { result ≡ refusal_of fault.now }
+{
+    match fault {
+        ScriptFault::Memory => Refusal::Memory,
+        ScriptFault::Reader(_) => Refusal::Disk,
+        ScriptFault::Writer(_) => Refusal::Disk,
     }
 }
 

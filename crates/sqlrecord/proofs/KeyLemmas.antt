@@ -12,9 +12,9 @@ use Rattle.items.specs.Text.{is_text, as_text}
 use Rattle.sqlval.specs.declared.value.Value.{Value}
 use Rattle.sqlval.specs.declared.value.Value.TheVariants.{Null, Int, Text}
 use Rattle.sqlrecord.specs.Storable.{AllStorable}
-use Rattle.sqlrecord.specs.Key.{value_key, key_code, number_code, index_key_code, IsKeyPartOf, IsKeyOf, HasNoKeyPart}
+use Rattle.sqlrecord.specs.Key.{value_key, key_code, number_code, index_key_code, IsKeyPartOf, IsKeyOf, HasKeyPart, HasNoKeyPart, HasKey, IsNoKey}
 use Rattle.sqlrecord.proofs.ByteLemmas.{length_be}
-use Rattle.sqlrecord.proofs.CodeLemmas.{key_unique, key_some, list_unique, list_goes_on, text_above}
+use Rattle.sqlrecord.proofs.CodeLemmas.{storable_push, key_unique, key_some, list_unique, list_goes_on, text_above}
 use Rattle.sqlrecord.proofs.RowLemmas.{text_from}
 
 -- one more value of a key
@@ -136,3 +136,43 @@ number_read bytes key n r small is e = by bytes (length bytes - 8) n r small (nu
         let nth : (k : ℕ) → get_or bytes (at + k) 0 ≡ get_or (number_code n) k 0 = λ k. sym (get_or-drop at bytes k 0) ∙ ap (λ xs. get_or xs k 0) same in
         let first : get_or bytes at 0 ≡ get_or (number_code n) 0 0 = (let none : at ≡ at + 0 = omega arith in ap (λ i. get_or bytes i 0) none) ∙ nth 0 in
         e ∙ bytes_alike _ _ _ _ _ _ _ _ n small first (nth 1) (nth 2) (nth 3) (nth 4) (nth 5) (nth 6) (nth 7)
+
+-- some values' keys, up to a place
+pub record HasReadKey (bytes : List ℕ) (at : ℕ) : Type 0 where
+  pub key : List Value
+  pub storable : AllStorable key
+  pub code : key_code key ++ drop at bytes ≡ bytes
+
+pub key_read_none : (bytes : List ℕ) → HasReadKey bytes 0
+key_read_none bytes = record { key = []; storable = tt; code = refl }
+
+pub key_read_more : (bytes : List ℕ) (at n : ℕ) → HasReadKey bytes at → HasKeyPart (drop at bytes) n → HasReadKey bytes (at + n)
+key_read_more bytes at n r p = record {
+  key = r.key ++ p.value ∷ [];
+  storable = storable_push r.key p.value r.storable p.part.storable;
+  code = key_step bytes r.key at n p.value r.code p.part;
+}
+
+pub key_read_all : (bytes : List ℕ) (at : ℕ) → HasReadKey bytes at → length bytes ≤ at → HasKey bytes
+key_read_all bytes at r past = record { key = r.key; code = key_read bytes r.key at r.storable r.code past }
+
+pub key_read_stuck : (bytes : List ℕ) (at : ℕ) → HasReadKey bytes at → at < length bytes → HasNoKeyPart (drop at bytes) → IsNoKey bytes
+key_read_stuck bytes at r within none other code = key_stuck bytes r.key other at r.storable r.code within none code
+
+-- whether the bytes before the first 0 are a text
+pub has_key_text : (bytes : List ℕ) (n : ℕ) (b : Bool) → bytes ≡ 2 ∷ drop 1 bytes → n < length (drop 1 bytes) → get_or (drop 1 bytes) n 0 ≡ 0
+    → b ≡ is_text (slice_range bytes 1 (1 + n)) → b ≡ true → HasKeyPart bytes (2 + n)
+has_key_text bytes n b tag within zero_at is h = record {
+  value = Text (slice_range bytes 1 (1 + n));
+  part = key_text_part bytes (slice_range bytes 1 (1 + n)) n tag within zero_at (some_text (slice_range bytes 1 (1 + n)) (sym is ∙ h));
+}
+  where
+    some_text : (codes : List ℕ) → is_text codes ≡ true → Some codes ≡ as_text codes
+    some_text codes e = rw e refl
+
+pub no_key_text : (bytes : List ℕ) (n : ℕ) (b : Bool) → bytes ≡ 2 ∷ drop 1 bytes → n < length (drop 1 bytes) → get_or (drop 1 bytes) n 0 ≡ 0
+    → ((k : ℕ) → k < n → get_or (drop 1 bytes) k 0 ≢ 0) → b ≡ is_text (slice_range bytes 1 (1 + n)) → b ≡ false → HasNoKeyPart bytes
+no_key_text bytes n b tag within zero_at before is h = no_text bytes n tag within zero_at before (none_of (slice_range bytes 1 (1 + n)) (sym is ∙ h))
+  where
+    none_of : (codes : List ℕ) → is_text codes ≡ false → as_text codes ≡ None
+    none_of codes e = rw e refl

@@ -50,12 +50,25 @@ pub record IsKeyOf (bytes : List ℕ) (key : List Value) : Type 0 where
   pub storable : AllStorable key
   pub code : key_code key ≡ bytes
 
+-- the bytes are the code of some key, and of none
+pub record HasKey (bytes : List ℕ) : Type 0 where
+  pub key : List Value
+  pub code : IsKeyOf bytes key
+
+abbrev pub IsNoKey : List ℕ → Type 0
+IsNoKey bytes = (key : List Value) → IsKeyOf bytes key → ⊥
+
 -- the bytes begin with the key of this value, which takes n bytes
 pub record IsKeyPartOf (bytes : List ℕ) (value : Value) (n : ℕ) : Type 0 where
   pub storable : IsStorable value
   pub code : value_key value ++ drop n bytes ≡ bytes
   pub some : 1 ≤ n
   pub within : n ≤ length bytes
+
+-- the bytes begin with the key of some value, which takes n bytes
+pub record HasKeyPart (bytes : List ℕ) (n : ℕ) : Type 0 where
+  pub value : Value
+  pub part : IsKeyPartOf bytes value n
 
 -- the bytes begin with the key of no value
 abbrev pub HasNoKeyPart : List ℕ → Type 0

@@ -3,8 +3,10 @@
 
 mod build;
 mod cell;
+mod characters;
 mod error;
 mod key;
+mod key_check;
 mod key_decode;
 mod kind;
 mod laws;

@@ -1,33 +1,12 @@
 //! Why bytes were not decoded as a row, found without memory.
 
 ghost use Rattle.std.specs.Prelude.{◌≡◌, ◌↔◌, ◌∷◌, drop, false, IsTrue, IfSome, IsNone};
-ghost use Rattle.items.specs.Text.{is_character, is_text};
 ghost use Rattle.sqlrecord.specs.declared.error.DecodeError.TheVariants.{Damaged};
 ghost use Rattle.sqlrecord.specs.Row.{HasPart, HasNoPart, HasRow, IsNoCode};
 
+use crate::characters::is_text_of;
 use crate::row::decode_integer;
 use crate::{DecodeError, MAXIMUM_ROW};
-use items::Text;
-
-fn is_character_of(code: u8) -> bool
-    ensures { result ≡ is_character code }
-{
-    0x20 <= code && code <= 0x7E
-}
-
-fn is_text_of(codes: &[u8]) -> bool
-    ensures { result ≡ is_text codes.now }
-{
-    if Text::MAXIMUM_LENGTH < codes.len() {
-        return false;
-    }
-    for code in codes {
-        if !is_character_of(*code) {
-            return false;
-        }
-    }
-    true
-}
 
 /// How many bytes the code of a text takes.
 fn text_length(bytes: &[u8]) -> Option<usize>

@@ -1,7 +1,7 @@
 use Rattle.std.proofs.Common.{◌≡◌, ◌≤◌, ◌-◌, ◌++◌, length, drop}
 use Rattle.sqlrecord.specs.Storable.{AllStorable}
 use Rattle.sqlrecord.specs.Key.{key_code}
-use Rattle.sqlrecord.proofs.key_decode.decode_key.Given as goal
+use Rattle.sqlrecord.proofs.key_decode.read_key.Given as goal
 
 abbrev pub invariant-loop-at : goal.invariant-loop-at
 invariant-loop-at l = record {

@@ -1,0 +1,46 @@
+#!/usr/bin/env bash
+# Runs sqlsh and looks at what no contract says of a program: what it prints of help and of wrong words, where it
+# prints it, and the exit statuses. Each check prints a line; the status is 1 where one fails.
+# PROGRAM=PATH tries another build of sqlsh than that of the repository.
+set -uo pipefail
+top=$(cd "$(dirname "$0")/.." && pwd)
+program=${PROGRAM:-$top/sqlsh}
+work=$(mktemp -d)
+trap 'rm -rf "$work"' EXIT
+failed=0
+
+# check NAME STATUS OUT ERR WORDS..: runs the program on these words and the input in $work/in. OUT and ERR are patterns
+# of a line that standard output and standard error have; an empty one says that nothing is written there.
+check() {
+  local name=$1 status=$2 out=$3 err=$4 found
+  shift 4
+  "$program" "$@" < "$work/in" > "$work/out" 2> "$work/err"
+  found=$?
+  if [ "$found" != "$status" ]; then
+    echo "$name: status $found, not $status"; failed=1
+  elif ! matches "$out" "$work/out" || ! matches "$err" "$work/err"; then
+    echo "$name: printed something else"; cat "$work/out" "$work/err"; failed=1
+  else
+    echo "$name: as it should be"
+  fi
+}
+
+matches() {
+  if [ -z "$1" ]; then [ ! -s "$2" ]; else grep -q -- "$1" "$2"; fi
+}
+
+: > "$work/in"
+check "help" 0 "^Commands:" "" --help
+check "help of run" 0 "--frames <N>" "" run --help
+check "no command" 2 "" "."
+check "another command" 2 "" "walk" walk
+check "too few frames" 2 "" "15" run --frames 15
+check "frames that are no number" 2 "" "x" run --frames x
+check "nothing to do" 0 "" "" run --frames 16
+echo "COMMIT;" > "$work/in"
+check "a reply" 0 "^00000$" "" run
+echo "COMMIT; SELECT;" > "$work/in"
+check "a refusal" 1 "^ERROR 42000 syntax$" "" run
+rm "$work/in"; mkdir "$work/in"
+check "input that cannot be read" 3 "^ERROR X0002$" "" run
+exit "$failed"
