@@ -1,0 +1,5 @@
+pub mod LeafLemmas
+pub mod GrowLemmas
+pub mod CellLemmas
+pub mod StepLemmas
+pub mod RootLemmas
