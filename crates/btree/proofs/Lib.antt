@@ -3,3 +3,4 @@ pub mod GrowLemmas
 pub mod CellLemmas
 pub mod StepLemmas
 pub mod RootLemmas
+pub mod LawLemmas
