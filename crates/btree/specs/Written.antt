@@ -1,0 +1,20 @@
+-- What a change of a whole tree leaves.
+use Rattle.std.specs.Prelude.{◌≡◌, ℕ, ◌⊎◌, List, None, IsSome, Result, IfOk}
+use Rattle.page_space.specs.declared.fault.Fault.{Fault}
+use Rattle.page_space.specs.Space.{PageMap}
+use Rattle.btree_read.specs.declared.entry.Entry.{Entry}
+use Rattle.btree_read.specs.Lists.{Has}
+use Rattle.btree_read.specs.Nodes.{Key}
+use Rattle.btree_read.specs.Sorted.{put}
+use Rattle.btree_read.specs.Tree.{IsTree}
+
+-- at the root is now a tree of these entries, in pages that the tree owned before or that were not in use; no other page in use has changed
+pub record IsWritten (old new : PageMap) (owned : List ℕ) (entries : List Entry) (root : ℕ) : Type 0 where
+  pub now_owned : List ℕ
+  pub stored : IsTree new root now_owned entries
+  pub own : (n : ℕ) → Has n now_owned → Has n owned ⊎ (old n ≡ None)
+  pub others : (n : ℕ) → (Has n owned → ⊥) → IsSome (old n) → new n ≡ old n
+
+-- whatever tree is at the root, the answer is the root of the tree with the key put in
+abbrev pub Inserts : PageMap → PageMap → ℕ → Key → List ℕ → Result ℕ Fault → Type 0
+Inserts old new root k v result = (owned : List ℕ) (entries : List Entry) → IsTree old root owned entries → IfOk result (IsWritten old new owned (put k v entries))

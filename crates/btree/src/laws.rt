@@ -1,0 +1,15 @@
+//! What a tree's callers may rely on beside its calls.
+
+ghost use Rattle.std.specs.Prelude.{◌≡◌, ℕ, List, IsSome};
+ghost use Rattle.page_space.specs.Space.{PageMap};
+ghost use Rattle.btree_read.specs.declared.entry.Entry.{Entry};
+ghost use Rattle.btree_read.specs.Lists.{Has, Apart};
+ghost use Rattle.btree_read.specs.Tree.{IsTree};
+
+/// A tree stays while no page that it owns changes; so one that shares no page with a changed tree
+/// stays.
+pub fn other_trees_stay()
+    ensures stays { (old new : PageMap) (root : ℕ) (owned : List ℕ) (entries : List Entry) → ((n : ℕ) → Has n owned → new n ≡ old n) → IsTree old root owned entries → IsTree new root owned entries }
+    ensures apart { (pages : PageMap) (root : ℕ) (owned : List ℕ) (entries : List Entry) → IsTree pages root owned entries → Apart owned }
+    ensures used { (pages : PageMap) (root : ℕ) (owned : List ℕ) (entries : List Entry) → IsTree pages root owned entries → (n : ℕ) → Has n owned → IsSome (pages n) }
+{}

@@ -1,0 +1,78 @@
+//! An entry put into a leaf.
+
+ghost use Rattle.std.specs.Prelude.{◌≡◌, ◌≤◌, ⊤, ℕ, List, map, length, IsSome, IfOk, IfErr, OnOk};
+ghost use Rattle.page_space.specs.Space.{ChangeRefused};
+ghost use Rattle.sqlrecord.specs.declared.kind.PageKind.TheVariants.{Leaf};
+ghost use Rattle.sqlrecord.specs.Build.{lent};
+ghost use Rattle.sqlrecord.specs.Page.{AreCells};
+ghost use Rattle.btree_read.specs.Nodes.{LeafNode, entry_of, IsStocked, IsSmall};
+ghost use Rattle.sqlrecord.specs.Cell.{IsLeafCell};
+ghost use Rattle.btree_read.specs.Sorted.{put};
+ghost use Rattle.btree.specs.Grow.{LeafWritten};
+
+use crate::cells::{cell_key, cells_with, cut_of, place_of};
+use crate::page::write_page;
+use btree_read::Branch;
+use items::Items;
+use page_space::{Fault, PageSpace};
+use sqlrecord::{PageKind, SlotPage, are_cells, fits};
+use std::alloc::Global;
+
+/// Writes a leaf of these cells, in two pages where they are too many for one.
+fn write_leaf<S: PageSpace>(
+    space: &mut S,
+    alloc: Global,
+    page: u32,
+    next: u32,
+    cells: &[&[u8]],
+    is_last: bool,
+) -> Result<Option<Branch>, Fault>
+    requires { AreCells Leaf (lent cells.now) }
+    ensures written { IsSome (S.pages space.old page) → IsStocked (LeafNode next (map entry_of (lent cells.now)))
+        → IfOk result (LeafWritten (S.pages space.old) (S.pages space.new) page next (map entry_of (lent cells.now))) }
+    ensures whole { OnOk result (S.is_whole space.old → S.is_whole space.new) }
+    ensures refusal { IfErr result (ChangeRefused (S.at_limit space.new) ⊤ (S.refused space.old) (S.refused space.new)) }
+    ensures rising { S.refused space.old ≤ S.refused space.new }
+    ensures follows { S.follows space.old space.new }
+{
+    if fits(cells) {
+        write_page(space, page, PageKind::Leaf, next, cells)?;
+        return Ok(None);
+    }
+    let Some(at) = cut_of(cells, is_last, 1) else {
+        return Err(Fault::Damaged);
+    };
+    let (left, right) = cells.split_at(at);
+    let key = Items::from_slice(alloc, cell_key(right[0]))?;
+    let child = space.allocate()?;
+    write_page(space, page, PageKind::Leaf, child, left)?;
+    write_page(space, child, PageKind::Leaf, next, right)?;
+    Ok(Some(Branch { key, child }))
+}
+
+/// Puts a cell into a leaf, in place of the one with its key.
+pub(crate) fn put_in_leaf<'a, S: PageSpace>(
+    space: &mut S,
+    alloc: Global,
+    page: u32,
+    leaf: &SlotPage<'a>,
+    key: &[u8],
+    cell: &'a [u8],
+) -> Result<Option<Branch>, Fault>
+    requires leaf { leaf.now.kind ≡ Leaf }
+    ensures written { (value : List ℕ) → IsLeafCell cell.now key.now value → IsSmall (record { key = key.now; value = value })
+        → IsSome (S.pages space.old page) → IsStocked (LeafNode leaf.now.link (map entry_of leaf.now.cells))
+        → IfOk result (LeafWritten (S.pages space.old) (S.pages space.new) page leaf.now.link (put key.now value (map entry_of leaf.now.cells))) }
+    ensures whole { OnOk result (S.is_whole space.old → S.is_whole space.new) }
+    ensures refusal { IfErr result (ChangeRefused (S.at_limit space.new) ⊤ (S.refused space.old) (S.refused space.new)) }
+    ensures rising { S.refused space.old ≤ S.refused space.new }
+    ensures follows { S.follows space.old space.new }
+{
+    let (at, behind) = place_of(leaf, key);
+    let cells = cells_with(alloc, leaf, at, behind, cell)?;
+    if !are_cells(PageKind::Leaf, cells.as_slice()) {
+        return Err(Fault::Damaged);
+    }
+    let is_last = leaf.link() == 0 && at == leaf.len();
+    write_leaf(space, alloc, page, leaf.link(), cells.as_slice(), is_last)
+}
