@@ -2,6 +2,7 @@ pub mod Versions
 pub mod Shown
 pub mod TableRows
 pub mod DeclaredTables
+pub mod Limits
 pub mod Names
 pub mod VersionLemmas
 pub mod ReaderLemmas

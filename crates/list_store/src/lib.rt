@@ -4,6 +4,7 @@
 mod change;
 mod copies;
 mod declared_tables;
+mod limits;
 mod lists;
 mod readers;
 mod table_rows;

@@ -5,6 +5,7 @@ ghost use Rattle.store.specs.View.{count_of};
 
 use crate::change::Change;
 use crate::declared_tables::declared_tables;
+use crate::limits::has_long_row;
 use crate::lists::Lists;
 use crate::readers::{Reader, add_reader, find_reader, remove_reader};
 use crate::table_rows::{numbered_rows, row_after};
@@ -17,7 +18,7 @@ use store::{Numbered, NumberedRow, Position, Returned, Store, StoreError, StoreL
 
 /// Tables in memory, as the list of the changes that made them. Each version is a beginning of that list, so that a version takes a number, and what is taken back is cut off.
 ///
-/// Memory is all that it refuses for, and more than 2^64 - 1 commits. What is not carried out yet (dropping tables, making and dropping indexes, replacing and deleting rows, and
+/// It refuses for want of memory, rows whose code takes more than 1,000 bytes, and more than 2^64 - 1 commits. What is not carried out yet (dropping tables, making and dropping indexes, replacing and deleting rows, and
 /// reading by an index) is refused as for want of memory.
 #[derive(Drop)]
 pub struct ListStore {
@@ -51,19 +52,18 @@ impl ListStore {
         ensures refused { IfErr result (λ error. error ≡ Memory) }
     {
         if self.changes.push(change).is_err() {
-            self.changes.truncate(self.marked);
-            return Err(StoreError::Memory);
+            return self.refuse(StoreError::Memory);
         }
         Ok(())
     }
 
-    /// Goes back to the mark, for want of memory.
-    fn give_up(&mut self) -> Result<(), StoreError>
+    /// Goes back to the mark, and refuses.
+    fn refuse(&mut self, error: StoreError) -> Result<(), StoreError>
         ensures undone { versions_of self.new ≡ undone (versions_of self.old) }
-        ensures refused { result ≡ Err Memory }
+        ensures refused { result ≡ Err error }
     {
         self.changes.truncate(self.marked);
-        Err(StoreError::Memory)
+        Err(error)
     }
 
     /// How many changes a view sees.
@@ -235,30 +235,33 @@ impl Store for ListStore {
     }
 
     fn drop_table(&mut self, name: &Text) -> Result<(), StoreError> {
-        self.give_up()
+        self.refuse(StoreError::Memory)
     }
 
     fn create_index(&mut self, name: &Text, index: Index) -> Result<(), StoreError> {
-        self.give_up()
+        self.refuse(StoreError::Memory)
     }
 
     fn drop_index(&mut self, name: &Text) -> Result<(), StoreError> {
-        self.give_up()
+        self.refuse(StoreError::Memory)
     }
 
     fn append(&mut self, name: &Text, rows: Rows) -> Result<(), StoreError> {
+        if has_long_row(rows.as_slice()) {
+            return self.refuse(StoreError::Exceeded(StoreLimit::Record));
+        }
         match name.copy(self.alloc) {
             Ok(table) => self.make(Change::Append(table, rows)),
-            Err(_) => self.give_up(),
+            Err(_) => self.refuse(StoreError::Memory),
         }
     }
 
     fn replace(&mut self, name: &Text, number: u64, row: Row) -> Result<(), StoreError> {
-        self.give_up()
+        self.refuse(StoreError::Memory)
     }
 
     fn delete(&mut self, name: &Text, number: u64) -> Result<(), StoreError> {
-        self.give_up()
+        self.refuse(StoreError::Memory)
     }
 
     fn scan(&mut self, alloc: Global, view: View, name: &Text) -> Result<Numbered, StoreError> {
