@@ -1,0 +1,3 @@
+pub mod Schemas
+pub mod PlainTables
+pub mod Makings

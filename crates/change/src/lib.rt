@@ -1,0 +1,2 @@
+//! Changes of tables: what CREATE TABLE and INSERT make of a store.
+#![tactic(auto)]
