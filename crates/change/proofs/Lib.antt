@@ -1,3 +1,0 @@
-pub mod Schemas
-pub mod PlainTables
-pub mod Makings

@@ -1,2 +1,0 @@
-//! Changes of tables: what CREATE TABLE and INSERT make of a store.
-#![tactic(auto)]
