@@ -1,4 +1,5 @@
 -- What FETCH may answer (ISO/IEC 9075:1992, 13.3).
+-- Scaffolding until cursors are built: no statement of today opens one.
 use Rattle.std.specs.Prelude.{◌≡◌, List, [], ◌∷◌, ◌++◌, Contains, IsSorted}
 use Rattle.sqlval.specs.Value.{Row}
 use Rattle.denote.specs.declared.fault.Fault.{Fault}

@@ -1,6 +1,7 @@
 -- What an engine with sessions stands for: the databases that were committed, and what its sessions are doing.
 -- SQL-92 has SQL-transactions and SQL-sessions (ISO/IEC 9075:1992, 4.28, 4.30). One writer at a time, and that each transaction
 -- reads the database that stood committed when it began, are our own choice.
+-- Scaffolding until cursors are built: declared queries and open cursors.
 use Rattle.std.specs.Prelude.{ℕ, Bool, false, ◌==◌, List, is_some, Option, Some, None}
 use Rattle.std.specs.Ordering.{nat_cmp}
 use Rattle.std.specs.FinMap.{FinMap, empty, get, insert}
