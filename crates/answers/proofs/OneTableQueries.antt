@@ -139,9 +139,11 @@ module _ (c : Contents) (query : OrderedQuery) (s : Select) (name : Name) (rows 
 
   pub answered : (found : List Row) → GivesRows (Ok found) (query_outcome (rows_under name rows) query.query []) → Answers (Ok found) (denotes (database_of c) query)
   answered found gives =
-      let there : GivesRows (Ok found) (query_outcome (rows_in (database_of c)) query.query []) = subst (λ (o : Outcome). GivesRows (Ok found) o) same_outcome gives in
-      (there.ok.0, subst (λ r. Permutes (query_outcome (rows_in (database_of c)) query.query []).rows r) there.ok.1 (permutes_itself (query_outcome (rows_in (database_of c)) query.query []).rows),
-      sorted_by_nothing query.keys found (unordered query e))
+      let there : GivesRows (Ok found) (query_outcome (rows_in (database_of c)) query.query []) = subst (λ (o : Outcome). GivesRows (Ok found) o) same_outcome gives in (
+        there.ok.0,
+        subst (λ r. Permutes (query_outcome (rows_in (database_of c)) query.query []).rows r) there.ok.1 (permutes_itself (query_outcome (rows_in (database_of c)) query.query []).rows),
+        sorted_by_nothing query.keys found (unordered query e),
+      )
 
   pub raised : (fault : Fault) → GivesRows (Err (stop.Fault fault)) (query_outcome (rows_under name rows) query.query []) → Contains (denotes (database_of c) query).unordered.faults fault
   raised fault gives =

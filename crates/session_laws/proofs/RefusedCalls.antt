@@ -130,14 +130,18 @@ almost_all rules old new s text refusal (effect, call) =
     decide e is (inl none) = inl (is ∙ ap (after old s call.session) none)
     decide e is (inr (inl (failed, back))) = inr (inl (failed, record { session = call.session; stands = call.stands; leaves = is ∙ ap (after old s call.session) back }))
     decide e is (inr (inr (u, name, read, has, there, closed))) =
-        inr (inr (name, read, record {
-          session = call.session;
-          stands = call.stands;
-          transaction = u;
-          has = has;
-          was_open = there;
-          leaves = is ∙ ap (after old s call.session) closed;
-        }))
+        inr (inr (
+          name,
+          read,
+          record {
+            session = call.session;
+            stands = call.stands;
+            transaction = u;
+            has = has;
+            was_open = there;
+            leaves = is ∙ ap (after old s call.session) closed;
+          },
+        ))
 
 pub unchanged : (rules : Rules) (old new : World) (s : ℕ) (text : Bytes) (refusal : Refusal)
     → Step rules old s text (says.Refused refusal) new → refusal ≢ SerializationFailure → (IsFetch text → ⊥) → new ≡ old

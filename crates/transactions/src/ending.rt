@@ -20,7 +20,12 @@ use replies::Reply;
 use store::Store;
 
 /// COMMIT. A refusal leaves the transaction open.
-pub fn commit<S: Store>(store: &mut S, writer: &mut Option<u64>, mode: &mut AccessMode, session: u64) -> Reply
+pub fn commit<S: Store>(
+    store: &mut S,
+    writer: &mut Option<u64>,
+    mode: &mut AccessMode,
+    session: u64,
+) -> Reply
     ensures moves { (rules : Rules) (text : Bytes) (work : Bool) → IsRead text (asks.Commit work) → (IsRollback text → ⊥) → S.is_sound store.old → IsOrderly (S.shows store.old) writer.old
         → Moves rules session text result (S.shows store.old) writer.old mode.old (S.shows store.new) writer.new mode.new }
     ensures sound { S.is_sound store.old → S.is_sound store.new }
@@ -45,7 +50,12 @@ pub fn commit<S: Store>(store: &mut S, writer: &mut Option<u64>, mode: &mut Acce
 }
 
 /// ROLLBACK. Takes no memory and always succeeds.
-pub fn roll_back<S: Store>(store: &mut S, writer: &mut Option<u64>, mode: &mut AccessMode, session: u64) -> Reply
+pub fn roll_back<S: Store>(
+    store: &mut S,
+    writer: &mut Option<u64>,
+    mode: &mut AccessMode,
+    session: u64,
+) -> Reply
     ensures moves { (rules : Rules) (text : Bytes) (work : Bool) → IsRead text (asks.Rollback work) → IsOrderly (S.shows store.old) writer.old
         → Moves rules session text result (S.shows store.old) writer.old mode.old (S.shows store.new) writer.new mode.new }
     ensures sound { S.is_sound store.old → S.is_sound store.new }

@@ -13,7 +13,13 @@ use replies::Reply;
 use store::Store;
 
 /// SET TRANSACTION: what the next transaction may do. Refused (25000) while there is one. Takes no memory.
-pub fn set_mode<S: Store>(store: &S, writer: Option<u64>, mode: &mut AccessMode, session: u64, set: AccessMode) -> Reply
+pub fn set_mode<S: Store>(
+    store: &S,
+    writer: Option<u64>,
+    mode: &mut AccessMode,
+    session: u64,
+    set: AccessMode,
+) -> Reply
     ensures moves { (rules : Rules) (text : Bytes) → IsRead text (asks.SetTransaction set) → IsOrderly (S.shows store.now) writer
         → Moves rules session text result (S.shows store.now) writer mode.old (S.shows store.now) writer mode.new }
 {

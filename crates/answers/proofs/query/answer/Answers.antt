@@ -19,5 +19,8 @@ pub returns-clause-refused : goal.returns-clause-refused
 returns-clause-refused g c = λ sound.
     let t : IsOnlyTable c.args.query.now.query c.in-Some.name.now = c.in-Some.ensures in
     let read : c.in-Ok.found.rows ≡ rows_of (entries_of (get (g.R.Reading.shows c.args.reading.now).contents c.in-Some.name.now)) = (c.in-Ok.ensures.rows sound).rows in
-    inr (c.in-Err-Fault.fault, c.refusal_of_fault.ensures,
-    raised (g.R.Reading.shows c.args.reading.now).contents c.args.query.now t.select c.in-Some.name.now c.in-Ok.found.rows c.requires t.is t.from read c.in-Err-Fault.fault (rw c.in-Err-Fault.field-0-is at c.in-Err-Fault.ensures.gives))
+    inr (
+      c.in-Err-Fault.fault,
+      c.refusal_of_fault.ensures,
+      raised (g.R.Reading.shows c.args.reading.now).contents c.args.query.now t.select c.in-Some.name.now c.in-Ok.found.rows c.requires t.is t.from read c.in-Err-Fault.fault (rw c.in-Err-Fault.field-0-is at c.in-Err-Fault.ensures.gives),
+    )

@@ -16,6 +16,9 @@ pub returns-in-Err-Fault-clause-refused : goal.returns-in-Err-Fault-clause-refus
 returns-in-Err-Fault-clause-refused c = λ tables.
     let at : Contains (faults_in (inserted_rows [] (λ _. []) (table_of c.args.table.now []) c.args.columns.now (from.Values c.args.rows.now))) c.in-Err-Fault.fault =
     rw c.in-Err-Fault.field-0-is at c.in-Err-Fault.ensures.gives.err in
-    inr (c.in-Err-Fault.fault, c.refusal_of_fault.ensures,
-    subst (λ (x : Evaluation (List Row)). Contains (faults_in x) c.in-Err-Fault.fault)
-    (sym (same_inserted tables (λ _. []) [] (table_of c.args.table.now []) c.args.columns.now c.args.rows.now c.requires)) at)
+    inr (
+      c.in-Err-Fault.fault,
+      c.refusal_of_fault.ensures,
+      subst (λ (x : Evaluation (List Row)). Contains (faults_in x) c.in-Err-Fault.fault)
+          (sym (same_inserted tables (λ _. []) [] (table_of c.args.table.now []) c.args.columns.now c.args.rows.now c.requires)) at,
+    )
