@@ -2,8 +2,10 @@
 #![tactic(auto)]
 
 #[cfg(test)]
+mod copies;
+#[cfg(test)]
 mod parsing;
 #[cfg(test)]
-mod tokens;
+mod printing;
 #[cfg(test)]
-mod trees;
+mod tokens;

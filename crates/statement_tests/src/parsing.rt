@@ -58,42 +58,46 @@ fn nested(
 
 #[test]
 fn statements_of_the_first_path(rt: HostRuntime) -> Result<(), Fail> {
-    let rows: [(&[u8], &str); 9] = [
-        (
-            b"CREATE TABLE T (A INTEGER NOT NULL, B CHARACTER VARYING(5))",
-            "parsed",
-        ),
-        (
-            b"INSERT INTO T (A, B) VALUES (1, 'x'), (-2, NULL);",
-            "parsed",
-        ),
-        (
-            b"SELECT A, -B + 1 AS C FROM T WHERE (A) <> 1 AND NOT (A = 2 OR B LIKE 'x%')",
-            "parsed",
-        ),
-        (b"COMMIT WORK;", "parsed"),
-        (b"ROLLBACK", "parsed"),
-        (b"SELECT A FROM T WHERE (A)", "syntax"),
-        (b"SELECT A FROM T;;", "syntax"),
-        (b"SELECT A FROM T WHERE NOT NOT A = 1", "syntax"),
-        (b"", "syntax"),
-    ];
-    for (text, want) in rows {
-        assert_eq!(rt; statement(rt.alloc(), text)?, want);
-    }
+    let alloc = rt.alloc();
+    assert_eq!(rt;
+        statement(
+            alloc,
+            b"CREATE TABLE T (A INTEGER NOT NULL, B CHARACTER VARYING(5))"
+        )?,
+        "parsed"
+    );
+    assert_eq!(rt;
+        statement(alloc, b"INSERT INTO T (A, B) VALUES (1, 'x'), (-2, NULL);")?,
+        "parsed"
+    );
+    assert_eq!(rt;
+        statement(
+            alloc,
+            b"SELECT A, -B + 1 AS C FROM T WHERE (A) <> 1 AND NOT (A = 2 OR B LIKE 'x%')"
+        )?,
+        "parsed"
+    );
+    assert_eq!(rt; statement(alloc, b"COMMIT WORK;")?, "parsed");
+    assert_eq!(rt; statement(alloc, b"ROLLBACK")?, "parsed");
+    assert_eq!(rt; statement(alloc, b"SELECT A FROM T WHERE (A)")?, "syntax");
+    assert_eq!(rt; statement(alloc, b"SELECT A FROM T;;")?, "syntax");
+    assert_eq!(rt;
+        statement(alloc, b"SELECT A FROM T WHERE NOT NOT A = 1")?,
+        "syntax"
+    );
+    assert_eq!(rt; statement(alloc, b"")?, "syntax");
     Ok(())
 }
 
 #[test]
 fn conditions_alone(rt: HostRuntime) -> Result<(), Fail> {
-    let rows: [(&[u8], &str); 3] = [
-        (b"((A)) + 1 > 2 IS NOT UNKNOWN", "parsed"),
-        (b"(A IS NULL) IS TRUE", "parsed"),
-        (b"A = 1;", "syntax"),
-    ];
-    for (text, want) in rows {
-        assert_eq!(rt; condition(rt.alloc(), text)?, want);
-    }
+    let alloc = rt.alloc();
+    assert_eq!(rt;
+        condition(alloc, b"((A)) + 1 > 2 IS NOT UNKNOWN")?,
+        "parsed"
+    );
+    assert_eq!(rt; condition(alloc, b"(A IS NULL) IS TRUE")?, "parsed");
+    assert_eq!(rt; condition(alloc, b"A = 1;")?, "syntax");
     Ok(())
 }
 

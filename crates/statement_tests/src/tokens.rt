@@ -11,26 +11,28 @@ fn push_bytes(shown: &mut String, bytes: &[u8]) -> Result<(), AllocError> {
     Ok(())
 }
 
-/// What sort of token it is, and its characters. Of a number none.
-fn sort_of(kind: &Kind) -> (&'static str, &[u8]) {
-    match kind {
-        Kind::Word(word) => ("word", word.text()),
-        Kind::Name(name) => ("name", name.as_text().as_slice()),
-        Kind::Number(_) => ("number", b""),
-        Kind::Text(text) => ("text", text.as_slice()),
-        Kind::Symbol(symbol) => ("symbol", symbol.text()),
-    }
-}
-
 fn push_token(shown: &mut String, token: &Token) -> Result<(), AllocError> {
     let (start, end) = (token.start, token.end);
-    if let Kind::Number(number) = &token.kind {
-        let value = number.value();
-        return write!(shown, "{start}-{end} number {value}");
+    write!(shown, "{start}-{end} ")?;
+    match &token.kind {
+        Kind::Word(word) => {
+            shown.push_str("word ")?;
+            push_bytes(shown, word.text())
+        }
+        Kind::Name(name) => {
+            shown.push_str("name ")?;
+            push_bytes(shown, name.as_text().as_slice())
+        }
+        Kind::Number(number) => write!(shown, "number {}", number.value()),
+        Kind::Text(text) => {
+            shown.push_str("text ")?;
+            push_bytes(shown, text.as_slice())
+        }
+        Kind::Symbol(symbol) => {
+            shown.push_str("symbol ")?;
+            push_bytes(shown, symbol.text())
+        }
     }
-    let (sort, characters) = sort_of(&token.kind);
-    write!(shown, "{start}-{end} {sort} ")?;
-    push_bytes(shown, characters)
 }
 
 /// The tokens that are read, each with its place, or the refusal as it is printed.
@@ -148,21 +150,14 @@ fn limits_stand_at_their_byte(rt: HostRuntime) -> Result<(), Fail> {
         let found = shown(rt.alloc(), &text)?;
         assert_eq!(rt; found.as_str(), want);
     }
-    Ok(())
-}
-
-/// How many tokens the text has, and where the first ends.
-fn first_end(alloc: Global, text: &[u8]) -> Option<(usize, usize)> {
-    let found = tokens(alloc, text).ok()?;
-    Some((found.len(), found.first()?.end))
-}
-
-#[test]
-fn the_longest_names_and_texts_are_one_token(rt: HostRuntime) -> Result<(), Fail> {
-    let name = padded(rt.alloc(), b"", b'a', 64, b"")?;
-    assert_eq!(rt; first_end(rt.alloc(), &name), Some((1, 64)));
-    let text = padded(rt.alloc(), b"'", b'a', 1000, b"'")?;
-    assert_eq!(rt; first_end(rt.alloc(), &text), Some((1, 1002)));
+    let longest_name = padded(rt.alloc(), b"", b'a', 64, b"")?;
+    let found = tokens(rt.alloc(), &longest_name).ok().ok_or("a name")?;
+    assert_eq!(rt; found.len(), 1);
+    assert_eq!(rt; found[0].end, 64);
+    let longest_text = padded(rt.alloc(), b"'", b'a', 1000, b"'")?;
+    let found = tokens(rt.alloc(), &longest_text).ok().ok_or("a text")?;
+    assert_eq!(rt; found.len(), 1);
+    assert_eq!(rt; found[0].end, 1002);
     Ok(())
 }
 
@@ -177,34 +172,25 @@ const NOT_YET: &[u8] = b"ASC AVG BY CHECK CLOSE CONSTRAINT COUNT CROSS CURSOR DE
     DEFAULT DOMAIN ESCAPE FLOAT FOREIGN FULL GRANT INTERVAL ISOLATION NATURAL NULLIF NUMERIC REAL \
     REFERENCES RESTRICT REVOKE RIGHT SAVEPOINT SCHEMA SCROLL SMALLINT SOME TIME TIMESTAMP USING VIEW";
 
-/// How many tokens the text has, and the text of the first word among them that is not supported.
-fn unsupported(alloc: Global, text: &[u8]) -> Option<(usize, Option<&'static [u8]>)> {
-    let found = tokens(alloc, text).ok()?;
-    let first = match first_unsupported(&found) {
-        Some(word) => Some(word.text()),
-        None => None,
-    };
-    Some((found.len(), first))
-}
-
-/// Whether the token is a reserved word of this text that is not supported.
-fn is_not_yet(token: &Token, text: &[u8]) -> bool {
-    match &token.kind {
-        Kind::Word(word) => {
-            !word.is_supported() && Some(word.text()) == text.get(token.start..token.end)
-        }
-        _ => false,
-    }
-}
-
 #[test]
 fn words_are_reserved(rt: HostRuntime) -> Result<(), Fail> {
-    assert!(rt; unsupported(rt.alloc(), SUPPORTED) == Some((29, None)));
-    assert!(rt; unsupported(rt.alloc(), NOT_YET) == Some((82, Some(b"ASC".as_slice()))));
+    let supported = tokens(rt.alloc(), SUPPORTED).ok().ok_or("words")?;
+    assert_eq!(rt; supported.len(), 29);
+    assert_eq!(rt; first_unsupported(&supported), None);
     let not_yet = tokens(rt.alloc(), NOT_YET).ok().ok_or("words")?;
+    assert_eq!(rt; not_yet.len(), 82);
     for token in &not_yet {
-        assert!(rt; is_not_yet(token, NOT_YET));
+        let Kind::Word(word) = &token.kind else {
+            return Err(Fail::from("a name"));
+        };
+        assert_eq!(rt; word.is_supported(), false);
+        assert_eq!(rt;
+            word.text(),
+            NOT_YET.get(token.start..token.end).ok_or("a place")?
+        );
     }
+    let first = first_unsupported(&not_yet).ok_or("a word")?;
+    assert_eq!(rt; first.text(), b"ASC".as_slice());
     Ok(())
 }
 
