@@ -70,8 +70,9 @@ scalar-shows l o h = at l.faults refl
 
     among_both : (f : Fault) → Contains (l.faults ++ beyond_one l.rows) f → Contains (o.faults ++ beyond_one o.rows) f
     among_both f c = elim (Contains-append_cases l.faults (beyond_one l.rows) f c) [
-      inl k ↦ Contains-append_left o.faults (beyond_one o.rows) f (h.within f k)
-      | inr k ↦ Contains-append_right o.faults (beyond_one o.rows) f (beyond-within o.rows l.rows h.missing f longer k) ]
+      | inl k ↦ Contains-append_left o.faults (beyond_one o.rows) f (h.within f k)
+      | inr k ↦ Contains-append_right o.faults (beyond_one o.rows) f (beyond-within o.rows l.rows h.missing f longer k)
+    ]
 
     at : (fs : List Fault) → l.faults ≡ fs → Shows (unless (l.faults ++ beyond_one l.rows) (only_value l.rows)) (unless (o.faults ++ beyond_one o.rows) (only_value o.rows))
     at [] e = shows-of_same (scalar l) (scalar o) (scalar-same l o (same-of l o h e))

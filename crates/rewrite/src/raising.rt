@@ -125,7 +125,10 @@ pub fn can_raise(tree: &Tree) -> bool
             condition_can_raise(on.get()) || can_raise(left.get())
         }
         Tree::HashJoin {
-            on, left, right, ..
+            on,
+            left,
+            right,
+            ..
         } => condition_can_raise(on.get()) || (can_raise(left.get()) || can_raise(right.get())),
         Tree::Member {
             operand,

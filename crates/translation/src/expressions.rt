@@ -70,7 +70,10 @@ fn operands(
 {
     let mut made = Items::new(alloc);
     for (operator, operand) in others.as_slice() {
-        made = pushed(made, with(*operator, translate_expression(alloc, schema, operand)))?;
+        made = pushed(
+            made,
+            with(*operator, translate_expression(alloc, schema, operand)),
+        )?;
     }
     Ok(made)
 }

@@ -18,11 +18,7 @@ use std::alloc::{AllocError, Global};
 use typing::{Condition, Grouping, OrderedQuery, Query, Select, SetOperation, Source};
 
 /// The tree of a query with its ORDER BY. Refuses for want of memory alone.
-pub fn translate(
-    alloc: Global,
-    schema: &Schema,
-    ordered: &OrderedQuery,
-) -> Result<Tree, AllocError>
+pub fn translate(alloc: Global, schema: &Schema, ordered: &OrderedQuery) -> Result<Tree, AllocError>
     ensures translated { IfOk result (λ tree. tree ≡ tree_of_ordered (described_in schema.now) ordered.now) }
 {
     let keys = Items::from_slice(alloc, ordered.keys.as_slice());
@@ -69,7 +65,12 @@ fn combined(
 {
     let mut tree = first;
     for (operation, operand) in others.as_slice() {
-        tree = set(alloc, *operation, tree, translate_query(alloc, schema, operand))?;
+        tree = set(
+            alloc,
+            *operation,
+            tree,
+            translate_query(alloc, schema, operand),
+        )?;
     }
     Ok(tree)
 }

@@ -1,0 +1,3 @@
+pub mod Nodes
+pub mod GivesLemmas
+pub mod SubqueryLemmas

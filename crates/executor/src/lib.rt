@@ -1,0 +1,10 @@
+//! Operator trees carried out over tables whose rows are lent: exactly their listings.
+#![tactic(auto)]
+
+mod evaluate;
+mod listed;
+mod rows;
+mod subqueries;
+
+pub use evaluate::{condition_truth, expression_value, tree_listed};
+pub use listed::{Env, Listed};

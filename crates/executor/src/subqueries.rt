@@ -1,0 +1,101 @@
+//! What the rows of a subquery come to.
+
+ghost use Rattle.std.specs.Prelude.{◌≡◌, map};
+ghost use Rattle.sqlval.specs.Truth.{truth_of};
+ghost use Rattle.sqlval.specs.Value.{is_null};
+ghost use Rattle.denote.specs.Condition.{among, exists, first_column};
+ghost use Rattle.denote.specs.Expression.{scalar};
+ghost use Rattle.executor.specs.Reply.{Gives, outcome_of, among_rows};
+
+use crate::listed::Listed;
+use crate::rows::cell_of;
+use denote::{Fault, Row, Stop};
+use sqlval::{CompOp, Truth, Value, compare};
+use std::alloc::Global;
+
+/// The value of a scalar subquery.
+#[tactic(auto, using(crate::proofs::SubqueryLemmas::subquery_lemmas))]
+pub fn only_value_of(alloc: Global, listed: &Listed) -> Result<Value, Stop>
+    ensures gives { Gives result (scalar (outcome_of listed.now)) }
+{
+    match listed.fault {
+        Some(fault) => Err(Stop::Fault(fault)),
+        None => {
+            if listed.rows.len() > 1 {
+                return Err(Stop::Fault(Fault::ManyRows));
+            }
+            match listed.rows.get(0) {
+                Some(row) => Ok(cell_of(alloc, row.as_slice(), 0)?),
+                None => Ok(Value::Null),
+            }
+        }
+    }
+}
+
+/// Whether there is a row.
+#[tactic(auto, using(crate::proofs::SubqueryLemmas::subquery_lemmas))]
+pub fn exists_in(listed: &Listed) -> Result<Truth, Stop>
+    ensures gives { Gives result (exists (outcome_of listed.now)) }
+{
+    match listed.fault {
+        Some(fault) => Err(Stop::Fault(fault)),
+        None => {
+            if listed.rows.len() > 0 {
+                Ok(Truth::True)
+            } else {
+                Ok(Truth::False)
+            }
+        }
+    }
+}
+
+/// Whether a value equals the first of one of these rows: the OR of the comparisons.
+fn is_among(x: &Value, rows: &[Row]) -> Truth
+    ensures { result ≡ among x.now (first_column rows.now) }
+{
+    let mut found = Truth::False;
+    for row in rows {
+        match row.get(0) {
+            Some(value) => {
+                found = found.or(compare(CompOp::Equal, x, value));
+            }
+            None => {
+                found = found.or(Truth::Unknown);
+            }
+        }
+    }
+    found
+}
+
+/// Whether a value is among the rows of a subquery.
+#[tactic(auto, using(crate::proofs::SubqueryLemmas::subquery_lemmas))]
+pub fn is_listed(x: &Value, listed: &Listed) -> Result<Truth, Stop>
+    ensures gives { Gives result (among_rows x.now (outcome_of listed.now)) }
+{
+    match listed.fault {
+        Some(fault) => Err(Stop::Fault(fault)),
+        None => Ok(is_among(x, listed.rows.as_slice())),
+    }
+}
+
+/// Whether a value equals one of these: the OR of the comparisons.
+pub fn is_in(x: &Value, values: &[Value]) -> Truth
+    ensures { result ≡ among x.now values.now }
+{
+    let mut found = Truth::False;
+    for value in values {
+        found = found.or(compare(CompOp::Equal, x, value));
+    }
+    found
+}
+
+/// Whether a value is null.
+pub fn null_truth(x: &Value) -> Truth
+    ensures { result ≡ truth_of (is_null x.now) }
+{
+    match x {
+        Value::Null => Truth::True,
+        Value::Int(_) => Truth::False,
+        Value::Text(_) => Truth::False,
+    }
+}

@@ -1,0 +1,6 @@
+//! Work on whole lists of rows: each function gives the list of its definition.
+#![tactic(auto)]
+
+mod sorting;
+
+pub use sorting::{compare_rows, sorted_rows};
