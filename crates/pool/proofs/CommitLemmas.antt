@@ -1,8 +1,8 @@
 -- A commit, and a page that is written.
-use Rattle.std.proofs.Common.{◌≡◌, ◌≢◌, ℕ, ◌<◌, ◌≤◌, ◌+◌, ◌*◌, ◌==◌, true, false, List, [], ◌∷◌, ◌++◌, Option, Some, None, refl, sym, ap, subst, ◌∙◌, arith, length, max, IsSome, Bool, if◌then◌else◌, ◌⊎◌, inl, inr, rules}
+use Rattle.std.proofs.Common.{◌≡◌, ◌≢◌, ℕ, ◌<◌, ◌≤◌, ◌+◌, ◌*◌, ◌==◌, true, false, List, [], ◌∷◌, ◌++◌, Option, Some, None, refl, sym, ap, subst, ◌∙◌, arith, length, max, IsSome, Bool, if◌then◌else◌, ◌⊎◌, inl, inr, rules, ◌||◌}
 use Rattle.std.specs.List.{list_any}
 use Rattle.std.specs.Prelude.{nat_lt}
-use Rattle.std.proofs.lemmas.Bool.{cases_lt}
+use Rattle.std.proofs.lemmas.Bool.{cases_lt, eqb-true}
 use borrow.Author.Tests.{ltb-true}
 use Rattle.pagefile.specs.Pages.{page_of, KeepsOthers, IsWritten}
 use Rattle.pagefile.proofs.PageLemmas.{page_there}
@@ -10,9 +10,9 @@ use Rattle.pool.specs.declared.slot.Newest.{Newest}
 use Rattle.pool.specs.declared.slot.Newest.TheVariants.{InFile, Clean, Dirty}
 use Rattle.pool.specs.declared.slot.Slot.{Slot}
 use Rattle.pool.specs.Pages.{pick, pages_in}
-use Rattle.pool.specs.Slots.{newest_page, seen, slot_at, file_page, newest_at, pages_at, placed, cleaned, Covered}
-use Rattle.pool.specs.Stands.{Stands, StaysAs}
-use Rattle.pool.proofs.SlotLemmas.{lt-true, by_place, same_newest}
+use Rattle.pool.specs.Slots.{newest_page, seen, slot_at, file_page, newest_at, pages_at, placed, cleaned, Covered, IsDirty}
+use Rattle.pool.specs.Stands.{Stands, StaysAs, AreListed}
+use Rattle.pool.proofs.SlotLemmas.{lt-true, by_place, same_newest, stays_same, slot_same}
 
 -- ---- a commit puts pages in place
 
@@ -21,7 +21,6 @@ module _ (file : List ℕ) (began last : ℕ) (slots new_slots : List Slot) (unw
     (images : (n : ℕ) → (slot_at new_slots n).images ≡ (slot_at slots n).images)
     (listed : (n : ℕ) (p : List ℕ) → (slot_at new_slots n).newest ≡ Dirty p → list_any (λ k. k == n) new_unwritten ≡ true)
     (stands : Stands file began last slots unwritten) where
-
   placed_page : (o : Option (List ℕ)) (w : Newest) (stored : Option (List ℕ)) → newest_page (placed o w) stored ≡ pick o (newest_page w stored)
   placed_page (Some p) w stored = refl
   placed_page None w stored = refl
@@ -80,7 +79,6 @@ module _ (file new_file : List ℕ) (began last : ℕ) (slots new_slots : List S
     (images : (m : ℕ) → (slot_at new_slots m).images ≡ (slot_at slots m).images)
     (others : (m : ℕ) → m ≢ n → (slot_at new_slots m).newest ≡ (slot_at slots m).newest)
     (keeps : KeepsOthers n file new_file) (stands : Stands file began last slots unwritten) where
-
   written_newest : (page : List ℕ) → (slot_at slots n).newest ≡ Dirty page → newest_page (slot_at new_slots n).newest (file_page new_file began n) ≡ Some page
       → (m : ℕ) → newest_at new_file began new_slots m ≡ newest_at file began slots m
   written_newest page was now = by_place (λ m. newest_at new_file began new_slots m ≡ newest_at file began slots m) n
@@ -102,7 +100,9 @@ module _ (file new_file : List ℕ) (began last : ℕ) (slots new_slots : List S
   pub is_written : (page : List ℕ) → (slot_at slots n).newest ≡ Dirty page → (slot_at new_slots n).newest ≡ Clean page → page_of new_file n ≡ Some page
       → ((m : ℕ) → m ≢ n → list_any (λ k. k == m) unwritten ≡ true → list_any (λ k. k == m) new_unwritten ≡ true)
       → ((c m : ℕ) → pages_at new_file began new_slots c m ≡ pages_at file began slots c m) × Stands new_file began last new_slots new_unwritten
-  is_written page was now there left = (versions, record {
+  is_written page was now there left = (
+    versions,
+    record {
       size = let longer = keeps.no_shorter in let size = stands.size in omega arith;
       clean = by_place (λ m. (p : List ℕ) → (slot_at new_slots m).newest ≡ Clean p → page_of new_file m ≡ Some p) n
           (λ p is. let e : Clean page ≡ Clean p = sym now ∙ is in let same : page ≡ p = cc in there ∙ ap (λ (q : List ℕ). Some q) same) written_clean;
@@ -112,7 +112,8 @@ module _ (file new_file : List ℕ) (began last : ℕ) (slots new_slots : List S
           (λ m differs p is. left m differs (stands.listed m p (sym (others m differs) ∙ is)));
       later = λ c m less d. ap (λ os. seen c os d) (images m) ∙ stands.later c m less d;
       current = λ m. versions last m ∙ stands.current m ∙ sym (newest m);
-    })
+    },
+  )
     where
       newest : (m : ℕ) → newest_at new_file began new_slots m ≡ newest_at file began slots m
       newest = written_newest page was (ap (λ w. newest_page w (file_page new_file began n)) now)
@@ -123,7 +124,9 @@ module _ (file new_file : List ℕ) (began last : ℕ) (slots new_slots : List S
   -- the device refused, and it is to be written still
   pub is_refused : (page : List ℕ) → (slot_at slots n).newest ≡ Dirty page → (slot_at new_slots n).newest ≡ Dirty page
       → StaysAs began last unwritten file slots new_file new_slots
-  is_refused page was now = record { versions = versions; stands = record {
+  is_refused page was now = record {
+    versions = versions;
+    stands = record {
       size = let longer = keeps.no_shorter in let size = stands.size in omega arith;
       clean = by_place (λ m. (p : List ℕ) → (slot_at new_slots m).newest ≡ Clean p → page_of new_file m ≡ Some p) n
           (λ p is. let e : Dirty page ≡ Clean p = sym now ∙ is in cc) written_clean;
@@ -133,10 +136,84 @@ module _ (file new_file : List ℕ) (began last : ℕ) (slots new_slots : List S
           (λ m differs p is. stands.listed m p (sym (others m differs) ∙ is));
       later = λ c m less d. ap (λ os. seen c os d) (images m) ∙ stands.later c m less d;
       current = λ m. versions last m ∙ stands.current m ∙ sym (newest m);
-    } }
+    };
+  }
     where
       newest : (m : ℕ) → newest_at new_file began new_slots m ≡ newest_at file began slots m
       newest = written_newest page was (ap (λ w. newest_page w (file_page new_file began n)) now)
 
       versions : (c m : ℕ) → pages_at new_file began new_slots c m ≡ pages_at file began slots c m
       versions = same_newest file new_file began slots new_slots images newest
+
+relisted : (file : List ℕ) (began last : ℕ) (slots : List Slot) (unwritten new_unwritten : List ℕ) → Stands file began last slots unwritten → AreListed slots new_unwritten
+    → Stands file began last slots new_unwritten
+relisted file began last slots unwritten new_unwritten stands listed = record {
+  size = stands.size;
+  clean = stands.clean;
+  ends = stands.ends;
+  listed = listed;
+  later = stands.later;
+  current = stands.current;
+}
+
+not_listed : (x n : ℕ) (xs : List ℕ) → n ≢ x → list_any (λ k. k == n) (xs ++ x ∷ []) ≡ true → list_any (λ k. k == n) xs ≡ true
+not_listed x n [] differs h = by (x == n) refl h
+  where
+    by : (b : Bool) → (x == n) ≡ b → (b || false) ≡ true → false ≡ true
+    by true e h = absurd (differs (sym (eqb-true x n e)))
+    by false e h = h
+not_listed x n (y ∷ xs) differs h = go (y == n) (list_any (λ k. k == n) (xs ++ x ∷ [])) (list_any (λ k. k == n) xs) (not_listed x n xs differs) h
+  where
+    go : (b r s : Bool) → (r ≡ true → s ≡ true) → (b || r) ≡ true → (b || s) ≡ true
+    go true r s f h = refl
+    go false r s f h = f h
+
+-- what a write that succeeded leaves: the page was to be written, or it was not
+pub wrote : (file new_file : List ℕ) (began last : ℕ) (slots new_slots : List Slot) (unwritten new_unwritten : List ℕ) (n : ℕ)
+    → ((m : ℕ) → (slot_at new_slots m).images ≡ (slot_at slots m).images)
+    → ((m : ℕ) → m ≢ n → (slot_at new_slots m).newest ≡ (slot_at slots m).newest)
+    → (slot_at new_slots n).newest ≡ cleaned (slot_at slots n).newest
+    → (IsDirty (slot_at slots n).newest → KeepsOthers n file new_file)
+    → ((bytes : List ℕ) → (slot_at slots n).newest ≡ Dirty bytes → page_of new_file n ≡ Some bytes)
+    → ((IsDirty (slot_at slots n).newest → ⊥) → new_file ≡ file)
+    → unwritten ≡ new_unwritten ++ n ∷ []
+    → Stands file began last slots unwritten → StaysAs began last new_unwritten file slots new_file new_slots
+wrote file new_file began last slots new_slots unwritten new_unwritten n images others here keeps there idle list stands = by (slot_at slots n).newest refl
+  where
+    left : (m : ℕ) → m ≢ n → list_any (λ k. k == m) unwritten ≡ true → list_any (λ k. k == m) new_unwritten ≡ true
+    left m differs h = not_listed n m new_unwritten differs (subst (λ (xs : List ℕ). list_any (λ k. k == m) xs ≡ true) list h)
+
+    clean_one : (w : Newest) → ((p : List ℕ) → w ≡ Dirty p → ⊥) → cleaned w ≡ w
+    clean_one InFile not_dirty = refl
+    clean_one (Clean p) not_dirty = refl
+    clean_one (Dirty p) not_dirty = absurd (not_dirty p refl)
+
+    untouched : ((p : List ℕ) → (slot_at slots n).newest ≡ Dirty p → ⊥) → StaysAs began last new_unwritten file slots new_file new_slots
+    untouched not_dirty =
+        let same = stays_same began last unwritten file new_file slots new_slots stands (idle (λ (p, e). not_dirty p e))
+        (λ m. slot_same (slot_at new_slots m) (slot_at slots m) (by_place (λ k. (slot_at new_slots k).newest ≡ (slot_at slots k).newest) n (here ∙ clean_one (slot_at slots n).newest not_dirty) others m) (images m)) in
+        record {
+          versions = same.versions;
+          stands = relisted new_file began last new_slots unwritten new_unwritten same.stands
+              (by_place (λ m. (p : List ℕ) → (slot_at new_slots m).newest ≡ Dirty p → list_any (λ k. k == m) new_unwritten ≡ true) n
+              (λ p e. absurd (not_dirty p (sym (here ∙ clean_one (slot_at slots n).newest not_dirty) ∙ e)))
+              (λ m differs p e. left m differs (stands.listed m p (sym (others m differs) ∙ e))));
+        }
+
+    by : (w : Newest) → (slot_at slots n).newest ≡ w → StaysAs began last new_unwritten file slots new_file new_slots
+    by InFile e = untouched (λ p d. let bad : InFile ≡ Dirty p = sym e ∙ d in cc)
+    by (Clean q) e = untouched (λ p d. let bad : Clean q ≡ Dirty p = sym e ∙ d in cc)
+    by (Dirty q) e =
+        let both = is_written file new_file began last slots new_slots unwritten new_unwritten n images others (keeps (q, e)) stands q e (here ∙ ap cleaned e) (there q e) left in
+        record { versions = both.0; stands = both.1 }
+
+-- what a refused write leaves
+pub not_written : (file new_file : List ℕ) (began last : ℕ) (slots new_slots : List Slot) (unwritten new_unwritten : List ℕ) (n : ℕ)
+    → ((m : ℕ) → (slot_at new_slots m).images ≡ (slot_at slots m).images)
+    → ((m : ℕ) → m ≢ n → (slot_at new_slots m).newest ≡ (slot_at slots m).newest)
+    → (slot_at new_slots n).newest ≡ (slot_at slots n).newest → IsDirty (slot_at slots n).newest
+    → (IsDirty (slot_at slots n).newest → KeepsOthers n file new_file) → new_unwritten ≡ unwritten
+    → Stands file began last slots unwritten → StaysAs began last new_unwritten file slots new_file new_slots
+not_written file new_file began last slots new_slots unwritten new_unwritten n images others here dirty keeps list stands =
+    subst (λ (u : List ℕ). StaysAs began last u file slots new_file new_slots) (sym list)
+    (is_refused file new_file began last slots new_slots unwritten new_unwritten n images others (keeps dirty) stands dirty.0 dirty.1 (here ∙ dirty.1))

@@ -3,3 +3,4 @@ pub mod SlotLemmas
 pub mod CommitLemmas
 pub mod SetLemmas
 pub mod PoolLemmas
+pub mod DropLemmas

@@ -50,13 +50,12 @@ module _ (set rest : List (ℕ × List ℕ)) (slots new_slots : List Slot) (k : 
     (is : set ≡ (k, page) ∷ rest) (gone : pages_in rest k ≡ None)
     (here : slot_at new_slots k ≡ record { newest = Dirty page; images = (slot_at slots k).images })
     (others : (n : ℕ) → n ≢ k → slot_at new_slots n ≡ slot_at slots n) where
-
   pub newest_placed : (n : ℕ) → placed (pages_in rest n) (slot_at new_slots n).newest ≡ placed (pages_in set n) (slot_at slots n).newest
   newest_placed = by_place (λ n. placed (pages_in rest n) (slot_at new_slots n).newest ≡ placed (pages_in set n) (slot_at slots n).newest) k
       (ap (λ o. placed o (slot_at new_slots k).newest) gone ∙ ap (λ (s : Slot). s.newest) here
-        ∙ sym (ap (λ o. placed o (slot_at slots k).newest) (ap (λ es. pages_in es k) is ∙ pages_here k page rest)))
+      ∙ sym (ap (λ o. placed o (slot_at slots k).newest) (ap (λ es. pages_in es k) is ∙ pages_here k page rest)))
       (λ n differs. ap (λ o. placed o (slot_at new_slots n).newest) (sym (ap (λ es. pages_in es n) is ∙ pages_apart n k page rest differs))
-        ∙ ap (λ (s : Slot). placed (pages_in set n) s.newest) (others n differs))
+      ∙ ap (λ (s : Slot). placed (pages_in set n) s.newest) (others n differs))
 
   pub images_placed : (n : ℕ) → (slot_at new_slots n).images ≡ (slot_at slots n).images
   images_placed = by_place (λ n. (slot_at new_slots n).images ≡ (slot_at slots n).images) k (ap (λ (s : Slot). s.images) here) (λ n differs. ap (λ (s : Slot). s.images) (others n differs))

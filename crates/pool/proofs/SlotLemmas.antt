@@ -68,7 +68,6 @@ module _ (file : List ℕ) (began last : ℕ) (slots new_slots : List Slot) (unw
     (here : slot_at new_slots n ≡ record { newest = Clean page; images = (slot_at slots n).images })
     (others : (m : ℕ) → m ≢ n → slot_at new_slots m ≡ slot_at slots m)
     (was : (slot_at slots n).newest ≡ InFile) (below : n < began) (there : page_of file n ≡ Some page) where
-
   loaded_images : (m : ℕ) → (slot_at new_slots m).images ≡ (slot_at slots m).images
   loaded_images = by_place (λ m. (slot_at new_slots m).images ≡ (slot_at slots m).images) n (ap (λ (s : Slot). s.images) here) (λ m differs. ap (λ (s : Slot). s.images) (others m differs))
 
@@ -118,7 +117,6 @@ module _ (file : List ℕ) (began last : ℕ) (slots new_slots : List Slot) (unw
     (here : (slot_at new_slots n).images ≡ (slot_at slots n).images ++ (record { until = last + 1; page = newest_page (slot_at slots n).newest None }) ∷ [])
     (others : (m : ℕ) → m ≢ n → (slot_at new_slots m).images ≡ (slot_at slots m).images)
     (loaded_here : IsLoaded began n slots) where
-
   kept_newest : (m : ℕ) → newest_at file began new_slots m ≡ newest_at file began slots m
   kept_newest m = ap (λ w. newest_page w (file_page file began m)) (newest m)
 
@@ -129,8 +127,8 @@ module _ (file : List ℕ) (began last : ℕ) (slots new_slots : List Slot) (unw
   kept_versions : (c m : ℕ) → pages_at file began new_slots c m ≡ pages_at file began slots c m
   kept_versions c = by_place (λ m. pages_at file began new_slots c m ≡ pages_at file began slots c m) n
       (ap (seen c (slot_at new_slots n).images) (kept_newest n) ∙ ap (λ os. seen c os (newest_at file began slots n)) here
-        ∙ pushed c (slot_at slots n).images (record { until = last + 1; page = newest_page (slot_at slots n).newest None }) (newest_at file began slots n)
-        ∙ ap (seen c (slot_at slots n).images) (choice (nat_lt c (last + 1)) (newest_page (slot_at slots n).newest None) (newest_at file began slots n) (in_memory file began n slots loaded_here)))
+      ∙ pushed c (slot_at slots n).images (record { until = last + 1; page = newest_page (slot_at slots n).newest None }) (newest_at file began slots n)
+      ∙ ap (seen c (slot_at slots n).images) (choice (nat_lt c (last + 1)) (newest_page (slot_at slots n).newest None) (newest_at file began slots n) (in_memory file began n slots loaded_here)))
       (λ m differs. ap (seen c (slot_at new_slots m).images) (kept_newest m) ∙ ap (λ os. seen c os (newest_at file began slots m)) (others m differs))
 
   none_later : (c : ℕ) → last < c → (x d : Option (List ℕ)) → (if nat_lt c (last + 1) then x else d) ≡ d
@@ -146,7 +144,7 @@ module _ (file : List ℕ) (began last : ℕ) (slots new_slots : List Slot) (unw
       listed = λ m p is. stands.listed m p (sym (newest m) ∙ is);
       later = λ c m less d. by_place (λ k. (x : Option (List ℕ)) → seen c (slot_at new_slots k).images x ≡ x) n
           (λ x. ap (λ os. seen c os x) here ∙ pushed c (slot_at slots n).images (record { until = last + 1; page = newest_page (slot_at slots n).newest None }) x
-            ∙ ap (seen c (slot_at slots n).images) (none_later c less (newest_page (slot_at slots n).newest None) x) ∙ stands.later c n less x)
+          ∙ ap (seen c (slot_at slots n).images) (none_later c less (newest_page (slot_at slots n).newest None) x) ∙ stands.later c n less x)
           (λ k differs x. ap (λ os. seen c os x) (others k differs) ∙ stands.later c k less x) m d;
       current = λ m. kept_versions last m ∙ stands.current m ∙ sym (kept_newest m);
     };
@@ -174,7 +172,7 @@ stays_same began last unwritten a b x y stands same slots = subst (λ (f : List 
     versions : (c n : ℕ) → pages_at a began y c n ≡ pages_at a began x c n
     versions c n = ap (λ (s : Slot). seen c s.images (newest_page s.newest (file_page a began n))) (slots n)
 
-slot_same : (a b : Slot) → a.newest ≡ b.newest → a.images ≡ b.images → a ≡ b
+pub slot_same : (a b : Slot) → a.newest ≡ b.newest → a.images ≡ b.images → a ≡ b
 slot_same a b e f = λ i. record { newest = e i; images = f i }
 
 -- the steps of readying a page: room, what the file has of it, and an image

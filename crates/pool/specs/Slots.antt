@@ -1,5 +1,5 @@
 -- What stands in memory of pages, and what a commit's number shows through it.
-use Rattle.std.specs.Prelude.{◌≡◌, ℕ, Bool, nat_lt, List, [], ◌∷◌, Option, None, Some, if◌then◌else◌, slice_index_or}
+use Rattle.std.specs.Prelude.{◌≡◌, ◌<◌, ℕ, Bool, nat_lt, List, [], ◌∷◌, Option, None, Some, if◌then◌else◌, slice_index_or}
 use Rattle.pagefile.specs.Pages.{page_of}
 use Rattle.pool.specs.declared.slot.Newest.{Newest}
 use Rattle.pool.specs.declared.slot.Newest.TheVariants.{InFile, Clean, Dirty}
@@ -53,3 +53,7 @@ Covered c os = (d e : Option (List ℕ)) → seen c os d ≡ seen c os e
 -- it is to be written
 abbrev pub IsDirty : Newest → Type 0
 IsDirty newest = (page : List ℕ) × (newest ≡ Dirty page)
+
+-- no commit after this one reads an image
+abbrev pub ReadsNone : ℕ → List OldImage → Type 0
+ReadsNone last os = (c : ℕ) → last < c → (d : Option (List ℕ)) → seen c os d ≡ d

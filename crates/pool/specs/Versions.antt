@@ -1,5 +1,5 @@
 -- What a pool shows: versions of pages by the numbers of commits.
-use Rattle.std.specs.Prelude.{◌≡◌, ◌⊎◌, ℕ, ◌<◌, List}
+use Rattle.std.specs.Prelude.{◌≡◌, ◌⊎◌, ℕ, ◌<◌, vec_len}
 use Rattle.disk.specs.declared.device.Disk.{Ghosts}
 use Rattle.pagefile.specs.File.{disk_of}
 use Rattle.pool.specs.declared.pool.Pool.{Pool}
@@ -31,6 +31,6 @@ versions_of {D} {device} pool = record {
 abbrev pub device_of : {D : Type 0} {device : Ghosts D} → Pool D device → D
 device_of pool = disk_of pool.file
 
--- the numbers of the pages that were committed and are not written yet
-abbrev pub unwritten_of : {D : Type 0} {device : Ghosts D} → Pool D device → List ℕ
-unwritten_of pool = pool.unwritten.items
+-- how many pages were committed and are not written yet
+abbrev pub unwritten_of : {D : Type 0} {device : Ghosts D} → Pool D device → ℕ
+unwritten_of pool = vec_len pool.unwritten

@@ -12,4 +12,4 @@ mod table;
 
 pub use error::PoolError;
 pub use page_set::PageSet;
-pub use pool::Pool;
+pub use pool::{CloseRefused, Pool};

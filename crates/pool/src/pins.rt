@@ -35,7 +35,13 @@ pub(crate) fn pin_once(pins: &mut Items<Pin>, number: u64) -> Result<(), AllocEr
     match place_of(pins.as_slice(), number) {
         Some((place, more)) => {
             if more < u64::MAX {
-                pins.set(place, Pin { number, more: more + 1 });
+                pins.set(
+                    place,
+                    Pin {
+                        number,
+                        more: more + 1,
+                    },
+                );
                 return Ok(());
             }
             pins.push(Pin { number, more: 0 })
@@ -51,7 +57,13 @@ pub(crate) fn unpin_once(pins: &mut Items<Pin>, number: u64) -> Option<usize>
     match place_of(pins.as_slice(), number) {
         Some((place, more)) => {
             if more > 0 {
-                pins.set(place, Pin { number, more: more - 1 });
+                pins.set(
+                    place,
+                    Pin {
+                        number,
+                        more: more - 1,
+                    },
+                );
                 return None;
             }
             let _ = pins.remove(place);

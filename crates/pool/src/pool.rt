@@ -1,15 +1,20 @@
-ghost use Rattle.std.specs.Prelude.{◌≡◌, ℕ, ◌+◌, ◌*◌, ◌-◌, ◌<◌, ◌≤◌, ◌==◌, ◌^◌, [], List, length, IsTrue, IfOk, IfErr, OnOk, OnErr, if◌then◌else◌};
+ghost use Rattle.std.specs.Prelude.{◌≡◌, ℕ, ◌+◌, ◌*◌, ◌-◌, ◌<◌, ◌≤◌, ◌==◌, ◌^◌, [], List, length, Some, None, IsTrue, IfOk, IfErr, OnOk, OnErr, min, if◌then◌else◌};
 ghost use Rattle.pagefile.specs.File.{disk_of};
 ghost use Rattle.pool.specs.Pins.{pins_at};
 ghost use Rattle.pool.specs.Stands.{Stands};
 
-use crate::pins::{Pin, pin_once};
+use crate::images::{copy_seen, drop_pages};
+use crate::pins::{Pin, pin_once, unpin_once};
 use crate::slot::Slot;
-use crate::PoolError;
+use crate::steps::{fetch, install, prepare, write_last};
+use crate::{PageSet, PoolError};
 use disk::Disk;
 use items::Items;
-use pagefile::PageFile;
+use pagefile::{Page, PageFile};
 use std::alloc::Global;
+
+/// How many pages a step writes.
+const PAGES_A_STEP: u32 = 4;
 
 /// Versions of the pages of a file, by the numbers of commits.
 ///
@@ -31,10 +36,11 @@ pub struct Pool<D: Disk> {
 }
 
 impl<D: Disk> Pool<D> {
-    ghost use Rattle.pool.specs.Pages.{known};
+    ghost use Rattle.pool.specs.Pages.{known, over, pages_in};
     ghost use Rattle.pagefile.specs.Pages.{page_of};
+    ghost use Rattle.disk.specs.Refused.{HasRisen};
     ghost use Rattle.pool.specs.Refused.{IsRefused};
-    ghost use Rattle.pool.specs.Versions.{versions_of, device_of, unwritten_of};
+    ghost use Rattle.pool.specs.Versions.{IsKept, versions_of, device_of, unwritten_of};
 
     /// A pool over a file of this many pages. `frames`, from 16 to 4,096, is how many pages it may keep in memory.
     pub fn new(alloc: Global, file: PageFile<D>, page_count: u32, frames: u32) -> Pool<D>
@@ -44,7 +50,7 @@ impl<D: Disk> Pool<D> {
         ensures last { (versions_of result).last ≡ 0 }
         ensures pages { (versions_of result).pages ≡ (λ c. known D.is_honest (page_of (D.bytes (disk_of file)))) }
         ensures pins { (versions_of result).pins ≡ (λ c. 0) }
-        ensures unwritten { unwritten_of result ≡ [] }
+        ensures unwritten { unwritten_of result ≡ 0 }
         ensures device { device_of result ≡ disk_of file }
     {
         Pool {
@@ -78,4 +84,183 @@ impl<D: Disk> Pool<D> {
         pin_once(&mut self.pins, self.last)?;
         Ok(self.last)
     }
+
+    /// Gives what lies at a page at a commit, where something does. Refuses for want of memory, and
+    /// where the device refuses; `into` then is as it was.
+    pub fn read(&mut self, at: u64, page: u32, into: &mut Page) -> Result<(), PoolError>
+        ensures value { OnOk result ((bytes : List ℕ) → (versions_of self.old).pages at page ≡ Some bytes → into.new ≡ bytes) }
+        ensures left { OnErr result (into.new ≡ into.old) }
+        ensures versions { versions_of self.new ≡ versions_of self.old }
+        ensures unwritten { unwritten_of self.new ≡ unwritten_of self.old }
+        ensures refusal { IfErr result (IsRefused ⊥ ⊥ (D.refused (device_of self.old)) (D.refused (device_of self.new))) }
+        ensures rising { D.refused (device_of self.old) ≤ D.refused (device_of self.new) }
+    {
+        fetch(
+            self.alloc,
+            &mut self.file,
+            &mut self.slots,
+            self.began,
+            page,
+        )?;
+        copy_seen(self.slots.as_slice(), page, at, into);
+        Ok(())
+    }
+
+    /// Makes one commit more, of the pages of a set laid over the last, and empties the set. Refuses
+    /// for want of memory, where the device refuses, and as `Pages` where the numbers of commits have
+    /// come to their end; then all versions and the set are as they were.
+    pub fn commit(&mut self, set: &mut PageSet) -> Result<u64, PoolError>
+        ensures number { IfOk result (λ c. c ≡ (versions_of self.new).last) }
+        ensures last { OnOk result ((versions_of self.new).last ≡ (versions_of self.old).last + 1) }
+        ensures written { OnOk result ((versions_of self.new).pages (versions_of self.new).last ≡ known D.is_honest (over (pages_in set.old) ((versions_of self.old).pages (versions_of self.old).last))) }
+        ensures kept { OnOk result ((c : ℕ) → 0 < (versions_of self.old).pins c → (versions_of self.new).pages c ≡ (versions_of self.old).pages c) }
+        ensures emptied { OnOk result (set.new ≡ []) }
+        ensures pins { (versions_of self.new).pins ≡ (versions_of self.old).pins }
+        ensures refused { OnErr result (versions_of self.new ≡ versions_of self.old) }
+        ensures left { OnErr result (set.new ≡ set.old) }
+        ensures refusal { IfErr result (IsRefused ((versions_of self.old).last ≡ 2 ^ 64 - 1) ⊥ (D.refused (device_of self.old)) (D.refused (device_of self.new))) }
+        ensures rising { D.refused (device_of self.old) ≤ D.refused (device_of self.new) }
+    {
+        if self.last == u64::MAX {
+            return Err(PoolError::Pages);
+        }
+        let numbers = set.numbers(self.alloc)?;
+        self.unwritten.reserve(set.len())?;
+        prepare(
+            self.alloc,
+            &mut self.file,
+            &mut self.slots,
+            self.began,
+            self.pins.as_slice(),
+            &mut self.touched,
+            numbers.as_slice(),
+            self.last,
+        )?;
+        install(&mut self.slots, &mut self.unwritten, set);
+        self.last += 1;
+        Ok(self.last)
+    }
+
+    /// Writes one committed page, if there is one to be written.
+    fn write_one(&mut self) -> Result<(), PoolError>
+        ensures versions { versions_of self.new ≡ versions_of self.old }
+        ensures written { OnOk result (unwritten_of self.new ≡ unwritten_of self.old - 1) }
+        ensures refused { OnErr result (unwritten_of self.new ≡ unwritten_of self.old) }
+        ensures refusal { IfErr result (IsRefused ⊥ ⊥ (D.refused (device_of self.old)) (D.refused (device_of self.new))) }
+        ensures rising { D.refused (device_of self.old) ≤ D.refused (device_of self.new) }
+        ensures synced { D.synced (device_of self.new) ≡ D.synced (device_of self.old) }
+    {
+        write_last(&mut self.file, &mut self.slots, &mut self.unwritten)?;
+        Ok(())
+    }
+
+    /// Takes one pin of a commit away; nothing where it is not pinned. Takes no memory.
+    pub fn unpin(&mut self, number: u64)
+        ensures pins { (c : ℕ) → (versions_of self.new).pins c ≡ (if number == c then (versions_of self.old).pins c - 1 else (versions_of self.old).pins c) }
+        ensures kept { (c : ℕ) → IsKept (versions_of self.new) c → (versions_of self.new).pages c ≡ (versions_of self.old).pages c }
+        ensures last { (versions_of self.new).last ≡ (versions_of self.old).last }
+        ensures unwritten { unwritten_of self.new ≡ unwritten_of self.old }
+        ensures device { device_of self.new ≡ device_of self.old }
+    {
+        if let Some(place) = unpin_once(&mut self.pins, number)
+            && place < self.touched.len()
+        {
+            let pages = self.touched.remove(place);
+            drop_pages(
+                &mut self.slots,
+                self.pins.as_slice(),
+                self.last,
+                pages.as_slice(),
+            );
+        }
+    }
+
+    /// Writes four of the pages that were committed and are not written yet, or all where fewer are
+    /// left, and answers how many are left (2^32 - 1 where there are more). Where the device refuses,
+    /// the page is written again later.
+    pub fn flush_step(&mut self) -> Result<u32, PoolError>
+        ensures left { IfOk result (λ left. left ≡ min (unwritten_of self.new) (2 ^ 32 - 1)) }
+        ensures written { OnOk result (unwritten_of self.new ≡ unwritten_of self.old - 4) }
+        ensures fewer { unwritten_of self.new ≤ unwritten_of self.old }
+        ensures versions { versions_of self.new ≡ versions_of self.old }
+        ensures refusal { IfErr result (IsRefused ⊥ ⊥ (D.refused (device_of self.old)) (D.refused (device_of self.new))) }
+        ensures rising { D.refused (device_of self.old) ≤ D.refused (device_of self.new) }
+    {
+        'written: for _page in 0..PAGES_A_STEP {
+            self.write_one()?;
+        }
+        Ok(self.unwritten.len().min(u32::MAX as usize) as u32)
+    }
+
+    /// Writes all pages that are not written yet.
+    fn write_all(&mut self) -> Result<(), PoolError>
+        ensures versions { versions_of self.new ≡ versions_of self.old }
+        ensures written { OnOk result (unwritten_of self.new ≡ 0) }
+        ensures refusal { IfErr result (IsRefused ⊥ ⊥ (D.refused (device_of self.old)) (D.refused (device_of self.new))) }
+        ensures rising { D.refused (device_of self.old) ≤ D.refused (device_of self.new) }
+        ensures synced { D.synced (device_of self.new) ≡ D.synced (device_of self.old) }
+    {
+        'written: while !self.unwritten.is_empty() {
+            self.write_one()?;
+        }
+        Ok(())
+    }
+
+    /// Waits until all that was written is on the medium.
+    fn sync_file(&mut self) -> Result<(), PoolError>
+        ensures versions { versions_of self.new ≡ versions_of self.old }
+        ensures unwritten { unwritten_of self.new ≡ unwritten_of self.old }
+        ensures refusal { IfErr result (IsRefused ⊥ ⊥ (D.refused (device_of self.old)) (D.refused (device_of self.new))) }
+        ensures synced { OnOk result (HasRisen (D.synced (device_of self.old)) (D.synced (device_of self.new))) }
+    {
+        self.file.sync()?;
+        Ok(())
+    }
+
+    /// Writes all pages that are not written yet, and waits until they are on the medium.
+    fn sync_all(&mut self) -> Result<(), PoolError>
+        ensures versions { versions_of self.new ≡ versions_of self.old }
+        ensures written { OnOk result (unwritten_of self.new ≡ 0) }
+        ensures refusal { IfErr result (IsRefused ⊥ ⊥ (D.refused (device_of self.old)) (D.refused (device_of self.new))) }
+        ensures synced { OnOk result (HasRisen (D.synced (device_of self.old)) (D.synced (device_of self.new))) }
+    {
+        self.write_all()?;
+        self.sync_file()
+    }
+
+    /// Writes all pages that are not written yet, waits until they are on the medium, and hands the
+    /// device back. The file then has the pages of the last commit, and nothing behind the last of
+    /// them. Where the device refuses, the pool comes back with all versions as they were.
+    pub fn close(mut self) -> Result<D, CloseRefused<D>>
+        ensures stored { IfOk result (λ disk. IsTrue D.is_honest → (n : ℕ) (page : List ℕ) → (versions_of self).pages (versions_of self).last n ≡ Some page → page_of (D.bytes disk) n ≡ Some page) }
+        ensures size { IfOk result (λ disk. IsTrue D.is_honest → (m : ℕ) → ((n : ℕ) → m ≤ n → (versions_of self).pages (versions_of self).last n ≡ None) → length (D.bytes disk) ≤ 4096 * m) }
+        ensures synced { IfOk result (λ disk. HasRisen (D.synced (device_of self)) (D.synced disk)) }
+        ensures versions { IfErr result (λ r. versions_of r.pool ≡ versions_of self) }
+        ensures refusal { IfErr result (λ r. IsRefused ⊥ ⊥ (D.refused (device_of self)) (D.refused (device_of r.pool)) r.cause) }
+    {
+        match self.sync_all() {
+            Ok(()) => {
+                let Pool {
+                    alloc: _,
+                    file,
+                    frames: _,
+                    began: _,
+                    last: _,
+                    slots: _,
+                    unwritten: _,
+                    pins: _,
+                    touched: _,
+                } = self;
+                Ok(file.into_disk())
+            }
+            Err(cause) => Err(CloseRefused { pool: self, cause }),
+        }
+    }
+}
+
+/// A pool handed back by a close that was refused, and the cause.
+#[derive(Drop)]
+pub struct CloseRefused<D: Disk> {
+    pub pool: Pool<D>,
+    pub cause: PoolError,
 }

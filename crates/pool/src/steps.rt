@@ -189,6 +189,7 @@ fn write_slot<D: Disk>(file: &mut PageFile<D>, slot: &mut Slot, page: u32) -> Re
     ensures there { OnOk result (IsTrue D.is_honest → (bytes : List ℕ) → slot.old.newest ≡ Newest.Dirty bytes → page_of (D.bytes (disk_of file.new)) page ≡ Some bytes) }
     ensures idle { (IsDirty slot.old.newest → ⊥) → file.new ≡ file.old }
     ensures count { CountsRefusal result (D.refused (disk_of file.old)) (D.refused (disk_of file.new)) }
+    ensures synced { D.synced (disk_of file.new) ≡ D.synced (disk_of file.old) }
 {
     match std::mem::replace(&mut slot.newest, Newest::InFile) {
         Newest::InFile => Ok(()),
@@ -206,5 +207,52 @@ fn write_slot<D: Disk>(file: &mut PageFile<D>, slot: &mut Slot, page: u32) -> Re
                 Err(error)
             }
         },
+    }
+}
+
+/// Writes the page of this number, where it is to be written.
+fn write_at<D: Disk>(
+    file: &mut PageFile<D>,
+    slots: &mut Items<Slot>,
+    page: u32,
+) -> Result<(), DiskError>
+    ensures images { (n : ℕ) → (slot_at slots.new n).images ≡ (slot_at slots.old n).images }
+    ensures newest { (n : ℕ) → n ≢ page → (slot_at slots.new n).newest ≡ (slot_at slots.old n).newest }
+    ensures written { OnOk result ((slot_at slots.new page).newest ≡ cleaned (slot_at slots.old page).newest) }
+    ensures refused { OnErr result (((slot_at slots.new page).newest ≡ (slot_at slots.old page).newest) × IsDirty (slot_at slots.old page).newest) }
+    ensures others { IsTrue D.is_honest → IsDirty (slot_at slots.old page).newest → KeepsOthers page (D.bytes (disk_of file.old)) (D.bytes (disk_of file.new)) }
+    ensures there { OnOk result (IsTrue D.is_honest → (bytes : List ℕ) → (slot_at slots.old page).newest ≡ Newest.Dirty bytes → page_of (D.bytes (disk_of file.new)) page ≡ Some bytes) }
+    ensures idle { (IsDirty (slot_at slots.old page).newest → ⊥) → file.new ≡ file.old }
+    ensures count { CountsRefusal result (D.refused (disk_of file.old)) (D.refused (disk_of file.new)) }
+    ensures synced { D.synced (disk_of file.new) ≡ D.synced (disk_of file.old) }
+{
+    match slots.get_mut(page as usize) {
+        Some(slot) => write_slot(file, slot, page),
+        None => Ok(()),
+    }
+}
+
+/// Writes the last page of the list of those to be written, and takes it off.
+pub(crate) fn write_last<D: Disk>(
+    file: &mut PageFile<D>,
+    slots: &mut Items<Slot>,
+    unwritten: &mut Vec<u32>,
+) -> Result<(), DiskError>
+    ensures same { IsTrue D.is_honest → (began last : ℕ) → Stands (D.bytes (disk_of file.old)) began last slots.old unwritten.old.items
+        → StaysAs began last unwritten.new.items (D.bytes (disk_of file.old)) slots.old (D.bytes (disk_of file.new)) slots.new }
+    ensures left { OnOk result (vec_len unwritten.new ≡ vec_len unwritten.old - 1) }
+    ensures refused { OnErr result (unwritten.new.items ≡ unwritten.old.items) }
+    ensures count { CountsRefusal result (D.refused (disk_of file.old)) (D.refused (disk_of file.new)) }
+    ensures synced { D.synced (disk_of file.new) ≡ D.synced (disk_of file.old) }
+{
+    let Some(page) = unwritten.pop() else {
+        return Ok(());
+    };
+    match write_at(file, slots, page) {
+        Ok(()) => Ok(()),
+        Err(error) => {
+            put_last(unwritten, page);
+            Err(error)
+        }
     }
 }

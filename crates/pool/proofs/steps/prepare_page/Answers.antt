@@ -37,5 +37,5 @@ returns-clause-grows g c = λ n v was.
     let before : Covered v (slot_at c.load.new.slots n).images = subst (λ (os : List OldImage). Covered v os) (ap (λ (s : Slot). s.images) (sym (c.reach.ensures.same n)) ∙ sym (c.load.ensures.images n)) was in
     by_place (λ m. Covered v (slot_at c.load.new.slots m).images → Covered v (slot_at c.keep_at.new.slots m).images) c.args.page
     (λ h. subst (λ (os : List OldImage). Covered v os) (sym c.in_ok-keep_at.ensures.kept)
-        (covered_more v (slot_at c.load.new.slots c.args.page).images (record { until = c.args.last + 1; page = newest_page (slot_at c.load.new.slots c.args.page).newest None }) h))
+    (covered_more v (slot_at c.load.new.slots c.args.page).images (record { until = c.args.last + 1; page = newest_page (slot_at c.load.new.slots c.args.page).newest None }) h))
     (λ m differs h. subst (λ (os : List OldImage). Covered v os) (sym (c.keep_at.ensures.others m differs)) h) n before

@@ -1,0 +1,15 @@
+use Rattle.std.proofs.Common.{sym, ap, ◌∙◌}
+use Rattle.pagefile.specs.File.{disk_of}
+use Rattle.pagefile.specs.declared.file.PageFile.{PageFile}
+use Rattle.pool.proofs.CommitLemmas.{wrote, not_written}
+use Rattle.pool.proofs.steps.write_last.Goals as goal
+
+pub returns-in-Ok-clause-same : goal.returns-in-Ok-clause-same
+returns-in-Ok-clause-same g c = λ honest began last stands.
+    wrote _ _ _ _ _ _ c.args.unwritten.now.items c.pop.new.self.items c.in-Some.page c.write_at.ensures.images c.write_at.ensures.newest c.in-Ok.ensures.written
+    (c.write_at.ensures.others honest) (c.in-Ok.ensures.there honest) (λ none. ap (λ (f : PageFile g.row.D.Denot). g.D.Disk.bytes (disk_of f)) (c.write_at.ensures.idle none)) c.in-Some.ensures.items stands
+
+pub returns-in-Err-clause-same : goal.returns-in-Err-clause-same
+returns-in-Err-clause-same g c = λ honest began last stands.
+    not_written _ _ _ _ _ _ c.args.unwritten.now.items c.put_last.new.list.items c.in-Some.page c.write_at.ensures.images c.write_at.ensures.newest c.in-Err.ensures.refused.0 c.in-Err.ensures.refused.1
+    (c.write_at.ensures.others honest) (c.put_last.ensures.items ∙ sym c.in-Some.ensures.items) stands
