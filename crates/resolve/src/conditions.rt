@@ -11,8 +11,8 @@ use items::Items;
 use refusals::{Reason, Refusal};
 use std::alloc::Global;
 use type_rules::{
-    add_conjunct, add_disjunct, and_of, between, compared, in_list, like, negated, null_test, or_of,
-    tested,
+    add_conjunct, add_disjunct, and_of, between, compared, in_list, like, negated, null_test,
+    or_of, tested,
 };
 use typing::{Condition, Frame};
 
@@ -109,7 +109,13 @@ fn typed_predicate(alloc: Global, frame: &Frame, tree: &Predicate) -> Result<Con
         Predicate::Between(x, is_negated, low, high) => {
             let x = typed_expression(alloc, frame, x);
             let low = typed_expression(alloc, frame, low);
-            between(alloc, *is_negated, x, low, typed_expression(alloc, frame, high))
+            between(
+                alloc,
+                *is_negated,
+                x,
+                low,
+                typed_expression(alloc, frame, high),
+            )
         }
         Predicate::InList(x, is_negated, literals) => {
             let x = typed_expression(alloc, frame, x);
@@ -117,7 +123,12 @@ fn typed_predicate(alloc: Global, frame: &Frame, tree: &Predicate) -> Result<Con
         }
         Predicate::Like(x, is_negated, pattern) => {
             let x = typed_expression(alloc, frame, x);
-            like(alloc, *is_negated, x, typed_expression(alloc, frame, pattern))
+            like(
+                alloc,
+                *is_negated,
+                x,
+                typed_expression(alloc, frame, pattern),
+            )
         }
         Predicate::IsNull(x, is_negated) => {
             null_test(alloc, *is_negated, typed_expression(alloc, frame, x))

@@ -11,6 +11,7 @@ ghost use Rattle.typing.specs.Typing.{expression_part, factor_part, term_part};
 ghost use Rattle.scopes.specs.Seen.{frames};
 ghost use Rattle.type_rules.specs.Selects.{made_select, named, own_place, settled, shown_column};
 
+use crate::functions::is_distinct;
 use ast::{Column, Expression, Factor, Primary, Quantifier, Term};
 use items::{Boxed, Items, Text};
 use refusals::{Limit, Refusal};
@@ -20,8 +21,6 @@ use typing::{
     Condition, Found, Grouping, Groups, Item, Offer, Query, ResultColumn, Select, SetFunction,
     Settled, ShownItem, Source, TypedExpression, TypedQuery,
 };
-
-use crate::functions::is_distinct;
 
 /// The greatest number of columns of a result.
 pub const MAXIMUM_RESULT_COLUMNS: usize = 256;
@@ -234,10 +233,7 @@ fn grouping_of(
     })
 }
 
-fn result_columns(
-    alloc: Global,
-    items: &[ShownItem],
-) -> Result<Items<ResultColumn>, AllocError>
+fn result_columns(alloc: Global, items: &[ShownItem]) -> Result<Items<ResultColumn>, AllocError>
     ensures { IfOk result (λ columns. columns ≡ map column_of items.now) }
 {
     let mut columns = Items::with_capacity(alloc, items.len())?;

@@ -177,7 +177,10 @@ fn product(
     ensures { (p : Finding (TypedFrom × TypedFrom)) → Finds sides p → Finds result (product p) }
 {
     let (left, right) = sides?;
-    let source = Source::Product(Boxed::new(alloc, left.source)?, Boxed::new(alloc, right.source)?);
+    let source = Source::Product(
+        Boxed::new(alloc, left.source)?,
+        Boxed::new(alloc, right.source)?,
+    );
     let frame = side_by_side(left.frame, right.frame)?;
     Ok(TypedFrom { frame, source })
 }

@@ -243,14 +243,14 @@ by name = record { table = None; name = name } ∷ []
 -- SELECT A + COUNT(*), (SELECT MIN(X) FROM S) FROM N GROUP BY A HAVING SUM(B) > COUNT(*): the set functions are numbered in the order of the text, after the key;
 -- MIN stands in a group of its own
 pub set_functions_are_numbered : found_there (select
-      (plus (primary.Column (record { table = None; name = a })) primary.CountRows
-      ∷ of (primary.Subquery (select (of (primary.Aggregate function.Minimum None (column x)) ∷ []) (stored_table s' ∷ []) None [] None)) ∷ [])
-      (stored_table n ∷ []) None (by a) (Some (test (predicate.Compare (sum_of (column b)) written.Greater (of primary.CountRows)))))
+    (plus (primary.Column (record { table = None; name = a })) primary.CountRows
+    ∷ of (primary.Subquery (select (of (primary.Aggregate function.Minimum None (column x)) ∷ []) (stored_table s' ∷ []) None [] None)) ∷ [])
+    (stored_table n ∷ []) None (by a) (Some (test (predicate.Compare (sum_of (column b)) written.Greater (of primary.CountRows)))))
     ≡ Ok (record {
       query = typed
           (shown (e.Calculation (e.Column 0 0) ((op.Add, e.Column 0 1) ∷ [])) None
           ∷ shown (e.Scalar (typed (shown (e.Column 0 0) None ∷ []) (f.Table s') None
-              (Some (roll-Grouping (record { columns = None; functions = s.Over fn.Min false (e.Column 0 1) ∷ []; having = None }))))) None ∷ [])
+          (Some (roll-Grouping (record { columns = None; functions = s.Over fn.Min false (e.Column 0 1) ∷ []; having = None }))))) None ∷ [])
           (f.Table n) None
           (Some (roll-Grouping (record {
             columns = Some (0 ∷ []);
@@ -266,7 +266,7 @@ query_of tree = of (primary.Subquery tree)
 
 -- SELECT (SELECT X FROM S WHERE X = N.A) FROM N: the outer row stands one SELECT outwards
 pub column_of_the_outer_query : found_there (select
-      (query_of (select (column x ∷ []) (stored_table s' ∷ []) (Some (equal (column x) (qualified n a))) [] None) ∷ []) (stored_table n ∷ []) None [] None)
+    (query_of (select (column x ∷ []) (stored_table s' ∷ []) (Some (equal (column x) (qualified n a))) [] None) ∷ []) (stored_table n ∷ []) None [] None)
     ≡ Ok (record {
       query = typed (shown (e.Scalar (typed (shown (e.Column 0 1) (Some x) ∷ []) (f.Table s') (Some (c.Compare compares.Equal (e.Column 0 1) (e.Column 1 0))) None)) None ∷ [])
           (f.Table n) None None;
@@ -276,8 +276,8 @@ column_of_the_outer_query = simp typings_of_conditions
 
 -- SELECT (SELECT (SELECT Y FROM U WHERE Y = B) FROM S) FROM N: two SELECTs outwards
 pub column_two_queries_outwards : found_there (select
-      (query_of (select (query_of (select (column y ∷ []) (stored_table u ∷ []) (Some (equal (column y) (column b))) [] None) ∷ []) (stored_table s' ∷ []) None [] None) ∷ [])
-      (stored_table n ∷ []) None [] None)
+    (query_of (select (query_of (select (column y ∷ []) (stored_table u ∷ []) (Some (equal (column y) (column b))) [] None) ∷ []) (stored_table s' ∷ []) None [] None) ∷ [])
+    (stored_table n ∷ []) None [] None)
     ≡ Ok (record {
       query = typed (shown (e.Scalar (typed (shown (e.Scalar (typed (shown (e.Column 0 0) (Some y) ∷ []) (f.Table u)
           (Some (c.Compare compares.Equal (e.Column 0 0) (e.Column 2 1))) None)) None ∷ []) (f.Table s') None None)) None ∷ []) (f.Table n) None None;
@@ -287,10 +287,10 @@ column_two_queries_outwards = simp typings_of_conditions
 
 -- SELECT D.X FROM N, (SELECT X FROM S) AS D: the columns of a derived table are those of its result
 pub column_of_a_derived_table : found_there (select (qualified d x ∷ [])
-      (stored_table n ∷ roll-TableReference (record {
-        first = source.Derived (select (column x ∷ []) (stored_table s' ∷ []) None [] None) (record { has_as = true; name = d });
-        joins = [];
-      }) ∷ []) None [] None)
+    (stored_table n ∷ roll-TableReference (record {
+      first = source.Derived (select (column x ∷ []) (stored_table s' ∷ []) None [] None) (record { has_as = true; name = d });
+      joins = [];
+    }) ∷ []) None [] None)
     ≡ Ok (record {
       query = typed (shown (e.Column 0 2) (Some x) ∷ []) (f.Product (f.Table n) (f.Derived (typed (shown (e.Column 0 1) (Some x) ∷ []) (f.Table s') None None))) None None;
       columns = result (Some x) Integer ∷ [];
@@ -299,10 +299,10 @@ column_of_a_derived_table = simp typings
 
 -- SELECT B FROM N LEFT JOIN S ON X = B LEFT JOIN U ON Y = X: the first right side has two columns, the second one
 pub left_joins_have_widths : found_there (select (column b ∷ [])
-      (roll-TableReference (record {
-        first = source.Table n None;
-        joins = join.Left false (source.Table s' None) (equal (column x) (column b)) ∷ join.Left true (source.Table u None) (equal (column y) (column x)) ∷ [];
-      }) ∷ []) None [] None)
+    (roll-TableReference (record {
+      first = source.Table n None;
+      joins = join.Left false (source.Table s' None) (equal (column x) (column b)) ∷ join.Left true (source.Table u None) (equal (column y) (column x)) ∷ [];
+    }) ∷ []) None [] None)
     ≡ Ok (record {
       query = typed (shown (e.Column 0 1) (Some b) ∷ [])
           (f.Left (c.Compare compares.Equal (e.Column 0 4) (e.Column 0 3)) (f.Left (c.Compare compares.Equal (e.Column 0 3) (e.Column 0 1)) (f.Table n) (f.Table s') 2) (f.Table u) 1) None None;
@@ -312,7 +312,7 @@ left_joins_have_widths = simp typings_of_conditions
 
 -- SELECT (SELECT X FROM S WHERE X = N.B) FROM N GROUP BY B: a query in a grouped SELECT sees the key, of which B is the first
 pub key_seen_from_a_query : found_there (select
-      (query_of (select (column x ∷ []) (stored_table s' ∷ []) (Some (equal (column x) (qualified n b))) [] None) ∷ []) (stored_table n ∷ []) None (by b) None)
+    (query_of (select (column x ∷ []) (stored_table s' ∷ []) (Some (equal (column x) (qualified n b))) [] None) ∷ []) (stored_table n ∷ []) None (by b) None)
     ≡ Ok (record {
       query = typed (shown (e.Scalar (typed (shown (e.Column 0 1) (Some x) ∷ []) (f.Table s') (Some (c.Compare compares.Equal (e.Column 0 1) (e.Column 1 0))) None)) None ∷ [])
           (f.Table n) None (Some (roll-Grouping (record { columns = Some (1 ∷ []); functions = []; having = None })));
@@ -322,7 +322,7 @@ key_seen_from_a_query = simp typings_of_conditions
 
 -- SELECT B FROM N GROUP BY B HAVING EXISTS (SELECT X FROM S WHERE X = N.A): and no other column
 pub no_other_column_seen_from_a_query : found_there (select (column b ∷ []) (stored_table n ∷ []) None (by b)
-      (Some (test (predicate.Exists (select (column x ∷ []) (stored_table s' ∷ []) (Some (equal (column x) (qualified n a))) [] None)))))
+    (Some (test (predicate.Exists (select (column x ∷ []) (stored_table s' ∷ []) (Some (equal (column x) (qualified n a))) [] None)))))
     ≡ invalid reason.Grouping
 no_other_column_seen_from_a_query = simp typings
 
