@@ -73,7 +73,7 @@ abbrev pub after : {A : Type 0} → List A → Finding (List A) → Finding (Lis
 after found (Ok xs) = Ok (found ++ xs)
 after found (Err reasons) = Err reasons
 
-after-before : {A : Type 0} (found : List A) (x : Finding A) (y : A) (xs : Finding (List A)) → x ≡ Ok y →
+pub after-before : {A : Type 0} (found : List A) (x : Finding A) (y : A) (xs : Finding (List A)) → x ≡ Ok y →
     after found (before x xs) ≡ after (found ++ y ∷ []) xs
 after-before found x y (Ok xs) e = rw e (ap Ok (sym (append_assoc found (y ∷ []) xs)))
 after-before found x y (Err reasons) e = rw e refl
@@ -85,6 +85,11 @@ pub each-next : {X A : Type 0} (f : X → Finding A) (items : List X) (i : ℕ) 
 each-next f items i item found y below is e =
     let split : drop i items ≡ item ∷ drop (suc i) items = drop-cons items i item below ∙ ap (λ x. x ∷ drop (suc i) items) (sym is) in
     rw (split, add-one) (sym (after-before found (f item) y (each (map f (drop (suc i) items))) e))
+
+-- a refusal of what is left is one of the whole
+pub after-refused : {A : Type 0} (r : Refusal) (found : List A) (rest whole : Finding (List A)) → after found rest ≡ whole → Finds {A = List A} (Err r) rest → Finds {A = List A} (Err r) whole
+after-refused r found (Ok xs) whole e h = rw (sym e) (record { ok = tt; err = h.err })
+after-refused r found (Err reasons) whole e h = rw (sym e) (record { ok = tt; err = h.err })
 
 -- nothing is left
 pub each-done : {X A : Type 0} (f : X → Finding A) (items : List X) (i : ℕ) (found : List A) →

@@ -16,6 +16,7 @@ use Rattle.ast.specs.declared.tree.Select.{Select as SelectTree, out-Select as o
 use Rattle.ast.specs.declared.tree.SelectItem.{SelectItem, out-SelectItem}
 use Rattle.typing.specs.declared.scope.Frame.{Frame}
 use Rattle.typing.specs.declared.scope.Offer.{Offer}
+use Rattle.typing.specs.declared.scope.ShownItem.{ShownItem}
 use Rattle.typing.specs.declared.typed.Condition.{Condition}
 use Rattle.typing.specs.declared.typed.Expression.{the_lemmas}
 use Rattle.typing.specs.declared.typed.Select.{out-Select, roll-Select}
@@ -27,7 +28,7 @@ use Rattle.typing.specs.Finds.{Finds}
 use Rattle.typing.specs.Insert.{Target, row_stored, source_found, sources_found, stored_as}
 use Rattle.typing.specs.Known.{Known, nothing_known}
 use Rattle.typing.specs.From.{shown_name}
-use Rattle.typing.specs.Select.{ShownItem, columns_from, limited, typed_item}
+use Rattle.typing.specs.Select.{columns_from, limited, typed_item}
 use Rattle.typing.specs.Scope.{seen_in}
 use Rattle.typing.specs.Table.{at_most, frame_of, table_found}
 use Rattle.typing.proofs.EvaluatedNodes.{column_evaluated, constant_evaluated, query_select_evaluated, select_evaluated_is, table_evaluated}

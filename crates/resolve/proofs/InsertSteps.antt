@@ -33,7 +33,7 @@ use Rattle.typing.specs.Built.{expression_built, rows_built, stored_built}
 use Rattle.resolve.specs.Here.{expression_found}
 use Rattle.resolve.specs.Rows.{rows_in, source_stored, stored_found}
 use Rattle.resolve.proofs.Everywhere.{expressions-same}
-use Rattle.resolve.specs.Parts.{of_type}
+use Rattle.type_rules.specs.Parts.{of_type}
 use Rattle.findings.proofs.FindsLemmas.{after, Finds-then_err, Finds-also_first, Finds-also_second, Finds-each_item, each-next, each-finds, IsReasonOf-left, Finds-before_first, Finds-before_others}
 use Rattle.resolve.proofs.Plain.{left, right}
 

@@ -1,5 +1,4 @@
 pub mod BuiltSteps
-pub mod ColumnNames
 pub mod EvaluatedStatements
 pub mod EvaluatedTrees
 pub mod Fitting
@@ -7,6 +6,7 @@ pub mod ConditionSteps
 pub mod Everywhere
 pub mod InsertSteps
 pub mod Nodes
+pub mod OneFrom
 pub mod Plain
 pub mod Rolled
 pub mod Selects

@@ -154,11 +154,3 @@ module _ (frame : Frame) where
   pub term_product : (tree : Term) → ((out-Term tree).others ≡ [] → ⊥) →
       term_found frame tree ≡ calculation (factor_found frame (out-Term tree).first) (each (map (multiplier frame) (out-Term tree).others))
   term_product tree n = term_is tree ∙ chain-product (factor_found frame (out-Term tree).first) (out-Term tree).others n
-
-  -- the operator of a product, which is always one, beside its operand
-  pub product_operand_is : (other : MultiplyOperator × Factor) → multiplier frame other ≡ also (Ok (product_operator other.0)) (factor_found frame other.1 >>= must_be Integer)
-  product_operand_is other = beside (factor_found frame other.1 >>= must_be Integer)
-    where
-      beside : (found : Finding Typed) → (found >>= (λ x. Ok (product_operator other.0, x))) ≡ also (Ok (product_operator other.0)) found
-      beside (Ok x) = refl
-      beside (Err reasons) = refl

@@ -36,6 +36,7 @@ use Rattle.typing.specs.declared.typed.Source.{Source}
 use Rattle.typing.specs.declared.typed.Source.TheVariants as source
 use Rattle.typing.specs.declared.scope.Frame.{Frame}
 use Rattle.typing.specs.declared.scope.Offer.{Offer}
+use Rattle.typing.specs.declared.scope.ShownItem.{ShownItem}
 use Rattle.typing.specs.declared.scope.TypedQuery.{TypedQuery}
 use Rattle.typing.specs.Finding.{Finding, ◌>>=◌, also, before, each, invalid, exceeded}
 use Rattle.typing.specs.Finds.{Finds}
@@ -44,7 +45,7 @@ use Rattle.typing.specs.Part.{Part, View, Plain, Shown, past, in_turn, functions
 use Rattle.typing.specs.SetFunction.{is_distinct}
 use Rattle.typing.specs.Table.{at_most, frame_of, table_found}
 use Rattle.typing.specs.From.{From, stored_table, shown_name, joined_by, from_of}
-use Rattle.typing.specs.Select.{Clauses, ShownItem, typed_select, clauses_found, columns_from, item_name, limited, named_item, select_list, shown_item, typed_item}
+use Rattle.typing.specs.Select.{Clauses, typed_select, clauses_found, columns_from, item_name, limited, named_item, select_list, shown_item, typed_item}
 use Rattle.typing.specs.Typing.{condition_part, expression_part, item_part, join_part, reference_part, operand_found, query_found, select_found, source_part}
 use Rattle.typing.specs.Built as built
 use Rattle.typing.specs.Built.{references}
@@ -54,12 +55,9 @@ use Rattle.resolve.specs.Here.{condition_found}
 use Rattle.resolve.specs.Select.{column_name, filter_found, item_found, items_found, made_item, made_select, name_of, only_select, query_answered, select_answered, select_in, select_of, select_over, shown_from, stored_select, typed_items}
 use Rattle.resolve.proofs.BuiltSteps.{item_built_is, not-nil, reference_built-table, reference_built-derived, query_built-none, query_built-some, select_built_is}
 use Rattle.resolve.proofs.Everywhere.{expressions-same, conditions-same}
+use Rattle.type_rules.proofs.Stars.{not_within}
 use Rattle.findings.proofs.FindsLemmas.{Finds-then_err, Finds-also_first, Finds-also_second, Finds-exceeded, IsReasonOf-left}
 use Rattle.resolve.proofs.Plain.{Sees, sees-past, left, right}
-
--- a limit that is passed
-pub not_within : (count most : ℕ) → most < count → nat_le count most ≡ false
-not_within count most h = elim (leb_tells count most) [ inl y ↦ absurd (omega (arith, y.1, h)) | inr n ↦ n.0 ]
 
 -- ---- items
 
@@ -116,8 +114,10 @@ module _ (k : Known) where
   }
 
   finish : (C : Clauses) → C.is_distinct ≡ false → (from : Source) (F : Finding (Option Condition)) (G : Finding (List ShownItem)) →
-      ((also {A = Unit {0} × Unit {0}} (Ok (tt, tt)) (also (Ok from) (also F (also (Ok []) (also G (Ok None) >>= (λ p. Ok (record { key = None; items = p.0; having = p.1 })))))) >>= (λ p.
-      Ok (typed_select C (p.1).0 ((p.1).1).0 (((p.1).1).1).0 (((p.1).1).1).1))) >>= (λ q. Ok q.query))
+      ((also {A = Unit {0} × Unit {0}} (Ok (tt, tt)) (also (Ok from)
+      (also F (also (Ok []) (also G (Ok None) >>= (λ p. Ok (record { key = None; items = p.0; having = p.1 })))) >>= (λ p.
+      Ok (record { filter = p.0; functions = (p.1).0; groups = (p.1).1 })))) >>= (λ p.
+      Ok (typed_select C (p.1).0 (p.1).1))) >>= (λ q. Ok q.query))
       ≡ (also F G >>= (λ p. Ok (made_select (map typed_item p.1) from p.0)))
   finish C e from (Ok f) (Ok items) = rw e refl
   finish C e from (Ok f) (Err reasons) = ap Err (append-nil reasons)

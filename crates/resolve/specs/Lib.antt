@@ -2,6 +2,5 @@ pub mod Answer
 pub mod BuiltParts
 pub mod Constraints
 pub mod Here
-pub mod Parts
 pub mod Rows
 pub mod Select

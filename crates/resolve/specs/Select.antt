@@ -5,13 +5,11 @@ use Rattle.ast.specs.declared.operator.Alias.{Alias}
 use Rattle.ast.specs.declared.statement.OrderedQuery.{OrderedQuery as OrderedTree}
 use Rattle.ast.specs.declared.tree.Condition.{Condition as Tree}
 use Rattle.ast.specs.declared.tree.Expression.{Expression}
-use Rattle.ast.specs.declared.tree.Factor.{Factor}
 use Rattle.ast.specs.declared.tree.Operand.{Operand-F, out-Operand}
 use Rattle.ast.specs.declared.tree.Addend.{out-Addend}
 use Rattle.ast.specs.declared.tree.Query.{Query, out-Query}
 use Rattle.ast.specs.declared.tree.Select.{Select, out-Select}
 use Rattle.ast.specs.declared.tree.SelectItem.{SelectItem, out-SelectItem}
-use Rattle.ast.specs.declared.tree.Term.{Term}
 use Rattle.ast.specs.Layers.{OperandLayer}
 use Rattle.typing.specs.declared.typed.Condition.{Condition}
 use Rattle.typing.specs.declared.typed.Item.{Item}
@@ -23,14 +21,15 @@ use Rattle.typing.specs.declared.typed.Source.{Source}
 use Rattle.typing.specs.declared.typed.Source.TheVariants as source
 use Rattle.typing.specs.declared.scope.Frame.{Frame}
 use Rattle.typing.specs.declared.scope.Offer.{Offer}
+use Rattle.typing.specs.declared.scope.ShownItem.{ShownItem}
 use Rattle.typing.specs.Finding.{Finding, ◌>>=◌, also, exceeded}
 use Rattle.typing.specs.Known.{Known, nothing_known}
 use Rattle.typing.specs.Scope.{column_at}
 use Rattle.typing.specs.From.{shown_name}
-use Rattle.typing.specs.Select.{ShownItem, shown_item, item_name, columns_from, limited, typed_item}
+use Rattle.typing.specs.Select.{shown_item, item_name, columns_from, limited, typed_item}
 use Rattle.typing.specs.Table.{frame_of, table_found}
 use Rattle.typing.specs.Order.{ordered_found}
-use Rattle.typing.specs.Typing.{expression_part, term_part, factor_part, select_found}
+use Rattle.typing.specs.Typing.{expression_part, select_found}
 use Rattle.typing.specs.Built.{is_nil, references}
 use Rattle.resolve.specs.Here.{expression_found, condition_found}
 
@@ -50,12 +49,6 @@ only_select tree =
 -- the name of the column that an expression is, where it is one alone
 abbrev pub column_name : Expression → Option (List ℕ)
 column_name tree = (expression_part nothing_known tree).name
-
-abbrev pub term_column : Term → Option (List ℕ)
-term_column tree = (term_part nothing_known tree).name
-
-abbrev pub factor_column : Factor → Option (List ℕ)
-factor_column tree = (factor_part nothing_known tree).name
 
 abbrev pub name_of : SelectItem → Option (List ℕ)
 name_of tree = item_name (out-SelectItem tree).alias (column_name (out-SelectItem tree).value)

@@ -1,20 +1,20 @@
 //! The types of conditions.
 
-ghost use Rattle.std.specs.Prelude.{◌≡◌, ◌∷◌, ◌++◌, map, None, Ok, OnOk};
-ghost use Rattle.typing.specs.Condition.{and_of, between, compared, conjunction, conjuncts, disjunction, disjuncts, in_list, like, literal_of, negated, null_test, operator_of, or_of, tested, truth_asked};
-ghost use Rattle.typing.specs.Finding.{each};
+ghost use Rattle.std.specs.Prelude.{◌≡◌, ◌∷◌, map, None, Ok};
+ghost use Rattle.typing.specs.Condition.{conjunction, disjunction};
 ghost use Rattle.typing.specs.Finds.{Finds};
-ghost use Rattle.resolve.specs.Here.{condition_found, conjunction_found, expression_found, negation_found, predicate_found, test_found};
-ghost use Rattle.resolve.specs.Parts.{of_type};
+ghost use Rattle.resolve.specs.Here.{condition_found, conjunction_found, negation_found, predicate_found, test_found};
 
-use crate::expressions::{of_type, typed_expression, with_sign};
-use findings::{both, boxed};
-use ast::{Comparison, Conjunction, Literal, Negation, Predicate, Test, TruthTest, TruthValue};
-use items::{Boxed, Items};
+use crate::expressions::typed_expression;
+use ast::{Conjunction, Negation, Predicate, Test};
+use items::Items;
 use refusals::{Reason, Refusal};
-use sqlval::{CompOp, Truth, Value, ValueType};
-use std::alloc::{AllocError, Global};
-use typing::{Condition, Expression, Frame};
+use std::alloc::Global;
+use type_rules::{
+    add_conjunct, add_disjunct, and_of, between, compared, in_list, like, negated, null_test,
+    or_of, tested,
+};
+use typing::{Condition, Frame};
 
 /// What a condition without queries and set functions stands for in one FROM.
 #[cycle(conditions)]
@@ -102,230 +102,38 @@ fn typed_predicate(alloc: Global, frame: &Frame, tree: &Predicate) -> Result<Con
 {
     match tree {
         Predicate::Nested(inner) => typed_condition(alloc, frame, inner.get()),
-        Predicate::Compare(x, operator, y) => compared(alloc, frame, x, *operator, y),
+        Predicate::Compare(x, operator, y) => {
+            let x = typed_expression(alloc, frame, x);
+            compared(alloc, *operator, x, typed_expression(alloc, frame, y))
+        }
         Predicate::Between(x, is_negated, low, high) => {
-            between(alloc, frame, x, *is_negated, low, high)
+            let x = typed_expression(alloc, frame, x);
+            let low = typed_expression(alloc, frame, low);
+            between(
+                alloc,
+                *is_negated,
+                x,
+                low,
+                typed_expression(alloc, frame, high),
+            )
         }
         Predicate::InList(x, is_negated, literals) => {
-            in_list(alloc, frame, x, *is_negated, literals.as_slice())
+            let x = typed_expression(alloc, frame, x);
+            in_list(alloc, *is_negated, x, literals.as_slice())
         }
-        Predicate::Like(x, is_negated, pattern) => like(alloc, frame, x, *is_negated, pattern),
-        Predicate::IsNull(x, is_negated) => null_test(alloc, frame, x, *is_negated),
+        Predicate::Like(x, is_negated, pattern) => {
+            let x = typed_expression(alloc, frame, x);
+            like(
+                alloc,
+                *is_negated,
+                x,
+                typed_expression(alloc, frame, pattern),
+            )
+        }
+        Predicate::IsNull(x, is_negated) => {
+            null_test(alloc, *is_negated, typed_expression(alloc, frame, x))
+        }
         Predicate::InQuery(_, _, _) => Err(Refusal::Invalid(Reason::Check)),
         Predicate::Exists(_) => Err(Refusal::Invalid(Reason::Check)),
-    }
-}
-
-fn compared(
-    alloc: Global,
-    frame: &Frame,
-    x: &ast::Expression,
-    operator: Comparison,
-    y: &ast::Expression,
-) -> Result<Condition, Refusal>
-    requires ungrouped { frame.now.key ≡ None }
-    ensures { Finds result (compared operator (expression_found frame.now x.now) (expression_found frame.now y.now)) }
-{
-    let typed = typed_expression(alloc, frame, x)?;
-    let y = typed_operand(alloc, frame, y, typed.value_type);
-    let (x, y) = both(boxed(alloc, Ok(typed.expression)), y)?;
-    Ok(Condition::Compare(operator_of(operator), x, y))
-}
-
-fn between(
-    alloc: Global,
-    frame: &Frame,
-    x: &ast::Expression,
-    is_negated: bool,
-    low: &ast::Expression,
-    high: &ast::Expression,
-) -> Result<Condition, Refusal>
-    requires ungrouped { frame.now.key ≡ None }
-    ensures { Finds result (between is_negated (expression_found frame.now x.now) (expression_found frame.now low.now) (expression_found frame.now high.now)) }
-{
-    let typed = typed_expression(alloc, frame, x)?;
-    let low = typed_operand(alloc, frame, low, typed.value_type);
-    let high = typed_operand(alloc, frame, high, typed.value_type);
-    let (x, (low, high)) = both(boxed(alloc, Ok(typed.expression)), both(low, high))?;
-    negated(alloc, is_negated, Condition::Between(x, low, high))
-}
-
-fn in_list(
-    alloc: Global,
-    frame: &Frame,
-    x: &ast::Expression,
-    is_negated: bool,
-    literals: &[Literal],
-) -> Result<Condition, Refusal>
-    requires ungrouped { frame.now.key ≡ None }
-    ensures { Finds result (in_list is_negated (expression_found frame.now x.now) literals.now) }
-{
-    let typed = typed_expression(alloc, frame, x)?;
-    let values = literals_of(alloc, typed.value_type, literals);
-    let (x, values) = both(boxed(alloc, Ok(typed.expression)), values)?;
-    negated(alloc, is_negated, Condition::InList(x, values))
-}
-
-fn like(
-    alloc: Global,
-    frame: &Frame,
-    x: &ast::Expression,
-    is_negated: bool,
-    pattern: &ast::Expression,
-) -> Result<Condition, Refusal>
-    requires ungrouped { frame.now.key ≡ None }
-    ensures { Finds result (like is_negated (expression_found frame.now x.now) (expression_found frame.now pattern.now)) }
-{
-    let x = typed_operand(alloc, frame, x, ValueType::Text);
-    let pattern = typed_operand(alloc, frame, pattern, ValueType::Text);
-    let (x, pattern) = both(x, pattern)?;
-    negated(alloc, is_negated, Condition::Like(x, pattern))
-}
-
-fn null_test(
-    alloc: Global,
-    frame: &Frame,
-    x: &ast::Expression,
-    is_negated: bool,
-) -> Result<Condition, Refusal>
-    requires ungrouped { frame.now.key ≡ None }
-    ensures { Finds result (null_test is_negated (expression_found frame.now x.now)) }
-{
-    let typed = typed_expression(alloc, frame, x)?;
-    let condition = Condition::IsNull(Boxed::new(alloc, typed.expression)?);
-    negated(alloc, is_negated, condition)
-}
-
-/// An operand of the type asked for.
-fn typed_operand(
-    alloc: Global,
-    frame: &Frame,
-    tree: &ast::Expression,
-    wanted: ValueType,
-) -> Result<Boxed<Expression>, Refusal>
-    requires ungrouped { frame.now.key ≡ None }
-    ensures { Finds result (of_type wanted (expression_found frame.now tree.now)) }
-{
-    boxed(alloc, of_type(typed_expression(alloc, frame, tree), wanted))
-}
-
-/// Literals, all of the type asked for.
-fn literals_of(
-    alloc: Global,
-    wanted: ValueType,
-    literals: &[Literal],
-) -> Result<Items<Value>, Refusal>
-    ensures { Finds result (each (map (literal_of wanted) literals.now)) }
-{
-    let mut values = Items::new(alloc);
-    for literal in literals {
-        values.push(literal_of(alloc, wanted, literal)?)?;
-    }
-    Ok(values)
-}
-
-/// A literal of the type asked for.
-fn literal_of(alloc: Global, wanted: ValueType, literal: &Literal) -> Result<Value, Refusal>
-    ensures { Finds result (literal_of wanted literal.now) }
-{
-    match (wanted, literal) {
-        (ValueType::Integer, Literal::Number(sign, number)) => with_sign(*sign, *number),
-        (ValueType::Text, Literal::Text(text)) => Ok(Value::Text(text.copy(alloc)?)),
-        _ => Err(Refusal::Invalid(Reason::DataType)),
-    }
-}
-
-/// Parentheses round an OR inside an OR change nothing: its parts are disjuncts of the whole.
-fn add_disjunct(operands: &mut Items<Condition>, condition: Condition) -> Result<(), AllocError>
-    ensures { OnOk result (operands.new ≡ operands.old ++ disjuncts condition) }
-{
-    match condition {
-        Condition::Or(parts) => operands.append(parts),
-        other => operands.push(other),
-    }
-}
-
-fn add_conjunct(operands: &mut Items<Condition>, condition: Condition) -> Result<(), AllocError>
-    ensures { OnOk result (operands.new ≡ operands.old ++ conjuncts condition) }
-{
-    match condition {
-        Condition::And(parts) => operands.append(parts),
-        other => operands.push(other),
-    }
-}
-
-fn or_of(operands: Items<Condition>) -> Condition
-    ensures { result ≡ or_of operands }
-{
-    let mut operands = operands;
-    if operands.len() == 1 {
-        if let Some(only) = operands.pop() {
-            return only;
-        }
-    }
-    Condition::Or(operands)
-}
-
-fn and_of(operands: Items<Condition>) -> Condition
-    ensures { result ≡ and_of operands }
-{
-    let mut operands = operands;
-    if operands.len() == 1 {
-        if let Some(only) = operands.pop() {
-            return only;
-        }
-    }
-    Condition::And(operands)
-}
-
-/// NOT, where it is written.
-fn negated(alloc: Global, is_negated: bool, condition: Condition) -> Result<Condition, Refusal>
-    ensures { Finds result (Ok (negated is_negated condition)) }
-{
-    if is_negated {
-        Ok(Condition::Not(Boxed::new(alloc, condition)?))
-    } else {
-        Ok(condition)
-    }
-}
-
-/// IS [NOT] and a truth value, where it is written.
-fn tested(
-    alloc: Global,
-    test: Option<TruthTest>,
-    condition: Condition,
-) -> Result<Condition, Refusal>
-    ensures { Finds result (Ok (tested test condition)) }
-{
-    match test {
-        None => Ok(condition),
-        Some(test) => {
-            let condition = Boxed::new(alloc, condition)?;
-            let condition = Condition::IsTruth(condition, truth_asked(test.value));
-            negated(alloc, test.is_negated, condition)
-        }
-    }
-}
-
-fn truth_asked(value: TruthValue) -> Truth
-    ensures { result ≡ truth_asked value }
-{
-    match value {
-        TruthValue::True => Truth::True,
-        TruthValue::False => Truth::False,
-        TruthValue::Unknown => Truth::Unknown,
-    }
-}
-
-fn operator_of(operator: Comparison) -> CompOp
-    ensures { result ≡ operator_of operator }
-{
-    match operator {
-        Comparison::Equal => CompOp::Equal,
-        Comparison::NotEqual => CompOp::NotEqual,
-        Comparison::Less => CompOp::Less,
-        Comparison::Greater => CompOp::Greater,
-        Comparison::LessOrEqual => CompOp::LessOrEqual,
-        Comparison::GreaterOrEqual => CompOp::GreaterOrEqual,
     }
 }

@@ -1,20 +1,20 @@
 //! The types of expressions.
 
-ghost use Rattle.std.specs.Prelude.{◌≡◌, List, map, None, Ok};
+ghost use Rattle.std.specs.Prelude.{◌≡◌, map, None};
+ghost use Rattle.typing.specs.Expression.{calculation, concatenation};
 ghost use Rattle.typing.specs.Finding.{Finding, each};
 ghost use Rattle.typing.specs.Finds.{Finds};
-ghost use Rattle.typing.specs.Expression.{calculation, concatenation, leading_operator, must_concatenate, product_operator, signed_number, sum_operator, text};
 ghost use Rattle.resolve.specs.Here.{expression_found, factor_found, joined_text, multiplier, primary_found, summand, term_found};
-ghost use Rattle.resolve.specs.Parts.{after_sign, calculation_of, concatenation_of, number_of, of_type};
 
-use findings::{both, boxed, second};
 use crate::scope::column;
 use ast::{AddOperator, Factor, MultiplyOperator, Primary, Sign, Term};
-use items::{Boxed, Items, Text};
-use lexer::Number;
+use items::Items;
 use refusals::{Reason, Refusal};
-use sqlval::{Value, ValueType, negate};
 use std::alloc::Global;
+use type_rules::{
+    after_sign, calculation, concatenation, first_operator, number_constant, text_constant,
+    with_sign,
+};
 use typing::{Arithmetic, Expression, Frame, TypedExpression};
 
 /// What an expression without queries and set functions stands for in one FROM.
@@ -48,8 +48,7 @@ fn typed_sum(
     requires ungrouped { frame.now.key ≡ None }
     ensures { (x : Finding TypedExpression) → Finds first x → Finds result (calculation x (each (map (summand frame.now) others.now))) }
 {
-    let first = boxed(alloc, of_type(first, ValueType::Integer));
-    calculated(both(first, summands(alloc, frame, others)))
+    calculation(alloc, first, summands(alloc, frame, others))
 }
 
 #[cycle(expressions)]
@@ -78,8 +77,7 @@ fn summand(
     requires ungrouped { frame.now.key ≡ None }
     ensures { Finds result (summand frame.now (operator, term.now)) }
 {
-    let operand = of_type(typed_term(alloc, frame, term), ValueType::Integer);
-    both(operator_in_sum(operator), operand)
+    type_rules::summand(operator, typed_term(alloc, frame, term))
 }
 
 #[cycle(expressions)]
@@ -92,8 +90,7 @@ fn typed_concatenation(
     requires ungrouped { frame.now.key ≡ None }
     ensures { (x : Finding TypedExpression) → Finds first x → Finds result (concatenation x (each (map (joined_text frame.now) others.now))) }
 {
-    let first = boxed(alloc, of_type(first, ValueType::Text));
-    concatenated(both(first, joined_texts(alloc, frame, others)))
+    concatenation(alloc, first, joined_texts(alloc, frame, others))
 }
 
 #[cycle(expressions)]
@@ -122,8 +119,7 @@ fn joined_text(
     requires ungrouped { frame.now.key ≡ None }
     ensures { Finds result (joined_text frame.now (operator, term.now)) }
 {
-    let operand = of_type(typed_term(alloc, frame, term), ValueType::Text);
-    second(both(only_concatenation(operator), operand))
+    type_rules::joined_text(operator, typed_term(alloc, frame, term))
 }
 
 #[cycle(expressions)]
@@ -148,8 +144,7 @@ fn typed_product(
     requires ungrouped { frame.now.key ≡ None }
     ensures { (x : Finding TypedExpression) → Finds first x → Finds result (calculation x (each (map (multiplier frame.now) others.now))) }
 {
-    let first = boxed(alloc, of_type(first, ValueType::Integer));
-    calculated(both(first, multipliers(alloc, frame, others)))
+    calculation(alloc, first, multipliers(alloc, frame, others))
 }
 
 #[cycle(expressions)]
@@ -178,8 +173,7 @@ fn multiplier(
     requires ungrouped { frame.now.key ≡ None }
     ensures { Finds result (multiplier frame.now (operator, factor.now)) }
 {
-    let operand = of_type(typed_factor(alloc, frame, factor), ValueType::Integer);
-    both(Ok(operator_in_product(operator)), operand)
+    type_rules::multiplier(operator, typed_factor(alloc, frame, factor))
 }
 
 #[cycle(expressions)]
@@ -210,140 +204,5 @@ fn typed_primary(
         Primary::CountRows => Err(Refusal::Invalid(Reason::Check)),
         Primary::Aggregate(_, _, _) => Err(Refusal::Invalid(Reason::Check)),
         Primary::Subquery(_) => Err(Refusal::Invalid(Reason::Check)),
-    }
-}
-
-/// The expression, if its type is the one asked for.
-#[tactic(auto, using(crate::proofs::FindsLemmas::part_steps))]
-pub fn of_type(
-    typed: Result<TypedExpression, Refusal>,
-    wanted: ValueType,
-) -> Result<Expression, Refusal>
-    ensures { (x : Finding TypedExpression) → Finds typed x → Finds result (of_type wanted x) }
-{
-    let typed = typed?;
-    if typed.value_type != wanted {
-        return Err(Refusal::Invalid(Reason::DataType));
-    }
-    Ok(typed.expression)
-}
-
-#[tactic(auto, using(crate::proofs::FindsLemmas::part_steps))]
-fn number_constant(number: Result<Value, Refusal>) -> Result<TypedExpression, Refusal>
-    ensures { (x : Finding Value) → Finds number x → Finds result (number_of x) }
-{
-    Ok(TypedExpression {
-        expression: Expression::Constant(number?),
-        value_type: ValueType::Integer,
-    })
-}
-
-fn text_constant(alloc: Global, codes: &Text) -> Result<TypedExpression, Refusal>
-    ensures { Finds result (Ok (text (Expression.Constant (Value.Text codes.now)))) }
-{
-    Ok(TypedExpression {
-        expression: Expression::Constant(Value::Text(codes.copy(alloc)?)),
-        value_type: ValueType::Text,
-    })
-}
-
-/// A number with the sign directly before it.
-pub fn with_sign(sign: Option<Sign>, number: Number) -> Result<Value, Refusal>
-    ensures { Finds result (signed_number sign number) }
-{
-    match sign {
-        Some(Sign::Minus) => match negate(&Value::Int(number.value())) {
-            Ok(value) => Ok(value),
-            Err(_) => Err(Refusal::Invalid(Reason::Number)),
-        },
-        _ => Ok(Value::Int(number.value())),
-    }
-}
-
-#[tactic(auto, using(crate::proofs::FindsLemmas::part_steps))]
-fn after_sign(
-    alloc: Global,
-    sign: Option<Sign>,
-    typed: Result<TypedExpression, Refusal>,
-) -> Result<TypedExpression, Refusal>
-    ensures { (x : Finding TypedExpression) → Finds typed x → Finds result (after_sign sign x) }
-{
-    match sign {
-        None => typed,
-        Some(Sign::Plus) => Ok(TypedExpression {
-            expression: of_type(typed, ValueType::Integer)?,
-            value_type: ValueType::Integer,
-        }),
-        Some(Sign::Minus) => {
-            let operand = boxed(alloc, of_type(typed, ValueType::Integer))?;
-            Ok(TypedExpression {
-                expression: Expression::Negation(operand),
-                value_type: ValueType::Integer,
-            })
-        }
-    }
-}
-
-#[tactic(auto, using(crate::proofs::FindsLemmas::part_steps))]
-fn calculated(
-    parts: Result<(Boxed<Expression>, Items<(Arithmetic, Expression)>), Refusal>,
-) -> Result<TypedExpression, Refusal>
-    ensures { (x : Finding (Expression × List (Arithmetic × Expression))) → Finds parts x → Finds result (calculation_of x) }
-{
-    let (first, operands) = parts?;
-    Ok(TypedExpression {
-        expression: Expression::Calculation(first, operands),
-        value_type: ValueType::Integer,
-    })
-}
-
-#[tactic(auto, using(crate::proofs::FindsLemmas::part_steps))]
-fn concatenated(
-    parts: Result<(Boxed<Expression>, Items<Expression>), Refusal>,
-) -> Result<TypedExpression, Refusal>
-    ensures { (x : Finding (Expression × List Expression)) → Finds parts x → Finds result (concatenation_of x) }
-{
-    let (first, operands) = parts?;
-    Ok(TypedExpression {
-        expression: Expression::Concatenation(first, operands),
-        value_type: ValueType::Text,
-    })
-}
-
-fn operator_in_sum(operator: AddOperator) -> Result<Arithmetic, Refusal>
-    ensures { Finds result (sum_operator operator) }
-{
-    match operator {
-        AddOperator::Plus => Ok(Arithmetic::Add),
-        AddOperator::Minus => Ok(Arithmetic::Subtract),
-        AddOperator::Concatenate => Err(Refusal::Invalid(Reason::DataType)),
-    }
-}
-
-/// The operator of a chain that says whether it is a sum or a concatenation; `None` where there is no chain.
-fn first_operator(others: &[(AddOperator, Term)]) -> Option<AddOperator>
-    ensures { result ≡ leading_operator others.now }
-{
-    match others.first() {
-        Some((operator, _)) => Some(*operator),
-        None => None,
-    }
-}
-
-fn only_concatenation(operator: AddOperator) -> Result<AddOperator, Refusal>
-    ensures { Finds result (must_concatenate operator) }
-{
-    match operator {
-        AddOperator::Concatenate => Ok(operator),
-        _ => Err(Refusal::Invalid(Reason::DataType)),
-    }
-}
-
-fn operator_in_product(operator: MultiplyOperator) -> Arithmetic
-    ensures { result ≡ product_operator operator }
-{
-    match operator {
-        MultiplyOperator::Times => Arithmetic::Multiply,
-        MultiplyOperator::Divide => Arithmetic::Divide,
     }
 }

@@ -11,16 +11,16 @@ ghost use Rattle.typing.specs.Known.{known, nothing_known};
 ghost use Rattle.typing.specs.Table.{are_distinct};
 ghost use Rattle.resolve.specs.Rows.{rows_in, source_stored, stored_found};
 
-use crate::expressions::{of_type, typed_expression};
-use scopes::are_distinct;
-use findings::both;
-use crate::queries::{table_named, value_type_of};
+use crate::expressions::typed_expression;
 use ast::{InsertRows, StoredSource};
+use findings::both;
 use items::{Items, Text};
 use lexer::Name;
 use refusals::{Reason, Refusal};
+use scopes::are_distinct;
 use sqlval::{Column, Schema, Table, Value, ValueType};
 use std::alloc::{AllocError, Global};
+use type_rules::{of_type, table_named, value_type_of};
 use typing::{Expression, Frame, Insert, InsertSource};
 
 /// What an INSERT stands for over a schema.

@@ -1,37 +1,35 @@
 //! The columns and types of queries.
 
-ghost use Rattle.std.specs.Prelude.{◌≡◌, [], ◌∷◌, ◌&&◌, true, List, Option, None, Ok, map, IfOk, IfErr};
+ghost use Rattle.std.specs.Prelude.{◌≡◌, ◌&&◌, true, List, Option, None, map, IfOk};
 ghost use Rattle.std.specs.Option.{option_copied};
 ghost use Rattle.typing.specs.Built.{ordered_built};
 ghost use Rattle.typing.specs.Evaluated.{ordered_evaluated, query_evaluated};
-ghost use Rattle.typing.specs.Finding.{Finding, each, reasons_in};
-ghost use Rattle.typing.specs.Finds.{Finds, IsReasonOf};
-ghost use Rattle.typing.specs.From.{shown_name};
-ghost use Rattle.typing.specs.Known.{known, known_table};
+ghost use Rattle.typing.specs.Finding.{Finding, each};
+ghost use Rattle.typing.specs.Finds.{Finds};
+ghost use Rattle.typing.specs.Known.{known};
 ghost use Rattle.typing.specs.Scope.{column_at};
 ghost use Rattle.typing.specs.Select.{columns_from, limited, shown_item, typed_item};
-ghost use Rattle.typing.specs.Table.{frame_of, offer_of, table_found, type_in};
 ghost use Rattle.resolve.specs.BuiltParts.{select_built};
-ghost use Rattle.resolve.specs.Select.{column_name, factor_column, filter_found, item_found, items_found, made_item, name_of, only_select, query_answered, select_answered, select_of, select_over, shown_from, stored_select, term_column, typed_items};
+ghost use Rattle.resolve.specs.Select.{filter_found, item_found, items_found, made_item, name_of, only_select, query_answered, select_answered, select_of, select_over, shown_from, stored_select, typed_items};
 
 use crate::conditions::typed_condition;
 use crate::expressions::typed_expression;
+use ast::{Addend, Alias, Operand, SelectItem, TableSource};
 use findings::both;
-use ast::{Addend, Alias, Factor, Operand, Primary, SelectItem, TableSource, Term};
 use items::{Boxed, Items, Text};
 use lexer::Name;
 use refusals::{Limit, Reason, Refusal};
-use sqlval::{Column, ColumnType, Schema, Table, ValueType};
+use sqlval::Schema;
 use std::alloc::{AllocError, Global};
+use type_rules::{
+    MAXIMUM_RESULT_COLUMNS, column_name, copied_name, frame_of, shown_name, table_named,
+};
 use typing::{
     Condition, Expression, Frame, Item, Offer, OrderedQuery, Query, Select, Source, TypedExpression,
 };
 
 /// The greatest number of tables in one FROM, until joins are built.
 const MAXIMUM_TABLES: usize = 1;
-
-/// The greatest number of columns of a result.
-const MAXIMUM_RESULT_COLUMNS: usize = 256;
 
 /// What a query stands for over a schema.
 #[tactic(auto, using(crate::proofs::Selects::query_steps))]
@@ -105,81 +103,6 @@ fn select_from(
     select_over(alloc, &frame, from, tree)
 }
 
-/// The name that a table has in a FROM.
-fn shown_name<'a>(name: &'a Name, alias: &'a Option<Alias>) -> &'a Text
-    ensures { result.now ≡ shown_name name.now alias.now }
-{
-    match alias {
-        Some(alias) => alias.name.as_text(),
-        None => name.as_text(),
-    }
-}
-
-/// The stored table of a name.
-pub fn table_named<'a>(schema: &'a Schema, name: &Text) -> Result<&'a Table, Refusal>
-    ensures ok { IfOk result (λ table. table_found (known schema.now) name.now ≡ Ok (known_table table.now)) }
-    ensures err { IfErr result (IsReasonOf (reasons_in (table_found (known schema.now) name.now))) }
-{
-    let Some(place) = schema.find_table(name.as_slice()) else {
-        return Err(Refusal::Invalid(Reason::Name));
-    };
-    match schema.tables.get(place) {
-        Some(table) => Ok(table),
-        None => Err(Refusal::Invalid(Reason::Name)),
-    }
-}
-
-/// What a FROM of one stored table offers under the name that the table has there.
-pub fn frame_of(alloc: Global, shown: &Text, table: &Table) -> Result<Frame, AllocError>
-    ensures { IfOk result (λ frame. frame ≡ frame_of shown.now table.now.columns) }
-{
-    let tables = only(alloc, shown)?;
-    Ok(Frame {
-        tables,
-        columns: offers_of(alloc, shown, table.columns.as_slice())?,
-        key: None,
-    })
-}
-
-fn only(alloc: Global, name: &Text) -> Result<Items<Text>, AllocError>
-    ensures { IfOk result (λ names. names ≡ name.now ∷ []) }
-{
-    let mut names = Items::with_capacity(alloc, 1)?;
-    names.push(name.copy(alloc)?)?;
-    Ok(names)
-}
-
-fn offers_of(alloc: Global, shown: &Text, columns: &[Column]) -> Result<Items<Offer>, AllocError>
-    ensures { IfOk result (λ offers. offers ≡ map (offer_of shown.now) columns.now) }
-{
-    let mut offers = Items::with_capacity(alloc, columns.len())?;
-    for column in columns {
-        offers.push(offer_of(alloc, shown, column)?)?;
-    }
-    Ok(offers)
-}
-
-fn offer_of(alloc: Global, shown: &Text, column: &Column) -> Result<Offer, AllocError>
-    ensures { IfOk result (λ offer. offer ≡ offer_of shown.now column.now) }
-{
-    let table = shown.copy(alloc)?;
-    Ok(Offer {
-        table,
-        name: Some(column.name.copy(alloc)?),
-        value_type: value_type_of(column.column_type),
-    })
-}
-
-/// The type of a column's values.
-pub fn value_type_of(column: ColumnType) -> ValueType
-    ensures { result ≡ type_in column }
-{
-    match column {
-        ColumnType::Integer => ValueType::Integer,
-        ColumnType::Varchar(_) => ValueType::Text,
-    }
-}
-
 /// A SELECT over the columns that its FROM offers.
 fn select_over(
     alloc: Global,
@@ -198,7 +121,7 @@ fn select_over(
     )
 }
 
-#[tactic(auto, using(crate::proofs::FindsLemmas::part_steps))]
+#[tactic(auto, using(findings::proofs::FindsLemmas::part_steps))]
 fn made_select(
     alloc: Global,
     from: Source,
@@ -276,15 +199,6 @@ fn column_item(alloc: Global, place: usize, offer: &Offer) -> Result<Item, Alloc
     })
 }
 
-fn copied_name(alloc: Global, name: Option<&Text>) -> Result<Option<Text>, AllocError>
-    ensures { IfOk result (λ copy. copy ≡ option_copied name.entry) }
-{
-    match name {
-        Some(name) => Ok(Some(name.copy(alloc)?)),
-        None => Ok(None),
-    }
-}
-
 #[tactic(auto, using(crate::proofs::Selects::listed_steps))]
 fn listed_items(alloc: Global, frame: &Frame, trees: &[SelectItem]) -> Result<Items<Item>, Refusal>
     requires ungrouped { frame.now.key ≡ None }
@@ -324,48 +238,5 @@ fn item_name(item: &SelectItem) -> Option<&Text>
     match &item.alias {
         Some(alias) => Some(alias.name.as_text()),
         None => column_name(&item.value),
-    }
-}
-
-/// The name of the column that an expression is, if it is one alone.
-#[tactic(auto, using(crate::proofs::ColumnNames::name_steps))]
-fn column_name(tree: &ast::Expression) -> Option<&Text>
-    ensures { option_copied result ≡ column_name tree.now }
-{
-    if tree.others.is_empty() {
-        term_column(&tree.first)
-    } else {
-        None
-    }
-}
-
-#[tactic(auto, using(crate::proofs::ColumnNames::name_steps))]
-fn term_column(tree: &Term) -> Option<&Text>
-    ensures { option_copied result ≡ term_column tree.now }
-{
-    if tree.others.is_empty() {
-        factor_column(&tree.first)
-    } else {
-        None
-    }
-}
-
-#[tactic(auto, using(crate::proofs::ColumnNames::factor_steps))]
-fn factor_column(tree: &Factor) -> Option<&Text>
-    ensures { option_copied result ≡ factor_column tree.now }
-{
-    match &tree.primary {
-        Primary::Column(column) => {
-            match tree.sign {
-                None => Some(column.name.as_text()),
-                Some(_) => None,
-            }
-        }
-        Primary::Number(_) => None,
-        Primary::Text(_) => None,
-        Primary::CountRows => None,
-        Primary::Aggregate(_, _, _) => None,
-        Primary::Parenthesized(_) => None,
-        Primary::Subquery(_) => None,
     }
 }

@@ -11,11 +11,11 @@ ghost use Rattle.typing.specs.Finds.{Finds};
 ghost use Rattle.typing.specs.Known.{known};
 ghost use Rattle.resolve.specs.Constraints.{element_found, has_table, not_nulls_found, not_nulls_from, numbered};
 
-use scopes::are_distinct;
 use ast::{ColumnConstraint, ColumnDefinition, TableElement, TypeName};
 use items::{Items, Text};
 use lexer::{Name, Number};
 use refusals::{Limit, Reason, Refusal};
+use scopes::are_distinct;
 use sqlval::{Column, ColumnType, Constraint, Rule, Schema};
 use std::alloc::{AllocError, Global};
 use typing::CreateTable;

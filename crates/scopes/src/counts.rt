@@ -7,7 +7,9 @@ ghost use Rattle.typing.specs.Select.{select_list};
 ghost use Rattle.typing.specs.Typing.{condition_part, conjunction_part, expression_part, factor_part, item_part, negation_part, predicate_part, term_part};
 ghost use Rattle.scopes.specs.Seen.{capped, count_of};
 
-use ast::{Condition, Conjunction, Expression, Factor, Negation, Predicate, Primary, SelectItem, Term};
+use ast::{
+    Condition, Conjunction, Expression, Factor, Negation, Predicate, Primary, SelectItem, Term,
+};
 use items::Items;
 
 /// Of an expression.

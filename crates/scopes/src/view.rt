@@ -110,7 +110,10 @@ pub fn after_negation<'a>(tree: &Negation, view: &View<'a>) -> Result<View<'a>, 
 }
 
 /// The view after a select list.
-pub fn after_items<'a>(items: &Option<Items<SelectItem>>, view: &View<'a>) -> Result<View<'a>, Refusal>
+pub fn after_items<'a>(
+    items: &Option<Items<SelectItem>>,
+    view: &View<'a>,
+) -> Result<View<'a>, Refusal>
     ensures ok { (k : Known) → IfOk result (λ next. seen next ≡ past (select_list (option_map (map (item_part k)) items.now)) (seen view.now)) }
     ensures err { IfErr result (λ refusal. refusal ≡ Memory) }
 {

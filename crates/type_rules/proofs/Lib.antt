@@ -1,1 +1,4 @@
+pub mod ColumnNames
 pub mod ConditionParts
+pub mod Joins
+pub mod Stars

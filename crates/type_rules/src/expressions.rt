@@ -46,7 +46,10 @@ pub fn summand(
 ) -> Result<(Arithmetic, Expression), Refusal>
     ensures { (x : Finding TypedExpression) → Finds operand x → Finds result (sum_operand (operator, x)) }
 {
-    both(operator_in_sum(operator), of_type(operand, ValueType::Integer))
+    both(
+        operator_in_sum(operator),
+        of_type(operand, ValueType::Integer),
+    )
 }
 
 /// An operand of `||` after the first.
@@ -56,7 +59,10 @@ pub fn joined_text(
 ) -> Result<Expression, Refusal>
     ensures { (x : Finding TypedExpression) → Finds operand x → Finds result (text_operand (operator, x)) }
 {
-    second(both(only_concatenation(operator), of_type(operand, ValueType::Text)))
+    second(both(
+        only_concatenation(operator),
+        of_type(operand, ValueType::Text),
+    ))
 }
 
 /// An operand of `*` or `/` after the first.

@@ -113,9 +113,7 @@ pub fn combined(
 }
 
 /// A query of one column, with the type of that.
-pub fn column_of_query(
-    query: Result<TypedQuery, Refusal>,
-) -> Result<(Query, ValueType), Refusal>
+pub fn column_of_query(query: Result<TypedQuery, Refusal>) -> Result<(Query, ValueType), Refusal>
     ensures { (x : Finding TypedQuery) → Finds query x → Finds result (of_one_column x) }
 {
     let TypedQuery { query, columns } = query?;
@@ -126,10 +124,7 @@ pub fn column_of_query(
 }
 
 /// A query in place of a value.
-pub fn scalar(
-    alloc: Global,
-    query: Result<TypedQuery, Refusal>,
-) -> Result<TypedExpression, Refusal>
+pub fn scalar(alloc: Global, query: Result<TypedQuery, Refusal>) -> Result<TypedExpression, Refusal>
     ensures { (x : Finding TypedQuery) → Finds query x → Finds result (scalar x) }
 {
     scalar_of(alloc, column_of_query(query))

@@ -78,19 +78,19 @@ pub typed_predicate-returns-in-Nested : goal.typed_predicate-returns-in-Nested
 typed_predicate-returns-in-Nested t c = rw (c.in-Nested.is, predicate_nested c.args.frame.now) (rw c.get.ensures at c.typed_condition.ensures)
 
 pub typed_predicate-returns-in-Compare : goal.typed_predicate-returns-in-Compare
-typed_predicate-returns-in-Compare t c = rw (c.in-Compare.is, predicate_compare c.args.frame.now) c.compared.ensures
+typed_predicate-returns-in-Compare t c = rw (c.in-Compare.is, predicate_compare c.args.frame.now) (c.compared.ensures _ _ c.typed_expression-x.ensures c.typed_expression.ensures)
 
 pub typed_predicate-returns-in-Between : goal.typed_predicate-returns-in-Between
-typed_predicate-returns-in-Between t c = rw (c.in-Between.is, predicate_between c.args.frame.now) c.between.ensures
+typed_predicate-returns-in-Between t c = rw (c.in-Between.is, predicate_between c.args.frame.now) (c.between.ensures _ _ _ c.typed_expression-x-in-Between.ensures c.typed_expression-low.ensures c.typed_expression-in-Between.ensures)
 
 pub typed_predicate-returns-in-InList : goal.typed_predicate-returns-in-InList
-typed_predicate-returns-in-InList t c = rw (c.in-InList.is, predicate_in_list c.args.frame.now) (rw c.as_slice.ensures at c.in_list.ensures)
+typed_predicate-returns-in-InList t c = rw (c.in-InList.is, predicate_in_list c.args.frame.now) (rw c.as_slice.ensures at c.in_list.ensures _ c.typed_expression-x-in-InList.ensures)
 
 pub typed_predicate-returns-in-Like : goal.typed_predicate-returns-in-Like
-typed_predicate-returns-in-Like t c = rw (c.in-Like.is, predicate_like c.args.frame.now) c.like.ensures
+typed_predicate-returns-in-Like t c = rw (c.in-Like.is, predicate_like c.args.frame.now) (c.like.ensures _ _ c.typed_expression-x-in-Like.ensures c.typed_expression-in-Like.ensures)
 
 pub typed_predicate-returns-in-IsNull : goal.typed_predicate-returns-in-IsNull
-typed_predicate-returns-in-IsNull t c = rw (c.in-IsNull.is, predicate_is_null c.args.frame.now) c.null_test.ensures
+typed_predicate-returns-in-IsNull t c = rw (c.in-IsNull.is, predicate_is_null c.args.frame.now) (c.null_test.ensures _ c.typed_expression-in-IsNull.ensures)
 
 pub typed_predicate-returns-in-InQuery : goal.typed_predicate-returns-in-InQuery
 typed_predicate-returns-in-InQuery t c = rw c.in-InQuery.is (in_query_refused c.args.frame.now _ _ _)

@@ -1,25 +1,21 @@
-use Rattle.std.proofs.Common.{◌∙◌, Ok, ap, sym}
+use Rattle.std.proofs.Common.{◌∙◌, sym}
 use Rattle.std.proofs.lemmas.Result.{err_from_is_err_and}
 use Rattle.refusals.specs.declared.reason.Reason.TheVariants.{Check}
-use Rattle.typing.specs.Expression.{product_operator}
 use Rattle.resolve.specs.Here.{joined_text, multiplier, summand}
 use Rattle.findings.proofs.FindsLemmas.{Finds-each_item, Finds-invalid, each-finds, each-next}
-use Rattle.resolve.proofs.Nodes.{factor_is, product_operand_is, primary_number, primary_text, primary_column, primary_parenthesized, primary_count_rows, primary_aggregate, primary_subquery, expression_alone, expression_sum, expression_concatenation, term_alone, term_product}
+use Rattle.resolve.proofs.Nodes.{factor_is, primary_number, primary_text, primary_column, primary_parenthesized, primary_count_rows, primary_aggregate, primary_subquery, expression_alone, expression_sum, expression_concatenation, term_alone, term_product}
 use Rattle.resolve.proofs.expressions.+expressions.Goals as goal
 
 -- ---- chains
 
 pub summand-returns : goal.summand-returns
-summand-returns t c = c.both.ensures _ _ c.operator_in_sum.ensures (c.of_type-operand.ensures _ c.typed_term.ensures)
+summand-returns t c = c.summand.ensures _ c.typed_term.ensures
 
 pub joined_text-returns : goal.joined_text-returns
-joined_text-returns t c = c.second.ensures _ (c.both.ensures _ _ c.only_concatenation.ensures (c.of_type-operand.ensures _ c.typed_term.ensures))
+joined_text-returns t c = c.joined_text.ensures _ c.typed_term.ensures
 
 pub multiplier-returns : goal.multiplier-returns
-multiplier-returns t c =
-    let operand = c.of_type-operand.ensures _ c.typed_factor.ensures in
-    rw (product_operand_is c.args.frame.now (c.args.operator, c.args.factor.now))
-    (c.both.ensures (Ok (product_operator c.args.operator)) _ (record { ok = ap Ok (sym c.operator_in_product.ensures); err = tt }) operand)
+multiplier-returns t c = c.multiplier.ensures _ c.typed_factor.ensures
 
 pub joined_texts-returns : goal.joined_texts-returns
 joined_texts-returns t c =
@@ -67,13 +63,13 @@ multipliers-loop-operator-preserved t c =
     c.loop-operator-test.true c.loop-operator-item.is c.in_ok-multiplier.ensures.ok ∙ c.loop-operator.invariant)
 
 pub typed_sum-returns : goal.typed_sum-returns
-typed_sum-returns t c = λ x h. c.calculated.ensures _ (c.both.ensures _ _ (c.boxed-first.ensures _ (c.of_type.ensures x h)) c.summands.ensures)
+typed_sum-returns t c = λ x h. c.calculation.ensures x _ h c.summands.ensures
 
 pub typed_product-returns : goal.typed_product-returns
-typed_product-returns t c = λ x h. c.calculated.ensures _ (c.both.ensures _ _ (c.boxed-first.ensures _ (c.of_type.ensures x h)) c.multipliers.ensures)
+typed_product-returns t c = λ x h. c.calculation.ensures x _ h c.multipliers.ensures
 
 pub typed_concatenation-returns : goal.typed_concatenation-returns
-typed_concatenation-returns t c = λ x h. c.concatenated.ensures _ (c.both.ensures _ _ (c.boxed-first.ensures _ (c.of_type.ensures x h)) c.joined_texts.ensures)
+typed_concatenation-returns t c = λ x h. c.concatenation.ensures x _ h c.joined_texts.ensures
 
 pub typed_expression-returns-in_default : goal.typed_expression-returns-in_default
 typed_expression-returns-in_default t c = rw (expression_alone c.args.frame.now c.args.tree.now (sym (rw (c.as_slice-others.ensures, c.in_default.is) at c.first_operator.ensures))) c.typed_term-first.ensures
