@@ -1,10 +1,10 @@
 -- A commit, and a page that is written.
-use Rattle.std.proofs.Common.{◌≡◌, ◌≢◌, ℕ, ◌<◌, ◌≤◌, ◌+◌, ◌*◌, ◌==◌, true, false, List, [], ◌∷◌, ◌++◌, Option, Some, None, refl, sym, ap, subst, ◌∙◌, arith, length, max, IsSome, Bool, if◌then◌else◌, ◌⊎◌, inl, inr, rules, ◌||◌}
+use Rattle.std.proofs.Common.{◌≡◌, ◌≢◌, ℕ, ◌<◌, ◌≤◌, ◌+◌, ◌*◌, ◌==◌, true, false, List, [], ◌∷◌, ◌++◌, Option, Some, None, refl, sym, ap, subst, ◌∙◌, arith, length, IsSome, Bool, if◌then◌else◌, ◌⊎◌, inl, inr, rules, ◌||◌}
 use Rattle.std.specs.List.{list_any}
 use Rattle.std.specs.Prelude.{nat_lt}
 use Rattle.std.proofs.lemmas.Bool.{cases_lt, eqb-true}
 use borrow.Author.Tests.{ltb-true}
-use Rattle.pagefile.specs.Pages.{page_of, KeepsOthers, IsWritten}
+use Rattle.pagefile.specs.Pages.{page_of, KeepsOthers}
 use Rattle.pagefile.proofs.PageLemmas.{page_there}
 use Rattle.pool.specs.declared.slot.Newest.{Newest}
 use Rattle.pool.specs.declared.slot.Newest.TheVariants.{InFile, Clean, Dirty}
@@ -12,7 +12,7 @@ use Rattle.pool.specs.declared.slot.Slot.{Slot}
 use Rattle.pool.specs.Pages.{pick, pages_in}
 use Rattle.pool.specs.Slots.{newest_page, seen, slot_at, file_page, newest_at, pages_at, placed, cleaned, Covered, IsDirty}
 use Rattle.pool.specs.Stands.{Stands, StaysAs, AreListed}
-use Rattle.pool.proofs.SlotLemmas.{lt-true, by_place, same_newest, stays_same, slot_same}
+use Rattle.pool.proofs.SlotLemmas.{by_place, same_newest, stays_same, slot_same}
 
 -- ---- a commit puts pages in place
 

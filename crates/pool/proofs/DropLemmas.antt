@@ -1,5 +1,5 @@
 -- An image that no commit in use reads may be dropped.
-use Rattle.std.proofs.Common.{◌≡◌, ℕ, ◌<◌, ◌-◌, ◌==◌, ◌||◌, Bool, true, false, List, [], ◌∷◌, ◌++◌, ◌⊎◌, inl, inr, Option, Some, None, refl, sym, ap, ◌∙◌, if◌then◌else◌, length, get_or, take, drop, suc, not, drop-cons, arith}
+use Rattle.std.proofs.Common.{◌≡◌, ℕ, ◌<◌, ◌-◌, ◌||◌, Bool, true, false, List, [], ◌∷◌, ◌++◌, ◌⊎◌, inl, inr, Option, Some, None, refl, sym, ap, ◌∙◌, if◌then◌else◌, length, get_or, take, drop, suc, not, drop-cons, arith}
 use Rattle.std.specs.Prelude.{nat_lt}
 use Rattle.std.specs.List.{list_any, remove}
 use Rattle.std.proofs.lemmas.List.{take-append-drop}

@@ -2,7 +2,7 @@
 use Rattle.std.proofs.Common.{◌≡◌, ℕ, ◌<◌, ◌≤◌, ◌+◌, ◌*◌, Bool, true, false, List, Option, Some, None, refl, sym, ap, ◌∙◌, arith, length, IsTrue, rules, if◌then◌else◌, [], ◌∷◌, suc, zero, ◌==◌, ◌⊎◌, inl, inr}
 use Rattle.std.specs.Prelude.{nat_lt, nat_le, slice_get, slice_range}
 use Rattle.std.proofs.lemmas.Bool.{leb-true, cases_lt}
-use borrow.Author.Tests.{ltb-true, ltb-false}
+use borrow.Author.Tests.{ltb-false}
 use Rattle.pagefile.specs.Pages.{page_of}
 use Rattle.pool.specs.declared.slot.Slot.{Slot}
 use Rattle.pool.specs.Pages.{PageMap, known}

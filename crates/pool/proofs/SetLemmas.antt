@@ -1,8 +1,7 @@
 -- Sets of pages, by their entries.
-use Rattle.std.proofs.Common.{◌≡◌, ◌≢◌, ℕ, ◌<◌, ◌==◌, Bool, true, false, List, [], ◌∷◌, Option, Some, None, refl, sym, ap, subst, ◌∙◌, cond, arith, length, get_or, suc, IsSome, map, ◌⊎◌, inl, inr}
+use Rattle.std.proofs.Common.{◌≡◌, ◌≢◌, ℕ, ◌<◌, ◌==◌, Bool, true, false, List, [], ◌∷◌, Option, Some, None, refl, sym, ap, subst, ◌∙◌, cond, arith, length, get_or, suc, IsSome, ◌⊎◌, inl, inr}
 use Rattle.std.specs.Cmp.{unsigned_tied}
-use Rattle.std.proofs.lemmas.Bool.{eq-eqb, eqb-true, eqb-false, cases_Bool}
-use Rattle.pool.specs.declared.slot.Newest.{Newest}
+use Rattle.std.proofs.lemmas.Bool.{eq-eqb, eqb-true}
 use Rattle.pool.specs.declared.slot.Newest.TheVariants.{Dirty}
 use Rattle.pool.specs.declared.slot.Slot.{Slot}
 use Rattle.pool.specs.Pages.{pages_in, numbers_of}

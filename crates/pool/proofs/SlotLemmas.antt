@@ -1,10 +1,10 @@
 -- Old images, and what commits show through them.
-use Rattle.std.proofs.Common.{◌≡◌, ◌≢◌, ℕ, ◌<◌, ◌≤◌, ◌+◌, ◌*◌, ◌==◌, ◌⊎◌, ◌||◌, inl, inr, Bool, true, false, List, [], ◌∷◌, ◌++◌, Option, Some, None, refl, sym, ap, subst, ◌∙◌, if◌then◌else◌, arith, length}
+use Rattle.std.proofs.Common.{◌≡◌, ◌≢◌, ℕ, ◌<◌, ◌≤◌, ◌+◌, ◌==◌, ◌||◌, inl, inr, Bool, true, false, List, [], ◌∷◌, ◌++◌, Option, Some, None, refl, sym, ap, subst, ◌∙◌, if◌then◌else◌, arith}
 use Rattle.std.specs.Prelude.{nat_lt}
 use Rattle.std.specs.List.{list_any}
-use Rattle.std.proofs.lemmas.Bool.{eq-eqb, eqb-true, eqb-false}
+use Rattle.std.proofs.lemmas.Bool.{eqb-true, eqb-false}
 use borrow.Author.Tests.{ltb-true, ltb-false}
-use Rattle.pagefile.specs.Pages.{page_of, KeepsOthers, IsWritten}
+use Rattle.pagefile.specs.Pages.{page_of}
 use Rattle.pool.specs.declared.slot.Newest.{Newest}
 use Rattle.pool.specs.declared.slot.Newest.TheVariants.{InFile, Clean, Dirty}
 use Rattle.pool.specs.declared.slot.OldImage.{OldImage}

@@ -1,5 +1,5 @@
 -- Why a pool refuses a call.
-use Rattle.std.specs.Prelude.{◌≡◌, ℕ, ◌≤◌, ⊤}
+use Rattle.std.specs.Prelude.{ℕ, ◌≤◌, ⊤}
 use Rattle.disk.specs.Refused.{HasRisen}
 use Rattle.pool.specs.declared.error.PoolError.{PoolError}
 use Rattle.pool.specs.declared.error.PoolError.TheVariants.{Memory, Device, Pages, Kept}

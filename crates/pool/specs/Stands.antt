@@ -1,8 +1,7 @@
 -- What holds of a pool over an honest device, and what its steps leave.
-use Rattle.std.specs.Prelude.{◌≡◌, ◌⊎◌, ℕ, ◌*◌, ◌<◌, ◌≤◌, ◌==◌, true, List, length, Option, None, Some}
+use Rattle.std.specs.Prelude.{◌≡◌, ◌⊎◌, ℕ, ◌*◌, ◌<◌, ◌≤◌, ◌==◌, true, List, length, Option, Some}
 use Rattle.std.specs.List.{list_any}
 use Rattle.pagefile.specs.Pages.{page_of}
-use Rattle.pool.specs.declared.slot.Newest.{Newest}
 use Rattle.pool.specs.declared.slot.Newest.TheVariants.{InFile, Clean, Dirty}
 use Rattle.pool.specs.declared.slot.Slot.{Slot}
 use Rattle.pool.specs.Slots.{slot_at, seen, newest_at, pages_at}

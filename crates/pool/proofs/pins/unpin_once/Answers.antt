@@ -1,6 +1,6 @@
 use Rattle.std.proofs.lemmas.Option.{slice_get_within}
 use Rattle.std.proofs.Common.{arith}
-use Rattle.pool.proofs.PinLemmas.{lowered, removed, absent}
+use Rattle.pool.proofs.PinLemmas.{lowered, removed}
 use Rattle.pool.proofs.pins.unpin_once.Goals as goal
 
 pub returns-then-more-gt0 : goal.returns-then-more-gt0

@@ -1,4 +1,3 @@
-use Rattle.std.proofs.Common.{refl, ◌≡◌}
 use Rattle.pool.proofs.SlotLemmas.{after_reach, after_load}
 use Rattle.pool.proofs.steps.fetch.Goals as goal
 

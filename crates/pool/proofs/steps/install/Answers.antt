@@ -1,4 +1,4 @@
-use Rattle.std.proofs.Common.{sym, ap, ◌∙◌, arith, length, List, ℕ}
+use Rattle.std.proofs.Common.{sym, ap, ◌∙◌, arith, length, List}
 use Rattle.pool.specs.declared.slot.Slot.{Slot}
 use Rattle.pool.specs.Slots.{slot_at}
 use Rattle.pool.proofs.SetLemmas.{newest_placed, images_placed, still_in_set, listed_placed}

@@ -1,4 +1,4 @@
-use Rattle.std.proofs.Common.{◌≡◌, ℕ, ◌<◌, ◌≤◌, ◌+◌, List, IsSome, length}
+use Rattle.std.proofs.Common.{◌≡◌, ℕ, ◌<◌, ◌≤◌, ◌+◌, IsSome, length}
 use Rattle.std.specs.Prelude.{vec_len, vec_capacity}
 use Rattle.pool.specs.Pages.{pages_in}
 use Rattle.pool.specs.Slots.{slot_at, placed}

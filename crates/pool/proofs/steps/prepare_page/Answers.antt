@@ -1,4 +1,4 @@
-use Rattle.std.proofs.Common.{◌≡◌, ℕ, ◌+◌, ◌++◌, ◌∷◌, [], List, None, sym, ap, subst, ◌∙◌, arith}
+use Rattle.std.proofs.Common.{◌+◌, List, None, sym, ap, subst, ◌∙◌, arith}
 use Rattle.pool.specs.declared.slot.OldImage.{OldImage}
 use Rattle.pool.specs.declared.slot.Slot.{Slot}
 use Rattle.pool.specs.Slots.{slot_at, newest_page, Covered}

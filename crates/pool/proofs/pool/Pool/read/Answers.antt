@@ -1,4 +1,4 @@
-use Rattle.std.proofs.Common.{◌≡◌, Some, ap, ◌∙◌}
+use Rattle.std.proofs.Common.{◌≡◌}
 use Rattle.pagefile.specs.File.{disk_of}
 use Rattle.pool.specs.Pins.{pins_at}
 use Rattle.pool.specs.Slots.{pages_at}

@@ -1,7 +1,7 @@
 use Rattle.std.proofs.Common.{◌==◌}
 use Rattle.pool.specs.Pins.{pins_at}
 use Rattle.pool.proofs.DropLemmas.{fewer}
-use Rattle.pool.proofs.PoolLemmas.{unpinned, still_seen, known_same}
+use Rattle.pool.proofs.PoolLemmas.{unpinned}
 use Rattle.pool.proofs.pool.Pool.unpin.Goals as goal
 
 pub invariant_of-self-2 : goal.invariant_of-self-2

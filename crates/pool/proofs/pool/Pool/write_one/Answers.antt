@@ -1,4 +1,3 @@
-use Rattle.std.proofs.lemmas.Result.{err_from_is_err_and}
 use Rattle.pagefile.specs.File.{disk_of}
 use Rattle.pool.specs.Pins.{pins_at}
 use Rattle.pool.specs.Slots.{pages_at}
