@@ -1,1 +1,4 @@
 pub mod StableOrder
+pub mod Alike
+pub mod Firsts
+pub mod Counting
