@@ -1,5 +1,5 @@
 -- Rows are alike where they stand level in the order of rows, and then they are equal.
-use Rattle.std.proofs.Common.{◌≡◌, refl, ap, sym, ◌∙◌, ℕ, ◌+◌, Bool, true, cond, List, [], ◌∷◌, ◌++◌}
+use Rattle.std.proofs.Common.{◌≡◌, refl, ap, sym, ◌∙◌, ◌+◌, true, cond, List, ◌∷◌, ◌++◌}
 use Rattle.std.specs.Bool.{Decides}
 use Rattle.std.specs.Cmp.{IsEquivalence, Equal-is, eq_by_cmp_equiv, int_ranks, ranked_equal, signed_Decides, both_ways, unsigned_ties}
 use Rattle.std.specs.Cmp.Lexicographic.{lists_ties, pointwise_decides}

@@ -1,5 +1,5 @@
 -- One row more in a map that counts rows.
-use Rattle.std.proofs.Common.{◌≡◌, refl, ap, sym, ◌∙◌, ℕ, ◌+◌, ◌-◌, ◌<◌, ◌^◌, length, Bool, true, false, cond, List, [], ◌∷◌, ◌++◌, Some, Option, arith, unwrap_or}
+use Rattle.std.proofs.Common.{◌≡◌, refl, ap, sym, ◌∙◌, ℕ, ◌+◌, ◌-◌, ◌<◌, ◌^◌, length, Bool, true, false, cond, List, [], ◌∷◌, ◌++◌, Some, arith, unwrap_or}
 use Rattle.std.specs.BTreeMap.{BTreeMap, get, Updates}
 use Rattle.std.specs.Prelude.{min}
 use Rattle.std.proofs.lemmas.List.Sums.{count_by-le-length}

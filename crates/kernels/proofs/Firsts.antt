@@ -3,9 +3,8 @@ use Rattle.std.proofs.Common.{◌≡◌, refl, ap, sym, ◌∙◌, ℕ, ◌+◌,
 use Rattle.std.specs.Prelude.{filter, nat_lt, min}
 use Rattle.std.proofs.lemmas.Bool.Decides.{nat_tests}
 use Rattle.sqlval.specs.Value.{Row}
-use Rattle.typing.specs.declared.typed.SetOperation.{SetOperation}
 use Rattle.typing.specs.declared.typed.SetOperator.TheVariants.{Union}
-use Rattle.algebra.specs.Listing.{firsts, sides, combined_in_order}
+use Rattle.algebra.specs.Listing.{firsts, combined_in_order}
 use Rattle.denote.specs.Bag.{are_alike, times, distinct}
 use Rattle.kernels.specs.Marks.{marked, first_marks}
 use Rattle.kernels.proofs.Alike.{alike, times-cons, times-append}

@@ -2,3 +2,4 @@ pub mod StableOrder
 pub mod Alike
 pub mod Firsts
 pub mod Counting
+pub mod Marking

@@ -1,4 +1,4 @@
-use Rattle.std.proofs.Common.{◌≡◌, ◌∙◌}
+use Rattle.std.proofs.Common.{◌∙◌}
 use Rattle.kernels.proofs.Counting.{Counts-push, counted-once}
 use Rattle.kernels.proofs.counts.count_row.Goals as goal
 
