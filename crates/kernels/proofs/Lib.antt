@@ -3,3 +3,5 @@ pub mod Alike
 pub mod Firsts
 pub mod Counting
 pub mod Marking
+pub mod Growing
+pub mod GroupsGrown

@@ -1,3 +1,5 @@
 pub mod KeyOrder
 pub mod Marks
 pub mod Counts
+pub mod Groups
+pub mod Adding

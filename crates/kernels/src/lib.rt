@@ -2,10 +2,16 @@
 #![tactic(auto)]
 
 mod counts;
+mod grouping;
+mod groups;
 mod marks;
 mod row_key;
+mod rows;
 mod set_rows;
 mod sorting;
 
+pub use grouping::grouped_places;
+pub use groups::Group;
+pub use rows::key_rows;
 pub use set_rows::{combined_rows, distinct_rows};
 pub use sorting::{compare_rows, sorted_rows};

@@ -1,0 +1,8 @@
+use Rattle.std.proofs.Common.{◌≡◌, sym, ap, ◌∙◌, drop, length, ℕ, ◌≤◌, [], List, arith}
+use Rattle.kernels.specs.Adding.{add_places}
+use Rattle.kernels.proofs.Growing.{all-grown}
+use Rattle.kernels.proofs.GroupsGrown.{groups-grown}
+use Rattle.kernels.proofs.grouping.grouped_places.Goals as goal
+
+pub returns : goal.returns
+returns c = all-grown c.loop-place.groups c.loop-place.place c.args.keys.now c.loop-place-test.false c.loop-place.invariant.grown ∙ groups-grown c.args.keys.now

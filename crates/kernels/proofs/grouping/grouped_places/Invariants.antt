@@ -1,0 +1,7 @@
+use Rattle.std.proofs.Common.{◌≡◌, [], drop}
+use Rattle.kernels.specs.Adding.{Numbers, add_places}
+use Rattle.kernels.proofs.Growing.{Grown}
+use Rattle.kernels.proofs.grouping.grouped_places.Given as goal
+
+abbrev pub invariant-loop-place : goal.invariant-loop-place
+invariant-loop-place l = Grown l.numbers l.groups l.place l.keys
