@@ -5,3 +5,5 @@ pub mod Counting
 pub mod Marking
 pub mod Growing
 pub mod GroupsGrown
+pub mod Singles
+pub mod Totalling

@@ -3,3 +3,5 @@ pub mod Marks
 pub mod Counts
 pub mod Groups
 pub mod Adding
+pub mod Aggregates
+pub mod Totals

@@ -1,6 +1,7 @@
 //! Work on whole lists of rows: each function gives the list of its definition.
 #![tactic(auto)]
 
+mod aggregate;
 mod counts;
 mod grouping;
 mod groups;
@@ -9,7 +10,9 @@ mod row_key;
 mod rows;
 mod set_rows;
 mod sorting;
+mod totals;
 
+pub use aggregate::Aggregate;
 pub use grouping::grouped_places;
 pub use groups::Group;
 pub use rows::key_rows;
