@@ -1,15 +1,14 @@
 -- Groups that grow row by row are those of the keys.
-use Rattle.std.proofs.Common.{◌≡◌, refl, ap, sym, ◌∙◌, subst, ℕ, zero, suc, ◌+◌, ◌≤◌, Bool, true, false, cond, if◌then◌else◌, List, [], ◌∷◌, ◌++◌, length, map, drop, get_or, Option, Some, None, arith, append_assoc}
-use Rattle.std.specs.Prelude.{filter, slice_get, slice_set}
+use Rattle.std.proofs.Common.{◌≡◌, refl, ap, sym, ◌∙◌, subst, ℕ, zero, suc, ◌≤◌, Bool, true, false, cond, if◌then◌else◌, List, [], ◌∷◌, ◌++◌, length, drop, Option, Some, None}
+use Rattle.std.specs.Prelude.{slice_get, slice_set}
 use Rattle.std.proofs.lemmas.List.{drop_all}
 use Rattle.std.specs.Option.{option_map}
 use Rattle.std.specs.BTreeMap.{BTreeMap, get, Updates}
 use Rattle.sqlval.specs.Value.{Row}
-use Rattle.denote.specs.Bag.{are_alike, distinct}
+use Rattle.denote.specs.Bag.{are_alike}
 use Rattle.kernels.specs.declared.groups.Group.{Group}
 use Rattle.kernels.specs.declared.row_key.RowKey.{RowKey}
 use Rattle.kernels.specs.Counts.{key_order}
-use Rattle.kernels.specs.Groups.{places_from, group_of, groups_by_key}
 use Rattle.kernels.specs.Adding.{new_group, with_place, put_at, add_place, add_places, number_of, Numbers}
 use Rattle.kernels.proofs.Alike.{alike, are_alike-ties, are_alike-Decides}
 

@@ -7,3 +7,5 @@ pub mod Growing
 pub mod GroupsGrown
 pub mod Singles
 pub mod Totalling
+pub mod Gathering
+pub mod GroupLaw

@@ -1,12 +1,12 @@
 -- Set functions over values that stand in rows: what a group's row has (ISO/IEC 9075:1992, 6.5, 7.7).
-use Rattle.std.specs.Prelude.{◌≡◌, ℕ, ◌+◌, ◌^◌, pos, nat_lt, Bool, if◌then◌else◌, List, [], ◌∷◌, ◌++◌, map, length, slice_index_or, Option, Some, None, Result, Ok, Err, IfOk, IfErr}
+use Rattle.std.specs.Prelude.{◌≡◌, ℕ, ◌+◌, ◌^◌, pos, nat_lt, if◌then◌else◌, List, [], ◌∷◌, ◌++◌, map, length, slice_index_or, Option, Result, Ok, IfOk, IfErr}
 use Rattle.std.specs.Option.{unwrap_or}
 use Rattle.sqlval.specs.declared.value.Value.{Value}
 use Rattle.sqlval.specs.declared.value.Value.TheVariants.{Null}
 use Rattle.sqlval.specs.Arithmetic.{in_range}
 use Rattle.sqlval.specs.Matching.{key_of}
 use Rattle.sqlval.specs.Value.{Row}
-use Rattle.algebra.specs.Listing.{listed_rows, row_by_row, whole_first}
+use Rattle.algebra.specs.Listing.{listed_rows}
 use Rattle.algebra.specs.Meaning.{MeantFunction, Rows, Argument}
 use Rattle.denote.specs.declared.fault.Fault.{Fault as Raised}
 use Rattle.denote.specs.declared.fault.Fault.TheVariants.{OutOfRange}
@@ -62,8 +62,21 @@ values_over arguments places [] number = []
 values_over arguments places (aggregate ∷ aggregates) number = value_over arguments places aggregate number ∷ values_over arguments places aggregates (number + 1)
 
 -- a group's row: its key and then the values
-abbrev pub row_over : List Row → List Aggregate → Group → Evaluation (List Row)
-row_over arguments aggregates group = together (values_over arguments group.places aggregates 0) >>= (λ values. Ok ((group.key ++ values) ∷ []))
+abbrev pub row_of : List Row → List Aggregate → Group → Evaluation Row
+row_of arguments aggregates group = together (values_over arguments group.places aggregates 0) >>= (λ values. Ok (group.key ++ values))
+
+-- the rows of groups, up to the first that has a fault
+abbrev pub rows_of : List Row → List Aggregate → List Group → Evaluation (List Row)
+rows_of arguments aggregates [] = Ok []
+rows_of arguments aggregates (group ∷ groups) = row_of arguments aggregates group >>= (λ row. rows_of arguments aggregates groups >>= (λ rows. Ok (row ∷ rows)))
+
+-- the keys of all rows; without GROUP BY a key has no value
+abbrev pub all_keys : Option (List ℕ) → List Row → List Row
+all_keys columns rows = map (key_of (unwrap_or columns [])) rows
+
+-- the groups of rows; without GROUP BY there is one, even over no rows
+abbrev pub groups_in : Option (List ℕ) → List Row → List Group
+groups_in columns rows = map (group_of (all_keys columns rows)) (keys_of columns rows)
 
 -- ---- replies
 
@@ -78,3 +91,14 @@ IsFirstFault (first ∷ faults) (Fault fault) = first ≡ fault
 pub record GivesFirst {A : Type 0} (reply : Result A Stop) (meant : Evaluation A) : Type 0 where
   pub ok : IfOk reply (λ x. meant ≡ Ok x)
   pub err : IfErr reply (IsFirstFault (faults_in meant))
+
+-- a list that this stop ends before its first row
+abbrev pub IsEndedBy : Outcome → Stop → Type 0
+IsEndedBy meant Memory = Unit {0}
+IsEndedBy meant NotBuilt = ⊥
+IsEndedBy meant (Fault fault) = meant ≡ record { rows = []; faults = fault ∷ [] }
+
+-- all rows of a list, or the fault before them; want of memory may stand in place of either
+pub record GivesRows (reply : Result (List Row) Stop) (meant : Outcome) : Type 0 where
+  pub ok : IfOk reply (λ rows. meant ≡ listed_rows rows)
+  pub err : IfErr reply (IsEndedBy meant)

@@ -3,6 +3,7 @@
 
 mod aggregate;
 mod counts;
+mod grouped;
 mod grouping;
 mod groups;
 mod marks;
@@ -13,6 +14,7 @@ mod sorting;
 mod totals;
 
 pub use aggregate::Aggregate;
+pub use grouped::group_rows;
 pub use grouping::grouped_places;
 pub use groups::Group;
 pub use rows::key_rows;

@@ -1,6 +1,5 @@
-use Rattle.std.proofs.Common.{◌≡◌, ◌∙◌, ap, map, List}
+use Rattle.std.proofs.Common.{◌≡◌, ◌∙◌, ap, map}
 use Rattle.std.proofs.lemmas.Result.{IfOk-weaker}
-use Rattle.sqlval.specs.declared.value.Value.{Value}
 use Rattle.denote.specs.Bag.{distinct, distinct_by, is_alike}
 use Rattle.denote.specs.Expression.{cell}
 use Rattle.kernels.proofs.Singles.{singles-distinct}

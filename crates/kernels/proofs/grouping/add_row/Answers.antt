@@ -1,7 +1,7 @@
 use Rattle.std.proofs.Common.{◌≡◌, sym, ap, ◌∙◌, subst, List, [], ◌∷◌, ◌++◌}
 use Rattle.std.proofs.lemmas.Result.{IfOk-weaker}
 use Rattle.kernels.specs.declared.groups.Group.{Group}
-use Rattle.kernels.specs.Adding.{Numbers, new_group, put_at, add_place}
+use Rattle.kernels.specs.Adding.{Numbers, put_at, add_place}
 use Rattle.kernels.proofs.Growing.{put-add, new-add, Numbers-put, Numbers-push}
 use Rattle.kernels.proofs.grouping.add_row.Goals as goal
 

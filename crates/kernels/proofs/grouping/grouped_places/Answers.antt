@@ -1,5 +1,4 @@
-use Rattle.std.proofs.Common.{◌≡◌, sym, ap, ◌∙◌, drop, length, ℕ, ◌≤◌, [], List, arith}
-use Rattle.kernels.specs.Adding.{add_places}
+use Rattle.std.proofs.Common.{◌∙◌}
 use Rattle.kernels.proofs.Growing.{all-grown}
 use Rattle.kernels.proofs.GroupsGrown.{groups-grown}
 use Rattle.kernels.proofs.grouping.grouped_places.Goals as goal

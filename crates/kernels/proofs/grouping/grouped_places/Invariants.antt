@@ -1,5 +1,3 @@
-use Rattle.std.proofs.Common.{◌≡◌, [], drop}
-use Rattle.kernels.specs.Adding.{Numbers, add_places}
 use Rattle.kernels.proofs.Growing.{Grown}
 use Rattle.kernels.proofs.grouping.grouped_places.Given as goal
 

@@ -1,4 +1,4 @@
-use Rattle.std.proofs.Common.{◌≡◌, arith}
+use Rattle.std.proofs.Common.{arith}
 use Rattle.std.proofs.lemmas.Int.{ints, to_z-of_z}
 use Rattle.kernels.proofs.Totalling.{total-more}
 use Rattle.kernels.proofs.totals.total_of.Goals as goal
