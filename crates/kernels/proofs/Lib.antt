@@ -9,3 +9,4 @@ pub mod Singles
 pub mod Totalling
 pub mod Gathering
 pub mod GroupLaw
+pub mod FunctionNodes

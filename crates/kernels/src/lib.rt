@@ -3,6 +3,7 @@
 
 mod aggregate;
 mod counts;
+mod functions;
 mod grouped;
 mod grouping;
 mod groups;
@@ -14,9 +15,7 @@ mod sorting;
 mod totals;
 
 pub use aggregate::Aggregate;
+pub use functions::aggregates_of;
 pub use grouped::group_rows;
-pub use grouping::grouped_places;
-pub use groups::Group;
-pub use rows::key_rows;
 pub use set_rows::{combined_rows, distinct_rows};
 pub use sorting::{compare_rows, sorted_rows};
