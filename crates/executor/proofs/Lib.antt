@@ -1,3 +1,4 @@
 pub mod Nodes
 pub mod GivesLemmas
+pub mod PutsLemmas
 pub mod SubqueryLemmas

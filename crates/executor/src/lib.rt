@@ -3,6 +3,7 @@
 
 mod evaluate;
 mod listed;
+mod parts;
 mod rows;
 mod subqueries;
 
