@@ -1,4 +1,5 @@
 pub mod Nodes
 pub mod GivesLemmas
 pub mod PutsLemmas
+pub mod GroupLemmas
 pub mod SubqueryLemmas
