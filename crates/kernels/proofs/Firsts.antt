@@ -33,7 +33,7 @@ first_marks-push allowed before (row ∷ rows) x =
 
 -- ---- DISTINCT
 
-filter-both : (p q r : Row → Bool) → ((row : Row) → r row ≡ (q row && p row)) → (rows : List Row) → filter r rows ≡ filter p (filter q rows)
+pub filter-both : (p q r : Row → Bool) → ((row : Row) → r row ≡ (q row && p row)) → (rows : List Row) → filter r rows ≡ filter p (filter q rows)
 filter-both p q r h [] = refl
 filter-both p q r h (row ∷ rows) = ap (λ b. if b then row ∷ filter r rows else filter r rows) (h row) ∙ at (q row) (p row) refl (filter-both p q r h rows)
   where
@@ -43,7 +43,7 @@ filter-both p q r h (row ∷ rows) = ap (λ b. if b then row ∷ filter r rows e
     at true false f e = e ∙ ap (λ c. if c then row ∷ filter p (filter q rows) else filter p (filter q rows)) (sym f)
     at false b f e = e
 
-filter-all : (p : Row → Bool) → ((row : Row) → p row ≡ true) → (rows : List Row) → filter p rows ≡ rows
+pub filter-all : (p : Row → Bool) → ((row : Row) → p row ≡ true) → (rows : List Row) → filter p rows ≡ rows
 filter-all p h [] = refl
 filter-all p h (row ∷ rows) = ap (λ b. if b then row ∷ filter p rows else filter p rows) (h row) ∙ ap (λ zs. row ∷ zs) (filter-all p h rows)
 
