@@ -1,6 +1,5 @@
 -- Groups whose arguments are found first.
-use Rattle.std.proofs.Common.{◌≡◌, refl, ap, sym, ◌∙◌, ℕ, ◌≤◌, length, drop, List, [], ◌∷◌, ◌++◌, map, append-nil, Ok, Err, subst, Option, Some, None, Result}
-use Rattle.std.specs.Prelude.{flat_map}
+use Rattle.std.proofs.Common.{◌≡◌, refl, ap, sym, ◌∙◌, ℕ, ◌≤◌, length, drop, List, [], ◌∷◌, map, append-nil, Ok, Err, subst, Option}
 use Rattle.std.proofs.lemmas.List.{drop_all}
 use Rattle.algebra.specs.declared.tree.SetFunction.{SetFunction}
 use Rattle.algebra.specs.Listing.{listing_step}
@@ -14,29 +13,12 @@ use Rattle.denote.specs.declared.fault.Stop.{Stop}
 use Rattle.denote.specs.declared.fault.Stop.TheVariants.{Fault}
 use Rattle.denote.specs.Evaluation.{Env, Evaluation, faults_in, together, joined}
 use Rattle.denote.specs.Outcome.{Outcome}
-use Rattle.algebra.specs.Listing.{first_only, groups_listed, all_argument_faults, argument_faults, unless_ended, end_by}
-use Rattle.algebra.specs.Meaning.{MeantFunction, Rows, Argument}
-use Rattle.executor.specs.Arguments.{argument_value, argument_values, arguments_at, meant_functions}
+use Rattle.algebra.specs.Listing.{first_only, groups_listed, all_argument_faults, unless_ended}
+use Rattle.algebra.specs.Meaning.{MeantFunction}
+use Rattle.executor.specs.Arguments.{arguments_in, arguments_at, meant_functions}
+use Rattle.kernels.specs.Aggregates.{argument_value}
+use Rattle.kernels.proofs.GroupLaw.{arguments-faults}
 use Rattle.executor.specs.Reply.{Gives as IsGiven, IsFirstOf}
-
-faults-joined : {A : Type 0} (x : Evaluation A) (rest : Evaluation (List A)) → faults_in (joined x rest) ≡ faults_in x ++ faults_in rest
-faults-joined (Ok x) (Ok xs) = refl
-faults-joined (Ok x) (Err faults) = refl
-faults-joined (Err faults) rest = refl
-
-argument-faults : (env : Env) (function : MeantFunction) → faults_in (argument_value env function) ≡ argument_faults function env
-argument-faults env Rows = refl
-argument-faults env (Argument function is_distinct argument) = refl
-
-values-faults : (functions : List MeantFunction) (env : Env) → faults_in (argument_values functions env) ≡ flat_map (λ function. argument_faults function env) functions
-values-faults [] env = refl
-values-faults (function ∷ functions) env =
-    faults-joined (argument_value env function) (argument_values functions env) ∙ rw (argument-faults env function, values-faults functions env) refl
-
-pub arguments-faults : (functions : List MeantFunction) (env : Env) (rows : List Row) → faults_in (arguments_at functions env rows) ≡ all_argument_faults functions env rows
-arguments-faults functions env [] = refl
-arguments-faults functions env (row ∷ rows) =
-    faults-joined (argument_values functions (row ∷ env)) (arguments_at functions env rows) ∙ rw (values-faults functions (row ∷ env), arguments-faults functions env rows) refl
 
 ends-at : (faults : List Raised) (fault : Raised) (next : Outcome) (none : List Row) → none ≡ [] → first_only faults ≡ fault ∷ [] → record { rows = none; faults = fault ∷ [] } ≡ unless_ended faults next
 ends-at [] fault next none e h = absurd (cc)
@@ -53,7 +35,7 @@ groups-fault columns functions env rows s fault none e is given =
 abbrev pub argument_in : Tables → Env → SetFunction → Evaluation Value
 argument_in tables env function = argument_value env (function_by (listing_step tables) function)
 
-pub arguments-each : (tables : Tables) (functions : List SetFunction) (env : Env) → together (map (argument_in tables env) functions) ≡ argument_values (meant_functions tables functions) env
+pub arguments-each : (tables : Tables) (functions : List SetFunction) (env : Env) → together (map (argument_in tables env) functions) ≡ arguments_in (meant_functions tables functions) env
 arguments-each tables [] env = refl
 arguments-each tables (function ∷ functions) env = ap (joined (argument_in tables env function)) (arguments-each tables functions env)
 
