@@ -2,4 +2,5 @@ pub mod Nodes
 pub mod GivesLemmas
 pub mod PutsLemmas
 pub mod GroupLemmas
+pub mod HalfLemmas
 pub mod SubqueryLemmas

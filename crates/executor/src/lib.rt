@@ -2,6 +2,7 @@
 #![tactic(auto)]
 
 mod evaluate;
+mod keys;
 mod listed;
 mod parts;
 mod rows;
