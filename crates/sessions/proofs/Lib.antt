@@ -1,3 +1,5 @@
 pub mod Words
 pub mod Typings
 pub mod QuerySteps
+pub mod ChangeSteps
+pub mod Unread

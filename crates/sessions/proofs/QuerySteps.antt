@@ -46,43 +46,7 @@ use Rattle.transactions.proofs.Orders.{begun_by, not_writer}
 use Rattle.transactions.proofs.Steps.{Answered, answers, nothing_moves, withholds}
 use Rattle.answers.specs.Refused.{MayRefuse}
 use Rattle.sessions.specs.Answered.{GivesRows, RefusesQuery}
-use Rattle.sessions.proofs.Typings.{typed_query}
-
--- ---- what a statement stands for
-
-means : (rules : Rules) (db : Database) (schema : Schema) (x : Statement) (t : Typed) → AreRules rules → IsSchemaOf schema db → answered_found x schema ≡ Ok t → Means rules db x t
-means rules db schema x t are of found = record { schema = schema; of_database = of; found = are.statements schema x ∙ found }
-
-none_in : (refusal : Refusal) → Contains [] refusal → ⊥
-none_in refusal one = let h = one.1 in absurd (omega arith)
-
-reason : (rules : Rules) (db : Database) (schema : Schema) (x : Statement) (refusal : Refusal) → AreRules rules → IsSchemaOf schema db
-    → (found : Finding Typed) → answered_found x schema ≡ found → Contains (reasons_in found) refusal → IsReason rules db x refusal
-reason rules db schema x refusal are of (Ok t) is one = absurd (none_in refusal one)
-reason rules db schema x refusal are of (Err reasons) is one =
-    record { schema = schema; of_database = of; reasons = reasons; found = are.statements schema x ∙ is; one = one }
-
--- a refusal of what types a statement: for want of memory, or a reason
-pub data Against (rules : Rules) (db : Database) (x : Statement) (refusal : Refusal) : Type 0 where
-  wanting : refusal ≡ refused.Memory → Against rules db x refusal
-  wrong : IsReason rules db x refusal → Against rules db x refusal
-
-pub against : (rules : Rules) (db : Database) (schema : Schema) (x : Statement) (refusal : Refusal) → AreRules rules → IsSchemaOf schema db
-    → IsReasonOf (reasons_in (answered_found x schema)) refusal → Against rules db x refusal
-against rules db schema x refused.Memory are of h = Against.wanting refl
-against rules db schema x refused.Disk are of h = Against.wrong (reason rules db schema x refused.Disk are of _ refl h)
-against rules db schema x (refused.Exceeded which) are of h = Against.wrong (reason rules db schema x (refused.Exceeded which) are of _ refl h)
-against rules db schema x (refused.Invalid why) are of h = Against.wrong (reason rules db schema x (refused.Invalid why) are of _ refl h)
-against rules db schema x refused.NotSupported are of h = Against.wrong (reason rules db schema x refused.NotSupported are of _ refl h)
-against rules db schema x refused.ManyRows are of h = Against.wrong (reason rules db schema x refused.ManyRows are of _ refl h)
-against rules db schema x refused.TextTooLong are of h = Against.wrong (reason rules db schema x refused.TextTooLong are of _ refl h)
-against rules db schema x refused.OutOfRange are of h = Against.wrong (reason rules db schema x refused.OutOfRange are of _ refl h)
-against rules db schema x refused.DivisionByZero are of h = Against.wrong (reason rules db schema x refused.DivisionByZero are of _ refl h)
-against rules db schema x (refused.Violated name) are of h = Against.wrong (reason rules db schema x (refused.Violated name) are of _ refl h)
-against rules db schema x refused.CursorState are of h = Against.wrong (reason rules db schema x refused.CursorState are of _ refl h)
-against rules db schema x refused.TransactionState are of h = Against.wrong (reason rules db schema x refused.TransactionState are of _ refl h)
-against rules db schema x refused.SerializationFailure are of h = Against.wrong (reason rules db schema x refused.SerializationFailure are of _ refl h)
-against rules db schema x refused.Damaged are of h = Against.wrong (reason rules db schema x refused.Damaged are of _ refl h)
+use Rattle.sessions.proofs.Typings.{typed_query, means, Against, read_as}
 
 -- ---- over a version
 
@@ -99,11 +63,6 @@ refuses_rows rules db schema x q refusal are of found (inr raised) =
 pub refuses_wrong : (rules : Rules) (db : Database) (x : OrderedQuery) (refusal : Refusal) → Against rules db (asks.Query x) refusal → RefusesQuery rules db x refusal
 refuses_wrong rules db x refusal (Against.wanting e) = RefusesQuery.withheld (subst IsReserved (sym e) tt)
 refuses_wrong rules db x refusal (Against.wrong h) = RefusesQuery.wrong h
-
--- what a query is typed as
-read_as : (x statement : Statement) (schema lent : Schema) (t : Typed) → statement ≡ x → lent ≡ schema → answered_found statement lent ≡ Ok t → answered_found x schema ≡ Ok t
-read_as x statement schema lent t is lent_is found =
-    sym (ap (λ y. answered_found y schema) is) ∙ sym (ap (λ l. answered_found statement l) lent_is) ∙ found
 
 module _ (rules : Rules) (x : OrderedQuery) (statement : Statement) (schema lent : Schema) (t : Typed) (old mid : Stored) (view : View)
     (are : AreRules rules) (is : statement ≡ asks.Query x) (lent_is : lent ≡ schema) (same : mid ≡ old)

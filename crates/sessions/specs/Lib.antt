@@ -1,2 +1,4 @@
 pub mod Kinds
 pub mod Answered
+pub mod Changed
+pub mod OfCore
