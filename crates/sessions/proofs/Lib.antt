@@ -3,3 +3,4 @@ pub mod Typings
 pub mod QuerySteps
 pub mod ChangeSteps
 pub mod Unread
+pub mod Cores

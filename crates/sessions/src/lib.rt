@@ -8,7 +8,9 @@ mod core_of;
 mod kind;
 mod language;
 mod query;
+mod slots;
 
 pub use changes::Changes;
-pub use core_of::{Core, MOST_SESSIONS, SessionId};
+pub use core_of::{Core, Refused, SessionId};
 pub use language::Language;
+pub use slots::MOST_SESSIONS;
