@@ -8,7 +8,13 @@ use Rattle.std.specs.Option.{option_map, is_some}
 use Rattle.std.specs.FinMap.{FinMap, get, empty, get-empty, same_map, nat_cmp-IsAntisymmetric}
 use Rattle.ast.specs.declared.statement.AccessMode.{AccessMode}
 use Rattle.ast.specs.declared.statement.AccessMode.TheVariants.{ReadWrite}
+use Rattle.refusals.specs.declared.refusal.Refusal.{Refusal}
 use Rattle.refusals.specs.declared.refusal.Refusal.TheVariants.{Exceeded}
+use Rattle.session_definitions.specs.Refusals.{IsReserved}
+use Rattle.store.specs.declared.error.StoreError.{StoreError}
+use Rattle.store.specs.Errors.{MayFail, Never}
+use Rattle.transactions.specs.Refused.{refused_by}
+use Rattle.transactions.proofs.Tests.{reserved}
 use Rattle.refusals.specs.declared.limit.Limit.TheVariants as limit
 use Rattle.denote.specs.Database.{Database}
 use Rattle.session_definitions.specs.Run.{MakesSession, DropsSession, without_session, without_sessions}
@@ -36,11 +42,7 @@ pub is_live_at : (st : Stored) (w : Option ℕ) (slots : Slots) (s : ℕ) (mode 
 is_live_at st w slots s mode e = live_is st w slots s ∙ ap is_some e
 
 pub some_live : (st : Stored) (w : Option ℕ) (slots : Slots) (s : ℕ) → IsSome (slot_at slots s) → is_live (shown st w slots) s ≡ true
-some_live st w slots s h = live_is st w slots s ∙ by (slot_at slots s) h
-  where
-    by : (o : Option AccessMode) → IsSome o → is_some o ≡ true
-    by None h = absurd h
-    by (Some mode) h = refl
+some_live st w slots s h = live_is st w slots s ∙ h
 
 -- no reader is left of a session that does not stand, after a call of one that stood or is made
 pub readers_kept : (st new : Stored) (slots : Slots) (s : ℕ) (slot : Option AccessMode) → s < length slots → ((q : ℕ) → q ≢ s → get new.readers q ≡ get st.readers q)
@@ -103,3 +105,9 @@ orderly_alone st e working = record {
 
 pub none_read : (st : Stored) → st.readers ≡ empty → (q : ℕ) → get st.readers q ≡ None
 none_read st e q = ap (λ y. get y q) e ∙ get-empty {X = Found} nat_cmp q
+
+reserved_opening : (sound : Type 0) (k m : ℕ) (e : StoreError) → MayFail sound k m Never e → sound → IsReserved (refused_by e)
+reserved_opening sound k m e h is = reserved sound k m Never e h is (λ bad. bad) (λ bad. bad)
+
+pub opening_refused : (sound : Type 0) (k m : ℕ) (e : StoreError) (r : Refusal) → r ≡ refused_by e → MayFail sound k m Never e → sound → IsReserved r
+opening_refused sound k m e r is h there = subst IsReserved (sym is) (reserved_opening sound k m e h there)

@@ -26,12 +26,7 @@ pub trait Language: Drop {
 
     /// What a statement stands for over a schema: by the rules of names and types, or a reason of theirs against it; any may be refused for want of memory. It gives only
     /// what is evaluated so far.
-    fn typed(
-        &self,
-        alloc: Global,
-        statement: &Statement,
-        schema: &Schema,
-    ) -> Result<Typed, Refusal>
+    fn typed(&self, alloc: Global, statement: &Statement, schema: &Schema) -> Result<Typed, Refusal>
         ensures finds { Finds result (answered_found statement.now schema.now) }
         ensures evaluated { IfOk result (λ typed. is_evaluated typed ≡ true) };
 }

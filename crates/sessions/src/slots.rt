@@ -50,6 +50,7 @@ impl Slots {
         ensures full { MatchOption result ((k : ℕ) → k < 64 → IsSome (slot_at self.now.modes k)) (λ number. ⊤) }
         ensures free { MatchOption result ⊤ (λ number. slot_at self.now.modes number ≡ None) }
         ensures within { MatchOption result ⊤ (λ number. number < 64) }
+        ensures sized { length self.now.modes ≡ 64 }
         ensures least { MatchOption result ⊤ (λ number. (k : ℕ) → k < number → IsSome (slot_at self.now.modes k)) }
     {
         for number in 0..MOST_SESSIONS as u64 {

@@ -10,15 +10,15 @@ use Rattle.sessions.proofs.change.make.Goals as goal
 pub returns-in-Ok-clause-changes : goal.returns-in-Ok-clause-changes
 returns-in-Ok-clause-changes g c = IfOk-weaker c.make_typed.result _ _
     (λ reply h rules are is sound.
-        makes_typed rules c.args.statement.now _ _ c.in-Ok.typed _ _ are is c.schema.ensures c.prepare.ensures.shows ((rw c.in_default.is at c.prepare.ensures.prepared) sound) c.in-Ok.ensures.finds.ok reply _
-        (λ change e m. h rules c.args.statement.now change are e (c.prepare.ensures.sound sound) m))
+    makes_typed rules c.args.statement.now _ _ c.in-Ok.typed _ _ are is c.schema.ensures c.prepare.ensures.shows ((rw c.in_default.is at c.prepare.ensures.prepared) sound) c.in-Ok.ensures.finds.ok reply _
+    (λ change e m. h rules c.args.statement.now change are e (c.prepare.ensures.sound sound) m))
     c.make_typed.ensures.changes
 
 pub returns-in-Ok-clause-refused : goal.returns-in-Ok-clause-refused
 returns-in-Ok-clause-refused g c = IfErr-weaker c.make_typed.result _ _
     (λ refusal h rules are is sound.
-        refuses_typed rules c.args.statement.now _ _ c.in-Ok.typed _ _ are is c.schema.ensures c.prepare.ensures.shows ((rw c.in_default.is at c.prepare.ensures.prepared) sound) c.in-Ok.ensures.finds.ok refusal
-        (λ change e m. h rules c.args.statement.now change are e (c.prepare.ensures.sound sound) m))
+    refuses_typed rules c.args.statement.now _ _ c.in-Ok.typed _ _ are is c.schema.ensures c.prepare.ensures.shows ((rw c.in_default.is at c.prepare.ensures.prepared) sound) c.in-Ok.ensures.finds.ok refusal
+    (λ change e m. h rules c.args.statement.now change are e (c.prepare.ensures.sound sound) m))
     c.make_typed.ensures.refused
 
 pub returns-in-Err-typed-clause-refused : goal.returns-in-Err-typed-clause-refused
