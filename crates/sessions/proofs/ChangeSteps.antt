@@ -16,7 +16,7 @@ use Rattle.typing.specs.declared.statement.Typed.TheVariants as does
 use Rattle.typing.specs.Statement.{answered_found}
 use Rattle.denote.specs.declared.fault.Fault.{Fault}
 use Rattle.denote.specs.Change.{changed, IsAccepted}
-use Rattle.denote.specs.Database.{Name, Database}
+use Rattle.denote.specs.Database.{Name, Database, IsGood}
 use Rattle.denote.specs.SchemaOf.{IsSchemaOf}
 use Rattle.replies.specs.declared.reply.Reply.{Reply}
 use Rattle.replies.specs.declared.reply.Reply.TheVariants as says
@@ -39,13 +39,15 @@ use Rattle.transactions.proofs.Orders.{begun_working, late_not_writer, same}
 use Rattle.transactions.proofs.Steps.{Answered, changes, changed_to, next_after, nothing_moves, rolls_back, sees_working, withholds}
 use Rattle.sessions.specs.Changed.{HasChanged, MakesChange, RefusesChange, RefusesStatement}
 use Rattle.sessions.specs.Kinds.{is_change}
+use Rattle.sessions.specs.Seen.{seen_in}
+use Rattle.sessions.proofs.QuerySteps.{sees}
 use Rattle.sessions.proofs.Typings.{typed_change, means, Against, read_as}
 
 -- ---- over a version
 
 module _ (rules : Rules) (x : Statement) (schema lent : Schema) (t : Typed) (old mid : Stored)
     (are : AreRules rules) (is : is_change x ≡ true) (lent_is : lent ≡ schema) (same_there : mid ≡ old)
-    (of : IsSchemaOf schema (database_of old.working)) (found : answered_found x lent ≡ Ok t) where
+    (of : IsSchemaOf schema (database_of old.working)) (good : IsGood rules.check (database_of old.working)) (found : answered_found x lent ≡ Ok t) where
   stood : (c : Change) × (t ≡ does.Change c) × Means rules (database_of mid.working) x (does.Change c)
   stood =
       let known = read_as x x schema lent t refl lent_is found in
@@ -53,16 +55,24 @@ module _ (rules : Rules) (x : Statement) (schema lent : Schema) (t : Typed) (old
       let there : Means rules (database_of old.working) x (does.Change c.0) = means rules (database_of old.working) schema x (does.Change c.0) are of (known ∙ ap Ok c.1) in
       (c.0, c.1, subst (λ (st : Stored). Means rules (database_of st.working) x (does.Change c.0)) (sym same_there) there)
 
+  of_there : IsSchemaOf schema (database_of mid.working)
+  of_there = subst (λ (st : Stored). IsSchemaOf schema (database_of st.working)) (sym same_there) of
+
+  good_there : IsGood rules.check (database_of mid.working)
+  good_there = subst (λ (st : Stored). IsGood rules.check (database_of st.working)) (sym same_there) good
+
   pub makes_typed : (reply : Reply) (new : Stored)
-      → ((c : Change) → t ≡ does.Change c → Means rules (database_of mid.working) x (does.Change c) → HasChanged rules mid c reply new) → MakesChange rules old x reply new
+      → ((c : Change) → t ≡ does.Change c → IsSchemaOf schema (database_of mid.working) → IsGood rules.check (database_of mid.working)
+      → Means rules (database_of mid.working) x (does.Change c) → HasChanged rules mid c reply new) → MakesChange rules old x reply new
   makes_typed reply new h = subst (λ (st : Stored). MakesChange rules st x reply new) same_there
-      (record { change = stood.0; means = stood.2; made = h stood.0 stood.1 stood.2 })
+      (record { change = stood.0; means = stood.2; made = h stood.0 stood.1 of_there good_there stood.2 })
 
   pub refuses_typed : (refusal : Refusal)
-      → ((c : Change) → t ≡ does.Change c → Means rules (database_of mid.working) x (does.Change c) → RefusesChange rules (database_of mid.working) c refusal)
+      → ((c : Change) → t ≡ does.Change c → IsSchemaOf schema (database_of mid.working) → IsGood rules.check (database_of mid.working)
+      → Means rules (database_of mid.working) x (does.Change c) → RefusesChange rules (database_of mid.working) c refusal)
       → RefusesStatement rules (database_of old.working) x refusal
   refuses_typed refusal h = subst (λ (st : Stored). RefusesStatement rules (database_of st.working) x refusal) same_there
-      (RefusesStatement.refused stood.0 stood.2 (h stood.0 stood.1 stood.2))
+      (RefusesStatement.refused stood.0 stood.2 (h stood.0 stood.1 of_there good_there stood.2))
 
 pub refuses_wrong : (rules : Rules) (db : Database) (x : Statement) (refusal : Refusal) → Against rules db x refusal → RefusesStatement rules db x refusal
 refuses_wrong rules db x refusal (Against.wanting e) = RefusesStatement.withheld (subst IsReserved (sym e) tt)
@@ -110,6 +120,9 @@ module _ (rules : Rules) (st : Stored) (w : Option ℕ) (s : ℕ) (mode : Access
     module _ (mid : Stored) (begins : mid ≡ begun st s) where
       there : database_of mid.working ≡ (runs st w s mode).working
       there = ap (λ (y : Stored). database_of y.working) begins ∙ ap database_of (begun_working st s) ∙ sym (sees_working st w s mode h free)
+
+      pub good_begun : IsGood rules.check (seen_in st w s) → IsGood rules.check (database_of mid.working)
+      good_begun good = subst (λ (db : Database). IsGood rules.check db) (sees st w s mode h ∙ sym there) good
 
       pub makes : (reply : Reply) (new : Stored) → MakesChange rules mid x reply new → Moves rules s text reply st w mode new (Some s) mode
       makes reply new made =

@@ -1,4 +1,5 @@
 pub mod Kinds
+pub mod Seen
 pub mod Answered
 pub mod Changed
 pub mod Numbers

@@ -1,11 +1,13 @@
 //! From the text of a call to its reply.
 ghost use Rattle.std.specs.Prelude.{◌≡◌, ◌≤◌};
 ghost use Rattle.lexer.specs.Token.{Bytes};
+ghost use Rattle.denote.specs.Database.{IsGood};
 ghost use Rattle.session_definitions.specs.Rules.{Rules, AreRules};
 ghost use Rattle.statement_reading.specs.Reading.{IsRead};
 ghost use Rattle.statement_reading.specs.Rollback.{IsRollback};
 ghost use Rattle.transactions.specs.Moves.{Moves};
 ghost use Rattle.transactions.specs.Orderly.{IsOrderly};
+ghost use Rattle.sessions.specs.Seen.{seen_in};
 
 use crate::change::change;
 use crate::changes::Changes;
@@ -29,7 +31,7 @@ pub(crate) fn call<S: Store, L: Language + Changes<S>>(
     session: u64,
     text: &[u8],
 ) -> Reply
-    ensures moves { (rules : Rules) → AreRules rules → S.is_sound store.old → IsOrderly (S.shows store.old) writer.old
+    ensures moves { (rules : Rules) → AreRules rules → S.is_sound store.old → IsOrderly (S.shows store.old) writer.old → IsGood rules.check (seen_in (S.shows store.old) writer.old session)
         → Moves rules session text.now result (S.shows store.old) writer.old mode.old (S.shows store.new) writer.new mode.new }
     ensures rolled_back { IsRollback text.now → result ≡ Reply.Done }
     ensures sound { S.is_sound store.old → S.is_sound store.new }
@@ -54,7 +56,7 @@ fn carry_out<S: Store, L: Language + Changes<S>>(
     session: u64,
     statement: &Statement,
 ) -> Reply
-    ensures moves { (rules : Rules) (text : Bytes) → AreRules rules → IsRead text statement.now → (IsRollback text → ⊥) → S.is_sound store.old → IsOrderly (S.shows store.old) writer.old
+    ensures moves { (rules : Rules) (text : Bytes) → AreRules rules → IsRead text statement.now → (IsRollback text → ⊥) → S.is_sound store.old → IsOrderly (S.shows store.old) writer.old → IsGood rules.check (seen_in (S.shows store.old) writer.old session)
         → Moves rules session text result (S.shows store.old) writer.old mode.old (S.shows store.new) writer.new mode.new }
     ensures sound { S.is_sound store.old → S.is_sound store.new }
     ensures counts { S.refused store.old ≤ S.refused store.new }

@@ -2,6 +2,8 @@
 ghost use Rattle.std.specs.Prelude.{◌≡◌, ◌≤◌, true, IfOk, IfErr, OnErr, MatchOption};
 ghost use Rattle.ast.specs.declared.statement.Statement.{Statement as Tree};
 ghost use Rattle.lexer.specs.Token.{Bytes};
+ghost use Rattle.denote.specs.Database.{IsGood};
+ghost use Rattle.denote.specs.SchemaOf.{IsSchemaOf};
 ghost use Rattle.session_definitions.specs.Rules.{Rules, AreRules, Means};
 ghost use Rattle.session_definitions.specs.Transactions as transactions;
 ghost use Rattle.statement_reading.specs.Reading.{IsRead};
@@ -15,6 +17,7 @@ ghost use Rattle.typing.specs.declared.statement.Typed.TheVariants as does;
 ghost use Rattle.typing.specs.Evaluated.{is_evaluated};
 ghost use Rattle.sessions.specs.Changed.{HasChanged, MakesChange, RefusesChange, RefusesStatement};
 ghost use Rattle.sessions.specs.Kinds.{is_change};
+ghost use Rattle.sessions.specs.Seen.{seen_in};
 
 use crate::changes::Changes;
 use crate::language::Language;
@@ -38,7 +41,7 @@ pub(crate) fn change<S: Store, L: Language + Changes<S>>(
     statement: &Statement,
 ) -> Reply
     ensures moves { (rules : Rules) (text : Bytes) → AreRules rules → is_change statement.now ≡ true → IsRead text statement.now → (IsRollback text → ⊥)
-        → S.is_sound store.old → IsOrderly (S.shows store.old) writer.old
+        → S.is_sound store.old → IsOrderly (S.shows store.old) writer.old → IsGood rules.check (seen_in (S.shows store.old) writer.old session)
         → Moves rules session text result (S.shows store.old) writer.old mode (S.shows store.new) writer.new mode }
     ensures sound { S.is_sound store.old → S.is_sound store.new }
     ensures counts { S.refused store.old ≤ S.refused store.new }
@@ -83,9 +86,9 @@ fn make<S: Store, L: Language + Changes<S>>(
     store: &mut S,
     statement: &Statement,
 ) -> Result<Reply, Refusal>
-    ensures changes { IfOk result (λ reply. (rules : Rules) → AreRules rules → is_change statement.now ≡ true → S.is_sound store.old
+    ensures changes { IfOk result (λ reply. (rules : Rules) → AreRules rules → is_change statement.now ≡ true → S.is_sound store.old → IsGood rules.check (database_of (S.shows store.old).working)
         → MakesChange rules (S.shows store.old) statement.now reply (S.shows store.new)) }
-    ensures refused { IfErr result (λ refusal. (rules : Rules) → AreRules rules → is_change statement.now ≡ true → S.is_sound store.old
+    ensures refused { IfErr result (λ refusal. (rules : Rules) → AreRules rules → is_change statement.now ≡ true → S.is_sound store.old → IsGood rules.check (database_of (S.shows store.old).working)
         → RefusesStatement rules (database_of (S.shows store.old).working) statement.now refusal) }
     ensures same { OnErr result (SameButMark (S.shows store.old) (S.shows store.new)) }
     ensures sound { S.is_sound store.old → S.is_sound store.new }
@@ -108,10 +111,10 @@ fn make_typed<S: Store, L: Language + Changes<S>>(
     typed: Typed,
 ) -> Result<Reply, Refusal>
     requires { is_evaluated typed ≡ true }
-    ensures changes { IfOk result (λ reply. (rules : Rules) (x : Tree) (change : Typing) → AreRules rules → typed ≡ does.Change change → S.is_sound store.old
-        → Means rules (database_of (S.shows store.old).working) x (does.Change change) → HasChanged rules (S.shows store.old) change reply (S.shows store.new)) }
-    ensures refused { IfErr result (λ refusal. (rules : Rules) (x : Tree) (change : Typing) → AreRules rules → typed ≡ does.Change change → S.is_sound store.old
-        → Means rules (database_of (S.shows store.old).working) x (does.Change change) → RefusesChange rules (database_of (S.shows store.old).working) change refusal) }
+    ensures changes { IfOk result (λ reply. (rules : Rules) (x : Tree) (change : Typing) → AreRules rules → typed ≡ does.Change change → S.is_sound store.old → IsSchemaOf (S.prepared store.old) (database_of (S.shows store.old).working)
+        → IsGood rules.check (database_of (S.shows store.old).working) → Means rules (database_of (S.shows store.old).working) x (does.Change change) → HasChanged rules (S.shows store.old) change reply (S.shows store.new)) }
+    ensures refused { IfErr result (λ refusal. (rules : Rules) (x : Tree) (change : Typing) → AreRules rules → typed ≡ does.Change change → S.is_sound store.old → IsSchemaOf (S.prepared store.old) (database_of (S.shows store.old).working)
+        → IsGood rules.check (database_of (S.shows store.old).working) → Means rules (database_of (S.shows store.old).working) x (does.Change change) → RefusesChange rules (database_of (S.shows store.old).working) change refusal) }
     ensures same { OnErr result (SameButMark (S.shows store.old) (S.shows store.new)) }
     ensures sound { S.is_sound store.old → S.is_sound store.new }
     ensures counts { S.refused store.old ≤ S.refused store.new }

@@ -45,21 +45,23 @@ impl<S: Store, L: Language + Changes<S>> Core<S, L> {
     ghost use Rattle.session_definitions.specs.Run.{MakesSession, DropsSession, FlushesPages, without_sessions};
     ghost use Rattle.session_definitions.specs.Step.{Step};
     ghost use Rattle.session_definitions.specs.World.{is_live, opened};
-    ghost use Rattle.denote.specs.Database.{Database};
+    ghost use Rattle.denote.specs.Database.{Database, IsGood};
     ghost use Rattle.store.specs.Errors.{HasRisen};
     ghost use Rattle.refusals.specs.declared.limit.Limit.TheVariants as limit;
     ghost use Rattle.statement_reading.specs.Rollback.{IsRollback};
     ghost use Rattle.refusals.specs.declared.reason.Reason.TheVariants as reason;
     ghost use Rattle.refusals.specs.declared.refusal.Refusal.TheVariants.{Disk, Exceeded, Invalid};
+    ghost use Rattle.sessions.specs.Seen.{seen_in};
     ghost use Rattle.sessions.specs.OfCore.{IsSound, number_of, world_of};
 
     /// Carries out a statement of this session, and answers its reply. A call of a session that has ended is refused by `session`, and nothing changes.
     ///
-    /// ROLLBACK takes no memory and always succeeds.
+    /// ROLLBACK takes no memory and always succeeds. That the database which the statement sees is good is a law of runs; a change relies on it.
     pub fn step(&mut self, session: SessionId, text: &[u8]) -> Reply
         ensures step { (rules : Rules) → AreRules rules → IsSound S.is_sound S.shows self.old → is_live (world_of S.shows self.old) (number_of session) ≡ true
-            → Step rules (world_of S.shows self.old) (number_of session) text.now result (world_of S.shows self.new) }
-        ensures sound { (rules : Rules) → AreRules rules → IsSound S.is_sound S.shows self.old → IsSound S.is_sound S.shows self.new }
+            → IsGood rules.check (seen_in (S.shows self.old.store) self.old.writer (number_of session)) → Step rules (world_of S.shows self.old) (number_of session) text.now result (world_of S.shows self.new) }
+        ensures sound { (rules : Rules) → AreRules rules → IsSound S.is_sound S.shows self.old → IsGood rules.check (seen_in (S.shows self.old.store) self.old.writer (number_of session))
+            → IsSound S.is_sound S.shows self.new }
         ensures rolled_back { IsRollback text.now → is_live (world_of S.shows self.old) (number_of session) ≡ true → result ≡ Reply.Done }
         ensures ended { is_live (world_of S.shows self.old) (number_of session) ≡ false → (result ≡ Reply.Refused (Invalid reason.Session)) × (self.new ≡ self.old) }
         ensures counts { S.refused self.old.store ≤ S.refused self.new.store }

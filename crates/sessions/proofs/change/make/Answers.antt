@@ -9,20 +9,20 @@ use Rattle.sessions.proofs.change.make.Goals as goal
 
 pub returns-in-Ok-clause-changes : goal.returns-in-Ok-clause-changes
 returns-in-Ok-clause-changes g c = IfOk-weaker c.make_typed.result _ _
-    (λ reply h rules are is sound.
-    makes_typed rules c.args.statement.now _ _ c.in-Ok.typed _ _ are is c.schema.ensures c.prepare.ensures.shows ((rw c.in_default.is at c.prepare.ensures.prepared) sound) c.in-Ok.ensures.finds.ok reply _
-    (λ change e m. h rules c.args.statement.now change are e (c.prepare.ensures.sound sound) m))
+    (λ reply h rules are is sound good.
+    makes_typed rules c.args.statement.now _ _ c.in-Ok.typed _ _ are is c.schema.ensures c.prepare.ensures.shows ((rw c.in_default.is at c.prepare.ensures.prepared) sound) good c.in-Ok.ensures.finds.ok reply _
+    (λ change e of there m. h rules c.args.statement.now change are e (c.prepare.ensures.sound sound) of there m))
     c.make_typed.ensures.changes
 
 pub returns-in-Ok-clause-refused : goal.returns-in-Ok-clause-refused
 returns-in-Ok-clause-refused g c = IfErr-weaker c.make_typed.result _ _
-    (λ refusal h rules are is sound.
-    refuses_typed rules c.args.statement.now _ _ c.in-Ok.typed _ _ are is c.schema.ensures c.prepare.ensures.shows ((rw c.in_default.is at c.prepare.ensures.prepared) sound) c.in-Ok.ensures.finds.ok refusal
-    (λ change e m. h rules c.args.statement.now change are e (c.prepare.ensures.sound sound) m))
+    (λ refusal h rules are is sound good.
+    refuses_typed rules c.args.statement.now _ _ c.in-Ok.typed _ _ are is c.schema.ensures c.prepare.ensures.shows ((rw c.in_default.is at c.prepare.ensures.prepared) sound) good c.in-Ok.ensures.finds.ok refusal
+    (λ change e of there m. h rules c.args.statement.now change are e (c.prepare.ensures.sound sound) of there m))
     c.make_typed.ensures.refused
 
 pub returns-in-Err-typed-clause-refused : goal.returns-in-Err-typed-clause-refused
-returns-in-Err-typed-clause-refused g c = λ rules are is sound.
+returns-in-Err-typed-clause-refused g c = λ rules are is sound good.
     let of : IsSchemaOf c.schema.result.now (database_of (g.S.Store.shows c.args.store.now).working) =
     subst (λ (schema : Schema). IsSchemaOf schema (database_of (g.S.Store.shows c.args.store.now).working)) (sym c.schema.ensures) ((rw c.in_default.is at c.prepare.ensures.prepared) sound) in
     refuses_wrong rules _ c.args.statement.now _ (against rules _ c.schema.result.now c.args.statement.now _ are of c.in-Err-typed.ensures.finds.err)

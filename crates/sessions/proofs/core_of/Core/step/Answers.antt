@@ -6,7 +6,7 @@ use Rattle.sessions.proofs.Cores.{not_live, is_live_at, readers_kept}
 use Rattle.sessions.proofs.core_of.Core.step.Goals as goal
 
 pub returns-in_default-clause-step : goal.returns-in_default-clause-step
-returns-in_default-clause-step g c = λ rules are sound live.
+returns-in_default-clause-step g c = λ rules are sound live good.
     let none : slot_at c.args.self.now.slots.modes c.args.session.number ≡ None = sym c.mode_of.ensures.is ∙ c.in_default.is in
     let dead = not_live (g.S.Store.shows c.args.self.now.store) c.args.self.now.writer c.args.self.now.slots.modes c.args.session.number none in
     let bad : true ≡ false = sym live ∙ dead in absurd (cc)
@@ -18,15 +18,15 @@ returns-in_default-clause-rolled_back g c = λ is live.
     let bad : true ≡ false = sym live ∙ dead in absurd (cc)
 
 pub returns-clause-step : goal.returns-clause-step
-returns-clause-step g c = λ rules are sound live.
+returns-clause-step g c = λ rules are sound live good.
     let is : slot_at c.args.self.now.slots.modes c.args.session.number ≡ Some c.in-Some.mode = sym c.mode_of.ensures.is ∙ c.in-Some.is in
     subst (λ (slots : Slots). Step rules (shown (g.S.Store.shows c.args.self.now.store) c.args.self.now.writer c.args.self.now.slots.modes) c.args.session.number c.args.text.now c.call-reply.result (shown (g.S.Store.shows c.call-reply.new.store) c.call-reply.new.writer slots))
-    (sym c.set.ensures) ((c.call-reply.ensures.moves rules are sound.store sound.order).step c.args.self.now.slots.modes is)
+    (sym c.set.ensures) ((c.call-reply.ensures.moves rules are sound.store sound.order good).step c.args.self.now.slots.modes is)
 
 pub returns-clause-sound : goal.returns-clause-sound
-returns-clause-sound g c = λ rules are sound.
+returns-clause-sound g c = λ rules are sound good.
     let is : slot_at c.args.self.now.slots.modes c.args.session.number ≡ Some c.in-Some.mode = sym c.mode_of.ensures.is ∙ c.in-Some.is in
-    let moves = c.call-reply.ensures.moves rules are sound.store sound.order in
+    let moves = c.call-reply.ensures.moves rules are sound.store sound.order good in
     record {
       store = c.call-reply.ensures.sound sound.store;
       order = moves.order;
