@@ -2,7 +2,12 @@
 #![tactic(auto)]
 
 mod error;
+mod key;
 mod numbers;
+mod parts;
 mod places;
 
+mod values;
+
 pub use error::ReadError;
+
