@@ -1,3 +1,5 @@
 pub mod Repeats
 pub mod PlaceLemmas
 pub mod Exits
+pub mod RuleLemmas
+pub mod NumberedLemmas

@@ -9,7 +9,7 @@ use Rattle.catalog_records.specs.Places.{next_place, places_text}
 use Rattle.catalog_read.specs.Keepable.{ArePlaces}
 use Rattle.catalog_read.specs.Cuts.{IsAtComma, IsCut}
 
-all_append : {A : Type 0} (P : A → Type 0) (xs ys : List A) → AllByRecursion P xs → AllByRecursion P ys → AllByRecursion P (xs ++ ys)
+pub all_append : {A : Type 0} (P : A → Type 0) (xs ys : List A) → AllByRecursion P xs → AllByRecursion P ys → AllByRecursion P (xs ++ ys)
 all_append P [] ys h g = g
 all_append P (x ∷ xs) ys h g = (h.0, all_append P xs ys h.1 g)
 

@@ -6,6 +6,7 @@ mod key;
 mod numbers;
 mod parts;
 mod places;
+mod reading;
 
 mod values;
 

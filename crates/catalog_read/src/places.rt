@@ -26,6 +26,7 @@ fn cut_at_comma(text: &[u8]) -> (&[u8], &[u8])
 /// The number before the first comma, and the rest from that comma on.
 fn first_place(text: &[u8]) -> Result<(usize, &[u8]), ReadError>
     ensures sound { IfOk result (λ given. decimal given.0 ++ given.1.now ≡ text.now) }
+    ensures kept { IfOk result (λ given. given.0 < 2 ^ 64) }
     ensures again { (place : ℕ) (rest : List ℕ) → place < 2 ^ 64 → IsAtComma rest → decimal place ++ rest ≡ text.now → GivesFront result place rest }
 {
     let (digits, rest) = cut_at_comma(text);
@@ -38,6 +39,7 @@ fn first_place(text: &[u8]) -> Result<(usize, &[u8]), ReadError>
 /// The places of a text in which each stands behind a comma.
 fn next_places(alloc: Global, text: &[u8]) -> Result<Items<usize>, ReadError>
     ensures sound { IfOk result (λ places. flat_map next_place places ≡ text.now) }
+    ensures kept { IfOk result ArePlaces }
     ensures again { (places : List ℕ) → ArePlaces places → flat_map next_place places ≡ text.now → Gives result places }
 {
     let mut places = Items::new(alloc);
@@ -58,6 +60,7 @@ fn next_places(alloc: Global, text: &[u8]) -> Result<Items<usize>, ReadError>
 /// Refused for want of memory, and as damaged just where it is the text of no places.
 pub(crate) fn places_of_text(alloc: Global, text: &[u8]) -> Result<Items<usize>, ReadError>
     ensures sound { IfOk result (λ places. places_text places ≡ text.now) }
+    ensures kept { IfOk result ArePlaces }
     ensures again { (places : List ℕ) → ArePlaces places → places_text places ≡ text.now → Gives result places }
 {
     let mut places = Items::new(alloc);

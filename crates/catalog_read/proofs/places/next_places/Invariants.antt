@@ -8,6 +8,7 @@ use Rattle.catalog_read.proofs.places.next_places.Given as goal
 abbrev pub invariant-loop-comma : goal.invariant-loop-comma
 invariant-loop-comma l = record {
   sound : flat_map next_place l.places ++ l.rest ≡ l.text;
+  kept : ArePlaces l.places;
   again : (all : List ℕ) → ArePlaces all → flat_map next_place all ≡ l.text → Remains next_place (λ place. place < 2 ^ 64) all l.places l.rest;
 }
 
