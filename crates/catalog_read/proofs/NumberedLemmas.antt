@@ -1,7 +1,7 @@
 -- Records of the parts of a table, numbered on from a number, of which some were read.
 use Rattle.std.proofs.Common.{◌≡◌, ℕ, suc, ◌+◌, ◌<◌, ◌≤◌, List, [], ◌∷◌, ◌++◌, map, length, get_or, take, drop, drop-cons, refl, sym, ap, ◌∙◌, arith, append_assoc}
 use Rattle.std.specs.List.{AllByRecursion, enumerate_from}
-use Rattle.std.proofs.lemmas.List.{append-nil}
+use Rattle.std.proofs.lemmas.List.{append-nil, length-append}
 use Rattle.sqlval.specs.declared.value.Value.{Value}
 use Rattle.catalog_records.specs.declared.record.Record.{Record}
 use Rattle.catalog_read.specs.Rows.{EndsAt}
@@ -60,10 +60,10 @@ numbered_push f n (y ∷ read) x =
     let same : n + 1 + length read ≡ n + length (y ∷ read) = omega arith in
     ap (λ rs. f (n, y) ∷ rs) (numbered_push f (n + 1) read x ∙ ap (λ m. map f (enumerate_from (n + 1) read) ++ f (m, x) ∷ []) same)
 
-pub numbered_more : {A : Type 0} (f : ℕ × A → Record) (n : ℕ) (read : List A) (rest records : List Record) (r : Record) (rs : List Record) (x : A) (i : ℕ)
-    → map f (enumerate_from n read) ++ rest ≡ records → length read ≡ i → rest ≡ r ∷ rs → f (n + i, x) ≡ r → map f (enumerate_from n (read ++ x ∷ [])) ++ rs ≡ records
-numbered_more f n read rest records r rs x i e long first is =
-    rw (numbered_push f n read x, long, is) (append_assoc (map f (enumerate_from n read)) (r ∷ []) rs ∙ ap (λ xs. map f (enumerate_from n read) ++ xs) (sym first) ∙ e)
+pub numbered_more : {A : Type 0} (f : ℕ × A → Record) (n : ℕ) (read : List A) (rest records : List Record) (r : Record) (rs : List Record) (x : A) (i m : ℕ)
+    → map f (enumerate_from n read) ++ rest ≡ records → length read ≡ i → m ≡ n + i → rest ≡ r ∷ rs → f (m, x) ≡ r → map f (enumerate_from n (read ++ x ∷ [])) ++ rs ≡ records
+numbered_more f n read rest records r rs x i m e long at first is =
+    rw (numbered_push f n read x, long, ← at, is) (append_assoc (map f (enumerate_from n read)) (r ∷ []) rs ∙ ap (λ xs. map f (enumerate_from n read) ++ xs) (sym first) ∙ e)
 
 -- ---- records
 
@@ -75,3 +75,19 @@ first_left records i r below is =
 
 pub record_is : (r : Record) (key row : List Value) → r.key ≡ key → row ≡ r.row → record { key = key; row = row } ≡ r
 record_is r key row e f = rw (sym e, f) refl
+
+-- one more is counted
+pub count_more : {A : Type 0} (read : List A) (x : A) (i : ℕ) → length read ≡ i → length (read ++ x ∷ []) ≡ i + 1
+count_more read x i long = simp length-append (omega (arith, long))
+
+pub all_more : {A : Type 0} (P : A → Type 0) (read : List A) (x : A) → AllByRecursion P read → P x → AllByRecursion P (read ++ x ∷ [])
+all_more P [] x h p = (p, tt)
+all_more P (y ∷ read) x h p = (h.0, all_more P read x h.1 p)
+
+-- a record that has not this key is not the first with it
+pub other_key : (rest : List Record) (record_ : Record) (others : List Record) (values key : List Value) → rest ≡ record_ ∷ others → values ≡ record_.key → (values ≡ key → ⊥)
+    → (r : Record) (rs : List Record) → rest ≡ r ∷ rs → r.key ≡ key → ⊥
+other_key rest record_ others values key first own none r rs is same =
+    let e : record_ ∷ others ≡ r ∷ rs = sym first ∙ is in
+    let one : record_ ≡ r = cc in
+    none (own ∙ ap (λ (x : Record). x.key) one ∙ same)

@@ -14,5 +14,5 @@ invariant-loop-place l = record {
   count : length l.columns ≡ l.place;
   kept : AllByRecursion IsColumn l.columns;
   again : (all : List Column) (more : List Record) → AllByRecursion IsColumn all → EndsAt (key_of l.name 1) more → column_records l.name 0 all ++ more ≡ l.records
-      → RemainsFrom (λ (c : ℕ × Column). column_record l.name c.0 c.1) IsColumn all l.columns l.place (drop l.place l.records) more;
+      → RemainsFrom (λ (x : ℕ × Column). column_record l.name x.0 x.1) IsColumn all l.columns l.place (drop l.place l.records) more;
 }
