@@ -1,5 +1,5 @@
 -- The exit of a `?`.
-use Rattle.std.proofs.Common.{◌≡◌, List, Result, Err, ◌∙◌}
+use Rattle.std.proofs.Common.{◌≡◌, List, Result, ◌∙◌}
 use Rattle.std.specs.Result.{IsErrAnd}
 use Rattle.std.specs.Borrow.{Bor}
 use Rattle.std.proofs.lemmas.Result.{err_from_is_err_and}

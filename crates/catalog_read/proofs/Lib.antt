@@ -3,3 +3,4 @@ pub mod PlaceLemmas
 pub mod Exits
 pub mod RuleLemmas
 pub mod NumberedLemmas
+pub mod TableLemmas

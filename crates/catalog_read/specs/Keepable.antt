@@ -1,5 +1,5 @@
 -- Schemas that the program can hold: its numbers have their types' ranges, and the n of VARCHAR(n) is not 0. Our own choice.
-use Rattle.std.specs.Prelude.{ℕ, ◌<◌, ◌^◌, List, Option}
+use Rattle.std.specs.Prelude.{ℕ, ◌<◌, ◌^◌, List}
 use Rattle.std.specs.List.{AllByRecursion}
 use Rattle.sqlval.specs.declared.storing.ColumnType.{ColumnType}
 use Rattle.sqlval.specs.declared.storing.ColumnType.TheVariants.{Integer, Varchar}

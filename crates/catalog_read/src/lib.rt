@@ -7,8 +7,8 @@ mod numbers;
 mod parts;
 mod places;
 mod reading;
-
+mod schema;
 mod values;
 
 pub use error::ReadError;
-
+pub use schema::schema_of_records;

@@ -1,5 +1,5 @@
 use Rattle.std.proofs.Common.{◌≡◌, ℕ, List, ◌<◌, ◌^◌, ◌++◌, length}
-use Rattle.std.specs.List.{flat_map, AllByRecursion}
+use Rattle.std.specs.List.{flat_map}
 use Rattle.catalog_records.specs.Places.{next_place}
 use Rattle.catalog_read.specs.Keepable.{ArePlaces}
 use Rattle.catalog_read.proofs.Repeats.{Remains}

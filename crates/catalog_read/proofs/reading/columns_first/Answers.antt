@@ -1,4 +1,4 @@
-use Rattle.std.proofs.Common.{◌≡◌, ℕ, ◌+◌, ◌<◌, ◌≤◌, List, ◌∷◌, [], ◌++◌, length, drop, refl, sym, ap, ◌∙◌, arith}
+use Rattle.std.proofs.Common.{◌≡◌, ℕ, ◌∷◌, [], refl, sym, ap, ◌∙◌, arith}
 use Rattle.std.proofs.lemmas.List.{drop_all}
 use Rattle.sqlval.specs.declared.schema.Column.{Column}
 use Rattle.catalog_records.specs.declared.record.Record.{Record}
@@ -23,8 +23,8 @@ returns-in_err-column-clause-again c = λ all more good ends e.
     let own = sym c.as_slice.ensures ∙ c.is_key.ensures.yes c.if-not-is_key.false in
     let known = c.loop-place.invariant.again all more good ends e in
     numbered_one (λ (x : ℕ × Column). column_record c.args.name.now x.0 x.1) IsColumn (key_of c.args.name.now 1) all _ c.loop-place.place _ more _ _ _ known first own ends
-        (λ y ys keep others is left whole. refused_front _ c.in_err-column.field-0.0 all more c.from_residual.ensures.1
-            (c.in_err-column.ensures.again y keep (ap (λ (r : Record). r.row) is ∙ sym c.as_slice-in-loop-place.ensures)))
+    (λ y ys keep others is left whole. refused_front _ c.in_err-column.field-0.0 all more c.from_residual.ensures.1
+    (c.in_err-column.ensures.again y keep (ap (λ (r : Record). r.row) is ∙ sym c.as_slice-in-loop-place.ensures)))
 
 pub loop-place-preserved : goal.loop-place-preserved
 loop-place-preserved c =
@@ -38,8 +38,8 @@ loop-place-preserved c =
       count = rw put (count_more _ c.in_ok-column.column _ c.loop-place.invariant.count);
       kept = rw put (all_more IsColumn _ c.in_ok-column.column c.loop-place.invariant.kept c.in_ok-column.ensures.kept);
       again = λ all more good ends e.
-        rw put (numbered_next f IsColumn (key_of c.args.name.now 1) all _ c.loop-place.place _ more _ _ c.in_ok-column.column (c.loop-place.invariant.again all more good ends e) first own ends
-            (λ y keep same. c.in_ok-column.ensures.again y keep (ap (λ (r : Record). r.row) same ∙ sym c.as_slice-in-loop-place.ensures)));
+          rw put (numbered_next f IsColumn (key_of c.args.name.now 1) all _ c.loop-place.place _ more _ _ c.in_ok-column.column (c.loop-place.invariant.again all more good ends e) first own ends
+          (λ y keep same. c.in_ok-column.ensures.again y keep (ap (λ (r : Record). r.row) same ∙ sym c.as_slice-in-loop-place.ensures)));
     }
 
 pub returns-clause-again : goal.returns-clause-again

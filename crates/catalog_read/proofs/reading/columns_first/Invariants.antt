@@ -1,4 +1,4 @@
-use Rattle.std.proofs.Common.{◌≡◌, ℕ, ◌+◌, List, ◌++◌, length, drop}
+use Rattle.std.proofs.Common.{◌≡◌, ℕ, List, ◌++◌, length, drop}
 use Rattle.std.specs.List.{AllByRecursion}
 use Rattle.sqlval.specs.declared.schema.Column.{Column}
 use Rattle.catalog_records.specs.declared.record.Record.{Record}

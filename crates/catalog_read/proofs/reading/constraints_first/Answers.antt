@@ -1,4 +1,4 @@
-use Rattle.std.proofs.Common.{◌≡◌, ℕ, ◌+◌, ◌<◌, ◌≤◌, List, ◌∷◌, [], ◌++◌, length, drop, refl, sym, ap, ◌∙◌, arith}
+use Rattle.std.proofs.Common.{◌≡◌, ℕ, ◌+◌, ◌∷◌, [], refl, sym, ap, ◌∙◌, arith}
 use Rattle.std.proofs.lemmas.List.{drop_all}
 use Rattle.sqlval.specs.declared.schema.Constraint.{Constraint}
 use Rattle.catalog_records.specs.declared.record.Record.{Record}
@@ -23,8 +23,8 @@ returns-in_err-constraint-clause-again c = λ all more good ends e.
     let own = sym c.as_slice.ensures ∙ c.is_key.ensures.yes c.if-not-is_key.false in
     let known = c.loop-place.invariant.again all more good ends e in
     numbered_one (λ (x : ℕ × Constraint). constraint_record c.args.name.now x.0 x.1) IsConstraint (key_of c.args.name.now 2) all _ (c.loop-place.place + 1) _ more _ _ _ known first own ends
-        (λ y ys keep others is left whole. refused_front _ c.in_err-constraint.field-0.0 all more c.from_residual.ensures.1
-            (c.in_err-constraint.ensures.again y keep (ap (λ (r : Record). r.row) is ∙ sym c.as_slice-in-loop-place.ensures)))
+    (λ y ys keep others is left whole. refused_front _ c.in_err-constraint.field-0.0 all more c.from_residual.ensures.1
+    (c.in_err-constraint.ensures.again y keep (ap (λ (r : Record). r.row) is ∙ sym c.as_slice-in-loop-place.ensures)))
 
 pub loop-place-preserved : goal.loop-place-preserved
 loop-place-preserved c =
@@ -38,8 +38,8 @@ loop-place-preserved c =
       count = rw put (count_more _ c.in_ok-constraint.constraint _ c.loop-place.invariant.count);
       kept = rw put (all_more IsConstraint _ c.in_ok-constraint.constraint c.loop-place.invariant.kept c.in_ok-constraint.ensures.kept);
       again = λ all more good ends e.
-        rw put (numbered_next f IsConstraint (key_of c.args.name.now 2) all _ (c.loop-place.place + 1) _ more _ _ c.in_ok-constraint.constraint (c.loop-place.invariant.again all more good ends e) first own ends
-            (λ y keep same. c.in_ok-constraint.ensures.again y keep (ap (λ (r : Record). r.row) same ∙ sym c.as_slice-in-loop-place.ensures)));
+          rw put (numbered_next f IsConstraint (key_of c.args.name.now 2) all _ (c.loop-place.place + 1) _ more _ _ c.in_ok-constraint.constraint (c.loop-place.invariant.again all more good ends e) first own ends
+          (λ y keep same. c.in_ok-constraint.ensures.again y keep (ap (λ (r : Record). r.row) same ∙ sym c.as_slice-in-loop-place.ensures)));
     }
 
 pub returns-clause-again : goal.returns-clause-again
