@@ -1,0 +1,4 @@
+pub mod DecodeLemmas
+pub mod OrderLemmas
+pub mod PutLemmas
+pub mod RefusalLemmas
