@@ -28,5 +28,5 @@ record_read all entries i entry P coded same below is use_it =
     let long : length entries ≡ length all = ap length same ∙ length-map all entry_of in
     let within : i < length all = omega (arith, long, below) in
     some_record P all i within (λ d.
-        use_it (get_or all i d) (coded_at all i d coded within) (is ∙ ap (λ es. get_or es i entry) same ∙ entry_at all i d entry within)
-            (λ read e. ap (λ rs. rs ++ get_or all i d ∷ []) e ∙ sym (take_more all i d within)))
+    use_it (get_or all i d) (coded_at all i d coded within) (is ∙ ap (λ es. get_or es i entry) same ∙ entry_at all i d entry within)
+    (λ read e. ap (λ rs. rs ++ get_or all i d ∷ []) e ∙ sym (take_more all i d within)))

@@ -2,3 +2,4 @@ pub mod DecodeLemmas
 pub mod OrderLemmas
 pub mod PutLemmas
 pub mod RefusalLemmas
+pub mod RootLemmas

@@ -97,17 +97,19 @@ same_less a b k l e f h = rw (e, f) h
 numbered_of : {A : Type 0} (f : ℕ × A → Record) (name : List ℕ) (kind n : ℕ) (xs : List A) → ((m : ℕ) (y : A) → (f (m, y)).key ≡ key_of name kind m)
     → AllByRecursion (IsOf name kind n) (map f (enumerate_from n xs))
 numbered_of f name kind n [] keys = tt
-numbered_of f name kind n (x ∷ xs) keys =
-    (record { number = n; least = omega arith; is = keys n x },
-     each_map (IsOf name kind (n + 1)) (IsOf name kind n) (map f (enumerate_from (n + 1) xs)) (λ r h. record { number = h.number; least = omega (arith, h.least); is = h.is }) (numbered_of f name kind (n + 1) xs keys))
+numbered_of f name kind n (x ∷ xs) keys = (
+  record { number = n; least = omega arith; is = keys n x },
+  each_map (IsOf name kind (n + 1)) (IsOf name kind n) (map f (enumerate_from (n + 1) xs)) (λ r h. record { number = h.number; least = omega (arith, h.least); is = h.is }) (numbered_of f name kind (n + 1) xs keys),
+)
 
 numbered_rises : {A : Type 0} (f : ℕ × A → Record) (name : List ℕ) (kind n : ℕ) (xs : List A) → ((m : ℕ) (y : A) → (f (m, y)).key ≡ key_of name kind m)
     → Rises (map f (enumerate_from n xs))
 numbered_rises f name kind n [] keys = tt
-numbered_rises f name kind n (x ∷ xs) keys =
-    (each_map (IsOf name kind (n + 1)) (IsLess (f (n, x))) (map f (enumerate_from (n + 1) xs))
-        (λ r h. same_less (f (n, x)) r _ _ (keys n x) h.is (number_less name kind n h.number (omega (arith, h.least)))) (numbered_of f name kind (n + 1) xs keys),
-     numbered_rises f name kind (n + 1) xs keys)
+numbered_rises f name kind n (x ∷ xs) keys = (
+  each_map (IsOf name kind (n + 1)) (IsLess (f (n, x))) (map f (enumerate_from (n + 1) xs))
+      (λ r h. same_less (f (n, x)) r _ _ (keys n x) h.is (number_less name kind n h.number (omega (arith, h.least)))) (numbered_of f name kind (n + 1) xs keys),
+  numbered_rises f name kind (n + 1) xs keys,
+)
 
 rises_join : (xs ys : List Record) → Rises xs → Rises ys → AllByRecursion (λ x. AllByRecursion (IsLess x) ys) xs → Rises (xs ++ ys)
 rises_join [] ys h g less = g
@@ -117,7 +119,7 @@ rises_join (x ∷ xs) ys h g less = (each_append (IsLess x) xs ys h.0 less.0, ri
 kinds_rise : (name : List ℕ) (j k m n : ℕ) (xs ys : List Record) → j < k → AllByRecursion (IsOf name j m) xs → AllByRecursion (IsOf name k n) ys → AllByRecursion (λ x. AllByRecursion (IsLess x) ys) xs
 kinds_rise name j k m n xs ys h of_xs of_ys =
     each_map (IsOf name j m) (λ x. AllByRecursion (IsLess x) ys) xs (λ x a.
-        each_map (IsOf name k n) (IsLess x) ys (λ y b. same_less x y _ _ a.is b.is (kind_less name j k a.number b.number h)) of_ys) of_xs
+    each_map (IsOf name k n) (IsLess x) ys (λ y b. same_less x y _ _ a.is b.is (kind_less name j k a.number b.number h)) of_ys) of_xs
 
 both_less : (xs ys zs : List Record) → AllByRecursion (λ x. AllByRecursion (IsLess x) ys) xs → AllByRecursion (λ x. AllByRecursion (IsLess x) zs) xs → AllByRecursion (λ x. AllByRecursion (IsLess x) (ys ++ zs)) xs
 both_less [] ys zs h g = tt
@@ -134,17 +136,18 @@ indexes_of t = numbered_of (λ (x : ℕ × Index). index_record t.name x.0 x.1) 
 
 -- the records of a table rise
 pub table_rises : (t : Table) → Rises (table_records t)
-table_rises t =
-    (each_append (IsLess (table_record t.name t.root)) (column_records t.name 0 t.columns) (constraint_records t.name 1 t.constraints ++ index_records t.name 1 t.indexes) (first 1 0 _ (omega arith) (columns_of t))
-        (each_append (IsLess (table_record t.name t.root)) (constraint_records t.name 1 t.constraints) (index_records t.name 1 t.indexes) (first 2 1 _ (omega arith) (constraints_of t)) (first 3 1 _ (omega arith) (indexes_of t))),
-     rises_join (column_records t.name 0 t.columns) (constraint_records t.name 1 t.constraints ++ index_records t.name 1 t.indexes)
-        (numbered_rises (λ (x : ℕ × Column). column_record t.name x.0 x.1) t.name 1 0 t.columns (λ m y. refl))
-        (rises_join (constraint_records t.name 1 t.constraints) (index_records t.name 1 t.indexes)
-            (numbered_rises (λ (x : ℕ × Constraint). constraint_record t.name x.0 x.1) t.name 2 1 t.constraints (λ m y. refl))
-            (numbered_rises (λ (x : ℕ × Index). index_record t.name x.0 x.1) t.name 3 1 t.indexes (λ m y. refl))
-            (kinds_rise t.name 2 3 1 1 _ _ (omega arith) (constraints_of t) (indexes_of t)))
-        (both_less (column_records t.name 0 t.columns) (constraint_records t.name 1 t.constraints) (index_records t.name 1 t.indexes)
-            (kinds_rise t.name 1 2 0 1 _ _ (omega arith) (columns_of t) (constraints_of t)) (kinds_rise t.name 1 3 0 1 _ _ (omega arith) (columns_of t) (indexes_of t))))
+table_rises t = (
+  each_append (IsLess (table_record t.name t.root)) (column_records t.name 0 t.columns) (constraint_records t.name 1 t.constraints ++ index_records t.name 1 t.indexes) (first 1 0 _ (omega arith) (columns_of t))
+      (each_append (IsLess (table_record t.name t.root)) (constraint_records t.name 1 t.constraints) (index_records t.name 1 t.indexes) (first 2 1 _ (omega arith) (constraints_of t)) (first 3 1 _ (omega arith) (indexes_of t))),
+  rises_join (column_records t.name 0 t.columns) (constraint_records t.name 1 t.constraints ++ index_records t.name 1 t.indexes)
+      (numbered_rises (λ (x : ℕ × Column). column_record t.name x.0 x.1) t.name 1 0 t.columns (λ m y. refl))
+      (rises_join (constraint_records t.name 1 t.constraints) (index_records t.name 1 t.indexes)
+      (numbered_rises (λ (x : ℕ × Constraint). constraint_record t.name x.0 x.1) t.name 2 1 t.constraints (λ m y. refl))
+      (numbered_rises (λ (x : ℕ × Index). index_record t.name x.0 x.1) t.name 3 1 t.indexes (λ m y. refl))
+      (kinds_rise t.name 2 3 1 1 _ _ (omega arith) (constraints_of t) (indexes_of t)))
+      (both_less (column_records t.name 0 t.columns) (constraint_records t.name 1 t.constraints) (index_records t.name 1 t.indexes)
+      (kinds_rise t.name 1 2 0 1 _ _ (omega arith) (columns_of t) (constraints_of t)) (kinds_rise t.name 1 3 0 1 _ _ (omega arith) (columns_of t) (indexes_of t))),
+)
   where
     first : (kind from : ℕ) (rs : List Record) → 0 < kind → AllByRecursion (IsOf t.name kind from) rs → AllByRecursion (IsLess (table_record t.name t.root)) rs
     first kind from rs some of = each_map (IsOf t.name kind from) (IsLess (table_record t.name t.root)) rs
@@ -152,10 +155,11 @@ table_rises t =
 
 -- and have its name
 pub table_named : (t : Table) → AllByRecursion (IsNamed t.name) (table_records t)
-table_named t =
-    (record { kind = 0; number = 0; is = refl },
-     each_append (IsNamed t.name) (column_records t.name 0 t.columns) (constraint_records t.name 1 t.constraints ++ index_records t.name 1 t.indexes) (each_map _ _ _ (named t.name 1 0) (columns_of t))
-        (each_append (IsNamed t.name) (constraint_records t.name 1 t.constraints) (index_records t.name 1 t.indexes) (each_map _ _ _ (named t.name 2 1) (constraints_of t)) (each_map _ _ _ (named t.name 3 1) (indexes_of t))))
+table_named t = (
+  record { kind = 0; number = 0; is = refl },
+  each_append (IsNamed t.name) (column_records t.name 0 t.columns) (constraint_records t.name 1 t.constraints ++ index_records t.name 1 t.indexes) (each_map _ _ _ (named t.name 1 0) (columns_of t))
+      (each_append (IsNamed t.name) (constraint_records t.name 1 t.constraints) (index_records t.name 1 t.indexes) (each_map _ _ _ (named t.name 2 1) (constraints_of t)) (each_map _ _ _ (named t.name 3 1) (indexes_of t))),
+)
 
 -- records of a table before another are less than its records
 pub named_less : (name other : List ℕ) (a b : Record) → is_lt (text_order name other) ≡ true → IsNamed name a → IsNamed other b → IsLess a b

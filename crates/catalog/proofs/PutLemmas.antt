@@ -68,15 +68,15 @@ put_between : (records : List Record) (done behind : List Entry) → AreCoded re
 put_between [] done behind coded rising before after = refl
 put_between (r ∷ records) done behind coded rising before after =
     let one : put (key_code r.key) (row_code r.row) (done ++ behind) ≡ (done ++ entry_of r ∷ []) ++ behind =
-        put_past (key_code r.key) (row_code r.row) done behind (only_first r records done before)
-        ∙ ap (λ xs. done ++ xs) (put_here (key_code r.key) (row_code r.row) behind after.0) ∙ sym (append_assoc done (entry_of r ∷ []) behind) in
+    put_past (key_code r.key) (row_code r.row) done behind (only_first r records done before)
+    ∙ ap (λ xs. done ++ xs) (put_here (key_code r.key) (row_code r.row) behind after.0) ∙ sym (append_assoc done (entry_of r ∷ []) behind) in
     let less : IsBeforeAll records (entry_of r) =
-        each_both (IsLess r) IsCoded (λ s. precedes (key_code r.key) (key_code s.key) ≡ true) records (λ s l c. less_bytes r s coded.0 c l) rising.0 coded.1 in
+    each_both (IsLess r) IsCoded (λ s. precedes (key_code r.key) (key_code s.key) ≡ true) records (λ s l c. less_bytes r s coded.0 c l) rising.0 coded.1 in
     ap (put_all records) one
     ∙ put_between records (done ++ entry_of r ∷ []) behind coded.1 rising.1 (each_append (IsBeforeAll records) done (entry_of r ∷ []) (without_first r records done before) (less, tt)) after.1
     ∙ append_assoc done (entry_of r ∷ []) (entries_of records ++ behind)
 
-entries_append : (xs ys : List Record) → entries_of (xs ++ ys) ≡ entries_of xs ++ entries_of ys
+pub entries_append : (xs ys : List Record) → entries_of (xs ++ ys) ≡ entries_of xs ++ entries_of ys
 entries_append [] ys = refl
 entries_append (x ∷ xs) ys = ap (λ es. entry_of x ∷ es) (entries_append xs ys)
 
@@ -87,6 +87,7 @@ before_table u t less coded_u coded_t = go (table_records u) (table_named u) cod
     one : (r : Record) → IsNamed u.name r → IsCoded r → IsBeforeAll (table_records t) (entry_of r)
     one r named coded = each_both (IsNamed t.name) IsCoded (λ s. precedes (key_code r.key) (key_code s.key) ≡ true) (table_records t)
         (λ s p c. less_bytes r s coded c (named_less u.name t.name r s less named p)) (table_named t) coded_t
+
     go : (rs : List Record) → AllByRecursion (IsNamed u.name) rs → AreCoded rs → AllByRecursion (IsBeforeAll (table_records t)) (entries_of rs)
     go [] named coded = tt
     go (r ∷ rs) named coded = (one r named.0 coded.0, go rs named.1 coded.1)
@@ -116,15 +117,15 @@ table_put t (u ∷ tables) done coded others free before =
     by true e again =
         let coded_u : AreCoded (table_records u) = each_left IsCoded (table_records u) (schema_records tables) others in
         let joined : done ++ entries_of (table_records u ++ schema_records tables) ≡ (done ++ entries_of (table_records u)) ++ entries_of (schema_records tables) =
-            ap (λ es. done ++ es) (entries_append (table_records u) (schema_records tables)) ∙ sym (append_assoc done (entries_of (table_records u)) (entries_of (schema_records tables))) in
+        ap (λ es. done ++ es) (entries_append (table_records u) (schema_records tables)) ∙ sym (append_assoc done (entries_of (table_records u)) (entries_of (schema_records tables))) in
         ap (put_all (table_records t)) joined
         ∙ again (done ++ entries_of (table_records u))
-            (each_append (IsBeforeAll (table_records t)) done (entries_of (table_records u)) before (before_table u t (sym e) coded_u coded))
+        (each_append (IsBeforeAll (table_records t)) done (entries_of (table_records u)) before (before_table u t (sym e) coded_u coded))
         ∙ append_assoc done (entries_of (table_records u)) (entries_of (schema_records (with_table t tables)))
         ∙ ap (λ es. done ++ es) (sym (entries_append (table_records u) (schema_records (with_table t tables))))
     by false e again =
         put_between (table_records t) done (entries_of (table_records u ++ schema_records tables)) coded (table_rises t) before
-            (table_before t u (entries_of ((column_records u.name 0 u.columns ++ (constraint_records u.name 1 u.constraints ++ index_records u.name 1 u.indexes)) ++ schema_records tables)) (name_greater u.name t.name (sym e) free.0) coded others.0)
+        (table_before t u (entries_of ((column_records u.name 0 u.columns ++ (constraint_records u.name 1 u.constraints ++ index_records u.name 1 u.indexes)) ++ schema_records tables)) (name_greater u.name t.name (sym e) free.0) coded others.0)
         ∙ ap (λ es. done ++ es) (sym (entries_append (table_records t) (table_records u ++ schema_records tables)))
 
 -- in whole
@@ -199,9 +200,11 @@ written_on a b c owned first second root next w v = record {
           where
             some : (n : ℕ) (bytes : List ℕ) → a n ≡ Some bytes → IsSome (a n)
             some n bytes e = rw e refl
+
     own : (n : ℕ) → Has n w.now_owned ⊎ (b n ≡ None) → Has n owned ⊎ (a n ≡ None)
     own n (inl h) = w.own n h
     own n (inr none) = unused n none
+
     others : (n : ℕ) → (Has n owned → ⊥) → IsSome (a n) → c n ≡ a n
     others n h u =
         let same : b n ≡ a n = w.others n h u in

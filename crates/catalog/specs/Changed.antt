@@ -22,6 +22,10 @@ abbrev pub with_table : Table → List Table → List Table
 with_table table [] = table ∷ []
 with_table table (t ∷ tables) = if is_lt (text_order t.name table.name) then t ∷ with_table table tables else table ∷ t ∷ tables
 
+-- with its rows in the tree at another root
+abbrev pub with_root : ℕ → Table → Table
+with_root root table = record table { root = root }
+
 -- no table has this name
 abbrev pub IsFree : List ℕ → List Table → Type 0
 IsFree name tables = AllByRecursion (λ t. t.name ≢ name) tables

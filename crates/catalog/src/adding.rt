@@ -1,5 +1,5 @@
 //! Tables put into the schema that pages hold.
-ghost use Rattle.std.specs.Prelude.{◌≡◌, ◌+◌, ◌≤◌, ℕ, List, length, IfOk, IfErr, OnOk};
+ghost use Rattle.std.specs.Prelude.{◌≡◌, ◌+◌, ◌≤◌, ◌∷◌, ◌++◌, ℕ, List, length, IfOk, IfErr, OnOk};
 ghost use Rattle.sqlval.specs.declared.schema.Table.{Table as AnyTable};
 ghost use Rattle.sqlrecord.specs.Storable.{AllStorable};
 ghost use Rattle.sqlrecord.specs.Key.{key_code};
@@ -8,15 +8,15 @@ ghost use Rattle.btree_read.specs.declared.entry.Entry.{Entry};
 ghost use Rattle.btree_read.specs.Sorted.{put};
 ghost use Rattle.btree_read.specs.Tree.{IsTree};
 ghost use Rattle.btree.specs.Written.{IsWritten};
-ghost use Rattle.catalog_records.specs.Records.{table_records};
+ghost use Rattle.catalog_records.specs.Records.{table_records, table_record as table_record_of};
 ghost use Rattle.catalog_read.specs.Keepable.{IsTable};
 ghost use Rattle.catalog.specs.Held.{IsCoded, AreCoded, HoldsSchema};
-ghost use Rattle.catalog.specs.Changed.{with_table, IsFree, put_all, SchemaWritten, MayRefuse, IsOfRecord};
+ghost use Rattle.catalog.specs.Changed.{with_table, with_root, IsFree, put_all, SchemaWritten, MayRefuse, IsOfRecord};
 
 use crate::ChangeError;
 use btree::insert;
-use catalog_records::{Record, WriteError, records_of_table};
-use items::Items;
+use catalog_records::{Record, WriteError, records_of_table, table_record};
+use items::{Items, Text};
 use page_space::{Fault, PageSpace};
 use sqlrecord::{EncodeError, MAXIMUM_KEY, encode_key, encode_row};
 use sqlval::{Table, Value};
@@ -138,4 +138,37 @@ pub fn add_table<S: PageSpace>(
 {
     let records = records_of(alloc, table)?;
     put_records(space, alloc, root, records.as_slice())
+}
+
+/// Puts the root of a table's tree of rows into the schema that the tree at a root holds, and answers the root.
+///
+/// Refused as `add_table` is.
+pub fn set_root<S: PageSpace>(
+    space: &mut S,
+    alloc: Global,
+    root: u32,
+    name: &Text,
+    rows: u32,
+) -> Result<u32, ChangeError>
+    ensures set { (owned : List ℕ) (before behind : List AnyTable) (table : AnyTable) → HoldsSchema (S.pages space.old) root owned (before ++ table ∷ behind) → table.name ≡ name.now
+        → IfOk result (SchemaWritten (S.pages space.old) (S.pages space.new) owned (before ++ with_root rows table ∷ behind)) }
+    ensures whole { OnOk result (S.is_whole space.old → S.is_whole space.new) }
+    ensures refusal { IfErr result (MayRefuse (S.at_limit space.new) (S.refused space.old) (S.refused space.new)) }
+    ensures rising { S.refused space.old ≤ S.refused space.new }
+    ensures follows { S.follows space.old space.new }
+{
+    let r = record_of_table(alloc, name, rows)?;
+    put_record(space, alloc, root, &r)
+}
+
+/// The record of a table's name and root.
+fn record_of_table(alloc: Global, name: &Text, root: u32) -> Result<Record, ChangeError>
+    ensures made { IfOk result (λ made. made ≡ table_record_of name.now root) }
+    ensures refusal { IfErr result IsOfRecord }
+{
+    match table_record(alloc, name, root) {
+        Ok(made) => Ok(made),
+        Err(WriteError::Memory) => Err(ChangeError::Space(Fault::Memory)),
+        Err(WriteError::TooLong) => Err(ChangeError::Record),
+    }
 }

@@ -6,6 +6,6 @@ mod decoding;
 mod error;
 mod schema;
 
-pub use adding::add_table;
+pub use adding::{add_table, set_root};
 pub use error::ChangeError;
 pub use schema::read_schema;

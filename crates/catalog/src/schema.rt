@@ -15,11 +15,7 @@ use tree_entries::all_entries;
 ///
 /// Refused for want of memory, where the device refuses a call, and as damaged only where no schema is held
 /// there.
-pub fn read_schema<R: PageReader>(
-    space: &mut R,
-    alloc: Global,
-    root: u32,
-) -> Result<Schema, Fault>
+pub fn read_schema<R: PageReader>(space: &mut R, alloc: Global, root: u32) -> Result<Schema, Fault>
     ensures found { (owned : List ℕ) (tables : List AnyTable) → HoldsSchema (R.pages space.old) root owned tables → IfOk result (λ schema. schema.tables ≡ tables) }
     ensures same { R.pages space.new ≡ R.pages space.old }
     ensures whole { R.is_whole space.old → R.is_whole space.new }

@@ -11,11 +11,11 @@ loop-r-preserved g c =
     let done = c.in_ok-top.ensures in
     record {
       put = λ owned entries t.
-        let w = known.put owned entries t in
-        let one = done.put w.now_owned (put_all (take c.loop-r.r-index c.args.records.now) entries) w.stored in
-        subst (λ (es : List Entry). IsWritten (g.S.PageReader.pages c.args.space.now) (g.S.PageReader.pages c.put_record.new.space) owned es c.in_ok-top.top)
-            (sym (put_all_more c.args.records.now c.loop-r.r-index c.r-item.result entries c.loop-r-test.true c.r-item.is))
-            (written_on _ _ _ owned _ _ _ _ w one);
+          let w = known.put owned entries t in
+          let one = done.put w.now_owned (put_all (take c.loop-r.r-index c.args.records.now) entries) w.stored in
+          subst (λ (es : List Entry). IsWritten (g.S.PageReader.pages c.args.space.now) (g.S.PageReader.pages c.put_record.new.space) owned es c.in_ok-top.top)
+          (sym (put_all_more c.args.records.now c.loop-r.r-index c.r-item.result entries c.loop-r-test.true c.r-item.is))
+          (written_on _ _ _ owned _ _ _ _ w one);
       coded = coded_more c.args.records.now c.loop-r.r-index c.r-item.result c.loop-r-test.true c.r-item.is known.coded done.coded;
       whole = λ h. done.whole (known.whole h);
       rising = omega (arith, known.rising, done.rising);
