@@ -1,9 +1,10 @@
 //! Rows from the entries of a tree.
-ghost use Rattle.std.specs.Prelude.{◌≡◌, List, ℕ};
+ghost use Rattle.std.specs.Prelude.{◌≡◌, List, ℕ, Option, IfSome};
+ghost use Rattle.std.specs.Option.{option_map};
 ghost use Rattle.sqlval.specs.Value.{Row as AnyRow};
 ghost use Rattle.sqlrecord.specs.Row.{IsCodeOf};
 ghost use Rattle.store.specs.Contents as stored;
-ghost use Rattle.store.specs.View.{AreEntries, entry_of};
+ghost use Rattle.store.specs.View.{AreEntries, IsEntry, entry_of};
 ghost use Rattle.tablestore.specs.Held.{row_entry, entries_of, IsKept, AreKept, Gives};
 
 use btree_read::Entry;
@@ -35,4 +36,20 @@ pub(crate) fn rows_of_entries(alloc: Global, entries: &[Entry]) -> Result<Number
         rows.push(found.row)?;
     }
     Ok(Numbered { numbers, rows })
+}
+
+/// The row of an entry, where one was found.
+pub(crate) fn row_found(
+    alloc: Global,
+    found: &Option<Entry>,
+) -> Result<Option<NumberedRow>, DecodeError>
+    ensures { (one : Option stored.Entry) → IfSome one IsKept → found.now ≡ option_map row_entry one → Gives result (λ given. IsEntry given one) }
+{
+    match found {
+        None => Ok(None),
+        Some(entry) => {
+            let row = row_of_entry(alloc, entry)?;
+            Ok(Some(row))
+        }
+    }
 }

@@ -2,6 +2,9 @@
 #![tactic(auto)]
 
 mod decoding;
+mod error;
+mod number;
 mod reading;
 
-pub use reading::scan;
+pub use error::AppendError;
+pub use reading::{next, scan};

@@ -2,7 +2,8 @@ use Rattle.std.proofs.Common.{◌≡◌, ℕ, ◌+◌, ◌≤◌, List, take, sy
 use Rattle.btree_read.specs.declared.entry.Entry.{Entry}
 use Rattle.btree.specs.Written.{IsWritten}
 use Rattle.catalog.specs.Changed.{put_all}
-use Rattle.catalog.proofs.PutLemmas.{put_all_more, coded_more, written_on}
+use Rattle.catalog.proofs.PutLemmas.{put_all_more, coded_more}
+use Rattle.tree_entries.proofs.ChangeLemmas.{written_on}
 use Rattle.catalog.proofs.adding.put_records.Goals as goal
 
 pub loop-r-preserved : goal.loop-r-preserved
