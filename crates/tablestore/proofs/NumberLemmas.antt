@@ -1,6 +1,6 @@
 -- Row numbers in a tree.
 use Rattle.std.proofs.Common.{◌≡◌, ℕ, ◌+◌, ◌^◌, ◌<◌, ◌≤◌, max, Bool, true, false, List, [], ◌∷◌, ◌++◌, map, Option, Some, None, refl, sym, ap, ◌∙◌, subst, arith, nat_lt}
-use Rattle.std.specs.Prelude.{filter, slice_get, if◌then◌else◌, not, IfSome}
+use Rattle.std.specs.Prelude.{filter, slice_get, if◌then◌else◌, not, IfSome, IsSome}
 use Rattle.std.specs.List.{AllByRecursion}
 use Rattle.std.specs.Option.{option_map}
 use Rattle.std.specs.Ordering.{is_lt, nat_cmp}
@@ -98,3 +98,10 @@ some_from n (e ∷ rows) found h kept is =
         → (first_from At (number_code n) (entries_of rows) ≡ Some found → n < stored.next_number rows) → n < stored.next_number (e ∷ rows)
     by true less order is again = let others = again (rw order at is) in omega (arith, others)
     by false less order is again = let above = ltb-false e.0 n (sym less) in omega (arith, above)
+
+pub absent_from : (n : ℕ) (rows : List stored.Entry) (o : Option Entry) → n < 2 ^ 64 → AreKept rows → o ≡ first_from At (number_code n) (entries_of rows) → o ≡ None → stored.next_number rows ≤ n
+absent_from n rows o h kept is none = none_from n rows h kept (sym is ∙ none)
+
+pub present_from : (n : ℕ) (rows : List stored.Entry) (o : Option Entry) → n < 2 ^ 64 → AreKept rows → o ≡ first_from At (number_code n) (entries_of rows) → IsSome o → n < stored.next_number rows
+present_from n rows (Some found) h kept is some = some_from n rows found h kept (sym is)
+present_from n rows None h kept is some = absurd (let bad : false ≡ true = some in cc)

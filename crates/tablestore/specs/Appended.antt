@@ -6,6 +6,7 @@ use Rattle.store.specs.Contents as stored
 use Rattle.store.specs.Errors.{HasLongRow}
 use Rattle.page_space.specs.Space.{PageMap, ChangeRefused}
 use Rattle.page_space.specs.declared.fault.Fault.{Fault}
+use Rattle.page_space.specs.declared.fault.Fault.TheVariants.{Memory}
 use Rattle.btree_read.specs.Lists.{Has}
 use Rattle.tablestore.specs.declared.error.AppendError.{AppendError}
 use Rattle.tablestore.specs.declared.error.AppendError.TheVariants.{Space, Record, Number}
@@ -29,3 +30,15 @@ abbrev pub NumbersEnd : List stored.Entry → ℕ → AppendError → Type 0
 NumbersEnd held count (Space fault) = ⊤
 NumbersEnd held count Record = ⊤
 NumbersEnd held count Number = 2 ^ 63 < stored.next_number held + count
+
+-- a refusal of one row: want of memory, or its length
+abbrev pub IsOfRow : Row → AppendError → Type 0
+IsOfRow row (Space fault) = fault ≡ Memory
+IsOfRow row Record = 1000 < row_length row
+IsOfRow row Number = ⊥
+
+-- a refusal of one row that is put into a tree
+abbrev pub MayRefuseRow : (Fault → Type 0) → ℕ → ℕ → Row → AppendError → Type 0
+MayRefuseRow AtLimit before after row (Space fault) = ChangeRefused AtLimit ⊤ before after fault
+MayRefuseRow AtLimit before after row Record = 1000 < row_length row
+MayRefuseRow AtLimit before after row Number = ⊥

@@ -1,6 +1,7 @@
 //! The rows of a table in a tree over pages, by their numbers.
 #![tactic(auto)]
 
+mod appending;
 mod decoding;
 mod error;
 mod number;

@@ -1,12 +1,23 @@
 //! The number of the next row.
-ghost use Rattle.std.specs.Prelude.{◌≡◌, ◌≤◌, ◌<◌, ◌^◌, ℕ, List, true, false, IfOk, IfErr};
+ghost use Rattle.std.specs.Prelude.{◌≡◌, ◌≤◌, ◌<◌, ◌^◌, ℕ, List, true, false, None, IsSome, IfOk, IfErr};
 ghost use Rattle.store.specs.Contents as stored;
 ghost use Rattle.page_space.specs.Space.{ReadRefused};
 ghost use Rattle.tablestore.specs.Held.{HoldsRows, HoldsNoRows};
 
-use btree_read::seek;
+use btree_read::{Entry, seek};
 use page_space::{Fault, PageReader};
 use std::alloc::Global;
+
+/// Whether no entry was found.
+fn is_absent(found: &Option<Entry>) -> bool
+    ensures none { result ≡ true → found.now ≡ None }
+    ensures some { result ≡ false → IsSome found.now }
+{
+    match found {
+        None => true,
+        Some(_) => false,
+    }
+}
 
 /// Whether no row has this number or a greater one.
 fn ends_before<R: PageReader>(
@@ -23,10 +34,8 @@ fn ends_before<R: PageReader>(
     ensures rising { R.refused space.old ≤ R.refused space.new }
     ensures follows { R.follows space.old space.new }
 {
-    match seek(space, alloc, root, &number.to_be_bytes())? {
-        None => Ok(true),
-        Some(_) => Ok(false),
-    }
+    let found = seek(space, alloc, root, &number.to_be_bytes())?;
+    Ok(is_absent(&found))
 }
 
 /// 0 where there are no rows, else one more than the greatest number: by halves, as a tree is read from its least key on.
