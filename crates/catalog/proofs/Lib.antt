@@ -1,0 +1,5 @@
+pub mod DecodeLemmas
+pub mod OrderLemmas
+pub mod PutLemmas
+pub mod RefusalLemmas
+pub mod RootLemmas

@@ -1,0 +1,24 @@
+use Rattle.std.proofs.Common.{◌≡◌, ℕ, ◌+◌, ◌≤◌, List, take, sym, subst, arith}
+use Rattle.btree_read.specs.declared.entry.Entry.{Entry}
+use Rattle.btree.specs.Written.{IsWritten}
+use Rattle.catalog.specs.Changed.{put_all}
+use Rattle.catalog.proofs.PutLemmas.{put_all_more, coded_more}
+use Rattle.tree_entries.proofs.ChangeLemmas.{written_on}
+use Rattle.catalog.proofs.adding.put_records.Goals as goal
+
+pub loop-r-preserved : goal.loop-r-preserved
+loop-r-preserved g c =
+    let known = c.loop-r.invariant in
+    let done = c.in_ok-top.ensures in
+    record {
+      put = λ owned entries t.
+          let w = known.put owned entries t in
+          let one = done.put w.now_owned (put_all (take c.loop-r.r-index c.args.records.now) entries) w.stored in
+          subst (λ (es : List Entry). IsWritten (g.S.PageReader.pages c.args.space.now) (g.S.PageReader.pages c.put_record.new.space) owned es c.in_ok-top.top)
+          (sym (put_all_more c.args.records.now c.loop-r.r-index c.r-item.result entries c.loop-r-test.true c.r-item.is))
+          (written_on _ _ _ owned _ _ _ _ w one);
+      coded = coded_more c.args.records.now c.loop-r.r-index c.r-item.result c.loop-r-test.true c.r-item.is known.coded done.coded;
+      whole = λ h. done.whole (known.whole h);
+      rising = omega (arith, known.rising, done.rising);
+      follows = g.met.S.PageReader.follows_trans _ _ _ known.follows done.follows;
+    }

@@ -1,0 +1,6 @@
+pub mod Repeats
+pub mod PlaceLemmas
+pub mod Exits
+pub mod RuleLemmas
+pub mod NumberedLemmas
+pub mod TableLemmas

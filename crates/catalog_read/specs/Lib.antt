@@ -1,0 +1,4 @@
+pub mod Given
+pub mod Keepable
+pub mod Cuts
+pub mod Rows

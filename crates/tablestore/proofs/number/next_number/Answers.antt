@@ -1,0 +1,15 @@
+use Rattle.std.proofs.Common.{◌≡◌, ℕ, ◌≤◌, refl, arith}
+use Rattle.tablestore.proofs.NumberLemmas.{next_bounded}
+use Rattle.tablestore.proofs.number.next_number.Goals as goal
+
+pub halved-init : goal.halved-init
+halved-init g c = record {
+  same = refl;
+  whole = λ h. h;
+  rising = omega arith;
+  follows = g.met.R.PageReader.follows_refl _;
+  top = omega arith;
+  order = omega arith;
+  least = λ owned rows held. omega arith;
+  most = λ owned rows held. next_bounded rows held.kept;
+}

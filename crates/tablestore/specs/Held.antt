@@ -1,0 +1,43 @@
+-- Rows by their numbers, as the entries of a tree. Our own choice.
+use Rattle.std.specs.Prelude.{◌≡◌, ℕ, ◌<◌, ◌≤◌, ◌^◌, List, length, map, Option, Some, None, Result, Ok, Err}
+use Rattle.std.specs.List.{AllByRecursion}
+use Rattle.sqlval.specs.Value.{Row}
+use Rattle.store.specs.Contents as stored
+use Rattle.sqlrecord.specs.declared.error.DecodeError.{DecodeError}
+use Rattle.sqlrecord.specs.declared.error.DecodeError.TheVariants.{OutOfMemory}
+use Rattle.sqlrecord.specs.Storable.{AllStorable}
+use Rattle.sqlrecord.specs.Key.{number_code}
+use Rattle.sqlrecord.specs.Row.{row_code}
+use Rattle.page_space.specs.Space.{PageMap}
+use Rattle.btree_read.specs.declared.entry.Entry.{Entry}
+use Rattle.btree_read.specs.Tree.{IsTree}
+
+-- a row's number in 8 bytes, and its code
+abbrev pub row_entry : stored.Entry → Entry
+row_entry e = record { key = number_code e.0; value = row_code e.1 }
+
+abbrev pub entries_of : List stored.Entry → List Entry
+entries_of rows = map row_entry rows
+
+-- a row with a number that it may have, and with a code of at most 1,000 bytes
+pub record IsKept (e : stored.Entry) : Type 0 where
+  pub number : e.0 < 2 ^ 63
+  pub storable : AllStorable e.1
+  pub short : length (row_code e.1) ≤ 1000
+
+abbrev pub AreKept : List stored.Entry → Type 0
+AreKept rows = AllByRecursion IsKept rows
+
+-- the tree at the root has just these rows
+pub record HoldsRows (pages : PageMap) (root : ℕ) (owned : List ℕ) (rows : List stored.Entry) : Type 0 where
+  pub tree : IsTree pages root owned (entries_of rows)
+  pub kept : AreKept rows
+
+-- no rows are held there
+abbrev pub HoldsNoRows : PageMap → ℕ → Type 0
+HoldsNoRows pages root = (owned : List ℕ) (rows : List stored.Entry) → HoldsRows pages root owned rows → ⊥
+
+-- what is decoded is so, or else memory was refused
+abbrev pub Gives : {A : Type 0} → Result A DecodeError → (A → Type 0) → Type 0
+Gives (Ok given) P = P given
+Gives (Err error) P = error ≡ OutOfMemory

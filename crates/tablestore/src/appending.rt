@@ -1,0 +1,61 @@
+//! Rows put behind those that pages hold.
+ghost use Rattle.std.specs.Prelude.{◌≡◌, ◌++◌, ◌≤◌, ◌<◌, ℕ, List, length, IfOk, IfErr, OnOk};
+ghost use Rattle.std.specs.List.{enumerate_from};
+ghost use Rattle.sqlval.specs.CodedLength.{row_length};
+ghost use Rattle.store.specs.Contents as stored;
+ghost use Rattle.sqlrecord.specs.Key.{number_code};
+ghost use Rattle.sqlrecord.specs.Row.{row_code, IsCodeOf};
+ghost use Rattle.btree_read.specs.declared.entry.Entry.{Entry as AnyEntry};
+ghost use Rattle.btree_read.specs.Sorted.{put};
+ghost use Rattle.btree_read.specs.Tree.{IsTree};
+ghost use Rattle.btree.specs.Written.{IsWritten};
+ghost use Rattle.tablestore.specs.Held.{HoldsRows};
+ghost use Rattle.tablestore.specs.Appended.{RowsWritten, MayRefuse, MayRefuseRow, NumbersEnd, IsOfRow};
+
+use crate::AppendError;
+use crate::number::next_number;
+use btree::insert;
+use denote::Row;
+use items::Items;
+use page_space::{Fault, PageSpace};
+use sqlrecord::{EncodeError, encode_row};
+use std::alloc::Global;
+
+/// The least number that no row may have.
+const NUMBERS: u64 = 1 << 63;
+
+/// The code of a row.
+fn code_of(alloc: Global, row: &Row) -> Result<Items<u8>, AppendError>
+    ensures code { IfOk result (λ code. IsCodeOf code row.now) }
+    ensures refusal { IfErr result (IsOfRow row.now) }
+{
+    match encode_row(alloc, row.as_slice()) {
+        Ok(code) => Ok(code),
+        Err(EncodeError::OutOfMemory) => Err(AppendError::Space(Fault::Memory)),
+        Err(EncodeError::Record) => Err(AppendError::Record),
+        Err(EncodeError::Key) => unreachable!(),
+    }
+}
+
+/// Puts a row into the tree at a root, and answers the root.
+fn put_row<S: PageSpace>(
+    space: &mut S,
+    alloc: Global,
+    root: u32,
+    number: u64,
+    row: &Row,
+) -> Result<u32, AppendError>
+    ensures put { (owned : List ℕ) (entries : List AnyEntry) → IsTree (S.pages space.old) root owned entries
+        → IfOk result (IsWritten (S.pages space.old) (S.pages space.new) owned (put (number_code number) (row_code row.now) entries)) }
+    ensures coded { OnOk result (IsCodeOf (row_code row.now) row.now) }
+    ensures whole { OnOk result (S.is_whole space.old → S.is_whole space.new) }
+    ensures refusal { IfErr result (MayRefuseRow (S.at_limit space.new) (S.refused space.old) (S.refused space.new) row.now) }
+    ensures rising { S.refused space.old ≤ S.refused space.new }
+    ensures follows { S.follows space.old space.new }
+{
+    let code = code_of(alloc, row)?;
+    match insert(space, alloc, root, &number.to_be_bytes(), code.as_slice()) {
+        Ok(root) => Ok(root),
+        Err(fault) => Err(AppendError::Space(fault)),
+    }
+}

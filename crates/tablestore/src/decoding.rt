@@ -1,0 +1,55 @@
+//! Rows from the entries of a tree.
+ghost use Rattle.std.specs.Prelude.{◌≡◌, List, ℕ, Option, IfSome};
+ghost use Rattle.std.specs.Option.{option_map};
+ghost use Rattle.sqlval.specs.Value.{Row as AnyRow};
+ghost use Rattle.sqlrecord.specs.Row.{IsCodeOf};
+ghost use Rattle.store.specs.Contents as stored;
+ghost use Rattle.store.specs.View.{AreEntries, IsEntry, entry_of};
+ghost use Rattle.tablestore.specs.Held.{row_entry, entries_of, IsKept, AreKept, Gives};
+
+use btree_read::Entry;
+use items::Items;
+use sqlrecord::{DecodeError, decode_row, row_number_of};
+use std::alloc::Global;
+use store::{Numbered, NumberedRow};
+
+/// The row of an entry, with its number.
+pub(crate) fn row_of_entry(alloc: Global, entry: &Entry) -> Result<NumberedRow, DecodeError>
+    ensures { (e : stored.Entry) → IsKept e → entry.now ≡ row_entry e → Gives result (λ found. entry_of found ≡ e) }
+{
+    let Some(number) = row_number_of(entry.key.as_slice()) else {
+        return Err(DecodeError::Damaged);
+    };
+    let row = decode_row(alloc, entry.value.as_slice())?;
+    Ok(NumberedRow { number, row })
+}
+
+/// The rows of entries, with their numbers.
+pub(crate) fn rows_of_entries(alloc: Global, entries: &[Entry]) -> Result<Numbered, DecodeError>
+    ensures { (all : List stored.Entry) → AreKept all → entries.now ≡ entries_of all → Gives result (λ found. AreEntries found all) }
+{
+    let mut numbers = Items::new(alloc);
+    let mut rows = Items::new(alloc);
+    for entry in entries {
+        let found = row_of_entry(alloc, entry)?;
+        numbers.push(found.number)?;
+        rows.push(found.row)?;
+    }
+    Ok(Numbered { numbers, rows })
+}
+
+/// The row of an entry, where one was found.
+pub(crate) fn row_found(
+    alloc: Global,
+    found: &Option<Entry>,
+) -> Result<Option<NumberedRow>, DecodeError>
+    ensures { (one : Option stored.Entry) → IfSome one IsKept → found.now ≡ option_map row_entry one → Gives result (λ given. IsEntry given one) }
+{
+    match found {
+        None => Ok(None),
+        Some(entry) => {
+            let row = row_of_entry(alloc, entry)?;
+            Ok(Some(row))
+        }
+    }
+}

@@ -1,0 +1,65 @@
+//! The number of the next row.
+ghost use Rattle.std.specs.Prelude.{◌≡◌, ◌≤◌, ◌<◌, ◌^◌, ℕ, List, true, false, None, IsSome, IfOk, IfErr};
+ghost use Rattle.store.specs.Contents as stored;
+ghost use Rattle.page_space.specs.Space.{ReadRefused};
+ghost use Rattle.tablestore.specs.Held.{HoldsRows, HoldsNoRows};
+
+use btree_read::{Entry, seek};
+use page_space::{Fault, PageReader};
+use std::alloc::Global;
+
+/// Whether no entry was found.
+fn is_absent(found: &Option<Entry>) -> bool
+    ensures none { result ≡ true → found.now ≡ None }
+    ensures some { result ≡ false → IsSome found.now }
+{
+    match found {
+        None => true,
+        Some(_) => false,
+    }
+}
+
+/// Whether no row has this number or a greater one.
+fn ends_before<R: PageReader>(
+    space: &mut R,
+    alloc: Global,
+    root: u32,
+    number: u64,
+) -> Result<bool, Fault>
+    ensures none { (owned : List ℕ) (rows : List stored.Entry) → HoldsRows (R.pages space.old) root owned rows → IfOk result (λ ends. ends ≡ true → stored.next_number rows ≤ number) }
+    ensures some { (owned : List ℕ) (rows : List stored.Entry) → HoldsRows (R.pages space.old) root owned rows → IfOk result (λ ends. ends ≡ false → number < stored.next_number rows) }
+    ensures same { R.pages space.new ≡ R.pages space.old }
+    ensures whole { R.is_whole space.old → R.is_whole space.new }
+    ensures refusal { IfErr result (ReadRefused (HoldsNoRows (R.pages space.old) root) (R.refused space.old) (R.refused space.new)) }
+    ensures rising { R.refused space.old ≤ R.refused space.new }
+    ensures follows { R.follows space.old space.new }
+{
+    let found = seek(space, alloc, root, &number.to_be_bytes())?;
+    Ok(is_absent(&found))
+}
+
+/// 0 where there are no rows, else one more than the greatest number: by halves, as a tree is read from its least key on.
+pub(crate) fn next_number<R: PageReader>(
+    space: &mut R,
+    alloc: Global,
+    root: u32,
+) -> Result<u64, Fault>
+    ensures found { (owned : List ℕ) (rows : List stored.Entry) → HoldsRows (R.pages space.old) root owned rows → IfOk result (λ number. number ≡ stored.next_number rows) }
+    ensures same { R.pages space.new ≡ R.pages space.old }
+    ensures whole { R.is_whole space.old → R.is_whole space.new }
+    ensures refusal { IfErr result (ReadRefused (HoldsNoRows (R.pages space.old) root) (R.refused space.old) (R.refused space.new)) }
+    ensures rising { R.refused space.old ≤ R.refused space.new }
+    ensures follows { R.follows space.old space.new }
+{
+    let mut low: u64 = 0;
+    let mut high: u64 = 1 << 63;
+    'halved: while low < high {
+        let middle = low + (high - low) / 2;
+        if ends_before(space, alloc, root, middle)? {
+            high = middle;
+        } else {
+            low = middle + 1;
+        }
+    }
+    Ok(low)
+}

@@ -1,0 +1,3 @@
+pub mod AscendLemmas
+pub mod WalkLemmas
+pub mod ChangeLemmas

@@ -1,0 +1,8 @@
+//! All entries of a tree.
+#![tactic(auto)]
+
+mod laws;
+mod walk;
+
+pub use laws::entries_ascend;
+pub use walk::all_entries;
