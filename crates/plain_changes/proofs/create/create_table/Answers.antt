@@ -6,9 +6,9 @@ use Rattle.sqlval.specs.declared.schema.Schema.{Schema}
 use Rattle.sqlval.specs.Schema.{same_name}
 use Rattle.store.specs.Contents.{with_table}
 use Rattle.store.specs.Stored.{marked_now, working_on}
-use Rattle.change.specs.Plain.{is_not_null}
-use Rattle.change.proofs.Creates.{creates}
-use Rattle.change.proofs.create.create_table.Goals as goal
+use Rattle.plain_changes.specs.Plain.{is_not_null}
+use Rattle.plain_changes.proofs.Creates.{creates}
+use Rattle.plain_changes.proofs.create.create_table.Goals as goal
 
 pub returns-in-Ok-clause-changes : goal.returns-in-Ok-clause-changes
 returns-in-Ok-clause-changes g c = λ rules sound of.

@@ -23,9 +23,9 @@ use Rattle.store.specs.Contents.{Entry, StoredTable, Contents, table_of, databas
 use Rattle.store.specs.Stored.{Stored, marked_now, working_on}
 use Rattle.store.proofs.Databases.{database-get, database-insert}
 use Rattle.sessions.specs.Changed.{HasChanged, RefusesChange}
-use Rattle.change.specs.Inserted.{IsPlainTable, GivesNew, RefusesNew}
-use Rattle.change.specs.Plain.{is_not_null}
-use Rattle.change.proofs.Creates.{same_database}
+use Rattle.plain_changes.specs.Inserted.{IsPlainTable, GivesNew, RefusesNew}
+use Rattle.plain_changes.specs.Plain.{is_not_null}
+use Rattle.plain_changes.proofs.Creates.{same_database}
 
 -- ---- NOT NULL
 

@@ -20,8 +20,8 @@ use Rattle.denote.specs.Evaluation.{Evaluation, faults_in}
 use Rattle.denote.specs.SchemaOf.{IsSchemaOf, Declares}
 use Rattle.session_definitions.specs.Refusals.{IsReserved}
 use Rattle.answers.specs.Refused.{GivesFaults}
-use Rattle.change.specs.Inserted.{IsPlainTable, GivesNew, RefusesNew}
-use Rattle.change.specs.Plain.{is_not_null}
+use Rattle.plain_changes.specs.Inserted.{IsPlainTable, GivesNew, RefusesNew}
+use Rattle.plain_changes.specs.Plain.{is_not_null}
 
 no_checks : (ks : List Constraint) → list_all (λ k. is_not_null k.rule) ks ≡ true → filter_map (λ (k : Constraint). is_check k.rule) ks ≡ []
 no_checks [] e = refl

@@ -22,8 +22,8 @@ use Rattle.store.specs.declared.error.StoreLimit.{StoreLimit}
 use Rattle.store.specs.declared.error.StoreLimit.TheVariants as limit
 use Rattle.store.specs.Contents.{StoredTable, Contents, table_of, database_of}
 use Rattle.store.specs.Errors.{HasLongRow, HasLongKey, StoringReaches, indexes_of}
-use Rattle.change.specs.Inserted.{GivesNew}
-use Rattle.change.proofs.Inserts.{held_as}
+use Rattle.plain_changes.specs.Inserted.{GivesNew}
+use Rattle.plain_changes.proofs.Inserts.{held_as}
 
 -- a row is short enough, and so is its key in each index
 record Fits (indexes : List IndexDeclaration) (row : Row) : Type 0 where

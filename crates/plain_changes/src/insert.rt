@@ -9,7 +9,7 @@ ghost use Rattle.store.specs.Stored.{SameButMark};
 ghost use Rattle.typing.specs.declared.statement.Change.TheVariants as does;
 ghost use Rattle.typing.specs.Evaluated.{insert_evaluated};
 ghost use Rattle.sessions.specs.Changed.{HasChanged, RefusesChange};
-ghost use Rattle.change.specs.Inserted.{GivesNew, RefusesNew};
+ghost use Rattle.plain_changes.specs.Inserted.{GivesNew, RefusesNew};
 
 use crate::declared::{declared, is_plain};
 use answers::sources;

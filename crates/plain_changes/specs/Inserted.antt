@@ -11,7 +11,7 @@ use Rattle.denote.specs.Change.{inserted_rows}
 use Rattle.denote.specs.Database.{Name, Table, Database, CheckReading, checks_of, broken_not_nulls, rows_in}
 use Rattle.denote.specs.Evaluation.{faults_in}
 use Rattle.session_definitions.specs.Refusals.{IsReserved, refusal_of}
-use Rattle.change.specs.Plain.{is_not_null}
+use Rattle.plain_changes.specs.Plain.{is_not_null}
 
 -- the table stands, and its constraints are all NOT NULL
 pub record IsPlainTable (db : Database) (name : Name) (table : Table) : Type 0 where

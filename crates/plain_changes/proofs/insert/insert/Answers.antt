@@ -9,9 +9,9 @@ use Rattle.store.specs.Errors.{HasLongKey, indexes_of}
 use Rattle.store.specs.Stored.{Stored, marked_now}
 use Rattle.transactions.proofs.Tests.{reserved}
 use Rattle.sessions.specs.Changed.{RefusesChange}
-use Rattle.change.proofs.Inserts.{inserts, refuses_new}
-use Rattle.change.proofs.Lengths.{no_long_row, no_long_key}
-use Rattle.change.proofs.insert.insert.Goals as goal
+use Rattle.plain_changes.proofs.Inserts.{inserts, refuses_new}
+use Rattle.plain_changes.proofs.Lengths.{no_long_row, no_long_key}
+use Rattle.plain_changes.proofs.insert.insert.Goals as goal
 
 pub returns-in-Err-new_rows-clause-refused : goal.returns-in-Err-new_rows-clause-refused
 returns-in-Err-new_rows-clause-refused g c = λ rules sound of good.

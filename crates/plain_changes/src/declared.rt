@@ -2,7 +2,7 @@
 ghost use Rattle.std.specs.Prelude.{◌≡◌, IfSome, Contains};
 ghost use Rattle.std.specs.List.{list_all, list_any};
 ghost use Rattle.sqlval.specs.Schema.{same_name};
-ghost use Rattle.change.specs.Plain.{is_not_null};
+ghost use Rattle.plain_changes.specs.Plain.{is_not_null};
 
 use items::Text;
 use sqlval::{Constraint, Rule, Schema, Table};

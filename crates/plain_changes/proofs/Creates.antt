@@ -26,7 +26,7 @@ use Rattle.store.specs.Contents.{Contents, table_of, database_of, new_table, wit
 use Rattle.store.specs.Stored.{Stored, marked_now, working_on}
 use Rattle.store.proofs.Databases.{database-get, database-insert}
 use Rattle.sessions.specs.Changed.{HasChanged}
-use Rattle.change.specs.Plain.{is_not_null}
+use Rattle.plain_changes.specs.Plain.{is_not_null}
 
 -- ---- databases that are the same
 

@@ -3,9 +3,9 @@ use Rattle.std.specs.List.{list_all}
 use Rattle.sqlval.specs.declared.schema.Constraint.{Constraint}
 use Rattle.sqlval.specs.Value.{Row}
 use Rattle.denote.specs.Database.{broken_not_nulls, rows_in}
-use Rattle.change.specs.Plain.{is_not_null}
-use Rattle.change.proofs.GivenRows.{gives_new, faults_new, violates_new}
-use Rattle.change.proofs.insert.new_rows.Goals as goal
+use Rattle.plain_changes.specs.Plain.{is_not_null}
+use Rattle.plain_changes.proofs.GivenRows.{gives_new, faults_new, violates_new}
+use Rattle.plain_changes.proofs.insert.new_rows.Goals as goal
 
 pub returns-in-Err-clause-refused : goal.returns-in-Err-clause-refused
 returns-in-Err-clause-refused c = λ rules db of.
