@@ -1,30 +1,21 @@
 -- Rows put behind others.
-use Rattle.std.proofs.Common.{◌≡◌, ℕ, suc, ◌+◌, ◌^◌, ◌<◌, ◌≤◌, max, true, false, List, [], ◌∷◌, ◌++◌, map, length, get_or, take, Result, Ok, Err, refl, sym, ap, ◌∙◌, subst, arith, append_assoc, inl}
-use Rattle.std.specs.Prelude.{Contains, IfErr, IfOk}
-use Rattle.std.specs.Result.{IsErrAnd}
+use Rattle.std.proofs.Common.{◌≡◌, ℕ, ◌+◌, ◌^◌, ◌<◌, ◌≤◌, max, true, List, [], ◌∷◌, ◌++◌, length, get_or, take, refl, sym, ap, ◌∙◌, subst, arith, append_assoc}
 use Rattle.std.specs.List.{AllByRecursion, enumerate_from}
 use Rattle.std.proofs.lemmas.Bool.{lt-ltb}
-use Rattle.std.proofs.lemmas.Result.{err_from_is_err_and}
 use Rattle.std.proofs.lemmas.List.{append-nil, take_more, length-take-le}
 use Rattle.sqlval.specs.Value.{Row}
 use Rattle.store.specs.Contents as stored
-use Rattle.store.specs.Errors.{HasLongRow}
 use Rattle.sqlrecord.specs.Key.{number_code}
 use Rattle.sqlrecord.specs.Row.{row_code, IsCodeOf}
-use Rattle.page_space.specs.Space.{PageMap, ReadRefused, ChangeRefused}
-use Rattle.page_space.specs.declared.fault.Fault.{Fault}
-use Rattle.page_space.specs.declared.fault.Fault.TheVariants as fault
-use Rattle.btree_read.specs.declared.entry.Entry.{Entry}
+use Rattle.page_space.specs.Space.{PageMap}
 use Rattle.btree_read.specs.Nodes.{precedes}
 use Rattle.btree_read.specs.Sorted.{put}
 use Rattle.btree_read.specs.Tree.{IsTree}
 use Rattle.btree_read.proofs.ListLemmas.{each_append}
 use Rattle.btree.specs.Written.{IsWritten}
-use Rattle.tree_entries.proofs.ChangeLemmas.{put_past, written_none, written_on}
-use Rattle.tablestore.specs.declared.error.AppendError.{AppendError}
-use Rattle.tablestore.specs.declared.error.AppendError.TheVariants.{Space, Record, Number}
-use Rattle.tablestore.specs.Held.{row_entry, entries_of, IsKept, AreKept, HoldsRows}
-use Rattle.tablestore.specs.Appended.{RowsWritten, MayRefuse, MayRefuseRow, NumbersEnd}
+use Rattle.tree_entries.proofs.ChangeLemmas.{put_past, written_on}
+use Rattle.tablestore.specs.Held.{row_entry, entries_of, IsKept, AreKept}
+use Rattle.tablestore.specs.Appended.{RowsWritten}
 use Rattle.tablestore.proofs.NumberLemmas.{number_order}
 
 -- ---- numbers
@@ -66,14 +57,6 @@ pub record Appends (a b : PageMap) (owned : List ℕ) (rows : List stored.Entry)
   pub counted : stored.next_number (rows ++ enumerate_from (stored.next_number rows) new) ≡ number
   pub number_is : number ≡ stored.next_number rows + length new
 
-pub appends_none : (a b : PageMap) (owned : List ℕ) (rows : List stored.Entry) (root number : ℕ) → b ≡ a → number ≡ stored.next_number rows → HoldsRows a root owned rows → Appends a b owned rows [] root number
-appends_none a b owned rows root number same is held =
-    subst (λ (p : PageMap). Appends a p owned rows [] root number) (sym same) (record {
-      written = subst (λ (es : List stored.Entry). RowsWritten a a owned es root) (sym (append-nil rows)) (record { now_owned = owned; holds = held; own = λ n h. inl h; others = λ n h u. refl });
-      counted = ap stored.next_number (append-nil rows) ∙ sym is;
-      number_is = omega (arith, is);
-    })
-
 appended_one : (a b c : PageMap) (owned : List ℕ) (all : List stored.Entry) (r : Row) (root next number : ℕ) → number < 2 ^ 63 → IsCodeOf (row_code r) r → stored.next_number all ≡ number
     → (w : RowsWritten a b owned all root) → IsWritten b c w.now_owned (put (number_code number) (row_code r) (entries_of all)) next → RowsWritten a c owned (all ++ (number, r) ∷ []) next
 appended_one a b c owned all r root next number small code is w one =
@@ -96,8 +79,8 @@ pub appends_next : (a b c : PageMap) (owned : List ℕ) (rows : List stored.Entr
 appends_next a b c owned rows new i r root next number below is small code w one =
     let more : take (i + 1) new ≡ take i new ++ r ∷ [] = take_more new i r below ∙ ap (λ x. take i new ++ x ∷ []) (sym is) in
     let all : rows ++ enumerate_from (stored.next_number rows) (take i new ++ r ∷ []) ≡ (rows ++ enumerate_from (stored.next_number rows) (take i new)) ++ (number, r) ∷ [] =
-        ap (λ es. rows ++ es) (enumerate_more (stored.next_number rows) (take i new) r ∙ ap (λ m. enumerate_from (stored.next_number rows) (take i new) ++ (m, r) ∷ []) (sym w.number_is))
-        ∙ sym (append_assoc rows (enumerate_from (stored.next_number rows) (take i new)) ((number, r) ∷ [])) in
+    ap (λ es. rows ++ es) (enumerate_more (stored.next_number rows) (take i new) r ∙ ap (λ m. enumerate_from (stored.next_number rows) (take i new) ++ (m, r) ∷ []) (sym w.number_is))
+    ∙ sym (append_assoc rows (enumerate_from (stored.next_number rows) (take i new)) ((number, r) ∷ [])) in
     let long : length (take i new) ≡ i = length-take-le i new (omega (arith, below)) in
     let longer : length (take (i + 1) new) ≡ i + 1 = length-take-le (i + 1) new (omega (arith, below)) in
     record {
@@ -106,39 +89,3 @@ appends_next a b c owned rows new i r root next number below is small code w one
       counted = ap stored.next_number (ap (λ xs. rows ++ enumerate_from (stored.next_number rows) xs) more ∙ all) ∙ next_more _ number r w.counted;
       number_is = omega (arith, w.number_is, long, longer);
     }
-
--- all are
-pub appends_all : (a b : PageMap) (owned : List ℕ) (rows : List stored.Entry) (new : List Row) (i root number : ℕ) → take i new ≡ new → Appends a b owned rows (take i new) root number
-    → RowsWritten a b owned (rows ++ enumerate_from (stored.next_number rows) new) root
-appends_all a b owned rows new i root number whole w = subst (λ (xs : List Row). RowsWritten a b owned (rows ++ enumerate_from (stored.next_number rows) xs) root) whole w.written
-
--- ---- refusals
-
-pub read_first : (AtLimit : Fault → Type 0) (H : Type 0) (a b : ℕ) (new : List Row) (f : Fault) → ReadRefused H a b f → MayRefuse AtLimit a b new (Space f)
-read_first AtLimit H a b new fault.Memory h = tt
-read_first AtLimit H a b new fault.Disk h = h
-read_first AtLimit H a b new fault.Damaged h = tt
-read_first AtLimit H a b new fault.Pages h = absurd h
-read_first AtLimit H a b new fault.Private h = absurd h
-
-later : (AtLimit : Fault → Type 0) (a b c : ℕ) (new : List Row) (r : Row) (e : AppendError) → a ≤ b → Contains new r → MayRefuseRow AtLimit b c r e → MayRefuse AtLimit a c new e
-later AtLimit a b c new r (Space fault.Memory) h one g = tt
-later AtLimit a b c new r (Space fault.Disk) h one g = record { no_less = omega (arith, g.no_less); more = omega (arith, g.more) }
-later AtLimit a b c new r (Space fault.Damaged) h one g = tt
-later AtLimit a b c new r (Space fault.Pages) h one g = g
-later AtLimit a b c new r (Space fault.Private) h one g = g
-later AtLimit a b c new r Record h one g = record { row = r; one = one; long = g }
-later AtLimit a b c new r Number h one g = tt
-
-pub row_refused : {A : Type 0} (result : Result A AppendError) (e : AppendError) (AtLimit : Fault → Type 0) (a b c : ℕ) (new : List Row) (r : Row) → IsErrAnd result (λ y. y ≡ e) → a ≤ b → Contains new r → MayRefuseRow AtLimit b c r e
-    → IfErr result (MayRefuse AtLimit a c new)
-row_refused result e AtLimit a b c new r is h one g = let p = err_from_is_err_and result is in rw (p.1, p.2) (later AtLimit a b c new r e h one g)
-
-numbered : (AtLimit : Fault → Type 0) (b c : ℕ) (r : Row) (held : List stored.Entry) (count : ℕ) (e : AppendError) → MayRefuseRow AtLimit b c r e → NumbersEnd held count e
-numbered AtLimit b c r held count (Space f) g = tt
-numbered AtLimit b c r held count Record g = tt
-numbered AtLimit b c r held count Number g = absurd g
-
-pub row_numbered : {A : Type 0} (result : Result A AppendError) (e : AppendError) (AtLimit : Fault → Type 0) (b c : ℕ) (r : Row) (held : List stored.Entry) (count : ℕ) → IsErrAnd result (λ y. y ≡ e) → MayRefuseRow AtLimit b c r e
-    → IfErr result (NumbersEnd held count)
-row_numbered result e AtLimit b c r held count is g = let p = err_from_is_err_and result is in rw (p.1, p.2) (numbered AtLimit b c r held count e g)

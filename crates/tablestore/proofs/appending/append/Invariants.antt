@@ -1,4 +1,4 @@
-use Rattle.std.proofs.Common.{◌≡◌, ℕ, ◌^◌, ◌≤◌, List, take}
+use Rattle.std.proofs.Common.{ℕ, ◌≤◌, List, take}
 use Rattle.store.specs.Contents as stored
 use Rattle.tablestore.specs.Held.{HoldsRows}
 use Rattle.tablestore.proofs.AppendLemmas.{Appends}
