@@ -1,13 +1,11 @@
 -- Rows that were decoded, one after another.
-use Rattle.std.proofs.Common.{◌≡◌, ℕ, zero, suc, ◌+◌, ◌^◌, ◌<◌, ◌≤◌, List, [], ◌∷◌, ◌++◌, map, length, get_or, take, refl, sym, ap, ◌∙◌, subst, arith}
-use Rattle.std.specs.List.{AllByRecursion}
+use Rattle.std.proofs.Common.{◌≡◌, ℕ, zero, suc, ◌+◌, ◌<◌, List, [], ◌∷◌, ◌++◌, map, length, get_or, take, refl, sym, ap, ◌∙◌, arith}
 use Rattle.std.proofs.lemmas.List.{take_more, length-map, map-append}
 use Rattle.std.specs.Prelude.{Result}
 use Rattle.std.specs.Result.{IsErrAnd}
 use Rattle.std.proofs.lemmas.Result.{err_from_is_err_and}
 use Rattle.sqlrecord.specs.declared.error.DecodeError.{DecodeError}
 use Rattle.sqlrecord.specs.declared.error.DecodeError.TheVariants.{OutOfMemory}
-use Rattle.sqlval.specs.Value.{Row}
 use Rattle.store.specs.Contents as stored
 use Rattle.btree_read.specs.declared.entry.Entry.{Entry}
 use Rattle.tablestore.specs.Held.{row_entry, entries_of, IsKept, AreKept, Gives}
@@ -34,7 +32,7 @@ row_read all entries i entry P kept same below is use_it =
     let long : length entries ≡ length all = ap length same ∙ length-map all row_entry in
     let within : i < length all = omega (arith, long, below) in
     some_row P all i within (λ d.
-        use_it (get_or all i d) (kept_at all i d kept within) (is ∙ ap (λ es. get_or es i entry) same ∙ entry_at all i d entry within) (take_more all i d within))
+    use_it (get_or all i d) (kept_at all i d kept within) (is ∙ ap (λ es. get_or es i entry) same ∙ entry_at all i d entry within) (take_more all i d within))
 
 -- one more number, or row
 pub part_more : {B : Type 0} (f : stored.Entry → B) (all : List stored.Entry) (i : ℕ) (one : stored.Entry) (x : B) (read : List B) → take (i + 1) all ≡ take i all ++ one ∷ [] → f one ≡ x → read ≡ map f (take i all)

@@ -1,5 +1,5 @@
 -- What rows put behind others leave of the pages, and why they may be refused. Our own choice.
-use Rattle.std.specs.Prelude.{◌≡◌, ℕ, ◌+◌, ◌^◌, ◌<◌, ◌⊎◌, List, [], ◌∷◌, length, Contains, None, IsSome, ⊤}
+use Rattle.std.specs.Prelude.{◌≡◌, ℕ, ◌+◌, ◌^◌, ◌<◌, ◌⊎◌, List, None, IsSome, ⊤}
 use Rattle.sqlval.specs.Value.{Row}
 use Rattle.sqlval.specs.CodedLength.{row_length}
 use Rattle.store.specs.Contents as stored

@@ -1,7 +1,6 @@
 -- Rows by their numbers, as the entries of a tree. Our own choice.
-use Rattle.std.specs.Prelude.{◌≡◌, ℕ, ◌<◌, ◌≤◌, ◌^◌, List, length, map, Option, Some, None, Result, Ok, Err}
+use Rattle.std.specs.Prelude.{◌≡◌, ℕ, ◌<◌, ◌≤◌, ◌^◌, List, length, map, Result, Ok, Err}
 use Rattle.std.specs.List.{AllByRecursion}
-use Rattle.sqlval.specs.Value.{Row}
 use Rattle.store.specs.Contents as stored
 use Rattle.sqlrecord.specs.declared.error.DecodeError.{DecodeError}
 use Rattle.sqlrecord.specs.declared.error.DecodeError.TheVariants.{OutOfMemory}

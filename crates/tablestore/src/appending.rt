@@ -59,3 +59,34 @@ fn put_row<S: PageSpace>(
         Err(fault) => Err(AppendError::Space(fault)),
     }
 }
+
+/// Puts rows behind those of the tree at a root, numbered on, and answers the root; root 0 is the table without rows.
+///
+/// Refused for want of memory, where the device refuses a call, at the limits of pages, for damage, where a row's code
+/// takes more than 1,000 bytes, and where the row numbers end, at 2^63. After a refusal nothing is said of the pages but
+/// what every call of the space keeps.
+pub fn append<S: PageSpace>(
+    space: &mut S,
+    alloc: Global,
+    root: u32,
+    rows: &[Row],
+) -> Result<u32, AppendError>
+    ensures appended { (owned : List ℕ) (held : List stored.Entry) → HoldsRows (S.pages space.old) root owned held
+        → IfOk result (RowsWritten (S.pages space.old) (S.pages space.new) owned (held ++ enumerate_from (stored.next_number held) rows.now)) }
+    ensures numbers { (owned : List ℕ) (held : List stored.Entry) → HoldsRows (S.pages space.old) root owned held → IfErr result (NumbersEnd held (length rows.now)) }
+    ensures whole { OnOk result (S.is_whole space.old → S.is_whole space.new) }
+    ensures refusal { IfErr result (MayRefuse (S.at_limit space.new) (S.refused space.old) (S.refused space.new) rows.now) }
+    ensures rising { S.refused space.old ≤ S.refused space.new }
+    ensures follows { S.follows space.old space.new }
+{
+    let mut number = next_number(space, alloc, root)?;
+    let mut top = root;
+    for row in rows {
+        if number >= NUMBERS {
+            return Err(AppendError::Number);
+        }
+        top = put_row(space, alloc, top, number, row)?;
+        number += 1;
+    }
+    Ok(top)
+}

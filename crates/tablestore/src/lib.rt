@@ -7,5 +7,6 @@ mod error;
 mod number;
 mod reading;
 
+pub use appending::append;
 pub use error::AppendError;
 pub use reading::{next, scan};

@@ -1,3 +1,4 @@
 pub mod AscendLemmas
 pub mod WalkLemmas
 pub mod ChangeLemmas
+pub mod OneLemmas

@@ -4,5 +4,5 @@
 mod laws;
 mod walk;
 
-pub use laws::entries_ascend;
+pub use laws::{entries_are_one, entries_ascend};
 pub use walk::all_entries;

@@ -1,4 +1,4 @@
-use Rattle.std.proofs.Common.{◌≡◌, ℕ, ◌≤◌, refl, arith}
+use Rattle.std.proofs.Common.{refl, arith}
 use Rattle.tablestore.proofs.NumberLemmas.{next_bounded}
 use Rattle.tablestore.proofs.number.next_number.Goals as goal
 

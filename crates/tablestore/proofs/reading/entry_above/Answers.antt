@@ -1,8 +1,7 @@
-use Rattle.std.proofs.Common.{◌≡◌, Option, Some, sym, ap, ◌∙◌}
+use Rattle.std.proofs.Common.{◌≡◌, Option, Some, ap, ◌∙◌}
 use Rattle.std.specs.Option.{option_map}
 use Rattle.std.proofs.lemmas.Result.{IfOk-weaker}
 use Rattle.store.specs.Indexes.{entry_after}
-use Rattle.sqlrecord.specs.Key.{number_code}
 use Rattle.btree_read.specs.declared.entry.Entry.{Entry}
 use Rattle.btree_read.specs.declared.entry.Start.TheVariants.{Behind}
 use Rattle.btree_read.specs.Nodes.{Key}
@@ -14,5 +13,5 @@ use Rattle.tablestore.proofs.reading.entry_above.Goals as goal
 pub returns-clause-found : goal.returns-clause-found
 returns-clause-found g c = λ owned rows held.
     IfOk-weaker c.next.result (λ (x : Option Entry). x ≡ first_from Behind c.to_be_bytes.result (entries_of rows)) (λ (x : Option Entry). x ≡ option_map row_entry (entry_after (Some c.args.number) rows))
-        (λ x e. e ∙ ap (λ (k : Key). first_from Behind k (entries_of rows)) c.to_be_bytes.ensures ∙ found_after c.args.number rows c.ranges.number.fits held.kept)
-        (c.next.ensures.found owned (entries_of rows) held.tree)
+    (λ x e. e ∙ ap (λ (k : Key). first_from Behind k (entries_of rows)) c.to_be_bytes.ensures ∙ found_after c.args.number rows c.ranges.number.fits held.kept)
+    (c.next.ensures.found owned (entries_of rows) held.tree)

@@ -12,5 +12,5 @@ use Rattle.tablestore.proofs.reading.entry_behind.Goals as goal
 pub returns-in-None-clause-found : goal.returns-in-None-clause-found
 returns-in-None-clause-found g c = λ owned rows held.
     IfOk-weaker c.seek.result (λ (x : Option Entry). x ≡ first_from At [] (entries_of rows)) (λ (x : Option Entry). x ≡ option_map row_entry (entry_after c.args.after rows))
-        (λ x e. e ∙ found_first rows ∙ ap (λ (a : Option ℕ). option_map row_entry (entry_after a rows)) (sym c.in-None.is))
-        (c.seek.ensures.found owned (entries_of rows) held.tree)
+    (λ x e. e ∙ found_first rows ∙ ap (λ (a : Option ℕ). option_map row_entry (entry_after a rows)) (sym c.in-None.is))
+    (c.seek.ensures.found owned (entries_of rows) held.tree)
