@@ -1,7 +1,6 @@
 -- What a listing over lent tables says of the query that its tree is of.
-use Rattle.std.proofs.Common.{◌≡◌, refl, sym, ap, subst, ◌∙◌, ℕ, List, [], ◌∷◌, Result, Ok, Err, IfOk, IfErr, inl, inr, ◌≢◌}
+use Rattle.std.proofs.Common.{◌≡◌, refl, sym, ap, subst, ◌∙◌, ℕ, List, [], ◌∷◌, Result, Ok, Err, IfOk, IfErr, inl, inr}
 use Rattle.refusals.specs.declared.refusal.Refusal.{Refusal}
-use Rattle.refusals.specs.declared.refusal.Refusal.TheVariants.{NotSupported}
 use Rattle.sqlval.specs.Value.{Row}
 use Rattle.typing.specs.declared.typed.OrderedQuery.{OrderedQuery}
 use Rattle.algebra.specs.declared.tree.StoredTable.{StoredTable}
@@ -52,13 +51,8 @@ module _ (answer : ListingsAnswer) (read : ListingsRead) (c : Contents) (lent : 
       rows_answer (reply_of (tree_listing lent tree [])) rows (denotes (database_of c) ordered) shown (listed_answers answer read c lent tree (agree sound) (tree_listing lent tree []) refl ordered t)
   rows_given (Err refusal) shown = tt
 
-  pub refusal_given : (result : Result (List Row) Refusal) → IfErr result (λ refusal. refusal ≢ NotSupported → RefusesAs (reply_of (tree_listing lent tree [])) refusal)
-      → IfErr result (λ refusal. Sound → refusal ≢ NotSupported → (ordered : OrderedQuery) → IsTreeOf ordered tree → MayRefuse (denotes (database_of c) ordered).unordered.faults refusal)
+  pub refusal_given : (result : Result (List Row) Refusal) → IfErr result (RefusesAs (reply_of (tree_listing lent tree [])))
+      → IfErr result (λ refusal. Sound → (ordered : OrderedQuery) → IsTreeOf ordered tree → MayRefuse (denotes (database_of c) ordered).unordered.faults refusal)
   refusal_given (Ok rows) shown = tt
-  refusal_given (Err refusal) shown = λ sound built ordered t.
-      fault_answers (reply_of (tree_listing lent tree [])) refusal (denotes (database_of c) ordered) (shown built) (listed_answers answer read c lent tree (agree sound) (tree_listing lent tree []) refl ordered t)
-
--- what the store refuses
-pub store_refuses : (c : Contents) (tree : Tree) (Sound : Type 0) (refusal : Refusal) → (Sound → IsReserved refusal)
-    → Sound → refusal ≢ NotSupported → (ordered : OrderedQuery) → IsTreeOf ordered tree → MayRefuse (denotes (database_of c) ordered).unordered.faults refusal
-store_refuses c tree Sound refusal reserved sound built ordered t = inl (reserved sound)
+  refusal_given (Err refusal) shown = λ sound ordered t.
+      fault_answers (reply_of (tree_listing lent tree [])) refusal (denotes (database_of c) ordered) shown (listed_answers answer read c lent tree (agree sound) (tree_listing lent tree []) refl ordered t)

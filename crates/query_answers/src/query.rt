@@ -1,6 +1,6 @@
 //! The answer of a query.
 ghost use Rattle.std.specs.Prelude.{◌≡◌, ◌≢◌, Ok, IfOk, IfErr};
-ghost use Rattle.refusals.specs.declared.refusal.Refusal.TheVariants.{Disk, NotSupported};
+ghost use Rattle.refusals.specs.declared.refusal.Refusal.TheVariants.{Disk};
 ghost use Rattle.typing.specs.declared.typed.OrderedQuery.{OrderedQuery as Asked};
 ghost use Rattle.denote.specs.Answer.{Answers};
 ghost use Rattle.denote.specs.Query.{denotes};
@@ -36,7 +36,7 @@ pub fn query_tree(alloc: Global, schema: &Schema, query: &OrderedQuery) -> Resul
 /// The rows of a query by its tree. Each table that it names is read once. It is refused by one of the query's faults, and for what the store is refused for.
 pub fn answer<R: Reading>(alloc: Global, reading: &mut R, tree: &Tree) -> Result<Rows, Refusal>
     ensures answers { IfOk result (λ rows. R.is_sound reading.old → (ordered : Asked) → IsTreeOf ordered tree.now → Answers (Ok rows) (denotes (database_of (R.shows reading.old).contents) ordered)) }
-    ensures refused { IfErr result (λ refusal. R.is_sound reading.old → refusal ≢ NotSupported → (ordered : Asked) → IsTreeOf ordered tree.now → MayRefuse (denotes (database_of (R.shows reading.old).contents) ordered).unordered.faults refusal) }
+    ensures refused { IfErr result (λ refusal. R.is_sound reading.old → (ordered : Asked) → IsTreeOf ordered tree.now → MayRefuse (denotes (database_of (R.shows reading.old).contents) ordered).unordered.faults refusal) }
     ensures counts { IfErr result (λ refusal. refusal ≡ Disk → HasRisen (R.shows reading.old).refused (R.shows reading.new).refused) }
     ensures follows { R.follows reading.old reading.new }
 {
@@ -56,7 +56,7 @@ pub fn answer<R: Reading>(alloc: Global, reading: &mut R, tree: &Tree) -> Result
 /// What is shown of a listing: its rows, or the fault that ends it.
 fn shown(listed: Result<Listed, Stop>) -> Result<Rows, Refusal>
     ensures rows { (meant : Outcome) → Lists listed meant → IfOk result (λ rows. reply_of meant ≡ Ok rows) }
-    ensures refused { (meant : Outcome) → Lists listed meant → IfErr result (λ refusal. refusal ≢ NotSupported → RefusesAs (reply_of meant) refusal) }
+    ensures refused { (meant : Outcome) → Lists listed meant → IfErr result (RefusesAs (reply_of meant)) }
     ensures stored { IfErr result (λ refusal. refusal ≢ Disk) }
 {
     match listed {
@@ -64,7 +64,6 @@ fn shown(listed: Result<Listed, Stop>) -> Result<Rows, Refusal>
             None => Ok(listed.rows),
             Some(fault) => Err(refusal_of_fault(fault)),
         },
-        Err(Stop::NotBuilt) => Err(Refusal::NotSupported),
         Err(_) => Err(Refusal::Memory),
     }
 }

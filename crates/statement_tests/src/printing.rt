@@ -62,27 +62,27 @@ fn conditions_are_copied_and_printed(rt: HostRuntime) -> Result<(), Fail> {
     Ok(())
 }
 
-/// How many tokens a statement and a condition are printed as.
-fn printed_tokens(
-    alloc: Global,
-    statement: &[u8],
-    condition: &[u8],
-) -> Result<(usize, usize), Refusal> {
-    let all = tokens(alloc, statement)?;
+/// How many tokens a statement is printed as.
+fn tokens_of_statement(alloc: Global, text: &[u8]) -> Result<usize, Refusal> {
+    let all = tokens(alloc, text)?;
     let statement = parse(alloc, &all)?;
-    let of_statement = print_tokens(alloc, &statement)?.len();
-    let all = tokens(alloc, condition)?;
+    Ok(print_tokens(alloc, &statement)?.len())
+}
+
+/// And a condition.
+fn tokens_of_condition(alloc: Global, text: &[u8]) -> Result<usize, Refusal> {
+    let all = tokens(alloc, text)?;
     let condition = parse_condition(alloc, &all)?;
-    Ok((
-        of_statement,
-        print_condition_tokens(alloc, &condition)?.len(),
-    ))
+    Ok(print_condition_tokens(alloc, &condition)?.len())
 }
 
 #[test]
 fn tokens_are_counted(rt: HostRuntime) -> Result<(), Fail> {
-    let counted = printed_tokens(rt.alloc(), b"DROP TABLE T_1;", b"NOT A <> -7 || 'it''s'")?;
-    assert_eq!(rt; counted, (3, 7));
+    assert_eq!(rt; tokens_of_statement(rt.alloc(), b"DROP TABLE T_1;")?, 3);
+    assert_eq!(rt;
+        tokens_of_condition(rt.alloc(), b"NOT A <> -7 || 'it''s'")?,
+        7
+    );
     Ok(())
 }
 

@@ -1,5 +1,5 @@
 use Rattle.query_answers.specs.Lent.{rows_lent}
-use Rattle.query_answers.proofs.Answering.{rows_given, refusal_given, store_refuses}
+use Rattle.query_answers.proofs.Answering.{rows_given, refusal_given}
 use Rattle.query_answers.proofs.query.answer.Goals as goal
 
 pub returns-clause-answers : goal.returns-clause-answers
