@@ -31,7 +31,7 @@ Gives-first {A = A} s x f h = record { ok = tt; err = at s x h.err }
   where
     at : (s : Stop) (x : Evaluation A) → IsFirstOf (faults_in x) s → IsFirstOf (faults_in (x >>= f)) s
     at Memory x g = tt
-    at NotBuilt x g = tt
+    at NotBuilt x g = absurd g
     at (Fault fault) (Ok v) g = absurd (cc)
     at (Fault fault) (Err faults) g = g
 
@@ -121,7 +121,7 @@ Gives-joined_err {A = A} s found x rest h = record { ok = tt; err = at s x h.err
   where
     at : (s : Stop) (x : Evaluation A) → IsFirstOf (faults_in x) s → IsFirstOf (faults_in (after found (joined x rest))) s
     at Memory x g = tt
-    at NotBuilt x g = tt
+    at NotBuilt x g = absurd g
     at (Fault fault) (Ok v) g = absurd (cc)
     at (Fault fault) (Err faults) g = first-append faults (faults_in rest) fault g
 
