@@ -1,0 +1,4 @@
+pub mod FunctionLists
+pub mod Misplaced
+pub mod Nodes
+pub mod Turns

@@ -1,0 +1,6 @@
+//! Names and types of queries: what a query of a text stands for over a schema.
+#![tactic(auto)]
+
+mod arguments;
+mod functions;
+mod parts;
