@@ -1,5 +1,5 @@
 -- What is found of the parts of SELECTs and queries, put together.
-use Rattle.std.specs.Prelude.{ℕ, Bool, List, ◌∷◌, map, Option, None, Ok}
+use Rattle.std.specs.Prelude.{ℕ, Bool, List, [], ◌∷◌, map, Option, None, Ok}
 use Rattle.std.specs.Option.{option_map}
 use Rattle.ast.specs.declared.operator.Column.{Column}
 use Rattle.ast.specs.declared.operator.Quantifier.{Quantifier}
@@ -70,20 +70,25 @@ clauses_of k tree = record {
   having = option_map (condition_part k) (out-Select tree).having;
 }
 
--- what the rows of FROM show, and what the groups show
+-- what a FROM shows, inside what is seen around it
 abbrev pub with_key : Option (List ℕ) → Frame → Scope → Scope
 with_key key frame outer = record frame { key = key } ∷ outer
+
+-- what the groups show in place of the rows
+abbrev pub keyed : Option (List ℕ) → Scope → Scope
+keyed key [] = []
+keyed key (frame ∷ outer) = with_key key frame outer
 
 abbrev pub groups_of : Option (List ℕ) → Finding (List ShownItem × Option Condition) → Finding Groups
 groups_of key found = found >>= (λ p. Ok (record { key = key; items = p.0; having = p.1 }))
 
--- what depends on the columns that this FROM shows
-abbrev pub settled_in : Clauses → Frame → Scope → Finding Settled
-settled_in select frame outer =
-    settled (also ((if_written select.filter).found (record { scope = with_key None frame outer; clause = Plain }))
-    (also (functions_found select (with_key None frame outer))
-    (key_found (is_grouped select) select.groups (with_key None frame outer) >>= (λ key.
-    groups_of key ((shown select).found (record { scope = with_key key frame outer; clause = Shown (width key) }))))))
+-- what depends on the columns that a FROM shows
+abbrev pub settled_in : Clauses → Scope → Finding Settled
+settled_in select rows =
+    settled (also ((if_written select.filter).found (record { scope = rows; clause = Plain }))
+    (also (functions_found select rows)
+    (key_found (is_grouped select) select.groups rows >>= (λ key.
+    groups_of key ((shown select).found (record { scope = keyed key rows; clause = Shown (width key) }))))))
 
 -- a SELECT over a FROM that is found
 abbrev pub select_from : Option Quantifier → List Column → Source → Finding ((Unit {0} × Unit {0}) × Settled) → Finding TypedQuery

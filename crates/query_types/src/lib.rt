@@ -2,5 +2,9 @@
 #![tactic(auto)]
 
 mod arguments;
+mod conditions;
+mod expressions;
 mod functions;
 mod parts;
+mod queries;
+mod tables;

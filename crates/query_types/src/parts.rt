@@ -1,6 +1,6 @@
 //! Parts that are found, put together.
 
-ghost use Rattle.std.specs.Prelude.{◌≡◌, ◌++◌, ◌∷◌, [], List, Option, length};
+ghost use Rattle.std.specs.Prelude.{◌≡◌, ◌++◌, ◌∷◌, [], List, Option, None, length};
 ghost use Rattle.typing.specs.Finding.{Finding, each};
 ghost use Rattle.typing.specs.Finds.{Finds};
 ghost use Rattle.typing.specs.From.{inner_join, left_join};
@@ -13,20 +13,20 @@ ghost use Rattle.ast.specs.declared.tree.SelectItem.{out-SelectItem};
 ghost use Rattle.typing.specs.Select.{is_grouped, item_name, tables_found, width};
 ghost use Rattle.typing.specs.SetFunction.{Aggregate, query_seen};
 ghost use Rattle.typing.specs.Table.{at_most, distinct_found};
-ghost use Rattle.scopes.specs.Seen.{clause_in, scope_in};
+ghost use Rattle.scopes.specs.Seen.{clause_in, frames, scope_in};
 ghost use Rattle.query_types.specs.Parts.{appended, function_of, functions_in, negation_of, not_of, test_of, written};
-ghost use Rattle.query_types.specs.Selects.{clauses_of, groups_of, join_of, select_from, select_over};
+ghost use Rattle.query_types.specs.Selects.{clauses_of, groups_of, join_of, keyed, select_from, select_over, with_key};
 
 use ast::{Column, Quantifier, SelectItem, TruthTest};
 use findings::both;
 use items::{Items, Text};
 use refusals::{Limit, Reason, Refusal};
-use scopes::{Clause, are_distinct, count_in_items};
+use scopes::{Clause, Scope, are_distinct, count_in_items};
 use sqlval::ValueType;
 use std::alloc::Global;
 use type_rules::{Joined, column_name, inner, left, negated, tested};
 use typing::{
-    Condition, Groups, SetFunction, Settled, ShownItem, Sides, Source, TypedFrom, TypedQuery,
+    Condition, Frame, Groups, SetFunction, Settled, ShownItem, Sides, Source, TypedFrom, TypedQuery,
 };
 
 /// The greatest number of tables in one FROM, derived tables among them.
@@ -116,6 +116,23 @@ pub fn written(condition: Result<Condition, Refusal>) -> Result<Option<Condition
     ensures { (x : Finding Condition) → Finds condition x → Finds result (written x) }
 {
     Ok(Some(condition?))
+}
+
+/// What is seen inside a SELECT or an ON: what its FROM shows, and what is seen around it.
+pub fn inside<'a>(scope: &'a Scope<'a>, frame: &'a Frame) -> Scope<'a>
+    ensures { frames result ≡ with_key None frame.now (frames scope.now) }
+{
+    Scope::Inside(frame, None, scope)
+}
+
+/// What the groups of a SELECT show in place of its rows.
+pub fn grouped<'a>(rows: &'a Scope<'a>, key: Option<&'a Items<usize>>) -> Scope<'a>
+    ensures { frames result ≡ keyed (option_copied key.entry) (frames rows.now) }
+{
+    match rows {
+        Scope::Outermost => Scope::Outermost,
+        Scope::Inside(frame, _, outer) => Scope::Inside(frame, key, outer),
+    }
 }
 
 // ---- joins
