@@ -7,3 +7,4 @@ pub mod RefusalLemmas
 pub mod StepLemmas
 pub mod RootLemmas
 pub mod LawLemmas
+pub mod AppendLemmas

@@ -51,7 +51,7 @@ root_kept old new (suc r) k v nz g owned entries w =
       others = λ n h. x.others n (λ m. h (subst (Has n) w.owns m));
     }
 
-still_fresh : (old mid : PageMap) (owned : List ℕ) (r : ℕ) → ((n : ℕ) → (Has n owned → ⊥) → IsSome (old n) → mid n ≡ old n) → mid r ≡ None → Has r owned ⊎ (old r ≡ None)
+pub still_fresh : (old mid : PageMap) (owned : List ℕ) (r : ℕ) → ((n : ℕ) → (Has n owned → ⊥) → IsSome (old n) → mid n ≡ old n) → mid r ≡ None → Has r owned ⊎ (old r ≡ None)
 still_fresh old mid owned r f e = by (has_or_not r owned)
   where
     at : (Has r owned → ⊥) → (o : Option (List ℕ)) → o ≡ old r → old r ≡ None
