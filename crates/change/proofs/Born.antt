@@ -1,14 +1,14 @@
 -- What a CREATE TABLE leaves of a store.
-use Rattle.std.proofs.Common.{◌≡◌, ◌∙◌, refl, sym, ap, subst, ℕ, true, List, [], map, Option, Some, None}
+use Rattle.std.proofs.Common.{◌≡◌, ◌∙◌, refl, sym, ap, subst, ℕ, true, map, Option, Some, None}
 use Rattle.std.specs.List.{filter_map}
 use Rattle.std.specs.Option.{option_map}
 use Rattle.std.specs.FinMap.{get, insert}
 use Rattle.sqlval.specs.declared.schema.Table as declared
 use Rattle.typing.specs.declared.statement.Change.TheVariants as does
 use Rattle.typing.specs.declared.statement.CreateTable.{CreateTable}
-use Rattle.denote.specs.Change.{Changed, created, owned_index}
+use Rattle.denote.specs.Change.{created, owned_index}
 use Rattle.denote.specs.Change.Changed.{Makes}
-use Rattle.denote.specs.Database.{Name, Table, Database, CheckReading}
+use Rattle.denote.specs.Database.{Name, Database, CheckReading}
 use Rattle.denote.specs.SchemaOf.{index_of}
 use Rattle.replies.specs.declared.reply.Reply.{Reply}
 use Rattle.replies.specs.declared.reply.Reply.TheVariants as says
@@ -16,7 +16,7 @@ use Rattle.store.specs.Contents.{StoredTable, Contents, table_of, database_of, w
 use Rattle.store.specs.Stored.{Stored, marked_now, working_on}
 use Rattle.store.proofs.Databases.{database-get}
 use Rattle.change.specs.Changed.{HasChanged}
-use Rattle.change.specs.Plain.{IsPlain, IsPlainTable, are_not_nulls}
+use Rattle.change.specs.Plain.{IsPlain, are_not_nulls}
 use Rattle.change.proofs.Checked.{none_broken}
 use Rattle.change.proofs.Left.{plain_insert}
 use Rattle.change.proofs.Made.{created-database}

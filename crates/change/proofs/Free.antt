@@ -1,5 +1,5 @@
 -- A CREATE TABLE that the rules of names and types let through is of a name that no table has, and so far its constraints are NOT NULLs.
-use Rattle.std.proofs.Common.{◌≡◌, ◌∙◌, refl, sym, ap, subst, ℕ, zero, suc, ◌+◌, zero-add, Bool, true, false, cond, not, ◌||◌, ◌&&◌, List, [], ◌∷◌, ◌++◌, map, Option, Some, None, Ok, Err, arith}
+use Rattle.std.proofs.Common.{◌≡◌, ◌∙◌, refl, sym, ap, subst, ℕ, suc, ◌+◌, zero-add, Bool, true, false, cond, not, ◌||◌, ◌&&◌, List, [], ◌∷◌, ◌++◌, map, Some, None, Ok, Err, arith}
 use Rattle.std.proofs.lemmas.List.{map-append}
 use Rattle.std.specs.Prelude.{slice_get, is_none}
 use Rattle.std.specs.List.{list_any, list_all, position_from, zip}
@@ -15,7 +15,6 @@ use Rattle.ast.specs.declared.statement.Statement.{Statement}
 use Rattle.ast.specs.declared.statement.Statement.TheVariants as statement
 use Rattle.ast.specs.declared.statement.TableElement.{TableElement}
 use Rattle.ast.specs.declared.statement.TableElement.TheVariants as element
-use Rattle.sqlval.specs.declared.schema.Constraint.{Constraint}
 use Rattle.sqlval.specs.declared.schema.Rule.{Rule}
 use Rattle.sqlval.specs.declared.schema.Rule.TheVariants as rule
 use Rattle.sqlval.specs.declared.schema.Table.{Table}
@@ -33,13 +32,12 @@ use Rattle.typing.specs.CreateTable.{columns_found, create_found, defined_frame,
 use Rattle.typing.specs.Finding.{Finding, ◌>>=◌, also, before, each}
 use Rattle.typing.specs.Index.{index_found, dropped_index, dropped_table}
 use Rattle.typing.specs.Insert.{insert_found}
-use Rattle.typing.specs.Known.{Known, KnownTable, known, known_table, table_at}
+use Rattle.typing.specs.Known.{known, known_table, table_at}
 use Rattle.typing.specs.Order.{ordered_found}
-use Rattle.typing.specs.Statement.{answered_found, statement_found, found_over, changes}
+use Rattle.typing.specs.Statement.{answered_found, statement_found, changes}
 use Rattle.typing.specs.Table.{is_new}
 use Rattle.typing.specs.Update.{update_found, delete_found}
 use Rattle.denote.specs.Database.{Name, Database}
-use Rattle.denote.specs.SchemaOf.{IsSchemaOf}
 use Rattle.session_definitions.specs.Rules.{Rules, AreRules, Means}
 use Rattle.change.specs.Plain.{are_not_nulls, is_not_null as is_plain}
 use Rattle.change.proofs.Tables.{no_table}

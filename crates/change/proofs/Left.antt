@@ -1,5 +1,5 @@
 -- What an INSERT leaves of a store.
-use Rattle.std.proofs.Common.{◌≡◌, ◌∙◌, refl, sym, ap, subst, ℕ, Bool, true, false, cond, List, [], ◌∷◌, ◌++◌, length, Option, Some, None}
+use Rattle.std.proofs.Common.{◌≡◌, ◌∙◌, refl, sym, ap, subst, ℕ, Bool, true, false, cond, List, [], ◌++◌, length, Option, Some, None}
 use Rattle.std.proofs.lemmas.Cmp.{nat_list_cmp_total}
 use Rattle.std.specs.Option.{option_map}
 use Rattle.std.specs.Ordering.{eq_by_cmp}
@@ -10,7 +10,7 @@ use Rattle.sqlval.specs.Value.{Row}
 use Rattle.typing.specs.declared.statement.Change.TheVariants as does
 use Rattle.typing.specs.declared.statement.Insert.{Insert}
 use Rattle.typing.specs.declared.typed.Condition.TheVariants.{Or}
-use Rattle.denote.specs.Change.{changed, on_table, insert_into}
+use Rattle.denote.specs.Change.{on_table, insert_into}
 use Rattle.denote.specs.Change.Changed.{Makes}
 use Rattle.denote.specs.Database.{Name, Table, Database, CheckReading}
 use Rattle.denote.specs.SchemaOf.{IsSchemaOf}
@@ -29,7 +29,6 @@ use Rattle.transactions.proofs.Tests.{reserved}
 use Rattle.change.specs.Changed.{HasChanged}
 use Rattle.change.specs.Plain.{IsPlain, IsPlainTable}
 use Rattle.change.specs.Stores.{Stores}
-use Rattle.change.proofs.Tables.{tied}
 use Rattle.change.proofs.Made.{appended-database}
 
 -- some reading

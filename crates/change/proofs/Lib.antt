@@ -6,4 +6,5 @@ pub mod Stored
 pub mod Left
 pub mod Free
 pub mod Born
+pub mod Dropped
 pub mod Stopped

@@ -1,5 +1,5 @@
 -- The rows that an INSERT stores are short enough.
-use Rattle.std.proofs.Common.{◌≡◌, ◌∙◌, refl, sym, ap, ℕ, zero, suc, ◌+◌, ◌<◌, ◌≤◌, Bool, true, false, cond, List, [], ◌∷◌, ◌++◌, map, length, slice_index_or, Ok, Err, arith}
+use Rattle.std.proofs.Common.{◌≡◌, ◌∙◌, refl, sym, ap, ℕ, zero, suc, ◌+◌, ◌<◌, Bool, true, false, cond, List, [], ◌∷◌, ◌++◌, map, length, slice_index_or, Ok, Err, arith}
 use Rattle.std.specs.Prelude.{Contains, flat_map, nat_le}
 use Rattle.sqlval.specs.CodedLength.{row_length, key_length}
 use Rattle.sqlval.specs.Matching.{key_of}
@@ -11,8 +11,8 @@ use Rattle.typing.specs.declared.typed.Expression.{Expression}
 use Rattle.denote.specs.declared.fault.Fault.{Fault}
 use Rattle.denote.specs.declared.fault.Fault.TheVariants.{Record, Key}
 use Rattle.denote.specs.Change.{inserted_rows}
-use Rattle.denote.specs.Database.{Table, IndexDeclaration, check_at}
-use Rattle.denote.specs.Evaluation.{Evaluation, ◌>>=◌, joined, together, unless, faults_in}
+use Rattle.denote.specs.Database.{Table, IndexDeclaration}
+use Rattle.denote.specs.Evaluation.{Evaluation, joined, together, unless}
 use Rattle.denote.specs.Meaning.{Tables, value_of}
 use Rattle.denote.specs.StoredRow.{row_with, row_faults, record_faults, key_faults, admitted, inserted_row}
 use Rattle.store.specs.Errors.{HasLongRow, HasLongKey}

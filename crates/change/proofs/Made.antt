@@ -1,16 +1,14 @@
 -- The databases that the changes of a store make are those of the definitions.
-use Rattle.std.proofs.Common.{◌≡◌, ◌∙◌, refl, sym, ap, ℕ, zero, suc, ◌+◌, Bool, true, false, cond, List, [], ◌∷◌, ◌++◌, map, length, is_some, Option, Some, None, Ok}
+use Rattle.std.proofs.Common.{◌≡◌, ◌∙◌, refl, sym, ap, ℕ, ◌+◌, false, List, [], ◌∷◌, ◌++◌, map, is_some, Option, Some, None}
 use Rattle.std.proofs.lemmas.List.{map-append}
 use Rattle.std.specs.List.{enumerate_from, filter_map}
 use Rattle.std.specs.Option.{option_map}
 use Rattle.std.specs.FinMap.{get, insert, contains_key}
 use Rattle.sqlval.specs.declared.schema.Table as declared
 use Rattle.sqlval.specs.Value.{Row}
-use Rattle.typing.specs.declared.statement.Change.TheVariants as does
 use Rattle.typing.specs.declared.statement.CreateTable.{CreateTable}
-use Rattle.denote.specs.Change.{changed, created, owned_index}
-use Rattle.denote.specs.Change.Changed.{Makes}
-use Rattle.denote.specs.Database.{Name, Table, Database, CheckReading, IndexDeclaration}
+use Rattle.denote.specs.Change.{created, owned_index}
+use Rattle.denote.specs.Database.{Name, Table}
 use Rattle.denote.specs.SchemaOf.{index_of}
 use Rattle.store.specs.Contents.{Entry, StoredTable, Contents, table_of, rows_of, database_of, next_number, with_rows, new_table, put_back, with_table, appended}
 use Rattle.store.proofs.Databases.{database-get, database-insert}

@@ -1,7 +1,6 @@
 -- What a store's refusal is shown as.
 use Rattle.std.proofs.Common.{◌≡◌, ℕ}
 use Rattle.refusals.specs.declared.refusal.Refusal.TheVariants as refused
-use Rattle.session_definitions.specs.Refusals.{IsReserved}
 use Rattle.store.specs.declared.error.StoreError.{StoreError}
 use Rattle.store.specs.declared.error.StoreError.TheVariants as error
 use Rattle.store.specs.declared.error.StoreLimit.{StoreLimit}

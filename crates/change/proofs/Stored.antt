@@ -1,13 +1,11 @@
 -- What an INSERT makes of a plain database.
-use Rattle.std.proofs.Common.{◌≡◌, ◌≢◌, ◌∙◌, refl, sym, ap, subst, ℕ, ◌<◌, Bool, true, false, cond, List, [], ◌∷◌, ◌++◌, map, length, Option, Some, None, Ok, Err, arith, inl, inr}
+use Rattle.std.proofs.Common.{◌≡◌, ◌≢◌, ◌∙◌, refl, sym, ap, subst, ℕ, ◌<◌, true, List, [], ◌∷◌, ◌++◌, length, Some, Ok, Err, arith, inl, inr}
 use Rattle.std.specs.Prelude.{Contains}
-use Rattle.std.specs.Option.{option_map}
 use Rattle.std.specs.FinMap.{get, insert}
 use Rattle.refusals.specs.declared.refusal.Refusal.{Refusal}
 use Rattle.refusals.specs.declared.refusal.Refusal.TheVariants as refused
 use Rattle.sqlval.specs.declared.schema.Table as declared
 use Rattle.sqlval.specs.declared.schema.Schema.{Schema}
-use Rattle.sqlval.specs.declared.schema.Constraint.{Constraint}
 use Rattle.sqlval.specs.Schema.{same_name}
 use Rattle.sqlval.specs.Value.{Row}
 use Rattle.typing.specs.declared.statement.Change.TheVariants as does
@@ -17,8 +15,7 @@ use Rattle.typing.specs.declared.typed.Expression.{Expression}
 use Rattle.denote.specs.declared.fault.Fault.{Fault}
 use Rattle.denote.specs.declared.fault.Fault.TheVariants as fault
 use Rattle.denote.specs.Change.{Changed, changed, on_table, insert_into, inserted_rows, unless_raised, unless_violated, with_rows, IsRaised, IsNamed}
-use Rattle.denote.specs.Change.Changed.{Makes}
-use Rattle.denote.specs.Database.{Name, Table, Database, CheckReading, checks_of, rows_in, table_of, violated_by, broken_not_nulls}
+use Rattle.denote.specs.Database.{Name, Table, Database, CheckReading, rows_in, table_of, broken_not_nulls}
 use Rattle.denote.specs.Evaluation.{Evaluation, faults_in}
 use Rattle.denote.specs.Meaning.{Tables}
 use Rattle.denote.specs.SchemaOf.{Declares, IsSchemaOf}

@@ -3,8 +3,10 @@
 
 mod carrying;
 mod creating;
+mod dropping;
 mod inserting;
 
 pub use carrying::carry_out;
 pub use creating::create_table;
+pub use dropping::{drop_index, drop_table};
 pub use inserting::insert;

@@ -1,6 +1,5 @@
-use Rattle.std.proofs.Common.{◌≡◌, ◌∙◌, sym, ap}
+use Rattle.std.proofs.Common.{◌∙◌}
 use Rattle.std.proofs.lemmas.Result.{err_from_is_err_and}
-use Rattle.store.specs.Stored.{Stored, marked_now}
 use Rattle.change.specs.Changed.{RefusesChange}
 use Rattle.change.proofs.Left.{schema_here, plain_same, unchanged, stored, plain_stored, withheld, no_reading}
 use Rattle.change.proofs.inserting.insert.Goals as goal
