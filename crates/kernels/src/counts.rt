@@ -37,9 +37,13 @@ pub fn count_row<'a>(
     ensures counted { (rows : List Values) → Counts counts.old rows → length rows + 1 < 2 ^ 64 → OnOk result (Counts counts.new (rows ++ row.now ∷ [])) }
 {
     let key = RowKey { values: row };
-    let before = number_at(counts, &key);
-    counts.insert(key, before.saturating_add(1))?;
-    Ok(before)
+    match counts.insert(key, 1)? {
+        None => Ok(0),
+        Some(before) => {
+            counts.insert(key, before.saturating_add(1))?;
+            Ok(before)
+        }
+    }
 }
 
 /// How often each row of a list comes. Refuses for want of memory alone.
