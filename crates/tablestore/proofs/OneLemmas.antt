@@ -1,5 +1,5 @@
 -- Rows by their entries.
-use Rattle.std.proofs.Common.{◌≡◌, ℕ, ◌^◌, ◌<◌, List, [], ◌∷◌, refl, sym, ap, ◌∙◌, arith}
+use Rattle.std.proofs.Common.{◌≡◌, ℕ, ◌^◌, ◌<◌, List, [], ◌∷◌, IsSome, refl, sym, ap, ◌∙◌, arith}
 use Rattle.sqlval.specs.Value.{Row}
 use Rattle.store.specs.Contents as stored
 use Rattle.sqlrecord.specs.Key.{number_code}
@@ -7,6 +7,8 @@ use Rattle.sqlrecord.specs.Row.{row_code}
 use Rattle.sqlrecord.proofs.OrderLemmas.{index_keys_apart, rows_apart}
 use Rattle.page_space.specs.Space.{PageMap}
 use Rattle.btree_read.specs.declared.entry.Entry.{Entry}
+use Rattle.btree_read.specs.Lists.{Has}
+use Rattle.btree.proofs.LawLemmas.{tree_stays, tree_used}
 use Rattle.tree_entries.proofs.OneLemmas.{one_tree}
 use Rattle.tablestore.specs.Held.{row_entry, entries_of, IsKept, AreKept, HoldsRows}
 
@@ -27,3 +29,9 @@ rows_same (x ∷ rows) (y ∷ others) h g e =
 
 pub one_list : (pages : PageMap) (root : ℕ) (owned also : List ℕ) (rows others : List stored.Entry) → HoldsRows pages root owned rows → HoldsRows pages root also others → rows ≡ others
 one_list pages root owned also rows others h g = rows_same rows others h.kept g.kept (one_tree pages root owned also (entries_of rows) (entries_of others) h.tree g.tree)
+
+pub rows_kept : (old new : PageMap) (root : ℕ) (owned : List ℕ) (rows : List stored.Entry) → ((n : ℕ) → Has n owned → new n ≡ old n) → HoldsRows old root owned rows → HoldsRows new root owned rows
+rows_kept old new root owned rows same h = record { tree = tree_stays old new root owned _ same h.tree; kept = h.kept }
+
+pub rows_used : (pages : PageMap) (root : ℕ) (owned : List ℕ) (rows : List stored.Entry) → HoldsRows pages root owned rows → (n : ℕ) → Has n owned → IsSome (pages n)
+rows_used pages root owned rows h = tree_used pages root owned _ h.tree

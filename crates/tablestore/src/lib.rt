@@ -10,5 +10,5 @@ mod reading;
 
 pub use appending::append;
 pub use error::AppendError;
-pub use laws::rows_are_one;
+pub use laws::{rows_are_one, rows_stay};
 pub use reading::{next, scan};
