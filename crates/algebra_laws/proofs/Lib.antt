@@ -12,6 +12,6 @@ mod Groups
 mod Trees
 mod Sorting
 mod Replies
-mod RolledTrees
+pub mod RolledTrees
 mod Safe
 mod Plain

@@ -1,16 +1,16 @@
 -- Lists of cells: parts of them, and the entries and branches that they show.
-use Rattle.std.proofs.Common.{◌≡◌, ℕ, zero, suc, ◌+◌, ◌<◌, ◌≤◌, List, [], ◌∷◌, ◌++◌, map, length, take, drop, min, refl, sym, ap, ◌∙◌, subst, Bool, true, false, not, if◌then◌else◌, arith, add-one, length-drop, inl, inr, ◌⊎◌, Option, Some, None, IsSome, ◌≢◌, ◌-◌, Result, IfOk}
+use Rattle.std.proofs.Common.{◌≡◌, ℕ, zero, suc, ◌+◌, ◌<◌, ◌≤◌, List, [], ◌∷◌, ◌++◌, map, length, take, drop, min, refl, sym, ap, ◌∙◌, subst, Bool, true, false, not, if◌then◌else◌, arith, add-one, length-drop, inl, inr, ◌⊎◌, Option, None, IsSome, ◌-◌, Result, IfOk}
 use Rattle.std.proofs.Math.Seq.{take-length}
 use Rattle.std.specs.Borrow.{Bor}
 use Rattle.std.proofs.lemmas.List.{get_or-take, get_or-drop, length-take, length-take-le}
 use Rattle.page_space.specs.Space.{PageMap}
-use Rattle.sqlrecord.specs.Build.{lent, Fits, total_of}
+use Rattle.sqlrecord.specs.Build.{lent, Fits}
 use Rattle.sqlrecord.specs.Cell.{IsLeafCell, IsInnerCell}
 use Rattle.page_space.specs.declared.fault.Fault.{Fault}
 use Rattle.sqlrecord.specs.Page.{child_of}
 use Rattle.btree_read.specs.Nodes.{LeafNode, InnerNode, HasNode, IsStocked, IsSmall, IsSmallBranch}
 use Rattle.btree_read.proofs.ListLemmas.{each_append, each_left, each_right}
-use Rattle.btree_read.proofs.NodeLemmas.{node_kept, not_fresh}
+use Rattle.btree_read.proofs.NodeLemmas.{node_kept}
 use Rattle.btree.specs.Grow.{SamePages, IsLeafCut, IsInnerCut, LeafWritten, InnerWritten}
 use Rattle.btree.proofs.LeafLemmas.{put_each, used_not_fresh}
 use Rattle.std.specs.Prelude.{slice_index_or}

@@ -1,6 +1,6 @@
 -- An inner page grown: one of its children is exchanged for one or two, and the page is written whole or cut in two.
-use Rattle.std.proofs.Common.{◌≡◌, ◌≢◌, ℕ, zero, suc, List, [], ◌∷◌, ◌++◌, map, ◌⊎◌, inl, inr, refl, sym, ap, ◌∙◌, subst, Option, Some, None, IsSome, Bool, true, false, nat_eq, ⊎_elim, take, drop}
-use Rattle.std.specs.List.{flat_map, AllByRecursion}
+use Rattle.std.proofs.Common.{◌≡◌, ℕ, suc, List, [], ◌∷◌, ◌++◌, map, ◌⊎◌, inl, inr, refl, sym, ap, ◌∙◌, subst, Option, Some, None, IsSome, Bool, true, false, nat_eq, ⊎_elim, take, drop}
+use Rattle.std.specs.List.{flat_map}
 use Rattle.std.specs.Option.{option_to_list}
 use Rattle.std.proofs.lemmas.List.{append-nil as append_nil, take-append-drop}
 use Rattle.std.proofs.lemmas.Bool.{eqb-true, eqb-false}
@@ -8,7 +8,7 @@ use Rattle.page_space.specs.Space.{PageMap}
 use Rattle.btree_read.specs.declared.entry.Entry.{Entry}
 use Rattle.btree_read.specs.declared.entry.Branch.{Branch}
 use Rattle.btree_read.specs.Lists.{Has, Apart, Leads}
-use Rattle.btree_read.specs.Nodes.{Key, Node, LeafNode, InnerNode, HasNode}
+use Rattle.btree_read.specs.Nodes.{Key, Node, InnerNode, HasNode}
 use Rattle.btree_read.specs.Tree.{Tree, page_of, branch_to, kids, pages_in, nodes_of, leaves_of, entries_of, Holds, Chain, Ordered}
 use Rattle.btree_read.specs.Search.{IsUnder}
 use Rattle.btree_read.proofs.Kids.{kid_at, put_first, put_rest, low_at, high_at}

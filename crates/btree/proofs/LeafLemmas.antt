@@ -1,17 +1,17 @@
 -- A leaf grown: its entries in order, in one leaf or two.
-use Rattle.std.proofs.Common.{◌≡◌, ◌≢◌, ℕ, zero, suc, List, [], ◌∷◌, ◌++◌, map, ◌⊎◌, inl, inr, refl, sym, ap, ◌∙◌, subst, Option, Some, None, IsSome, Bool, true, false, if◌then◌else◌}
-use Rattle.std.specs.List.{flat_map, AllByRecursion}
+use Rattle.std.proofs.Common.{◌≡◌, ◌≢◌, ℕ, zero, List, [], ◌∷◌, ◌++◌, ◌⊎◌, inl, inr, refl, sym, ap, ◌∙◌, subst, Option, Some, None, IsSome, Bool, true, false, if◌then◌else◌}
+use Rattle.std.specs.List.{AllByRecursion}
 use Rattle.std.proofs.lemmas.List.{append-nil as append_nil}
 use Rattle.page_space.specs.Space.{PageMap}
 use Rattle.btree_read.specs.declared.entry.Entry.{Entry}
 use Rattle.btree_read.specs.declared.entry.Branch.{Branch}
-use Rattle.btree_read.specs.Lists.{Has, Apart, Leads}
-use Rattle.btree_read.specs.Nodes.{Key, precedes, Node, LeafNode, InnerNode, HasNode}
+use Rattle.btree_read.specs.Lists.{Has, Apart}
+use Rattle.btree_read.specs.Nodes.{Key, precedes, LeafNode, HasNode}
 use Rattle.btree_read.specs.Sorted.{Ascends, put}
-use Rattle.btree_read.specs.Tree.{Tree, LeafAt, nodes_of, entries_of, IsWithin, IsRising, Divides, Chain, Ordered}
+use Rattle.btree_read.specs.Tree.{LeafAt, nodes_of, IsWithin, IsRising, Chain, Ordered}
 use Rattle.btree_read.specs.Search.{IsUnder}
 use Rattle.btree_read.proofs.OrderLemmas.{lt_trans, le_lt, not_both, not_self}
-use Rattle.btree_read.proofs.ListLemmas.{each_append, each_left, each_right, each_map}
+use Rattle.btree_read.proofs.ListLemmas.{each_left, each_right, each_map}
 use Rattle.btree_read.proofs.ChainLemmas.{InBounds}
 use Rattle.btree_read.proofs.NodeLemmas.{not_fresh}
 use Rattle.btree_read.proofs.PageLemmas.{holds_used}

@@ -1,6 +1,10 @@
 pub mod LeafLemmas
 pub mod GrowLemmas
 pub mod CellLemmas
+pub mod SizeLemmas
+pub mod WithLemmas
+pub mod RefusalLemmas
 pub mod StepLemmas
 pub mod RootLemmas
 pub mod LawLemmas
+pub mod AppendLemmas

@@ -1,5 +1,5 @@
 -- Insertion at the root, over plain variables.
-use Rattle.std.proofs.Common.{◌≡◌, ℕ, zero, suc, ◌<◌, List, [], ◌∷◌, ◌++◌, map, ◌⊎◌, inl, inr, refl, sym, ap, ◌∙◌, subst, Option, Some, None, IsSome, Ok, arith}
+use Rattle.std.proofs.Common.{◌≡◌, ℕ, zero, suc, List, [], ◌∷◌, map, ◌⊎◌, inl, inr, refl, sym, ap, ◌∙◌, subst, Option, Some, None, IsSome, Ok, arith}
 use Rattle.std.specs.List.{flat_map}
 use Rattle.std.proofs.lemmas.List.{append-nil as append_nil}
 use Rattle.page_space.specs.Space.{PageMap, IsFresh}
@@ -51,7 +51,7 @@ root_kept old new (suc r) k v nz g owned entries w =
       others = λ n h. x.others n (λ m. h (subst (Has n) w.owns m));
     }
 
-still_fresh : (old mid : PageMap) (owned : List ℕ) (r : ℕ) → ((n : ℕ) → (Has n owned → ⊥) → IsSome (old n) → mid n ≡ old n) → mid r ≡ None → Has r owned ⊎ (old r ≡ None)
+pub still_fresh : (old mid : PageMap) (owned : List ℕ) (r : ℕ) → ((n : ℕ) → (Has n owned → ⊥) → IsSome (old n) → mid n ≡ old n) → mid r ≡ None → Has r owned ⊎ (old r ≡ None)
 still_fresh old mid owned r f e = by (has_or_not r owned)
   where
     at : (Has r owned → ⊥) → (o : Option (List ℕ)) → o ≡ old r → old r ≡ None

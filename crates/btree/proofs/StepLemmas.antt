@@ -1,28 +1,28 @@
 -- One call of insertion, over plain variables.
-use Rattle.std.proofs.Common.{◌≡◌, ℕ, zero, suc, ◌+◌, ◌<◌, ◌≤◌, List, [], ◌∷◌, ◌++◌, map, ◌⊎◌, inl, inr, refl, sym, ap, ◌∙◌, subst, Option, Some, None, IsSome, Bool, true, false, if◌then◌else◌, Result, Ok, Err, IfOk, take, drop, arith, append_assoc}
+use Rattle.std.proofs.Common.{◌≡◌, ℕ, zero, suc, ◌+◌, ◌≤◌, List, [], ◌∷◌, ◌++◌, map, refl, sym, ap, ◌∙◌, subst, Option, Some, None, IsSome, Bool, true, false, if◌then◌else◌, Result, Ok, IfOk, take, drop, arith}
 use Rattle.std.specs.List.{flat_map, AllByRecursion}
-use Rattle.std.proofs.lemmas.List.{append-nil as append_nil}
 use Rattle.page_space.specs.declared.fault.Fault.{Fault}
-use Rattle.page_space.specs.Space.{PageMap, IsFresh}
+use Rattle.page_space.specs.Space.{PageMap}
 use Rattle.sqlrecord.specs.declared.kind.PageKind.TheVariants.{Leaf, Inner}
+use Rattle.sqlrecord.specs.Cell.{IsLeafCell}
 use Rattle.sqlrecord.specs.Page.{PageView}
 use Rattle.btree_read.specs.declared.entry.Entry.{Entry}
 use Rattle.btree_read.specs.declared.entry.Branch.{Branch}
-use Rattle.btree_read.specs.Lists.{Has, Apart, Leads}
-use Rattle.btree_read.specs.Nodes.{Key, precedes, Node, LeafNode, InnerNode, HasNode, IsStocked, IsSmall, IsSmallBranch, entry_of, branch_of}
+use Rattle.btree_read.specs.Lists.{Has}
+use Rattle.btree_read.specs.Nodes.{Key, precedes, LeafNode, InnerNode, IsStocked, IsSmall, IsSmallBranch, entry_of, branch_of}
 use Rattle.btree_read.specs.Sorted.{put}
-use Rattle.btree_read.specs.Tree.{Tree, page_of, branch_to, kids, entries_of, nodes_of, leaves_of, pages_in, Holds, IsWithin, Chain, Ordered, IsTree, IsTreeOf}
+use Rattle.btree_read.specs.Tree.{Tree, page_of, branch_to, kids, entries_of, pages_in, IsWithin, Ordered}
 use Rattle.btree_read.specs.Search.{Sees, IsUnder, route_of, child_at}
 use Rattle.btree_read.proofs.Kids.{kid_at, put_first, put_rest, low_at, high_at}
-use Rattle.btree_read.proofs.OrderLemmas.{not_both, empty_lowest}
-use Rattle.btree_read.proofs.NodeLemmas.{node_is_used, not_fresh}
-use Rattle.btree_read.proofs.PageLemmas.{holds_used, holds_kept}
-use Rattle.btree_read.proofs.ChainLemmas.{Beside, beside, within_way, way}
-use Rattle.btree_read.proofs.SearchLemmas.{if_ok, root_node, sees_leaf, sees_inner, leaf_shown, inner_shown, child_found, way_taken, under_root}
-use Rattle.btree.specs.Grow.{flat_nodes, flat_leaves, IsGrown, SamePages, LeafWritten, InnerWritten, GrowsBelow}
-use Rattle.btree.specs.Written.{IsWritten}
+use Rattle.btree_read.proofs.OrderLemmas.{not_both}
+use Rattle.btree_read.proofs.NodeLemmas.{node_is_used}
+use Rattle.btree_read.proofs.ChainLemmas.{Beside, beside, within_way}
+use Rattle.btree_read.proofs.SearchLemmas.{if_ok, root_node, sees_leaf, sees_inner, leaf_shown, inner_shown, child_found, way_taken}
+use Rattle.btree.specs.Grow.{flat_nodes, IsGrown, LeafWritten, InnerWritten, GrowsBelow}
 use Rattle.btree.proofs.LeafLemmas.{leaf_grown, put_rising}
-use Rattle.btree.proofs.GrowLemmas.{splice, whole, cut, kept, has_or_not, IsSpliced}
+use Rattle.btree.specs.Overfull.{RisesBehind, HasNoTreeFor}
+use Rattle.btree.proofs.WithLemmas.{chain_rises}
+use Rattle.btree.proofs.GrowLemmas.{splice, whole, cut, kept, IsSpliced}
 
 -- ---- a put beside other entries
 
@@ -69,6 +69,17 @@ module _ (old mid : PageMap) (page : ℕ) (view : PageView) (k : Key) (v : List 
       let e : LeafNode view.link (map entry_of view.cells) ≡ InnerNode (page_of d t.first) (map (branch_to d) t.rest) =
       sym (leaf_shown old page view kind) ∙ sees_inner old page view d t lo hi sees u in cc
 
+  pub leaf_refused : (levels : ℕ) (W0 W1 : Type 0) → view.kind ≡ Leaf → (W0 → W1) → (cell : List ℕ) → IsLeafCell cell k v → IsSmall (record { key = k; value = v })
+      → ((value : List ℕ) → IsLeafCell cell k value → IsSmall (record { key = k; value = value }) → IsSome (mid page) → W1 → IsStocked (LeafNode view.link (map entry_of view.cells)) → ⊥)
+      → HasNoTreeFor old page levels k W0
+  leaf_refused levels W0 W1 kind g cell is small h zero t lo hi l u w wh =
+      let e : LeafNode view.link (map entry_of view.cells) ≡ LeafNode t.next t.entries = sym (leaf_shown old page view kind) ∙ sees_leaf old page view t lo hi sees u in
+      let used : IsSome (old page) = node_is_used old page _ (root_node old page view zero t lo hi _ u u.holds.0) in
+      h v is small (subst (λ m. IsSome (m page)) (sym same) used) (g wh) (subst IsStocked (sym e) u.holds.0.stocked)
+  leaf_refused levels W0 W1 kind g cell is small h (suc d) t lo hi l u w wh =
+      let e : LeafNode view.link (map entry_of view.cells) ≡ InnerNode (page_of d t.first) (map (branch_to d) t.rest) =
+      sym (leaf_shown old page view kind) ∙ sees_inner old page view d t lo hi sees u in cc
+
   module _ (low : PageMap) (at child : ℕ) (kind : view.kind ≡ Inner) (route : route_of k (map branch_of view.cells) ≡ at) (leads : child ≡ child_at view.link (map branch_of view.cells) at) where
     down : (d : ℕ) (t : Tree (suc d)) (lo : Key) (hi : Option Key) → IsUnder old page (suc d) t lo hi
         → (a : Key) (b : Option Key) → IsWithin a b k → IsWithin (low_at a t.rest at) (high_at b t.rest at) k
@@ -87,6 +98,28 @@ module _ (old mid : PageMap) (page : ℕ) (view : PageView) (k : Key) (v : List 
     grown : (d : ℕ) (t : Tree (suc d)) (lo : Key) (hi : Option Key) (split : Option Branch) → GrowsBelow mid low child k v (Ok split) → IsUnder old page (suc d) t lo hi
         → IsGrown old low d (kid_at t.first t.rest at) (Holding k) (put k v (entries_of d (kid_at t.first t.rest at))) split
     grown d t lo hi split g u = subst (λ m. GrowsBelow m low child k v (Ok split)) same g d (kid_at t.first t.rest at) _ _ (child_found old page view child d t lo hi at sees kind leads u)
+
+    pub child_refused : (levels less : ℕ) (W0 W1 : Type 0) → levels ≤ less + 1 → (W0 → W1) → HasNoTreeFor mid child less k W1 → HasNoTreeFor old page levels k W0
+    child_refused levels less W0 W1 o g f zero t lo hi l u w wh = inner_is_no_leaf old page view t lo hi sees kind u
+    child_refused levels less W0 W1 o g f (suc d) t lo hi l u w wh =
+        subst (λ m. HasNoTreeFor m child less k W1) same f d (kid_at t.first t.rest at) _ _ (omega arith) (child_found old page view child d t lo hi at sees kind leads u) (down d t lo hi u lo hi w) (g wh)
+
+    pub inner_refused : (levels : ℕ) (W0 W2 : Type 0) (b x : Branch) → (W0 → W2) → x ≡ b → GrowsBelow mid low child k v (Ok (Some b)) → IsSmallBranch x
+        → ((lo : Key) → IsSmallBranch x → IsSome (low page) → W2 → IsStocked (InnerNode view.link (map branch_of view.cells))
+        → RisesBehind lo (take at (map branch_of view.cells) ++ x ∷ drop at (map branch_of view.cells)) → ⊥)
+        → HasNoTreeFor old page levels k W0
+    inner_refused levels W0 W2 b x g is grows small f zero t lo hi l u w wh = inner_is_no_leaf old page view t lo hi sees kind u
+    inner_refused levels W0 W2 b x g is grows small f (suc d) t lo hi l u w wh =
+        let e : InnerNode view.link (map branch_of view.cells) ≡ InnerNode (page_of d t.first) (map (branch_to d) t.rest) =
+        sym (inner_shown old page view kind) ∙ sees_inner old page view d t lo hi sees u in
+        let eb : map branch_of view.cells ≡ map (branch_to d) t.rest = cc in
+        let sp = splice old low page d t lo hi at (Holding k) (put k v (entries_of (suc d) t)) (Some b) (put k v (entries_of d (kid_at t.first t.rest at))) u (down d t lo hi u) (up d t lo hi u) (grown d t lo hi (Some b) grows u) in
+        let was : IsSome (old page) = node_is_used old page _ (root_node old page view (suc d) t lo hi _ u u.holds.0) in
+        let used : IsSome (low page) = rw (sp.nodes.others page (λ y. u.apart.0 (subst (λ m. Has m (pages_in (flat_nodes d t.first t.rest))) (sym u.at) y)) was) was in
+        let rises : RisesBehind lo (map (branch_to d) sp.rest) = chain_rises (Ordered d) (page_of d) lo hi sp.first sp.rest (sp.order lo hi u.order w) in
+        let told : map (branch_to d) sp.rest ≡ take at (map branch_of view.cells) ++ x ∷ drop at (map branch_of view.cells) =
+        sp.told ∙ ap (λ bs. take at bs ++ b ∷ drop at bs) (sym eb) ∙ ap (λ y. take at (map branch_of view.cells) ++ y ∷ drop at (map branch_of view.cells)) (sym is) in
+        f lo small used (g wh) (subst IsStocked (sym e) u.holds.0.stocked) (subst (RisesBehind lo) told rises)
 
     pub grown_kept : GrowsBelow mid low child k v (Ok None) → GrowsBelow old low page k v (Ok None)
     grown_kept g zero t lo hi u = absurd (inner_is_no_leaf old page view t lo hi sees kind u)

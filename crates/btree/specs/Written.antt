@@ -1,11 +1,11 @@
 -- What a change of a whole tree leaves.
-use Rattle.std.specs.Prelude.{◌≡◌, ℕ, ◌⊎◌, List, None, IsSome, Result, IfOk}
+use Rattle.std.specs.Prelude.{◌≡◌, ℕ, ◌⊎◌, List, [], ◌∷◌, ◌++◌, None, IsSome, Result, IfOk}
 use Rattle.page_space.specs.declared.fault.Fault.{Fault}
 use Rattle.page_space.specs.Space.{PageMap}
 use Rattle.btree_read.specs.declared.entry.Entry.{Entry}
 use Rattle.btree_read.specs.Lists.{Has}
 use Rattle.btree_read.specs.Nodes.{Key}
-use Rattle.btree_read.specs.Sorted.{put}
+use Rattle.btree_read.specs.Sorted.{put, Ascends}
 use Rattle.btree_read.specs.Tree.{IsTree}
 
 -- at the root is now a tree of these entries, in pages that the tree owned before or that were not in use; no other page in use has changed
@@ -18,3 +18,17 @@ pub record IsWritten (old new : PageMap) (owned : List ℕ) (entries : List Entr
 -- whatever tree is at the root, the answer is the root of the tree with the key put in
 abbrev pub Inserts : PageMap → PageMap → ℕ → Key → List ℕ → Result ℕ Fault → Type 0
 Inserts old new root k v result = (owned : List ℕ) (entries : List Entry) → IsTree old root owned entries → IfOk result (IsWritten old new owned (put k v entries))
+
+-- the entries with all of these put in, one after another
+abbrev pub put_all : List Entry → List Entry → List Entry
+put_all [] entries = entries
+put_all (e ∷ more) entries = put_all more (put e.key e.value entries)
+
+-- whatever tree is at the root, the answer is the root of the tree with all of these put in
+abbrev pub InsertsAll : PageMap → PageMap → ℕ → List Entry → Result ℕ Fault → Type 0
+InsertsAll old new root more result = (owned : List ℕ) (entries : List Entry) → IsTree old root owned entries → IfOk result (IsWritten old new owned (put_all more entries))
+
+-- where they stand in order behind all that a tree has, they are then behind them
+abbrev pub Appends : PageMap → PageMap → ℕ → List Entry → Result ℕ Fault → Type 0
+Appends old new root more result =
+    (owned : List ℕ) (entries : List Entry) → IsTree old root owned entries → Ascends (entries ++ more) → IfOk result (IsWritten old new owned (entries ++ more))

@@ -1,21 +1,22 @@
 //! An entry put into a leaf.
 
-ghost use Rattle.std.specs.Prelude.{◌≡◌, ◌≤◌, ⊤, ℕ, List, map, length, IsSome, IfOk, IfErr, OnOk};
+ghost use Rattle.std.specs.Prelude.{◌≡◌, ◌≤◌, ℕ, List, map, length, IsSome, IfSome, IfOk, IfErr, OnOk};
 ghost use Rattle.page_space.specs.Space.{ChangeRefused};
 ghost use Rattle.sqlrecord.specs.declared.kind.PageKind.TheVariants.{Leaf};
-ghost use Rattle.sqlrecord.specs.Build.{lent};
-ghost use Rattle.sqlrecord.specs.Page.{AreCells};
-ghost use Rattle.btree_read.specs.Nodes.{LeafNode, entry_of, IsStocked, IsSmall};
+ghost use Rattle.sqlrecord.specs.Build.{lent, Fits};
+ghost use Rattle.sqlrecord.specs.Page.{key_of, AreCells, IsCell};
+ghost use Rattle.btree_read.specs.Nodes.{LeafNode, entry_of, IsStocked, IsSmall, IsSmallBranch};
 ghost use Rattle.sqlrecord.specs.Cell.{IsLeafCell};
 ghost use Rattle.btree_read.specs.Sorted.{put};
 ghost use Rattle.btree.specs.Grow.{LeafWritten};
+ghost use Rattle.btree.specs.Overfull.{size_of};
 
 use crate::cells::{cell_key, cells_with, cut_of, place_of};
 use crate::page::write_page;
 use btree_read::Branch;
 use items::Items;
 use page_space::{Fault, PageSpace};
-use sqlrecord::{PageKind, SlotPage, are_cells, fits};
+use sqlrecord::{MAXIMUM_KEY, PageKind, SlotPage, fits};
 use std::alloc::Global;
 
 /// Writes a leaf of these cells, in two pages where they are too many for one.
@@ -30,8 +31,10 @@ fn write_leaf<S: PageSpace>(
     requires { AreCells Leaf (lent cells.now) }
     ensures written { IsSome (S.pages space.old page) → IsStocked (LeafNode next (map entry_of (lent cells.now)))
         → IfOk result (LeafWritten (S.pages space.old) (S.pages space.new) page next (map entry_of (lent cells.now))) }
+    ensures small { IfOk result (λ split. IfSome split IsSmallBranch) }
     ensures whole { OnOk result (S.is_whole space.old → S.is_whole space.new) }
-    ensures refusal { IfErr result (ChangeRefused (S.at_limit space.new) ⊤ (S.refused space.old) (S.refused space.new)) }
+    ensures refusal { IfErr result (ChangeRefused (S.at_limit space.new)
+        (IsSome (S.pages space.old page) → S.is_whole space.old → IsStocked (LeafNode next (map entry_of (lent cells.now))) → size_of (lent cells.now) ≤ 5094 → ⊥) (S.refused space.old) (S.refused space.new)) }
     ensures rising { S.refused space.old ≤ S.refused space.new }
     ensures follows { S.follows space.old space.new }
 {
@@ -43,7 +46,11 @@ fn write_leaf<S: PageSpace>(
         return Err(Fault::Damaged);
     };
     let (left, right) = cells.split_at(at);
-    let key = Items::from_slice(alloc, cell_key(right[0]))?;
+    let first = cell_key(right[0]);
+    if first.len() > MAXIMUM_KEY {
+        return Err(Fault::Damaged);
+    }
+    let key = Items::from_slice(alloc, first)?;
     let child = space.allocate()?;
     write_page(space, page, PageKind::Leaf, child, left)?;
     write_page(space, child, PageKind::Leaf, next, right)?;
@@ -60,19 +67,22 @@ pub(crate) fn put_in_leaf<'a, S: PageSpace>(
     cell: &'a [u8],
 ) -> Result<Option<Branch>, Fault>
     requires leaf { leaf.now.kind ≡ Leaf }
+    requires fits { Fits leaf.now.cells }
+    requires cell { IsCell Leaf cell.now }
+    requires key { key_of cell.now ≡ key.now }
     ensures written { (value : List ℕ) → IsLeafCell cell.now key.now value → IsSmall (record { key = key.now; value = value })
         → IsSome (S.pages space.old page) → IsStocked (LeafNode leaf.now.link (map entry_of leaf.now.cells))
         → IfOk result (LeafWritten (S.pages space.old) (S.pages space.new) page leaf.now.link (put key.now value (map entry_of leaf.now.cells))) }
+    ensures small { IfOk result (λ split. IfSome split IsSmallBranch) }
     ensures whole { OnOk result (S.is_whole space.old → S.is_whole space.new) }
-    ensures refusal { IfErr result (ChangeRefused (S.at_limit space.new) ⊤ (S.refused space.old) (S.refused space.new)) }
+    ensures refusal { IfErr result (ChangeRefused (S.at_limit space.new)
+        ((value : List ℕ) → IsLeafCell cell.now key.now value → IsSmall (record { key = key.now; value = value })
+        → IsSome (S.pages space.old page) → S.is_whole space.old → IsStocked (LeafNode leaf.now.link (map entry_of leaf.now.cells)) → ⊥) (S.refused space.old) (S.refused space.new)) }
     ensures rising { S.refused space.old ≤ S.refused space.new }
     ensures follows { S.follows space.old space.new }
 {
     let (at, behind) = place_of(leaf, key);
     let cells = cells_with(alloc, leaf, at, behind, cell)?;
-    if !are_cells(PageKind::Leaf, cells.as_slice()) {
-        return Err(Fault::Damaged);
-    }
     let is_last = leaf.link() == 0 && at == leaf.len();
     write_leaf(space, alloc, page, leaf.link(), cells.as_slice(), is_last)
 }

@@ -1,6 +1,7 @@
 //! Insertion into B+trees over pages.
 #![tactic(auto)]
 
+mod append;
 mod cells;
 mod inner;
 mod insertion;
@@ -8,5 +9,6 @@ mod laws;
 mod leaf;
 mod page;
 
+pub use append::insert_all;
 pub use insertion::insert;
 pub use laws::other_trees_stay;

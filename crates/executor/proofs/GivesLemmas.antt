@@ -10,7 +10,7 @@ use Rattle.denote.specs.declared.fault.Fault.{Fault as Raised}
 use Rattle.denote.specs.declared.fault.Stop.{Stop}
 use Rattle.denote.specs.declared.fault.Stop.TheVariants.{Memory, NotBuilt, Fault}
 use Rattle.sqlval.specs.Concatenation.{concatenation as concatenation_of}
-use Rattle.denote.specs.Evaluation.{Env, Evaluation, ◌>>=◌, faults_in, given, joined}
+use Rattle.denote.specs.Evaluation.{Env, Evaluation, ◌>>=◌, faults_in, given, joined, together}
 use Rattle.denote.specs.Outcome.{Outcome}
 use Rattle.denote.specs.Select.{values_of}
 use Rattle.denote.specs.Expression.{ExpressionMeaning, chained, concatenation, calculated}
@@ -31,7 +31,7 @@ Gives-first {A = A} s x f h = record { ok = tt; err = at s x h.err }
   where
     at : (s : Stop) (x : Evaluation A) → IsFirstOf (faults_in x) s → IsFirstOf (faults_in (x >>= f)) s
     at Memory x g = tt
-    at NotBuilt x g = tt
+    at NotBuilt x g = absurd g
     at (Fault fault) (Ok v) g = absurd (cc)
     at (Fault fault) (Err faults) g = g
 
@@ -121,7 +121,7 @@ Gives-joined_err {A = A} s found x rest h = record { ok = tt; err = at s x h.err
   where
     at : (s : Stop) (x : Evaluation A) → IsFirstOf (faults_in x) s → IsFirstOf (faults_in (after found (joined x rest))) s
     at Memory x g = tt
-    at NotBuilt x g = tt
+    at NotBuilt x g = absurd g
     at (Fault fault) (Ok v) g = absurd (cc)
     at (Fault fault) (Err faults) g = first-append faults (faults_in rest) fault g
 
@@ -248,3 +248,17 @@ both-one Unknown True = refl
 pub between-both : (x low high : ExpressionMeaning) (env : Env) (v w u : Value) → x env ≡ Ok v → low env ≡ Ok w → high env ≡ Ok u
     → between x low high env ≡ Ok (truth_and (comparison by.GreaterOrEqual v w) (comparison by.LessOrEqual v u))
 between-both x low high env v w u e f g = rw (e, f, g) (both-one (comparison by.GreaterOrEqual v w) (comparison by.LessOrEqual v u))
+
+-- ---- the exits and the steps of a loop whose values are taken together
+
+pub together-next : {X A : Type 0} (f : X → Evaluation A) (found : List A) (items : List X) (i : ℕ) (item : X) (x : A) → i < length items → item ≡ get_or items i item → f item ≡ Ok x
+    → after found (together (map f (drop i items))) ≡ after (found ++ x ∷ []) (together (map f (drop (i + 1) items)))
+together-next f found items i item x below is value =
+    let e : drop i items ≡ item ∷ drop (suc i) items = drop-cons items i item below ∙ ap (λ x. x ∷ drop (suc i) items) (sym is) in
+    rw (e, value, add-one) (after-step found x (together (map f (drop (suc i) items))))
+
+pub Gives-together_item : {X A : Type 0} (s : Stop) (f : X → Evaluation A) (found : List A) (items : List X) (i : ℕ) (item : X) → i < length items → item ≡ get_or items i item → IsGiven (Err s) (f item)
+    → IsGiven (Err s) (after found (together (map f (drop i items))))
+Gives-together_item s f found items i item below is h =
+    let e : drop i items ≡ item ∷ drop (suc i) items = drop-cons items i item below ∙ ap (λ x. x ∷ drop (suc i) items) (sym is) in
+    rw e (Gives-joined_err s found (f item) (together (map f (drop (suc i) items))) h)

@@ -1,3 +1,6 @@
 pub mod Nodes
 pub mod GivesLemmas
+pub mod PutsLemmas
+pub mod GroupLemmas
+pub mod HalfLemmas
 pub mod SubqueryLemmas

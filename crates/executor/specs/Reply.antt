@@ -1,4 +1,5 @@
--- How replies stand to meanings and listings: a value or the first fault, and a listing as it is. Want of memory may stand in place of either.
+-- How replies stand to meanings and listings: a value or the first fault, and a listing as it is. Want of memory may stand in place of either, and nothing else:
+-- every node is built.
 use Rattle.std.specs.Prelude.{◌≡◌, List, [], ◌∷◌, ◌++◌, Option, Some, None, Result, Ok, IfOk, IfErr}
 use Rattle.sqlval.specs.declared.truth.Truth.{Truth}
 use Rattle.sqlval.specs.declared.value.Value.{Value}
@@ -21,7 +22,7 @@ env_of (lent.Pair' left right p outer) = (left.now ++ right.now) ∷ env_of oute
 -- a stop at a fault names the first
 abbrev pub IsFirstOf : List Raised → Stop → Type 0
 IsFirstOf faults Memory = Unit {0}
-IsFirstOf faults NotBuilt = Unit {0}
+IsFirstOf faults NotBuilt = ⊥
 IsFirstOf faults (Fault fault) = first_only faults ≡ fault ∷ []
 
 -- the value, or the first fault
@@ -46,7 +47,7 @@ outcome_of listed = record { rows = listed.rows; faults = as_list listed.fault }
 -- a fault of a tree ends its list, and stops nothing
 abbrev pub IsNoFault : Stop → Type 0
 IsNoFault Memory = Unit {0}
-IsNoFault NotBuilt = Unit {0}
+IsNoFault NotBuilt = ⊥
 IsNoFault (Fault fault) = ⊥
 
 -- just this listing

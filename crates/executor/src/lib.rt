@@ -2,7 +2,9 @@
 #![tactic(auto)]
 
 mod evaluate;
+mod keys;
 mod listed;
+mod parts;
 mod rows;
 mod subqueries;
 

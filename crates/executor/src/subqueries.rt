@@ -5,6 +5,8 @@ ghost use Rattle.sqlval.specs.Truth.{truth_of};
 ghost use Rattle.sqlval.specs.Value.{is_null};
 ghost use Rattle.denote.specs.Condition.{among, exists, first_column};
 ghost use Rattle.denote.specs.Expression.{scalar};
+ghost use Rattle.executor.specs.Halves.{member_rows, negated_after};
+ghost use Rattle.denote.specs.Evaluation.{Evaluation};
 ghost use Rattle.executor.specs.Reply.{Gives, outcome_of, among_rows};
 
 use crate::listed::Listed;
@@ -75,6 +77,22 @@ pub fn is_listed(x: &Value, listed: &Listed) -> Result<Truth, Stop>
     match listed.fault {
         Some(fault) => Err(Stop::Fault(fault)),
         None => Ok(is_among(x, listed.rows.as_slice())),
+    }
+}
+
+/// Whether a value is, or with `negated` is not, among the rows of a tree.
+pub fn member_of(x: &Value, listed: &Listed, negated: bool) -> Result<Truth, Stop>
+    ensures gives { Gives result (member_rows negated x.now (outcome_of listed.now)) }
+{
+    negated_if(negated, is_listed(x, listed))
+}
+
+fn negated_if(negated: bool, found: Result<Truth, Stop>) -> Result<Truth, Stop>
+    ensures gives { (meant : Evaluation Truth) → Gives found meant → Gives result (negated_after negated meant) }
+{
+    match found {
+        Err(stop) => Err(stop),
+        Ok(truth) => { if negated { Ok(truth.not()) } else { Ok(truth) } }
     }
 }
 

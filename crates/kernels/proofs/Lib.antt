@@ -1,1 +1,12 @@
 pub mod StableOrder
+pub mod Alike
+pub mod Firsts
+pub mod Counting
+pub mod Marking
+pub mod Growing
+pub mod GroupsGrown
+pub mod Singles
+pub mod Totalling
+pub mod Gathering
+pub mod GroupLaw
+pub mod FunctionNodes

@@ -32,6 +32,8 @@ pub struct ListStore {
     commits: u64,
     read: u64,
     prepared: Schema,
+    /// How many pages it was asked to keep in memory; lists need none.
+    frames: usize,
     ghost kept: { committed ≤ marked },
     ghost within: { marked ≤ length changes },
     ghost begun: { list_all (λ r. nat_le r.length committed) readers.items ≡ true },
@@ -93,6 +95,7 @@ impl ListStore {
         ensures read { self.new.read ≡ counted_on self.old.read rows }
         ensures read_on { self.old.read ≤ self.new.read }
         ensures same { versions_of self.new ≡ versions_of self.old }
+        ensures prepared { self.new.prepared ≡ self.old.prepared }
     {
         self.read = self.read.saturating_add(rows as u64);
     }
@@ -133,6 +136,8 @@ impl Store for ListStore {
 
     ghost unwritten = { λ s. 0 };
 
+    ghost room = { λ s. s.frames };
+
     ghost saved = { λ device db. database_of (replayed device.changes) ≡ db };
 
     ghost numbers_rise = { λ s view name table sound found. rises-seen s.commits s.changes s.committed s.marked s.readers.items view name table found };
@@ -151,6 +156,7 @@ impl Store for ListStore {
             prepared: Schema {
                 tables: Items::new(alloc),
             },
+            frames,
         })
     }
 

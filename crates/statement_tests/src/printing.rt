@@ -1,184 +1,141 @@
-//! What is printed of trees made by hand, with ample memory.
+//! Trees are copied and printed, with ample memory.
 
-use ast::{
-    AccessMode, AddOperator, Addend, Column, Comparison, Condition, Conjunction, Direction,
-    Expression, Factor, Literal, Negation, Operand, OrderedQuery, Predicate, Primary, Query,
-    Select, SetOperator, Sign, SortColumn, SortKey, Statement, TableReference, TableSource, Term,
-    Test, TruthTest, TruthValue,
-};
-use items::{Boxed, Items, Text};
-use lexer::{Name, Number};
+use ast::{Condition, Expression, OrderedQuery, Predicate, Primary, Statement};
+use items::{Boxed, Items};
+use lexer::tokens;
+use parser::{parse, parse_condition};
 use printer::{print, print_condition, print_condition_tokens, print_tokens};
-use std::alloc::{AllocError, Global};
-use std::process::Abort;
+use refusals::Refusal;
+use std::alloc::Global;
 use std::test::Fail;
+use tree_copies::{copy_condition, copy_expression, copy_query, copy_statement};
 
-fn text_of(rt: &impl Abort, alloc: Global, codes: &[u8]) -> Result<Text, AllocError> {
-    let codes = Items::from_slice(alloc, codes)?;
-    Ok(Text::from_items(codes).expect(rt, "its characters are printable"))
+const STATEMENTS: [&str; 9] = [
+    "COMMIT WORK",
+    "ROLLBACK",
+    "SET TRANSACTION READ ONLY",
+    "DROP TABLE T_1",
+    "DELETE FROM T_1 WHERE 'z' IS NOT NULL",
+    "INSERT INTO T ( A , B ) VALUES ( - 7 , 'it''s' ) , ( NULL , '' )",
+    "CREATE TABLE T ( A INTEGER NOT NULL , B VARCHAR ( 5 ) , CONSTRAINT C CHECK ( A > 0 ) )",
+    "UPDATE T SET A = A + 1 , B = NULL WHERE A IN ( SELECT MAX ( X ) FROM U GROUP BY Y HAVING COUNT ( * ) > 1 )",
+    "EXPLAIN SELECT * FROM T EXCEPT ALL SELECT DISTINCT U . A AS B FROM U LEFT OUTER JOIN V ON 1 = 1 ORDER BY 1 DESC",
+];
+
+const CONDITIONS: [&str; 3] = [
+    "NOT A <> - 7 || 'it''s'",
+    "A NOT BETWEEN 1 AND 2 OR ( B IN ( + 3 ) ) IS NOT UNKNOWN",
+    "EXISTS ( SELECT * FROM T ) AND A LIKE '%_'",
+];
+
+/// The printed text of a copy of the statement that a text is.
+fn statement_again(alloc: Global, text: &[u8]) -> Result<Items<u8>, Refusal> {
+    let all = tokens(alloc, text)?;
+    let statement = parse(alloc, &all)?;
+    let copied = copy_statement(&statement, alloc)?;
+    Ok(print(alloc, &copied)?)
 }
 
-fn name_of(rt: &impl Abort, alloc: Global, codes: &[u8]) -> Result<Name, AllocError> {
-    let text = text_of(rt, alloc, codes)?;
-    Ok(Name::from_text(text).expect(rt, "it is a name"))
-}
-
-fn column_named(rt: &impl Abort, alloc: Global, codes: &[u8]) -> Result<Expression, AllocError> {
-    let name = name_of(rt, alloc, codes)?;
-    Ok(expression_of(alloc, None, Primary::Column(Column { table: None, name })))
-}
-
-fn number_of(rt: &impl Abort, value: u64) -> Number {
-    Number::from_value(value).expect(rt, "it is within the limit")
-}
-
-fn expression_of(alloc: Global, sign: Option<Sign>, primary: Primary) -> Expression {
-    Expression {
-        first: term_of(alloc, sign, primary),
-        others: Items::new(alloc),
-    }
-}
-
-fn term_of(alloc: Global, sign: Option<Sign>, primary: Primary) -> Term {
-    Term {
-        first: Factor { sign, primary },
-        others: Items::new(alloc),
-    }
-}
-
-fn test_of(is_negated: bool, predicate: Predicate, truth: Option<TruthTest>) -> Negation {
-    Negation {
-        is_negated,
-        test: Test { predicate, truth },
-    }
-}
-
-fn condition_of(alloc: Global, negation: Negation) -> Condition {
-    Condition {
-        first: Conjunction {
-            first: negation,
-            others: Items::new(alloc),
-        },
-        others: Items::new(alloc),
-    }
-}
-
-fn list_of<T: Drop>(alloc: Global, item: T) -> Result<Items<T>, AllocError> {
-    let mut items = Items::new(alloc);
-    items.push(item)?;
-    Ok(items)
-}
-
-/// SELECT * FROM the table.
-fn select_all_from(rt: &impl Abort, alloc: Global, table: &[u8]) -> Result<Select, AllocError> {
-    let table = TableSource::Table(name_of(rt, alloc, table)?, None);
-    Ok(Select {
-        quantifier: None,
-        items: None,
-        from: list_of(
-            alloc,
-            TableReference {
-                first: table,
-                joins: Items::new(alloc),
-            },
-        )?,
-        filter: None,
-        groups: Items::new(alloc),
-        having: None,
-    })
-}
-
-fn addend_of(alloc: Global, select: Select) -> Result<Addend, AllocError> {
-    Ok(Addend {
-        first: Operand::Select(Boxed::new(alloc, select)?),
-        others: Items::new(alloc),
-    })
+/// Of a condition.
+fn condition_again(alloc: Global, text: &[u8]) -> Result<Items<u8>, Refusal> {
+    let all = tokens(alloc, text)?;
+    let condition = parse_condition(alloc, &all)?;
+    let copied = copy_condition(&condition, alloc)?;
+    Ok(print_condition(alloc, &copied)?)
 }
 
 #[test]
-fn statements_without_trees(rt: HostRuntime) -> Result<(), Fail> {
-    let commit = print(rt.alloc(), &Statement::Commit(true))?;
-    assert_eq!(rt; commit.as_slice(), b"COMMIT WORK".as_slice());
-    let rollback = print(rt.alloc(), &Statement::Rollback(false))?;
-    assert_eq!(rt; rollback.as_slice(), b"ROLLBACK".as_slice());
-    let set = print(rt.alloc(), &Statement::SetTransaction(AccessMode::ReadOnly))?;
-    assert_eq!(rt; set.as_slice(), b"SET TRANSACTION READ ONLY".as_slice());
-    let drop_table = Statement::DropTable(name_of(&rt, rt.alloc(), b"T_1")?);
+fn statements_are_copied_and_printed(rt: HostRuntime) -> Result<(), Fail> {
+    for text in STATEMENTS {
+        let again = statement_again(rt.alloc(), text.as_bytes())?;
+        assert_eq!(rt; again.as_slice(), text.as_bytes());
+    }
+    Ok(())
+}
+
+#[test]
+fn conditions_are_copied_and_printed(rt: HostRuntime) -> Result<(), Fail> {
+    for text in CONDITIONS {
+        let again = condition_again(rt.alloc(), text.as_bytes())?;
+        assert_eq!(rt; again.as_slice(), text.as_bytes());
+    }
+    Ok(())
+}
+
+/// How many tokens a statement is printed as.
+fn tokens_of_statement(alloc: Global, text: &[u8]) -> Result<usize, Refusal> {
+    let all = tokens(alloc, text)?;
+    let statement = parse(alloc, &all)?;
+    Ok(print_tokens(alloc, &statement)?.len())
+}
+
+/// And a condition.
+fn tokens_of_condition(alloc: Global, text: &[u8]) -> Result<usize, Refusal> {
+    let all = tokens(alloc, text)?;
+    let condition = parse_condition(alloc, &all)?;
+    Ok(print_condition_tokens(alloc, &condition)?.len())
+}
+
+#[test]
+fn tokens_are_counted(rt: HostRuntime) -> Result<(), Fail> {
+    assert_eq!(rt; tokens_of_statement(rt.alloc(), b"DROP TABLE T_1;")?, 3);
     assert_eq!(rt;
-        print(rt.alloc(), &drop_table)?.as_slice(),
-        b"DROP TABLE T_1".as_slice()
-    );
-    assert_eq!(rt; print_tokens(rt.alloc(), &drop_table)?.len(), 3);
-    Ok(())
-}
-
-#[test]
-fn strings_signs_and_operators(rt: HostRuntime) -> Result<(), Fail> {
-    let alloc = rt.alloc();
-    let mut sum = expression_of(alloc, Some(Sign::Minus), Primary::Number(number_of(&rt, 7)));
-    let string = text_of(&rt, alloc, b"it's")?;
-    sum.others.push((
-        AddOperator::Concatenate,
-        term_of(alloc, None, Primary::Text(string)),
-    ))?;
-    let predicate = Predicate::Compare(column_named(&rt, alloc, b"A")?, Comparison::NotEqual, sum);
-    let condition = condition_of(alloc, test_of(true, predicate, None));
-    let printed = print_condition(alloc, &condition)?;
-    assert_eq!(rt; printed.as_slice(), b"NOT A <> - 7 || 'it''s'".as_slice());
-    assert_eq!(rt; print_condition_tokens(alloc, &condition)?.len(), 7);
-    Ok(())
-}
-
-#[test]
-fn between_in_and_truth_tests(rt: HostRuntime) -> Result<(), Fail> {
-    let alloc = rt.alloc();
-    let low = expression_of(alloc, None, Primary::Number(number_of(&rt, 1)));
-    let high = expression_of(alloc, None, Primary::Number(number_of(&rt, 2)));
-    let between = Predicate::Between(column_named(&rt, alloc, b"A")?, true, low, high);
-    let literals = list_of(alloc, Literal::Number(Some(Sign::Plus), number_of(&rt, 3)))?;
-    let inside = Predicate::InList(column_named(&rt, alloc, b"B")?, false, literals);
-    let mut either = condition_of(alloc, test_of(false, between, None));
-    let nested = condition_of(alloc, test_of(false, inside, None));
-    let unknown = TruthTest {
-        is_negated: true,
-        value: TruthValue::Unknown,
-    };
-    let tested = test_of(
-        false,
-        Predicate::Nested(Boxed::new(alloc, nested)?),
-        Some(unknown),
-    );
-    either.others.push(Conjunction {
-        first: tested,
-        others: Items::new(alloc),
-    })?;
-    let expected = b"A NOT BETWEEN 1 AND 2 OR ( B IN ( + 3 ) ) IS NOT UNKNOWN";
-    assert_eq!(rt;
-        print_condition(alloc, &either)?.as_slice(),
-        expected.as_slice()
+        tokens_of_condition(rt.alloc(), b"NOT A <> -7 || 'it''s'")?,
+        7
     );
     Ok(())
 }
 
-#[test]
-fn queries_with_set_operators_and_order(rt: HostRuntime) -> Result<(), Fail> {
-    let alloc = rt.alloc();
-    let mut query = Query {
-        first: addend_of(alloc, select_all_from(&rt, alloc, b"T")?)?,
-        others: Items::new(alloc),
-    };
-    let second = addend_of(alloc, select_all_from(&rt, alloc, b"U")?)?;
-    query.others.push((SetOperator::ExceptAll, second))?;
-    let key = SortKey {
-        column: SortColumn::Position(number_of(&rt, 1)),
-        direction: Some(Direction::Descending),
+/// The query of a statement, copied and printed behind EXPLAIN.
+fn query_again(alloc: Global, statement: &Statement) -> Result<Items<u8>, Refusal> {
+    let Statement::Query(asked) = statement else {
+        return Err(Refusal::NotSupported);
     };
     let ordered = OrderedQuery {
-        query,
-        order: list_of(alloc, key)?,
+        query: copy_query(&asked.get().query, alloc)?,
+        order: Items::new(alloc),
     };
-    let statement = Statement::Explain(Boxed::new(alloc, ordered)?);
-    let expected = b"EXPLAIN SELECT * FROM T EXCEPT ALL SELECT * FROM U ORDER BY 1 DESC";
-    assert_eq!(rt; print(alloc, &statement)?.as_slice(), expected.as_slice());
+    let explain = Statement::Explain(Boxed::new(alloc, ordered)?);
+    Ok(print(alloc, &explain)?)
+}
+
+#[test]
+fn queries_are_copied(rt: HostRuntime) -> Result<(), Fail> {
+    let alloc = rt.alloc();
+    let all = tokens(alloc, b"SELECT * FROM T WHERE 'it''s' IS NOT NULL;")?;
+    let statement = parse(alloc, &all)?;
+    let again = query_again(alloc, &statement)?;
+    let expected = b"EXPLAIN SELECT * FROM T WHERE 'it''s' IS NOT NULL";
+    assert_eq!(rt; again.as_slice(), expected.as_slice());
+    Ok(())
+}
+
+/// What is asked to be NULL.
+fn operand(condition: &Condition) -> Option<&Expression> {
+    match &condition.first.first.test.predicate {
+        Predicate::IsNull(operand, _) => Some(operand),
+        _ => None,
+    }
+}
+
+fn is_string(expression: &Expression, string: &[u8]) -> bool {
+    match &expression.first.first.primary {
+        Primary::Text(text) => text.as_slice() == string,
+        _ => false,
+    }
+}
+
+fn copied_string(alloc: Global, condition: &[u8], string: &[u8]) -> Result<bool, Refusal> {
+    let all = tokens(alloc, condition)?;
+    let condition = parse_condition(alloc, &all)?;
+    match operand(&condition) {
+        Some(operand) => Ok(is_string(&copy_expression(operand, alloc)?, string)),
+        None => Ok(false),
+    }
+}
+
+#[test]
+fn expressions_are_copied(rt: HostRuntime) -> Result<(), Fail> {
+    assert!(rt; copied_string(rt.alloc(), b"'x' IS NULL", b"x")?);
     Ok(())
 }

@@ -26,13 +26,13 @@ impl<'a, S: Store> Reading for Seen<'a, S> {
     ghost shows = { λ s. shown_by (S.shows s.store.now) s.view (S.refused s.store.now) (S.read s.store.now) };
 
     ghost follows = { λ a b. Reads (S.is_sound a.store.now) (S.is_sound b.store.now) (S.shows a.store.now) (S.shows b.store.now) (S.refused a.store.now) (S.refused b.store.now) (S.read a.store.now) (S.read b.store.now)
-        × (b.store.ghost_name ≡ a.store.ghost_name) × (b.view ≡ a.view) };
+        × (b.store.ghost_name ≡ a.store.ghost_name) × (b.view ≡ a.view) × (S.prepared b.store.now ≡ S.prepared a.store.now) };
 
     ghost numbers_rise = { λ s name table sound found. S.numbers_rise s.store.now s.view name table sound found };
 
-    ghost follows_refl = { λ s. (reads_itself _ _ _ _, refl, refl) };
+    ghost follows_refl = { λ s. (reads_itself _ _ _ _, refl, refl, refl) };
 
-    ghost follows_trans = { λ a b c h g. (reads_on _ _ _ _ _ _ _ _ _ _ _ _ h.0 g.0, g.1 ∙ h.1, g.2 ∙ h.2) };
+    ghost follows_trans = { λ a b c h g. (reads_on _ _ _ _ _ _ _ _ _ _ _ _ h.0 g.0, g.1 ∙ h.1, g.2 ∙ h.2, g.3 ∙ h.3) };
 
     ghost follows_keeps = { λ a b h. reads_keeps _ _ _ _ _ _ _ _ _ _ h.0 h.2 };
 

@@ -56,6 +56,9 @@ pub trait Store: Drop {
     /// How much of the newest version is not on the device yet.
     ghost unwritten: { Self → ℕ };
 
+    /// For how many pages it has room in memory.
+    ghost room: { Self → ℕ };
+
     /// That a device gives back what was written, and that this database was saved on it.
     ghost saved: { Self.Device → Database → Type 0 };
 
@@ -66,6 +69,7 @@ pub trait Store: Drop {
         frames: usize,
     ) -> Result<Self, Returned<Self::Device>>
         requires { (16 ≤ frames) × (frames ≤ 4096) }
+        ensures room { IfOk result (λ store. room store ≡ frames) }
         ensures opened { IfOk result (λ store. (db : Database) → saved device db → is_sound store × IsOpened db (shows store)) }
         ensures left { IfErr result (λ back. (db : Database) → saved device db → saved back.value db) }
         ensures refused { IfErr result (λ back. MayFail ((db : Database) × saved device db) (calls_refused device) (calls_refused back.value) Never back.error) };
@@ -83,6 +87,7 @@ pub trait Store: Drop {
         ensures left { IfOk result (λ left. left ≡ unwritten self.new) }
         ensures less { OnOk result (0 < unwritten self.old → unwritten self.new < unwritten self.old) }
         ensures shows { shows self.new ≡ shows self.old }
+        ensures prepared { prepared self.new ≡ prepared self.old }
         ensures sound { is_sound self.old → is_sound self.new }
         ensures refused { IfErr result (MayFail ⊤ (refused self.old) (refused self.new) Never) }
         ensures counts { refused self.old ≤ refused self.new };
@@ -99,6 +104,7 @@ pub trait Store: Drop {
     fn begin(&mut self, reader: u64) -> Result<(), StoreError>
         ensures shows { OnOk result (shows self.new ≡ begun (shows self.old) reader) }
         ensures same { OnErr result (shows self.new ≡ shows self.old) }
+        ensures prepared { prepared self.new ≡ prepared self.old }
         ensures sound { is_sound self.old → is_sound self.new }
         ensures refused { IfErr result (MayFail (is_sound self.old) (refused self.old) (refused self.new) Never) }
         ensures counts { refused self.old ≤ refused self.new };
@@ -106,6 +112,7 @@ pub trait Store: Drop {
     /// The reader ends, if it has begun. Takes no memory.
     fn end(&mut self, reader: u64)
         ensures shows { shows self.new ≡ ended (shows self.old) reader }
+        ensures prepared { prepared self.new ≡ prepared self.old }
         ensures sound { is_sound self.old → is_sound self.new }
         ensures counts { refused self.old ≤ refused self.new };
 
@@ -113,6 +120,7 @@ pub trait Store: Drop {
     fn mark(&mut self) -> Result<(), StoreError>
         ensures shows { OnOk result (shows self.new ≡ marked_now (shows self.old)) }
         ensures same { OnErr result (SameButMark (shows self.old) (shows self.new)) }
+        ensures prepared { prepared self.new ≡ prepared self.old }
         ensures sound { is_sound self.old → is_sound self.new }
         ensures refused { IfErr result (MayFail (is_sound self.old) (refused self.old) (refused self.new) Never) }
         ensures counts { refused self.old ≤ refused self.new };
@@ -209,6 +217,7 @@ pub trait Store: Drop {
     fn scan(&mut self, alloc: Global, view: View, name: &Text) -> Result<Numbered, StoreError>
         ensures rows { is_sound self.old → IfOk result (λ found. AreEntries found (entries_of (get (seen_by (shows self.old) view) name.now))) }
         ensures shows { shows self.new ≡ shows self.old }
+        ensures prepared { prepared self.new ≡ prepared self.old }
         ensures sound { is_sound self.old → is_sound self.new }
         ensures read { IfOk result (λ found. read self.new ≡ counted_on (read self.old) (length found.rows)) }
         ensures read_on { read self.old ≤ read self.new }
@@ -225,6 +234,7 @@ pub trait Store: Drop {
     ) -> Result<Option<NumberedRow>, StoreError>
         ensures row { is_sound self.old → IfOk result (λ found. IsEntry found (entry_after after (entries_of (get (seen_by (shows self.old) view) name.now)))) }
         ensures shows { shows self.new ≡ shows self.old }
+        ensures prepared { prepared self.new ≡ prepared self.old }
         ensures sound { is_sound self.old → is_sound self.new }
         ensures read { IfOk result (λ found. read self.new ≡ counted_on (read self.old) (count_of found)) }
         ensures read_on { read self.old ≤ read self.new }
@@ -242,6 +252,7 @@ pub trait Store: Drop {
     ) -> Result<Numbered, StoreError>
         ensures rows { is_sound self.old → IfOk result (λ found. AreEntries found (sought (get (seen_by (shows self.old) view) name.now) index key.now)) }
         ensures shows { shows self.new ≡ shows self.old }
+        ensures prepared { prepared self.new ≡ prepared self.old }
         ensures sound { is_sound self.old → is_sound self.new }
         ensures read { IfOk result (λ found. read self.new ≡ counted_on (read self.old) (length found.rows)) }
         ensures read_on { read self.old ≤ read self.new }
@@ -260,6 +271,7 @@ pub trait Store: Drop {
     ) -> Result<Numbered, StoreError>
         ensures rows { is_sound self.old → IfOk result (λ found. AreEntries found (ranged (get (seen_by (shows self.old) view) name.now) index low.now high.now)) }
         ensures shows { shows self.new ≡ shows self.old }
+        ensures prepared { prepared self.new ≡ prepared self.old }
         ensures sound { is_sound self.old → is_sound self.new }
         ensures read { IfOk result (λ found. read self.new ≡ counted_on (read self.old) (length found.rows)) }
         ensures read_on { read self.old ≤ read self.new }
@@ -277,6 +289,7 @@ pub trait Store: Drop {
     ) -> Result<Option<NumberedRow>, StoreError>
         ensures row { is_sound self.old → IfOk result (λ found. IsEntry found (next_entry (get (seen_by (shows self.old) view) name.now) index (option_map (λ p. position_of p.now) after.entry))) }
         ensures shows { shows self.new ≡ shows self.old }
+        ensures prepared { prepared self.new ≡ prepared self.old }
         ensures sound { is_sound self.old → is_sound self.new }
         ensures read { IfOk result (λ found. read self.new ≡ counted_on (read self.old) (count_of found)) }
         ensures read_on { read self.old ≤ read self.new }

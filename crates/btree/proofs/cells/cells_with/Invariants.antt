@@ -1,4 +1,4 @@
-use Rattle.std.proofs.Common.{◌≡◌, ◌<◌, ◌≤◌, ◌∷◌, ◌++◌, take, drop, length}
+use Rattle.std.proofs.Common.{◌≡◌, ◌∷◌, ◌++◌, take, drop}
 use Rattle.sqlrecord.specs.Build.{lent}
 use Rattle.btree.proofs.cells.cells_with.Given as goal
 

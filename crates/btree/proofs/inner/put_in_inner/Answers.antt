@@ -2,10 +2,28 @@ use Rattle.std.proofs.Common.{◌≡◌, ◌∙◌, sym, ap, map}
 use Rattle.sqlrecord.specs.Build.{lent}
 use Rattle.btree_read.specs.Nodes.{branch_of}
 use Rattle.btree.proofs.CellLemmas.{stocked_branch, branches_with, put_in_inner_written}
+use Rattle.std.proofs.Common.{subst, true, IsSome}
+use Rattle.sqlrecord.specs.declared.kind.PageKind.TheVariants.{Inner}
+use Rattle.sqlrecord.specs.Page.{AreCells}
+use Rattle.btree.proofs.RefusalLemmas.{change_harm_on, inner_are, put_inner_refused}
 use Rattle.btree.proofs.inner.put_in_inner.Goals as goal
 
 pub returns-clause-written : goal.returns-clause-written
 returns-clause-written g c =
     λ small used stocked.
-    put_in_inner_written _ _ _ _ _ _ _ _ c.link.ensures (sym (ap (map branch_of) (ap lent c.as_slice-2.ensures.value ∙ c.in_ok-cells.ensures) ∙ branches_with c.args.at c.args.cell.now c.args.node.now.cells))
+    put_in_inner_written _ _ _ _ _ _ _ _ c.link.ensures (sym (ap (map branch_of) (ap lent c.as_slice-2.ensures.value ∙ c.in_ok-cells.ensures.with) ∙ branches_with c.args.at c.args.cell.now c.args.node.now.cells))
     (stocked_branch c.args.node.now.link c.args.at _ _ small stocked) (c.write_inner.ensures.written used)
+
+pub returns-then-not-are_cells-clause-refusal : goal.returns-then-not-are_cells-clause-refusal
+returns-then-not-are_cells-clause-refusal g c =
+    λ lo small used whole stocked rises.
+    let cells : AreCells Inner c.args.node.now.cells = subst (λ k. AreCells k c.args.node.now.cells) c.requires.inner c.in_ok-cells.ensures.cells in
+    let yes : c.are_cells.result ≡ true =
+    c.are_cells.ensures.1 (inner_are c.args.node.now.cells _ c.args.at c.args.cell.now lo (ap lent c.as_slice.ensures.value ∙ c.in_ok-cells.ensures.with) c.requires.place cells c.requires.cell rises) in
+    cc (yes, c.if-not-are_cells.true)
+
+pub returns-clause-refusal : goal.returns-clause-refusal
+returns-clause-refusal g c =
+    change_harm_on c.write_inner.result (g.S.PageSpace.at_limit c.write_inner.new.space) _ _ (g.S.PageReader.refused c.args.space.now) (g.S.PageReader.refused c.write_inner.new.space)
+    (put_inner_refused (IsSome (g.S.PageReader.pages c.args.space.now c.args.page)) (g.S.PageReader.is_whole c.args.space.now) c.args.node.now.cells _ c.args.at c.args.cell.now c.args.node.now.link (ap lent c.as_slice-2.ensures.value ∙ c.in_ok-cells.ensures.with) c.requires.fits c.requires.cell)
+    c.write_inner.ensures.refusal

@@ -1,4 +1,4 @@
-use Rattle.std.proofs.Common.{◌≡◌, sym, ◌∙◌, ap, rules}
+use Rattle.std.proofs.Common.{◌∙◌, rules}
 use Rattle.std.proofs.lemmas.Fn.{always_returns_same}
 use Rattle.kernels.proofs.StableOrder.{less_by, keys_rank, is-sorted}
 use Rattle.kernels.proofs.sorting.sorted_rows.Goals as goal

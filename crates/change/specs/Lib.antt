@@ -1,0 +1,4 @@
+pub mod Plain
+pub mod Changed
+pub mod Stores
+pub mod Indexes

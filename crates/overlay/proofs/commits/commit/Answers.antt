@@ -1,0 +1,9 @@
+use Rattle.std.proofs.Common.{◌≡◌, OnOk, subst}
+use Rattle.pool.specs.Pages.{PageMap, over, known}
+use Rattle.pool.specs.Versions.{versions_of}
+use Rattle.overlay.proofs.commits.commit.Goals as goal
+
+pub returns-clause-written : goal.returns-clause-written
+returns-clause-written g c =
+    subst (λ (p : PageMap). OnOk c.hand_over.result ((versions_of c.hand_over.new.pool).pages (versions_of c.hand_over.new.pool).last
+    ≡ known g.D.Disk.is_honest (over p ((versions_of c.args.pool.now).pages (versions_of c.args.pool.now).last)))) c.in_ok-mark.ensures.settled c.hand_over.ensures.written

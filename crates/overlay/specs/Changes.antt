@@ -1,0 +1,15 @@
+-- What a transaction's changes show.
+use Rattle.pool.specs.Pages.{PageMap, over, pages_in}
+use Rattle.overlay.specs.declared.changes.Changes.{Changes}
+
+-- the pages written since the mark
+abbrev pub fresh_of : Changes → PageMap
+fresh_of c = pages_in c.fresh
+
+-- the pages written before the mark
+abbrev pub settled_of : Changes → PageMap
+settled_of c = pages_in c.settled
+
+-- the pages written at all: the newer over the older
+abbrev pub private_of : Changes → PageMap
+private_of c = over (fresh_of c) (settled_of c)

@@ -1,0 +1,27 @@
+-- What reading keeps.
+use Rattle.std.specs.Prelude.{◌≡◌, ℕ, ◌≤◌, refl}
+use Rattle.std.proofs.Common.{◌∙◌, arith}
+use Rattle.pool.specs.Versions.{Versions}
+use Rattle.overlay.specs.declared.changes.Changes.{Changes}
+use Rattle.overlay.specs.Changes.{settled_of}
+
+-- the pool shows what it showed, and the count of refused calls does not fall
+pub record IsRead (old new : Versions) (refused_old refused_new : ℕ) : Type 0 where
+  pub versions : new ≡ old
+  pub rising : refused_old ≤ refused_new
+
+pub read_none : (v : Versions) (n : ℕ) → IsRead v v n n
+read_none v n = record { versions = refl; rising = omega arith }
+
+pub read_on : (u v w : Versions) (k m n : ℕ) → IsRead u v k m → IsRead v w m n → IsRead u w k n
+read_on u v w k m n h g = let x = h.rising in let y = g.rising in record { versions = g.versions ∙ h.versions; rising = omega arith }
+
+-- the pages that a transaction wrote before the mark stay
+pub record IsAfterMark (old new : Changes) : Type 0 where
+  pub settled : settled_of new ≡ settled_of old
+
+pub mark_none : (c : Changes) → IsAfterMark c c
+mark_none c = record { settled = refl }
+
+pub mark_on : (a b c : Changes) → IsAfterMark a b → IsAfterMark b c → IsAfterMark a c
+mark_on a b c h g = record { settled = g.settled ∙ h.settled }

@@ -1,0 +1,6 @@
+pub mod Layers
+pub mod Changes
+pub mod InUse
+pub mod Bounded
+pub mod Whole
+pub mod Follows

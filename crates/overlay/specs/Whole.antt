@@ -1,0 +1,47 @@
+-- Files whose list of free pages is one.
+use Rattle.std.specs.Prelude.{◌≡◌, ◌≢◌, ℕ, ◌<◌, ◌≤◌, List, [], ◌∷◌, Some, None, ⊤, ◌⊎◌, slice_index}
+use Rattle.pagefile.specs.Number.{number_at}
+use Rattle.pagefile.specs.declared.header.FileHeader.{FileHeader}
+use Rattle.pagefile.specs.Header.{IsHeader, IsInBounds}
+use Rattle.pagefile.specs.Free.{IsFree}
+use Rattle.pool.specs.Pages.{PageMap}
+
+-- a number is among these
+abbrev pub IsIn : ℕ → List ℕ → Type 0
+IsIn n [] = ⊥
+IsIn n (x ∷ xs) = (n ≡ x) ⊎ IsIn n xs
+
+-- no number stands twice
+abbrev pub AreApart : List ℕ → Type 0
+AreApart [] = ⊤
+AreApart (x ∷ xs) = (IsIn x xs → ⊥) × AreApart xs
+
+-- a free page lies here, with the next one that it names
+pub record FreeAt (pages : PageMap) (page : ℕ) : Type 0 where
+  pub next : ℕ
+  pub bytes : List ℕ
+  pub there : pages page ≡ Some bytes
+  pub free : IsFree bytes next
+
+-- the free pages from this one on; 0 stands for none
+abbrev pub IsFreeList : PageMap → ℕ → List ℕ → Type 0
+IsFreeList pages first [] = first ≡ 0
+IsFreeList pages first (p ∷ ps) = (first ≡ p) × (0 < p) × ((link : FreeAt pages p) × IsFreeList pages link.next ps)
+
+-- page 0 is a header, the free pages are a list in which none stands twice, and nothing lies behind the page count
+pub record IsWhole (pages : PageMap) : Type 0 where
+  pub first : List ℕ
+  pub there : pages 0 ≡ Some first
+  pub header : FileHeader
+  pub says : IsHeader first header
+  pub bounds : IsInBounds header
+  pub free : List ℕ
+  pub listed : IsFreeList pages header.first_free free
+  pub apart : AreApart free
+  pub within : (n : ℕ) → IsIn n free → n < header.page_count
+  pub ends : (n : ℕ) → header.page_count ≤ n → pages n ≡ None
+
+-- a page that is not free, and lies below the page count or is there
+pub record IsWritable (pages : PageMap) (page : ℕ) : Type 0 where
+  pub kind : (bytes : List ℕ) → pages page ≡ Some bytes → slice_index bytes 0 ≢ 3
+  pub place : (first : List ℕ) → pages 0 ≡ Some first → pages page ≡ None → page < number_at first 8

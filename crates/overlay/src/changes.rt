@@ -1,0 +1,170 @@
+ghost use Rattle.std.specs.Prelude.{◌≡◌, ◌≤◌, ◌<◌, ◌+◌, ◌-◌, ◌^◌, ℕ, None, IsSome, false, OnOk, OnErr, IfOk, IfErr};
+ghost use Rattle.std.specs.Option.{is_some, option_copied};
+ghost use Rattle.pool.specs.Pages.{over, only, known, pages_in};
+ghost use Rattle.pool.specs.Refused.{IsRefused};
+ghost use Rattle.pool.specs.Versions.{versions_of, device_of};
+ghost use Rattle.overlay.specs.Layers.{size_of, AreListed, IsNotKept};
+
+use crate::PRIVATE_PAGES;
+use crate::layers::{list_number, settle_all};
+use disk::Disk;
+use items::Items;
+use page_space::Fault;
+use pagefile::Page;
+use pool::{PageSet, Pool, PoolError};
+use std::alloc::{AllocError, Global};
+
+/// The pages that a transaction has written, in two layers: those settled before the mark, and over
+/// them those fresh since. There are 1,024 at most; page 0 counts as any other.
+#[derive(Drop)]
+pub struct Changes {
+    alloc: Global,
+    settled: PageSet,
+    settled_count: usize,
+    fresh: PageSet,
+    /// The numbers of the fresh pages; one too many does no harm.
+    fresh_numbers: Items<u32>,
+    private_count: usize,
+    ghost listed: { AreListed (pages_in fresh) fresh_numbers },
+    ghost settled_counted: { settled_count ≡ size_of (pages_in settled) },
+    ghost private_counted: { private_count ≡ size_of (over (pages_in fresh) (pages_in settled)) },
+    ghost few: { private_count ≤ 1024 },
+}
+
+impl Changes {
+    ghost use Rattle.overlay.specs.Changes.{fresh_of, settled_of, private_of};
+
+    /// No page written. Takes no memory until the first.
+    pub fn new(alloc: Global) -> Changes
+        ensures fresh { fresh_of result ≡ (λ n. None) }
+        ensures settled { settled_of result ≡ (λ n. None) }
+    {
+        Changes {
+            alloc,
+            settled: PageSet::new(alloc),
+            settled_count: 0,
+            fresh: PageSet::new(alloc),
+            fresh_numbers: Items::new(alloc),
+            private_count: 0,
+        }
+    }
+
+    /// How many pages were written: 1,024 at most.
+    pub fn len(&self) -> usize
+        ensures size { result ≡ size_of (private_of self.now) }
+        ensures most { result ≤ 1024 }
+    {
+        self.private_count
+    }
+
+    /// The page of this number as it was written last; `None` where it was not written.
+    pub fn get(&self, number: u32) -> Option<&Page>
+        ensures { option_copied result ≡ private_of self.now number }
+    {
+        match self.fresh.get(number) {
+            Some(page) => Some(page),
+            None => self.settled.get(number),
+        }
+    }
+
+    /// Writes a page that was written before. Refuses for memory alone.
+    fn put_again(&mut self, number: u32, page: &Page) -> Result<(), AllocError>
+        requires { IsSome (private_of self.old number) }
+        ensures put { OnOk result (private_of self.new ≡ over (only number page.now) (private_of self.old)) }
+        ensures settled { settled_of self.new ≡ settled_of self.old }
+        ensures left { OnErr result (private_of self.new ≡ private_of self.old) }
+    {
+        list_number(&mut self.fresh_numbers, &self.fresh, number)?;
+        self.fresh.put(number, page)?;
+        Ok(())
+    }
+
+    /// Writes a page that was not written before. Refuses for memory alone.
+    fn put_new(&mut self, number: u32, page: &Page) -> Result<(), AllocError>
+        requires new { is_some (private_of self.old number) ≡ false }
+        requires room { size_of (private_of self.old) < 1024 }
+        ensures put { OnOk result (private_of self.new ≡ over (only number page.now) (private_of self.old)) }
+        ensures settled { settled_of self.new ≡ settled_of self.old }
+        ensures left { OnErr result (private_of self.new ≡ private_of self.old) }
+    {
+        list_number(&mut self.fresh_numbers, &self.fresh, number)?;
+        self.fresh.put(number, page)?;
+        self.private_count += 1;
+        Ok(())
+    }
+
+    /// Whether a page of this number was written.
+    pub fn has(&self, number: u32) -> bool
+        ensures { result ≡ is_some (private_of self.now number) }
+    {
+        self.get(number).is_some()
+    }
+
+    /// Writes a page. Refuses for memory, and at the limit of private pages where this one was not
+    /// written before; then all stays as it was.
+    pub(crate) fn put(&mut self, number: u32, page: &Page) -> Result<(), Fault>
+        ensures put { OnOk result (private_of self.new ≡ over (only number page.now) (private_of self.old)) }
+        ensures settled { settled_of self.new ≡ settled_of self.old }
+        ensures left { OnErr result (private_of self.new ≡ private_of self.old) }
+        ensures refusal { IfErr result (IsNotKept (size_of (private_of self.new))) }
+    {
+        if self.has(number) {
+            self.put_again(number, page)?;
+            return Ok(());
+        }
+        if self.private_count >= PRIVATE_PAGES {
+            return Err(Fault::Private);
+        }
+        self.put_new(number, page)?;
+        Ok(())
+    }
+
+    /// Goes back to the mark: the fresh pages are as if they had not been written. Takes no memory.
+    pub fn undo(&mut self)
+        ensures fresh { fresh_of self.new ≡ (λ n. None) }
+        ensures settled { settled_of self.new ≡ settled_of self.old }
+    {
+        self.fresh = PageSet::new(self.alloc);
+        self.fresh_numbers = Items::new(self.alloc);
+        self.private_count = self.settled_count;
+    }
+
+    /// Sets the mark here: the fresh pages are settled. Refuses for memory alone; no page is other
+    /// then than it was, but some of the fresh pages may be settled.
+    pub fn mark(&mut self) -> Result<(), AllocError>
+        ensures same { private_of self.new ≡ private_of self.old }
+        ensures settled { OnOk result (settled_of self.new ≡ private_of self.old) }
+        ensures fresh { OnOk result (fresh_of self.new ≡ (λ n. None)) }
+    {
+        settle_all(
+            &mut self.settled,
+            &mut self.settled_count,
+            &self.fresh,
+            self.fresh_numbers.as_slice(),
+        )?;
+        self.undo();
+        Ok(())
+    }
+
+    /// Commits the settled pages, where no page is fresh, and has no page then. Where the pool refuses,
+    /// all stays as it was.
+    pub(crate) fn hand_over<D: Disk>(&mut self, pool: &mut Pool<D>) -> Result<u64, PoolError>
+        requires { fresh_of self.old ≡ (λ n. None) }
+        ensures number { IfOk result (λ c. c ≡ (versions_of pool.new).last) }
+        ensures last { OnOk result ((versions_of pool.new).last ≡ (versions_of pool.old).last + 1) }
+        ensures written { OnOk result ((versions_of pool.new).pages (versions_of pool.new).last
+            ≡ known D.is_honest (over (settled_of self.old) ((versions_of pool.old).pages (versions_of pool.old).last))) }
+        ensures kept { OnOk result ((c : ℕ) → 0 < (versions_of pool.old).pins c → (versions_of pool.new).pages c ≡ (versions_of pool.old).pages c) }
+        ensures emptied { OnOk result (private_of self.new ≡ (λ n. None)) }
+        ensures pins { (versions_of pool.new).pins ≡ (versions_of pool.old).pins }
+        ensures refused { OnErr result (versions_of pool.new ≡ versions_of pool.old) }
+        ensures left { OnErr result (private_of self.new ≡ private_of self.old) }
+        ensures refusal { IfErr result (IsRefused ((versions_of pool.old).last ≡ 2 ^ 64 - 1) ⊥ (D.refused (device_of pool.old)) (D.refused (device_of pool.new))) }
+        ensures rising { D.refused (device_of pool.old) ≤ D.refused (device_of pool.new) }
+    {
+        let number = pool.commit(&mut self.settled)?;
+        self.settled_count = 0;
+        self.private_count = 0;
+        Ok(number)
+    }
+}

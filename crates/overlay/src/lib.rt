@@ -1,0 +1,17 @@
+//! The pages that a transaction has written, over a version of a pool.
+#![tactic(auto)]
+
+mod changes;
+mod commits;
+mod layers;
+mod snapshot;
+mod space;
+mod version;
+
+pub use changes::Changes;
+pub use commits::commit;
+pub use snapshot::Snapshot;
+pub use space::Overlay;
+
+/// How many pages a transaction may have written, page 0 among them.
+pub const PRIVATE_PAGES: usize = 1_024;

@@ -1,0 +1,42 @@
+ghost use Rattle.std.specs.Prelude.{◌≡◌};
+
+use crate::version::read_version;
+use disk::Disk;
+use page_space::{Fault, Page, PageReader};
+use pool::Pool;
+
+/// A version of a pool, to be read: the pages in use at the commit of this number.
+#[derive(Drop)]
+pub struct Snapshot<'a, D: Disk> {
+    pub pool: &'a mut Pool<D>,
+    pub at: u64,
+}
+
+impl<'a, D: Disk> PageReader for Snapshot<'a, D> {
+    ghost use Rattle.std.specs.Prelude.{None};
+    ghost use Rattle.std.proofs.Common.{refl, ◌∙◌};
+    ghost use Rattle.pool.specs.Versions.{versions_of, device_of};
+    ghost use Rattle.overlay.specs.InUse.{in_use};
+    ghost use Rattle.overlay.specs.Bounded.{in_use-bounded};
+    ghost use Rattle.overlay.specs.Whole.{IsWhole};
+    ghost use Rattle.overlay.specs.Follows.{IsRead, read_none, read_on};
+
+    ghost pages = { λ s. in_use ((versions_of s.pool.now).pages s.at) (λ n. None) };
+
+    ghost refused = { λ s. D.refused (device_of s.pool.now) };
+
+    ghost follows = { λ a b. IsRead (versions_of a.pool.now) (versions_of b.pool.now) (D.refused (device_of a.pool.now)) (D.refused (device_of b.pool.now))
+        × (b.pool.ghost_name ≡ a.pool.ghost_name) × (b.at ≡ a.at) };
+
+    ghost is_whole = { λ s. IsWhole ((versions_of s.pool.now).pages s.at) };
+
+    ghost bounded = { λ s n h. in_use-bounded ((versions_of s.pool.now).pages s.at) (λ m. None) n h };
+
+    ghost follows_refl = { λ s. (read_none _ _, refl, refl) };
+
+    ghost follows_trans = { λ a b c h g. (read_on _ _ _ _ _ _ h.0 g.0, g.1 ∙ h.1, g.2 ∙ h.2) };
+
+    fn read(&mut self, page: u32, into: &mut Page) -> Result<(), Fault> {
+        read_version(self.pool, self.at, page, into)
+    }
+}

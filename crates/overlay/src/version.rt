@@ -1,0 +1,56 @@
+//! Reads through the changes of a transaction into a version of a pool.
+ghost use Rattle.std.specs.Prelude.{◌≡◌, ◌≤◌, ℕ, List, Some, OnOk, IfOk, IfErr};
+ghost use Rattle.page_space.specs.Space.{ReadRefused};
+ghost use Rattle.pagefile.specs.Number.{number_at};
+ghost use Rattle.pool.specs.Pages.{over};
+ghost use Rattle.pool.specs.Versions.{versions_of, device_of};
+ghost use Rattle.overlay.specs.Changes.{private_of};
+
+use crate::changes::Changes;
+use disk::Disk;
+use page_space::Fault;
+use pagefile::Page;
+use pool::{Pool, PoolError};
+
+/// Gives what lies at a page at a commit, where something does.
+pub(crate) fn read_version<D: Disk>(
+    pool: &mut Pool<D>,
+    at: u64,
+    page: u32,
+    into: &mut Page,
+) -> Result<(), Fault>
+    ensures value { OnOk result ((bytes : List ℕ) → (versions_of pool.old).pages at page ≡ Some bytes → into.new ≡ bytes) }
+    ensures versions { versions_of pool.new ≡ versions_of pool.old }
+    ensures refusal { IfErr result (ReadRefused ⊥ (D.refused (device_of pool.old)) (D.refused (device_of pool.new))) }
+    ensures rising { D.refused (device_of pool.old) ≤ D.refused (device_of pool.new) }
+{
+    match pool.read(at, page, into) {
+        Ok(()) => Ok(()),
+        Err(PoolError::Memory) => Err(Fault::Memory),
+        Err(PoolError::Device(_)) => Err(Fault::Disk),
+        Err(PoolError::Pages) => unreachable!(),
+        Err(PoolError::Kept) => unreachable!(),
+    }
+}
+
+/// The same, with the pages that the transaction has written over it.
+pub(crate) fn read_changed<D: Disk>(
+    pool: &mut Pool<D>,
+    changes: &Changes,
+    at: u64,
+    page: u32,
+    into: &mut Page,
+) -> Result<(), Fault>
+    ensures value { OnOk result ((bytes : List ℕ) → over (private_of changes.now) ((versions_of pool.old).pages at) page ≡ Some bytes → into.new ≡ bytes) }
+    ensures versions { versions_of pool.new ≡ versions_of pool.old }
+    ensures refusal { IfErr result (ReadRefused ⊥ (D.refused (device_of pool.old)) (D.refused (device_of pool.new))) }
+    ensures rising { D.refused (device_of pool.old) ≤ D.refused (device_of pool.new) }
+{
+    match changes.get(page) {
+        Some(written) => {
+            *into = *written;
+            Ok(())
+        }
+        None => read_version(pool, at, page, into),
+    }
+}

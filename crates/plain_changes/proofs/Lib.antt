@@ -1,0 +1,4 @@
+pub mod Creates
+pub mod Inserts
+pub mod Lengths
+pub mod GivenRows

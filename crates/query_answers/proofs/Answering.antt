@@ -1,0 +1,58 @@
+-- What a listing over lent tables says of the query that its tree is of.
+use Rattle.std.proofs.Common.{◌≡◌, refl, sym, ap, subst, ◌∙◌, ℕ, List, [], ◌∷◌, Result, Ok, Err, IfOk, IfErr, inl, inr}
+use Rattle.refusals.specs.declared.refusal.Refusal.{Refusal}
+use Rattle.sqlval.specs.Value.{Row}
+use Rattle.typing.specs.declared.typed.OrderedQuery.{OrderedQuery}
+use Rattle.algebra.specs.declared.tree.StoredTable.{StoredTable}
+use Rattle.algebra.specs.declared.tree.Tree.{Tree}
+use Rattle.algebra.specs.Listing.{tree_listing, reply_of}
+use Rattle.algebra.specs.Translated.{tree_of_ordered}
+use Rattle.denote.specs.declared.fault.Fault.{Fault}
+use Rattle.denote.specs.Answer.{Answers}
+use Rattle.denote.specs.Database.{Database, rows_in}
+use Rattle.denote.specs.Meaning.{Tables}
+use Rattle.denote.specs.Outcome.{Outcome, OrderedOutcome}
+use Rattle.denote.specs.Query.{denotes}
+use Rattle.session_definitions.specs.Refusals.{IsReserved, refusal_of}
+use Rattle.store.specs.Contents.{Contents, database_of}
+use Rattle.answers.specs.Refused.{MayRefuse}
+use Rattle.tree_tables.specs.TablesRead.{Agree, tables_in_tree}
+use Rattle.query_answers.specs.Answered.{rows_found, IsTreeOf, RefusesAs}
+
+-- the two laws, as the calls of them say
+abbrev pub ListingsAnswer : Type 0
+ListingsAnswer = (described : List ℕ → StoredTable) → ((name : List ℕ) → (described name).name ≡ name) → (db : Database) (ordered : OrderedQuery)
+    → Answers (reply_of (tree_listing (rows_in db) (tree_of_ordered described ordered) [])) (denotes db ordered)
+
+abbrev pub ListingsRead : Type 0
+ListingsRead = (tables others : Tables) (tree : Tree) → Agree tables others (tables_in_tree tree) → tree_listing tables tree ≡ tree_listing others tree
+
+pub listed_answers : ListingsAnswer → ListingsRead → (c : Contents) (lent : Tables) (tree : Tree) → Agree lent (rows_found c) (tables_in_tree tree) → (listed : Outcome) → listed ≡ tree_listing lent tree []
+    → (ordered : OrderedQuery) → IsTreeOf ordered tree → Answers (reply_of listed) (denotes (database_of c) ordered)
+listed_answers answer read c lent tree agree listed is ordered t =
+    let same : listed ≡ tree_listing (rows_found c) (tree_of_ordered t.described ordered) [] =
+    is ∙ ap (λ (m : _). m []) (read lent (rows_found c) tree agree) ∙ ap (λ (x : Tree). tree_listing (rows_found c) x []) t.is in
+    subst (λ (o : Outcome). Answers (reply_of o) (denotes (database_of c) ordered)) (sym same) (answer t.described t.names (database_of c) ordered)
+
+-- rows, and a fault
+pub rows_answer : (reply : Result (List Row) Fault) (rows : List Row) (o : OrderedOutcome) → reply ≡ Ok rows → Answers reply o → Answers (Ok rows) o
+rows_answer reply rows o is answers = subst (λ (r : Result (List Row) Fault). Answers r o) is answers
+
+pub fault_answers : (reply : Result (List Row) Fault) (refusal : Refusal) (o : OrderedOutcome) → RefusesAs reply refusal → Answers reply o → MayRefuse o.unordered.faults refusal
+fault_answers reply refusal o (inl memory) answers = inl (subst IsReserved (sym memory) tt)
+fault_answers reply refusal o (inr raised) answers = inr (raised.0, raised.1, subst (λ (r : Result (List Row) Fault). Answers r o) raised.2 answers)
+
+-- ---- as clauses of a call
+
+module _ (answer : ListingsAnswer) (read : ListingsRead) (c : Contents) (lent : Tables) (tree : Tree) (Sound : Type 0) (agree : Sound → Agree lent (rows_found c) (tables_in_tree tree)) where
+  pub rows_given : (result : Result (List Row) Refusal) → IfOk result (λ rows. reply_of (tree_listing lent tree []) ≡ Ok rows)
+      → IfOk result (λ rows. Sound → (ordered : OrderedQuery) → IsTreeOf ordered tree → Answers (Ok rows) (denotes (database_of c) ordered))
+  rows_given (Ok rows) shown = λ sound ordered t.
+      rows_answer (reply_of (tree_listing lent tree [])) rows (denotes (database_of c) ordered) shown (listed_answers answer read c lent tree (agree sound) (tree_listing lent tree []) refl ordered t)
+  rows_given (Err refusal) shown = tt
+
+  pub refusal_given : (result : Result (List Row) Refusal) → IfErr result (RefusesAs (reply_of (tree_listing lent tree [])))
+      → IfErr result (λ refusal. Sound → (ordered : OrderedQuery) → IsTreeOf ordered tree → MayRefuse (denotes (database_of c) ordered).unordered.faults refusal)
+  refusal_given (Ok rows) shown = tt
+  refusal_given (Err refusal) shown = λ sound ordered t.
+      fault_answers (reply_of (tree_listing lent tree [])) refusal (denotes (database_of c) ordered) shown (listed_answers answer read c lent tree (agree sound) (tree_listing lent tree []) refl ordered t)

@@ -1,0 +1,69 @@
+//! The answer of a query.
+ghost use Rattle.std.specs.Prelude.{◌≡◌, ◌≢◌, Ok, IfOk, IfErr};
+ghost use Rattle.refusals.specs.declared.refusal.Refusal.TheVariants.{Disk};
+ghost use Rattle.typing.specs.declared.typed.OrderedQuery.{OrderedQuery as Asked};
+ghost use Rattle.denote.specs.Answer.{Answers};
+ghost use Rattle.denote.specs.Query.{denotes};
+ghost use Rattle.store.specs.Contents.{database_of};
+ghost use Rattle.store.specs.Errors.{HasRisen};
+ghost use Rattle.answers.specs.Refused.{MayRefuse};
+ghost use Rattle.algebra.specs.Listing.{reply_of};
+ghost use Rattle.denote.specs.Outcome.{Outcome};
+ghost use Rattle.executor.specs.Reply.{Lists};
+ghost use Rattle.query_answers.specs.Answered.{IsTreeOf, RefusesAs};
+
+use crate::fault::refusal_of_fault;
+use crate::lent::lent_tables;
+use algebra::Tree;
+use algebra_laws::listings_answer_queries;
+use denote::{Rows, Stop};
+use executor::{Env, Listed, tree_listed};
+use refusals::Refusal;
+use sqlval::Schema;
+use std::alloc::{AllocError, Global};
+use store::Reading;
+use translation::translate;
+use tree_tables::{listings_read_their_tables, tables_in_tree};
+use typing::OrderedQuery;
+
+/// The tree of a query that was typed over this schema. Refuses for want of memory alone.
+pub fn query_tree(alloc: Global, schema: &Schema, query: &OrderedQuery) -> Result<Tree, AllocError>
+    ensures tree { IfOk result (λ tree. IsTreeOf query.now tree) }
+{
+    translate(alloc, schema, query)
+}
+
+/// The rows of a query by its tree. Each table that it names is read once. It is refused by one of the query's faults, and for what the store is refused for.
+pub fn answer<R: Reading>(alloc: Global, reading: &mut R, tree: &Tree) -> Result<Rows, Refusal>
+    ensures answers { IfOk result (λ rows. R.is_sound reading.old → (ordered : Asked) → IsTreeOf ordered tree.now → Answers (Ok rows) (denotes (database_of (R.shows reading.old).contents) ordered)) }
+    ensures refused { IfErr result (λ refusal. R.is_sound reading.old → (ordered : Asked) → IsTreeOf ordered tree.now → MayRefuse (denotes (database_of (R.shows reading.old).contents) ordered).unordered.faults refusal) }
+    ensures counts { IfErr result (λ refusal. refusal ≡ Disk → HasRisen (R.shows reading.old).refused (R.shows reading.new).refused) }
+    ensures follows { R.follows reading.old reading.new }
+{
+    listings_answer_queries();
+    listings_read_their_tables();
+    let names = match tables_in_tree(alloc, tree) {
+        Ok(names) => names,
+        Err(_) => return Err(Refusal::Memory),
+    };
+    let lent = match lent_tables(alloc, reading, names.as_slice()) {
+        Ok(lent) => lent,
+        Err(refusal) => return Err(refusal),
+    };
+    shown(tree_listed(alloc, &lent, &Env::Outermost, tree))
+}
+
+/// What is shown of a listing: its rows, or the fault that ends it.
+fn shown(listed: Result<Listed, Stop>) -> Result<Rows, Refusal>
+    ensures rows { (meant : Outcome) → Lists listed meant → IfOk result (λ rows. reply_of meant ≡ Ok rows) }
+    ensures refused { (meant : Outcome) → Lists listed meant → IfErr result (RefusesAs (reply_of meant)) }
+    ensures stored { IfErr result (λ refusal. refusal ≢ Disk) }
+{
+    match listed {
+        Ok(listed) => match listed.fault {
+            None => Ok(listed.rows),
+            Some(fault) => Err(refusal_of_fault(fault)),
+        },
+        Err(_) => Err(Refusal::Memory),
+    }
+}

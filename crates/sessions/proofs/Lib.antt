@@ -1,0 +1,6 @@
+pub mod Words
+pub mod Typings
+pub mod QuerySteps
+pub mod ChangeSteps
+pub mod Unread
+pub mod Cores

@@ -1,0 +1,52 @@
+-- A form that comes later has a word that is not supported, so that no text is read as it.
+use Rattle.std.proofs.Common.{◌≡◌, true, false, List, [], ◌∷◌, Option, Some, None, refl, sym, ap, ◌∙◌}
+use Rattle.std.specs.Prelude.{map}
+use Rattle.lexer.specs.declared.kinds.Kind.{Kind}
+use Rattle.lexer.specs.declared.kinds.Kind.TheVariants as kind
+use Rattle.lexer.specs.declared.kinds.Token.{Token}
+use Rattle.lexer.specs.declared.words.Word.{Word}
+use Rattle.lexer.specs.declared.words.Word.TheVariants as word
+use Rattle.lexer.specs.Support.{first_unsupported, unsupported_word, or_else}
+use Rattle.lexer.specs.Token.{Bytes}
+use Rattle.lexer.specs.Tokens.{kinds_of}
+use Rattle.lexer.specs.Words.{is_supported, supports, vocabulary}
+use Rattle.ast.specs.declared.statement.Statement.{Statement}
+use Rattle.ast.specs.declared.statement.Statement.TheVariants as asks
+use Rattle.statement_reading.specs.Reading.{IsRead}
+use Rattle.sessions.specs.Kinds.{is_later}
+
+not_first : (tokens : List Token) (w : Word) (others : List Kind) → kinds_of tokens ≡ kind.Word w ∷ others → is_supported w ≡ false → first_unsupported tokens ≡ None → ⊥
+not_first [] w others e unsupported none = cc
+not_first (token ∷ tokens) w others e unsupported none =
+    let kind_is : token.kind ≡ kind.Word w = cc in
+    let here : unsupported_word token.kind ≡ Some w = rw (kind_is, unsupported) refl in
+    let found : or_else (Some w) (first_unsupported tokens) ≡ None = ap (λ o. or_else o (first_unsupported tokens)) (sym here) ∙ none in
+    cc
+
+explain_later : is_supported word.Explain ≡ false
+unfolding is_supported
+explain_later = refl
+
+declare_later : is_supported word.Declare ≡ false
+unfolding is_supported
+declare_later = refl
+
+open_later : is_supported word.Open ≡ false
+unfolding is_supported
+open_later = refl
+
+fetch_later : is_supported word.Fetch ≡ false
+unfolding is_supported
+fetch_later = refl
+
+close_later : is_supported word.Close ≡ false
+unfolding is_supported
+close_later = refl
+
+pub later_unread : (x : Statement) (text : Bytes) → is_later x ≡ true → IsRead text x → ⊥
+later_unread (asks.Explain x) text later read = not_first read.tokens word.Explain _ read.statement.statement.1 explain_later read.spelled.supported
+later_unread (asks.DeclareCursor x) text later read = not_first read.tokens word.Declare _ read.statement.statement.1.1 declare_later read.spelled.supported
+later_unread (asks.OpenCursor x) text later read = not_first read.tokens word.Open _ read.statement.statement.1 open_later read.spelled.supported
+later_unread (asks.Fetch x) text later read = not_first read.tokens word.Fetch _ read.statement.statement.1 fetch_later read.spelled.supported
+later_unread (asks.CloseCursor x) text later read = not_first read.tokens word.Close _ read.statement.statement.1 close_later read.spelled.supported
+later_unread _ text later read = absurd (cc)

@@ -1,0 +1,18 @@
+use Rattle.std.proofs.Common.{◌≡◌, true, false, refl}
+use Rattle.sessions.proofs.Unread.{refuses_text}
+use Rattle.sessions.proofs.calling.call.Goals as goal
+
+pub returns-then-is_rollback-clause-moves : goal.returns-then-is_rollback-clause-moves
+returns-then-is_rollback-clause-moves g c = λ rules are sound order good.
+    let is = (rw c.if-is_rollback.true at c.is_rollback.ensures).0 refl in
+    c.roll_back.ensures.moves rules c.args.text.now is.0 is.1 order
+
+pub returns-in-Ok-clause-moves : goal.returns-in-Ok-clause-moves
+returns-in-Ok-clause-moves g c = λ rules are sound order good.
+    c.carry_out.ensures.moves rules c.args.text.now are c.in-Ok.ensures.read
+    (λ is. let bad : false ≡ true = (rw c.if-is_rollback.false at c.is_rollback.ensures).1 is in cc) sound order good
+
+pub returns-in-Err-clause-moves : goal.returns-in-Err-clause-moves
+returns-in-Err-clause-moves g c = λ rules are sound order good.
+    refuses_text rules (g.S.Store.shows c.args.store.now) _ _ _ _ _
+    (λ is. let bad : false ≡ true = (rw c.if-is_rollback.false at c.is_rollback.ensures).1 is in cc) c.in-Err.ensures.unread order

@@ -1,0 +1,39 @@
+use Rattle.std.proofs.Common.{◌≡◌, refl, sym, subst, ◌∙◌}
+use Rattle.store.specs.Stored.{Stored, SameButMark, begun}
+use Rattle.transactions.proofs.Orders.{same}
+use Rattle.transactions.proofs.Steps.{nothing_moves, withholds}
+use Rattle.transactions.proofs.Tests.{reserved, unbegun}
+use Rattle.sessions.proofs.ChangeSteps.{only_reads, comes_late, good_begun, makes, refuses}
+use Rattle.sessions.proofs.change.change.Goals as goal
+
+pub returns-then-is_read_only-clause-moves : goal.returns-then-is_read_only-clause-moves
+returns-then-is_read_only-clause-moves g c = λ rules text are is read other sound order good.
+    only_reads rules (g.S.Store.shows c.args.store.now) _ _ _ text _ order is read (sym c.is_read_only.ensures ∙ c.if-is_read_only.true) (g.S.Store.shows c.args.store.now) refl
+
+pub returns-then-comes_too_late-clause-moves : goal.returns-then-comes_too_late-clause-moves
+returns-then-comes_too_late-clause-moves g c = λ rules text are is read other sound order good.
+    comes_late rules _ _ _ _ text _ order is read (sym c.is_read_only.ensures ∙ c.if-is_read_only.false) (sym c.comes_too_late.ensures ∙ c.if-comes_too_late.true) _ c.end.ensures.shows
+
+pub returns-in-Err-clause-moves : goal.returns-in-Err-clause-moves
+returns-in-Err-clause-moves g c = λ rules text are is read other sound order good.
+    let st : Stored = g.S.Store.shows c.args.store.now in
+    rw c.refusal_of.ensures
+    (nothing_moves rules st _ _ _ text _ _ order
+    (withholds rules st _ _ _ text _ other (reserved _ _ _ _ _ (rw c.in-Err.is at c.begin.ensures.refused) sound (λ bad. bad) (λ bad. bad)))
+    (same st _ (rw c.in-Err.is at c.begin.ensures.same)))
+
+pub returns-in-Ok-clause-moves : goal.returns-in-Ok-clause-moves
+returns-in-Ok-clause-moves g c = λ rules text are is read other sound order good.
+    let begins : g.S.Store.shows c.begin.new.self ≡ begun (g.S.Store.shows c.args.store.now) c.args.session = rw c.in_default.is at c.begin.ensures.shows in
+    makes rules _ _ _ _ text _ order is read (sym c.is_read_only.ensures ∙ c.if-is_read_only.false) (sym c.comes_too_late.ensures ∙ c.if-comes_too_late.false) _ begins _ _
+    (c.in-Ok.ensures.changes rules are is (c.begin.ensures.sound sound)
+    (good_begun rules _ _ _ _ text _ order is read (sym c.is_read_only.ensures ∙ c.if-is_read_only.false) (sym c.comes_too_late.ensures ∙ c.if-comes_too_late.false) _ begins good))
+
+pub returns-in-Err-make-clause-moves : goal.returns-in-Err-make-clause-moves
+returns-in-Err-make-clause-moves g c = λ rules text are is read other sound order good.
+    let begins : g.S.Store.shows c.begin.new.self ≡ begun (g.S.Store.shows c.args.store.now) c.args.session = rw c.in_default.is at c.begin.ensures.shows in
+    refuses rules _ _ _ _ text _ order is read (sym c.is_read_only.ensures ∙ c.if-is_read_only.false) (sym c.comes_too_late.ensures ∙ c.if-comes_too_late.false) _ begins _ _ other
+    (c.in-Err-make.ensures.refused rules are is (c.begin.ensures.sound sound)
+    (good_begun rules _ _ _ _ text _ order is read (sym c.is_read_only.ensures ∙ c.if-is_read_only.false) (sym c.comes_too_late.ensures ∙ c.if-comes_too_late.false) _ begins good))
+    (unbegun _ _ _ _ _ c.number.ensures c.is_none-idle.ensures _
+    (subst (λ (y : Stored). SameButMark y (g.S.Store.shows c.make.new.store)) begins c.in-Err-make.ensures.same) c.take_back.ensures.shows)

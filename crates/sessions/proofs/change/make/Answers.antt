@@ -1,0 +1,28 @@
+use Rattle.std.proofs.Common.{◌≡◌, sym, subst}
+use Rattle.std.proofs.lemmas.Result.{IfOk-weaker, IfErr-weaker}
+use Rattle.sqlval.specs.declared.schema.Schema.{Schema}
+use Rattle.denote.specs.SchemaOf.{IsSchemaOf}
+use Rattle.store.specs.Contents.{database_of}
+use Rattle.sessions.proofs.ChangeSteps.{makes_typed, refuses_typed, refuses_wrong}
+use Rattle.sessions.proofs.Typings.{against}
+use Rattle.sessions.proofs.change.make.Goals as goal
+
+pub returns-in-Ok-clause-changes : goal.returns-in-Ok-clause-changes
+returns-in-Ok-clause-changes g c = IfOk-weaker c.make_typed.result _ _
+    (λ reply h rules are is sound good.
+    makes_typed rules c.args.statement.now _ _ c.in-Ok.typed _ _ are is c.schema.ensures c.prepare.ensures.shows ((rw c.in_default.is at c.prepare.ensures.prepared) sound) good c.in-Ok.ensures.finds.ok reply _
+    (λ change e of there m. h rules c.args.statement.now change are e (c.prepare.ensures.sound sound) of there m))
+    c.make_typed.ensures.changes
+
+pub returns-in-Ok-clause-refused : goal.returns-in-Ok-clause-refused
+returns-in-Ok-clause-refused g c = IfErr-weaker c.make_typed.result _ _
+    (λ refusal h rules are is sound good.
+    refuses_typed rules c.args.statement.now _ _ c.in-Ok.typed _ _ are is c.schema.ensures c.prepare.ensures.shows ((rw c.in_default.is at c.prepare.ensures.prepared) sound) good c.in-Ok.ensures.finds.ok refusal
+    (λ change e of there m. h rules c.args.statement.now change are e (c.prepare.ensures.sound sound) of there m))
+    c.make_typed.ensures.refused
+
+pub returns-in-Err-typed-clause-refused : goal.returns-in-Err-typed-clause-refused
+returns-in-Err-typed-clause-refused g c = λ rules are is sound good.
+    let of : IsSchemaOf c.schema.result.now (database_of (g.S.Store.shows c.args.store.now).working) =
+    subst (λ (schema : Schema). IsSchemaOf schema (database_of (g.S.Store.shows c.args.store.now).working)) (sym c.schema.ensures) ((rw c.in_default.is at c.prepare.ensures.prepared) sound) in
+    refuses_wrong rules _ c.args.statement.now _ (against rules _ c.schema.result.now c.args.statement.now _ are of c.in-Err-typed.ensures.finds.err)

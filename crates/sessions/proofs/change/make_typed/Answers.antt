@@ -1,0 +1,26 @@
+use Rattle.std.proofs.Common.{◌≡◌, sym, subst}
+use Rattle.std.proofs.lemmas.Result.{IfOk-weaker, IfErr-weaker}
+use Rattle.typing.specs.declared.statement.Change.{Change}
+use Rattle.typing.specs.declared.statement.Typed.TheVariants as does
+use Rattle.denote.specs.Database.{Database}
+use Rattle.session_definitions.specs.Rules.{Means}
+use Rattle.store.specs.Contents.{database_of}
+use Rattle.store.specs.Stored.{Stored}
+use Rattle.sessions.specs.Changed.{HasChanged, RefusesChange}
+use Rattle.sessions.proofs.change.make_typed.Goals as goal
+
+pub returns-in-Some-clause-changes : goal.returns-in-Some-clause-changes
+returns-in-Some-clause-changes g c = IfOk-weaker c.make.result _ _
+    (λ reply h rules x change are is sound of good means.
+    let e : c.in-Some.change ≡ change = cc (is, c.in-Some.ensures) in
+    subst (λ (y : Change). HasChanged rules (g.S.Store.shows c.args.store.now) y reply (g.S.Store.shows c.make.new.store)) e
+    (h rules x are sound of good (subst (λ (y : Change). Means rules (database_of (g.S.Store.shows c.args.store.now).working) x (does.Change y)) (sym e) means)))
+    c.make.ensures.changes
+
+pub returns-in-Some-clause-refused : goal.returns-in-Some-clause-refused
+returns-in-Some-clause-refused g c = IfErr-weaker c.make.result _ _
+    (λ refusal h rules x change are is sound of good means.
+    let e : c.in-Some.change ≡ change = cc (is, c.in-Some.ensures) in
+    subst (λ (y : Change). RefusesChange rules (database_of (g.S.Store.shows c.args.store.now).working) y refusal) e
+    (h rules x are sound of good (subst (λ (y : Change). Means rules (database_of (g.S.Store.shows c.args.store.now).working) x (does.Change y)) (sym e) means)))
+    c.make.ensures.refused

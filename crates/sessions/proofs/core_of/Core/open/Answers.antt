@@ -1,0 +1,19 @@
+use Rattle.std.proofs.Common.{◌≡◌, None, refl, sym, subst, ap, ◌∙◌}
+use Rattle.session_definitions.specs.World.{opened}
+use Rattle.transactions.specs.Shown.{Slots, shown}
+use Rattle.sessions.proofs.Cores.{orderly_alone, none_read, opens, opening_refused}
+use Rattle.sessions.proofs.core_of.Core.open.Goals as goal
+
+pub returns-in-Ok-clause-opened : goal.returns-in-Ok-clause-opened
+returns-in-Ok-clause-opened g c = λ db saved.
+    let o = c.in-Ok.ensures.opened db saved in (
+      record {
+        store = o.0;
+        order = orderly_alone (g.S.Store.shows c.in-Ok.store) o.1.readers o.1.working;
+        readers = λ q none. none_read (g.S.Store.shows c.in-Ok.store) o.1.readers q;
+      },
+      subst (λ (slots : Slots). shown (g.S.Store.shows c.in-Ok.store) None slots ≡ opened db) (sym c.new.ensures) (opens db (g.S.Store.shows c.in-Ok.store) o.1),
+    )
+
+pub returns-in-Err-clause-refused : goal.returns-in-Err-clause-refused
+returns-in-Err-clause-refused g c = λ db saved. opening_refused _ _ _ c.in-Err.back.error c.refusal_of.result c.refusal_of.ensures c.in-Err.ensures.refused (db, saved)

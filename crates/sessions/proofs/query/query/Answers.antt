@@ -1,0 +1,26 @@
+use Rattle.std.proofs.Common.{◌≡◌, ◌∙◌}
+use Rattle.store.specs.Stored.{Stored, begun}
+use Rattle.transactions.proofs.Orders.{same}
+use Rattle.transactions.proofs.Steps.{nothing_moves, withholds}
+use Rattle.transactions.proofs.Tests.{reserved, unbegun}
+use Rattle.sessions.proofs.QuerySteps.{gives, refuses}
+use Rattle.sessions.proofs.query.query.Goals as goal
+
+pub returns-in-Err-clause-moves : goal.returns-in-Err-clause-moves
+returns-in-Err-clause-moves g c = λ rules text x mode are is read other sound order.
+    let st : Stored = g.S.Store.shows c.args.store.now in
+    rw c.refusal_of.ensures
+    (nothing_moves rules st _ _ _ text _ _ order
+    (withholds rules st _ _ _ text _ other (reserved _ _ _ _ _ (rw c.in-Err.is at c.begin.ensures.refused) sound (λ bad. bad) (λ bad. bad)))
+    (same st _ (rw c.in-Err.is at c.begin.ensures.same)))
+
+pub returns-in-Ok-clause-moves : goal.returns-in-Ok-clause-moves
+returns-in-Ok-clause-moves g c = λ rules text x mode are is read other sound order.
+    let begins : g.S.Store.shows c.begin.new.self ≡ begun (g.S.Store.shows c.args.store.now) c.args.session = rw c.in_default.is at c.begin.ensures.shows in
+    gives rules _ _ _ mode text x _ _ order read begins c.view_of.ensures _ _ (c.in-Ok.ensures.gives rules x are is (c.begin.ensures.sound sound)) c.rows_seen.ensures.shows
+
+pub returns-in-Err-rows_seen-clause-moves : goal.returns-in-Err-rows_seen-clause-moves
+returns-in-Err-rows_seen-clause-moves g c = λ rules text x mode are is read other sound order.
+    let begins : g.S.Store.shows c.begin.new.self ≡ begun (g.S.Store.shows c.args.store.now) c.args.session = rw c.in_default.is at c.begin.ensures.shows in
+    refuses rules _ _ _ mode text x _ _ order read begins c.view_of.ensures _ _ other (c.in-Err-rows_seen.ensures.refused rules x are is (c.begin.ensures.sound sound))
+    (unbegun _ _ _ _ _ c.number.ensures c.is_none-idle.ensures _ (same _ _ (c.rows_seen.ensures.shows ∙ begins)) c.take_back.ensures.shows)

@@ -1,0 +1,18 @@
+use Rattle.std.proofs.Common.{◌≡◌}
+use Rattle.std.proofs.lemmas.Result.{IfOk-weaker, IfErr-weaker}
+use Rattle.sessions.proofs.QuerySteps.{gives_typed, refuses_typed}
+use Rattle.sessions.proofs.query.rows_seen.Goals as goal
+
+pub returns-in-Ok-clause-gives : goal.returns-in-Ok-clause-gives
+returns-in-Ok-clause-gives g c = IfOk-weaker c.evaluate.result _ _
+    (λ rows h rules x are is sound.
+    gives_typed rules x c.args.statement.now _ _ c.in-Ok.typed _ _ c.args.view are is c.schema.ensures c.prepare.ensures.shows ((rw c.in_default.is at c.prepare.ensures.prepared) sound) c.in-Ok.ensures.finds.ok rows
+    (λ q e. h q e (c.prepare.ensures.sound sound)))
+    c.evaluate.ensures.answers
+
+pub returns-in-Ok-clause-refused : goal.returns-in-Ok-clause-refused
+returns-in-Ok-clause-refused g c = IfErr-weaker c.evaluate.result _ _
+    (λ refusal h rules x are is sound.
+    refuses_typed rules x c.args.statement.now _ _ c.in-Ok.typed _ _ c.args.view are is c.schema.ensures c.prepare.ensures.shows ((rw c.in_default.is at c.prepare.ensures.prepared) sound) c.in-Ok.ensures.finds.ok refusal
+    (λ q e. h q e (c.prepare.ensures.sound sound)))
+    c.evaluate.ensures.refused

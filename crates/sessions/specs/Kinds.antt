@@ -1,0 +1,35 @@
+-- Which statements are queries, changes, and forms that come later.
+use Rattle.std.specs.Prelude.{◌≡◌, Bool, true, false}
+use Rattle.ast.specs.declared.statement.OrderedQuery.{OrderedQuery}
+use Rattle.ast.specs.declared.statement.Statement.{Statement}
+use Rattle.ast.specs.declared.statement.Statement.TheVariants as asks
+use Rattle.sessions.specs.declared.kind.Kind.{Kind}
+use Rattle.sessions.specs.declared.kind.Kind.TheVariants as kind
+
+-- whether the statement changes tables
+abbrev pub is_change : Statement → Bool
+is_change (asks.CreateTable x) = true
+is_change (asks.DropTable x) = true
+is_change (asks.CreateIndex x) = true
+is_change (asks.DropIndex x) = true
+is_change (asks.Insert x) = true
+is_change (asks.Update x) = true
+is_change (asks.Delete x) = true
+is_change _ = false
+
+-- whether its form comes later: EXPLAIN and cursors
+abbrev pub is_later : Statement → Bool
+is_later (asks.Explain x) = true
+is_later (asks.DeclareCursor x) = true
+is_later (asks.OpenCursor x) = true
+is_later (asks.Fetch x) = true
+is_later (asks.CloseCursor x) = true
+is_later _ = false
+
+abbrev pub IsOfKind : Kind → Statement → Type 0
+IsOfKind kind.Query x = (query : OrderedQuery) × (x ≡ asks.Query query)
+IsOfKind kind.Change x = is_change x ≡ true
+IsOfKind kind.Commit x = (work : Bool) × (x ≡ asks.Commit work)
+IsOfKind kind.Rollback x = (work : Bool) × (x ≡ asks.Rollback work)
+IsOfKind (kind.SetTransaction mode) x = x ≡ asks.SetTransaction mode
+IsOfKind kind.Later x = is_later x ≡ true

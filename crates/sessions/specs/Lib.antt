@@ -1,0 +1,6 @@
+pub mod Kinds
+pub mod Seen
+pub mod Answered
+pub mod Changed
+pub mod Numbers
+pub mod OfCore

@@ -1,0 +1,22 @@
+-- The world of a core, and what holds of it.
+use Rattle.std.specs.Prelude.{◌≡◌, ℕ, None}
+use Rattle.std.specs.FinMap.{get}
+use Rattle.session_definitions.specs.World.{World}
+use Rattle.store.specs.Stored.{Stored}
+use Rattle.transactions.specs.Orderly.{IsOrderly}
+use Rattle.transactions.specs.Shown.{slot_at, shown}
+use Rattle.sessions.specs.declared.core_of.Core.{Core}
+use Rattle.sessions.specs.declared.core_of.SessionId.{SessionId}
+
+abbrev pub number_of : SessionId → ℕ
+number_of session = session.number
+
+-- what its store, its writer and its sessions show
+abbrev pub world_of : {S L D : Type 0} → (S → Stored) → Core S L D → World
+world_of shows core = shown (shows core.store) core.writer core.slots.modes
+
+-- Its store can be read, the versions and the writer are in order, and no reader is left of a session that does not stand.
+pub record IsSound {S L D : Type 0} (is_sound : S → Type 0) (shows : S → Stored) (core : Core S L D) : Type 0 where
+  pub store : is_sound core.store
+  pub order : IsOrderly (shows core.store) core.writer
+  pub readers : (q : ℕ) → slot_at core.slots.modes q ≡ None → get (shows core.store).readers q ≡ None

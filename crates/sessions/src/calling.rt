@@ -1,0 +1,72 @@
+//! From the text of a call to its reply.
+ghost use Rattle.std.specs.Prelude.{◌≡◌, ◌≤◌};
+ghost use Rattle.lexer.specs.Token.{Bytes};
+ghost use Rattle.denote.specs.Database.{IsGood};
+ghost use Rattle.session_definitions.specs.Rules.{Rules, AreRules};
+ghost use Rattle.statement_reading.specs.Reading.{IsRead};
+ghost use Rattle.statement_reading.specs.Rollback.{IsRollback};
+ghost use Rattle.transactions.specs.Moves.{Moves};
+ghost use Rattle.transactions.specs.Orderly.{IsOrderly};
+ghost use Rattle.sessions.specs.Seen.{seen_in};
+
+use crate::change::change;
+use crate::changes::Changes;
+use crate::kind::{Kind, kind_of};
+use crate::language::Language;
+use crate::query::query;
+use ast::{AccessMode, Statement};
+use refusals::Refusal;
+use replies::Reply;
+use std::alloc::Global;
+use store::Store;
+use transactions::{commit, roll_back, set_mode};
+
+/// Carries out the statement in a text. ROLLBACK takes no memory and always succeeds.
+pub(crate) fn call<S: Store, L: Language + Changes<S>>(
+    alloc: Global,
+    language: &L,
+    store: &mut S,
+    writer: &mut Option<u64>,
+    mode: &mut AccessMode,
+    session: u64,
+    text: &[u8],
+) -> Reply
+    ensures moves { (rules : Rules) → AreRules rules → S.is_sound store.old → IsOrderly (S.shows store.old) writer.old → IsGood rules.check (seen_in (S.shows store.old) writer.old session)
+        → Moves rules session text.now result (S.shows store.old) writer.old mode.old (S.shows store.new) writer.new mode.new }
+    ensures rolled_back { IsRollback text.now → result ≡ Reply.Done }
+    ensures sound { S.is_sound store.old → S.is_sound store.new }
+    ensures counts { S.refused store.old ≤ S.refused store.new }
+{
+    if language.is_rollback(text) {
+        return roll_back(store, writer, mode, session);
+    }
+    match language.read(alloc, text) {
+        Ok(statement) => carry_out(alloc, language, store, writer, mode, session, &statement),
+        Err(refusal) => Reply::Refused(refusal),
+    }
+}
+
+/// Carries out a statement.
+fn carry_out<S: Store, L: Language + Changes<S>>(
+    alloc: Global,
+    language: &L,
+    store: &mut S,
+    writer: &mut Option<u64>,
+    mode: &mut AccessMode,
+    session: u64,
+    statement: &Statement,
+) -> Reply
+    ensures moves { (rules : Rules) (text : Bytes) → AreRules rules → IsRead text statement.now → (IsRollback text → ⊥) → S.is_sound store.old → IsOrderly (S.shows store.old) writer.old → IsGood rules.check (seen_in (S.shows store.old) writer.old session)
+        → Moves rules session text result (S.shows store.old) writer.old mode.old (S.shows store.new) writer.new mode.new }
+    ensures sound { S.is_sound store.old → S.is_sound store.new }
+    ensures counts { S.refused store.old ≤ S.refused store.new }
+{
+    match kind_of(statement) {
+        Kind::Query => query(alloc, language, store, *writer, session, statement),
+        Kind::Change => change(alloc, language, store, writer, *mode, session, statement),
+        Kind::Commit => commit(store, writer, mode, session),
+        Kind::Rollback => roll_back(store, writer, mode, session),
+        Kind::SetTransaction(set) => set_mode(store, *writer, mode, session, set),
+        Kind::Later => Reply::Refused(Refusal::NotSupported),
+    }
+}

@@ -1,0 +1,195 @@
+//! A core and its calls.
+ghost use Rattle.std.specs.Prelude.{◌≡◌, ◌≤◌, ◌<◌, true, false, Ok, Err, IfOk, IfErr, OnOk, MatchResult};
+
+use crate::calling::call;
+use crate::changes::Changes;
+use crate::language::Language;
+use crate::slots::Slots;
+use ast::AccessMode;
+use refusals::{Limit, Reason, Refusal};
+use replies::Reply;
+use std::alloc::Global;
+use store::{Returned, Store};
+use transactions::{drop_session, refusal_of};
+
+/// A session of a core, from `new_session` to `end_session`: the least number that no other had when it was made.
+#[derive(Clone, Copy, Debug, PartialEq, Eq)]
+pub struct SessionId {
+    number: u64,
+}
+
+/// A refusal, and what the call was given.
+#[derive(Drop)]
+pub struct Refused<T> {
+    /// Why the call was refused.
+    pub refusal: Refusal,
+    /// What it was given.
+    pub value: T,
+}
+
+/// Sessions over a store, with what reads and types their statements.
+#[derive(Drop)]
+pub struct Core<S: Store, L: Language + Changes<S>> {
+    alloc: Global,
+    language: L,
+    store: S,
+    /// Of each session that stands, by its number, what its transaction may do, or its next one.
+    slots: Slots,
+    /// The session that has written, until its transaction ends.
+    writer: Option<u64>,
+}
+
+impl<S: Store, L: Language + Changes<S>> Core<S, L> {
+    ghost use Rattle.session_definitions.specs.Rules.{Rules, AreRules};
+    ghost use Rattle.session_definitions.specs.Refusals.{IsReserved};
+    ghost use Rattle.session_definitions.specs.Run.{MakesSession, DropsSession, FlushesPages, without_sessions};
+    ghost use Rattle.session_definitions.specs.Step.{Step};
+    ghost use Rattle.session_definitions.specs.World.{is_live, opened};
+    ghost use Rattle.denote.specs.Database.{Database, IsGood};
+    ghost use Rattle.store.specs.Errors.{HasRisen};
+    ghost use Rattle.refusals.specs.declared.limit.Limit.TheVariants as limit;
+    ghost use Rattle.statement_reading.specs.Rollback.{IsRollback};
+    ghost use Rattle.refusals.specs.declared.reason.Reason.TheVariants as reason;
+    ghost use Rattle.refusals.specs.declared.refusal.Refusal.TheVariants.{Disk, Exceeded, Invalid};
+    ghost use Rattle.sessions.specs.Seen.{seen_in};
+    ghost use Rattle.sessions.specs.OfCore.{IsSound, number_of, world_of};
+
+    /// Carries out a statement of this session, and answers its reply. A call of a session that has ended is refused by `session`, and nothing changes.
+    ///
+    /// ROLLBACK takes no memory and always succeeds. That the database which the statement sees is good is a law of runs; a change relies on it.
+    pub fn step(&mut self, session: SessionId, text: &[u8]) -> Reply
+        ensures step { (rules : Rules) → AreRules rules → IsSound S.is_sound S.shows self.old → is_live (world_of S.shows self.old) (number_of session) ≡ true
+            → IsGood rules.check (seen_in (S.shows self.old.store) self.old.writer (number_of session)) → Step rules (world_of S.shows self.old) (number_of session) text.now result (world_of S.shows self.new) }
+        ensures sound { (rules : Rules) → AreRules rules → IsSound S.is_sound S.shows self.old → IsGood rules.check (seen_in (S.shows self.old.store) self.old.writer (number_of session))
+            → IsSound S.is_sound S.shows self.new }
+        ensures rolled_back { IsRollback text.now → is_live (world_of S.shows self.old) (number_of session) ≡ true → result ≡ Reply.Done }
+        ensures ended { is_live (world_of S.shows self.old) (number_of session) ≡ false → (result ≡ Reply.Refused (Invalid reason.Session)) × (self.new ≡ self.old) }
+        ensures counts { S.refused self.old.store ≤ S.refused self.new.store }
+    {
+        let Some(mut mode) = self.slots.mode_of(session.number) else {
+            return Reply::Refused(Refusal::Invalid(Reason::Session));
+        };
+        let reply = call(
+            self.alloc,
+            &self.language,
+            &mut self.store,
+            &mut self.writer,
+            &mut mode,
+            session.number,
+            text,
+        );
+        self.slots.set(session.number, Some(mode));
+        reply
+    }
+
+    /// A new session without a transaction. Refused by the limit `sessions` exactly where 64 stand, and nothing changes then.
+    pub fn new_session(&mut self) -> Result<SessionId, Refusal>
+        ensures makes { IsSound S.is_sound S.shows self.old → MatchResult result (λ session. MakesSession (world_of S.shows self.old) (Ok (number_of session)) (world_of S.shows self.new))
+            (λ refusal. MakesSession (world_of S.shows self.old) (Err refusal) (world_of S.shows self.new)) }
+        ensures refused { IfErr result (λ refusal. (refusal ≡ Exceeded limit.Sessions) × (self.new ≡ self.old)) }
+        ensures sound { IsSound S.is_sound S.shows self.old → IsSound S.is_sound S.shows self.new }
+        ensures counts { S.refused self.new.store ≡ S.refused self.old.store }
+    {
+        let Some(number) = self.slots.first_free() else {
+            return Err(Refusal::Exceeded(Limit::Sessions));
+        };
+        self.slots.set(number, Some(AccessMode::ReadWrite));
+        Ok(SessionId { number })
+    }
+
+    /// Rolls back the session's transaction, and ends the session. Takes no memory. Where the session has ended already, nothing changes.
+    pub fn end_session(&mut self, session: SessionId)
+        ensures drops { is_live (world_of S.shows self.old) (number_of session) ≡ true → DropsSession (world_of S.shows self.old) (number_of session) (world_of S.shows self.new) }
+        ensures ended { is_live (world_of S.shows self.old) (number_of session) ≡ false → self.new ≡ self.old }
+        ensures sound { IsSound S.is_sound S.shows self.old → IsSound S.is_sound S.shows self.new }
+        ensures counts { S.refused self.old.store ≤ S.refused self.new.store }
+    {
+        let Some(_mode) = self.slots.mode_of(session.number) else {
+            return;
+        };
+        drop_session(&mut self.store, &mut self.writer, session.number);
+        self.slots.set(session.number, None);
+    }
+
+    /// Writes some of what is committed and not on the device yet, and answers how many pages are left: less than before, or none. It is refused for want of memory or by
+    /// the device alone.
+    pub fn flush(&mut self) -> Result<u32, Refusal>
+        ensures flushes { MatchResult result (λ left. FlushesPages (world_of S.shows self.old) (Ok left) (world_of S.shows self.new))
+            (λ refusal. FlushesPages (world_of S.shows self.old) (Err refusal) (world_of S.shows self.new)) }
+        ensures left { IfOk result (λ left. left ≡ S.unwritten self.new.store) }
+        ensures less { OnOk result (0 < S.unwritten self.old.store → S.unwritten self.new.store < S.unwritten self.old.store) }
+        ensures same { (self.new.slots.modes ≡ self.old.slots.modes) × (self.new.writer ≡ self.old.writer) × (S.shows self.new.store ≡ S.shows self.old.store) }
+        ensures sound { IsSound S.is_sound S.shows self.old → IsSound S.is_sound S.shows self.new }
+        ensures device { IfErr result (λ refusal. refusal ≡ Disk → HasRisen (S.refused self.old.store) (S.refused self.new.store)) }
+        ensures counts { S.refused self.old.store ≤ S.refused self.new.store }
+    {
+        match self.store.flush() {
+            Ok(left) => Ok(left),
+            Err(error) => Err(refusal_of(error)),
+        }
+    }
+
+    /// Ends all sessions, writes all that is committed, and hands back the device. A refusal is that of the device; it hands back the core, whose sessions have ended. Takes no memory.
+    pub fn close(self) -> Result<S::Device, Refused<Core<S, L>>>
+        ensures closed { IfOk result (λ device. IsSound S.is_sound S.shows self → S.saved device (world_of S.shows self).last) }
+        ensures fails { IfErr result (λ back. (back.refusal ≡ Disk) × (world_of S.shows back.value ≡ without_sessions (world_of S.shows self))) }
+        ensures sound { IfErr result (λ back. IsSound S.is_sound S.shows self → IsSound S.is_sound S.shows back.value) }
+        ensures device { IfErr result (λ back. HasRisen (S.refused self.store) (S.refused back.value.store)) }
+    {
+        let Core {
+            alloc,
+            language,
+            store,
+            slots: _,
+            writer: _,
+        } = self;
+        match store.close() {
+            Ok(device) => Ok(device),
+            Err(back) => {
+                let Returned { error, value } = back;
+                Err(Refused {
+                    refusal: refusal_of(error),
+                    value: Core {
+                        alloc,
+                        language,
+                        store: value,
+                        slots: Slots::new(),
+                        writer: None,
+                    },
+                })
+            }
+        }
+    }
+
+    /// A core without sessions over the database that was saved on a device, with room for so many pages in memory. A refusal hands the device back, saved as it was; where a
+    /// database was saved on it, it is want of memory, the device or a limit of the store.
+    pub fn open(
+        alloc: Global,
+        language: L,
+        device: S::Device,
+        frames: usize,
+    ) -> Result<Core<S, L>, Refused<S::Device>>
+        requires { (16 ≤ frames) × (frames ≤ 4096) }
+        ensures opened { IfOk result (λ core. (db : Database) → S.saved device db → IsSound S.is_sound S.shows core × (world_of S.shows core ≡ opened db)) }
+        ensures left { IfErr result (λ back. (db : Database) → S.saved device db → S.saved back.value db) }
+        ensures refused { IfErr result (λ back. (db : Database) → S.saved device db → IsReserved back.refusal) }
+        ensures device { IfErr result (λ back. back.refusal ≡ Disk → HasRisen (S.calls_refused device) (S.calls_refused back.value)) }
+    {
+        match S::open(alloc, device, frames) {
+            Ok(store) => Ok(Core {
+                alloc,
+                language,
+                store,
+                slots: Slots::new(),
+                writer: None,
+            }),
+            Err(back) => {
+                let Returned { error, value } = back;
+                Err(Refused {
+                    refusal: refusal_of(error),
+                    value,
+                })
+            }
+        }
+    }
+}

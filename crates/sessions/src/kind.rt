@@ -1,0 +1,40 @@
+//! What a session does with a statement, by what it asks for.
+ghost use Rattle.sessions.specs.Kinds.{IsOfKind};
+
+use ast::{AccessMode, Statement};
+
+/// What a statement asks of a session.
+#[derive(Clone, Copy, Debug, PartialEq, Eq)]
+pub(crate) enum Kind {
+    Query,
+    Change,
+    Commit,
+    Rollback,
+    SetTransaction(AccessMode),
+    /// A form that is not built yet. Some word of its text is not supported.
+    Later,
+}
+
+/// The kind of a statement.
+pub(crate) fn kind_of(statement: &Statement) -> Kind
+    ensures { IsOfKind result statement.now }
+{
+    match statement {
+        Statement::Query(_) => Kind::Query,
+        Statement::CreateTable(_) => Kind::Change,
+        Statement::DropTable(_) => Kind::Change,
+        Statement::CreateIndex(_) => Kind::Change,
+        Statement::DropIndex(_) => Kind::Change,
+        Statement::Insert(_) => Kind::Change,
+        Statement::Update(_) => Kind::Change,
+        Statement::Delete(_) => Kind::Change,
+        Statement::Commit(_) => Kind::Commit,
+        Statement::Rollback(_) => Kind::Rollback,
+        Statement::SetTransaction(mode) => Kind::SetTransaction(*mode),
+        Statement::Explain(_) => Kind::Later,
+        Statement::DeclareCursor(_) => Kind::Later,
+        Statement::OpenCursor(_) => Kind::Later,
+        Statement::Fetch(_) => Kind::Later,
+        Statement::CloseCursor(_) => Kind::Later,
+    }
+}

@@ -1,0 +1,32 @@
+//! How the texts of statements are read and typed, which sessions take as it is.
+ghost use Rattle.std.specs.Prelude.{◌≡◌, ◌≢◌, ◌↔◌, true, IsTrue, IfOk, IfErr};
+ghost use Rattle.refusals.specs.declared.refusal.Refusal.TheVariants.{Memory};
+ghost use Rattle.statement_reading.specs.Reading.{IsRead, IsUnread};
+ghost use Rattle.statement_reading.specs.Rollback.{IsRollback};
+ghost use Rattle.typing.specs.Evaluated.{is_evaluated};
+ghost use Rattle.typing.specs.Finds.{Finds};
+ghost use Rattle.typing.specs.Statement.{answered_found};
+
+use ast::Statement;
+use refusals::Refusal;
+use sqlval::Schema;
+use std::alloc::Global;
+use typing::Typed;
+
+/// What reads and types statements.
+pub trait Language: Drop {
+    /// Whether a text is ROLLBACK. Takes no memory.
+    fn is_rollback(&self, text: &[u8]) -> bool
+        ensures { IsTrue result ↔ IsRollback text.now };
+
+    /// The statement of a text. A text that is no statement is refused by the first thing that is wrong with it; any may be refused for want of memory.
+    fn read(&self, alloc: Global, text: &[u8]) -> Result<Statement, Refusal>
+        ensures read { IfOk result (λ x. IsRead text.now x) }
+        ensures unread { IfErr result (λ refusal. refusal ≢ Memory → IsUnread text.now refusal) };
+
+    /// What a statement stands for over a schema: by the rules of names and types, or a reason of theirs against it; any may be refused for want of memory. It gives only
+    /// what is evaluated so far.
+    fn typed(&self, alloc: Global, statement: &Statement, schema: &Schema) -> Result<Typed, Refusal>
+        ensures finds { Finds result (answered_found statement.now schema.now) }
+        ensures evaluated { IfOk result (λ typed. is_evaluated typed ≡ true) };
+}

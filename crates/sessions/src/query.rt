@@ -1,0 +1,107 @@
+//! A query in a session.
+ghost use Rattle.std.specs.Prelude.{◌≡◌, ◌≤◌, true, Ok, IfOk, IfErr};
+ghost use Rattle.answers.specs.Refused.{MayRefuse};
+ghost use Rattle.denote.specs.Answer.{Answers};
+ghost use Rattle.denote.specs.Query.{denotes};
+ghost use Rattle.typing.specs.declared.statement.Typed.TheVariants as does;
+ghost use Rattle.typing.specs.declared.typed.OrderedQuery.{OrderedQuery as Query};
+ghost use Rattle.typing.specs.Evaluated.{is_evaluated};
+ghost use Rattle.ast.specs.declared.statement.AccessMode.{AccessMode as Mode};
+ghost use Rattle.ast.specs.declared.statement.OrderedQuery.{OrderedQuery};
+ghost use Rattle.ast.specs.declared.statement.Statement.TheVariants as asks;
+ghost use Rattle.lexer.specs.Token.{Bytes};
+ghost use Rattle.session_definitions.specs.Rules.{Rules, AreRules};
+ghost use Rattle.statement_reading.specs.Reading.{IsRead};
+ghost use Rattle.statement_reading.specs.Rollback.{IsRollback};
+ghost use Rattle.store.specs.Contents.{database_of};
+ghost use Rattle.store.specs.View.{seen_by};
+ghost use Rattle.transactions.specs.Moves.{Moves};
+ghost use Rattle.transactions.specs.Orderly.{IsOrderly};
+ghost use Rattle.sessions.specs.Answered.{GivesRows, RefusesQuery};
+
+use crate::language::Language;
+use answers::answer;
+use ast::Statement;
+use denote::Rows;
+use refusals::Refusal;
+use replies::Reply;
+use std::alloc::Global;
+use store::{Seen, Store, View};
+use transactions::{refusal_of, take_back, view_of};
+use typing::Typed;
+
+/// A query. It begins a transaction where the session has none, but not where it is refused.
+pub(crate) fn query<S: Store, L: Language>(
+    alloc: Global,
+    language: &L,
+    store: &mut S,
+    writer: Option<u64>,
+    session: u64,
+    statement: &Statement,
+) -> Reply
+    ensures moves { (rules : Rules) (text : Bytes) (x : OrderedQuery) (mode : Mode) → AreRules rules → statement.now ≡ asks.Query x → IsRead text (asks.Query x) → (IsRollback text → ⊥)
+        → S.is_sound store.old → IsOrderly (S.shows store.old) writer
+        → Moves rules session text result (S.shows store.old) writer mode (S.shows store.new) writer mode }
+    ensures sound { S.is_sound store.old → S.is_sound store.new }
+    ensures counts { S.refused store.old ≤ S.refused store.new }
+{
+    let idle = store.number(session).is_none();
+    if let Err(error) = store.begin(session) {
+        return Reply::Refused(refusal_of(error));
+    }
+    match rows_seen(alloc, language, store, view_of(writer, session), statement) {
+        Ok(rows) => Reply::Rows(rows),
+        Err(refusal) => {
+            take_back(store, session, idle);
+            Reply::Refused(refusal)
+        }
+    }
+}
+
+/// The rows of a query over a version of the store.
+fn rows_seen<S: Store, L: Language>(
+    alloc: Global,
+    language: &L,
+    store: &mut S,
+    view: View,
+    statement: &Statement,
+) -> Result<Rows, Refusal>
+    ensures gives { IfOk result (λ rows. (rules : Rules) (x : OrderedQuery) → AreRules rules → statement.now ≡ asks.Query x → S.is_sound store.old
+        → GivesRows rules (database_of (seen_by (S.shows store.old) view)) x rows) }
+    ensures refused { IfErr result (λ refusal. (rules : Rules) (x : OrderedQuery) → AreRules rules → statement.now ≡ asks.Query x → S.is_sound store.old
+        → RefusesQuery rules (database_of (seen_by (S.shows store.old) view)) x refusal) }
+    ensures shows { S.shows store.new ≡ S.shows store.old }
+    ensures sound { S.is_sound store.old → S.is_sound store.new }
+    ensures counts { S.refused store.old ≤ S.refused store.new }
+{
+    if let Err(error) = store.prepare(view) {
+        return Err(refusal_of(error));
+    }
+    match language.typed(alloc, statement, store.schema()) {
+        Ok(typed) => evaluate(alloc, store, view, &typed),
+        Err(refusal) => Err(refusal),
+    }
+}
+
+/// The rows of a typed query.
+fn evaluate<S: Store>(
+    alloc: Global,
+    store: &mut S,
+    view: View,
+    typed: &Typed,
+) -> Result<Rows, Refusal>
+    requires { is_evaluated typed.now ≡ true }
+    ensures answers { IfOk result (λ rows. (query : Query) → typed.now ≡ does.Query query → S.is_sound store.old → Answers (Ok rows) (denotes (database_of (seen_by (S.shows store.old) view)) query)) }
+    ensures refused { IfErr result (λ refusal. (query : Query) → typed.now ≡ does.Query query → S.is_sound store.old → MayRefuse (denotes (database_of (seen_by (S.shows store.old) view)) query).unordered.faults refusal) }
+    ensures shows { S.shows store.new ≡ S.shows store.old }
+    ensures sound { S.is_sound store.old → S.is_sound store.new }
+    ensures counts { S.refused store.old ≤ S.refused store.new }
+{
+    match typed {
+        Typed::Query(query) => {
+            let mut seen = Seen { store, view };
+            answer(alloc, &mut seen, query)
+        }
+        _ => Err(Refusal::NotSupported),
+    }
+}

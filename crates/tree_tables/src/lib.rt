@@ -1,0 +1,9 @@
+//! Which stored tables an operator tree reads, and that its listing depends on no others.
+#![tactic(auto)]
+
+mod laws;
+mod names;
+mod parts;
+
+pub use laws::listings_read_their_tables;
+pub use names::tables_in_tree;
