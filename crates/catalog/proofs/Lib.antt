@@ -3,3 +3,4 @@ pub mod OrderLemmas
 pub mod PutLemmas
 pub mod RefusalLemmas
 pub mod RootLemmas
+pub mod OneLemmas

@@ -4,8 +4,10 @@
 mod adding;
 mod decoding;
 mod error;
+mod laws;
 mod schema;
 
 pub use adding::{add_table, set_root};
 pub use error::ChangeError;
+pub use laws::{schemas_stay, tables_are_one};
 pub use schema::read_schema;

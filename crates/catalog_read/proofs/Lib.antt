@@ -4,3 +4,4 @@ pub mod Exits
 pub mod RuleLemmas
 pub mod NumberedLemmas
 pub mod TableLemmas
+pub mod ApartLemmas

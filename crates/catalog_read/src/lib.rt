@@ -3,6 +3,7 @@
 
 mod error;
 mod key;
+mod laws;
 mod numbers;
 mod parts;
 mod places;
@@ -11,4 +12,5 @@ mod schema;
 mod values;
 
 pub use error::ReadError;
+pub use laws::records_tell_apart;
 pub use schema::schema_of_records;

@@ -1,3 +1,4 @@
 pub mod DecodeLemmas
 pub mod NumberLemmas
 pub mod AppendLemmas
+pub mod OneLemmas

@@ -4,9 +4,11 @@
 mod appending;
 mod decoding;
 mod error;
+mod laws;
 mod number;
 mod reading;
 
 pub use appending::append;
 pub use error::AppendError;
+pub use laws::{rows_are_one, rows_stay};
 pub use reading::{next, scan};
