@@ -5,6 +5,9 @@ mod arguments;
 mod conditions;
 mod expressions;
 mod functions;
+mod order;
 mod parts;
 mod queries;
 mod tables;
+
+pub use order::typed_query;
