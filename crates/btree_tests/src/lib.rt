@@ -1,0 +1,5 @@
+//! Tests of trees over pages in memory.
+#![tactic(auto)]
+
+#[cfg(test)]
+mod trees;
