@@ -1,0 +1,111 @@
+//! CREATE TABLE.
+ghost use Rattle.std.specs.Prelude.{◌≡◌, ◌≤◌, IfOk, IfErr, OnErr, map, None};
+ghost use Rattle.std.specs.List.{filter_map};
+ghost use Rattle.std.specs.Option.{option_map};
+ghost use Rattle.std.specs.FinMap.{get};
+ghost use Rattle.refusals.specs.declared.refusal.Refusal.TheVariants.{Disk};
+ghost use Rattle.session_definitions.specs.Refusals.{IsReserved};
+ghost use Rattle.typing.specs.declared.statement.Change.TheVariants as does;
+ghost use Rattle.denote.specs.Change.{owned_index};
+ghost use Rattle.denote.specs.Database.{CheckReading, IndexDeclaration};
+ghost use Rattle.denote.specs.SchemaOf.{index_of};
+ghost use Rattle.store.specs.Errors.{HasRisen};
+ghost use Rattle.store.specs.Stored.{SameButMark};
+ghost use Rattle.table_changes.specs.Changed.{HasChanged};
+ghost use Rattle.table_changes.specs.Indexes.{key_index};
+
+use items::Items;
+use refusals::Refusal;
+use replies::Reply;
+use sqlval::{Constraint, Index, Rule, Table};
+use std::alloc::{AllocError, Global};
+use store::Store;
+use transactions::refusal_of;
+use typing::CreateTable;
+
+/// CREATE TABLE of a name that no table has: the table without rows, with an index for each PRIMARY KEY and each UNIQUE. It sets the mark. It is refused for want of
+/// memory, by the device or by a limit of the store; all is then as it was, but for the mark.
+pub fn create_table<S: Store>(
+    alloc: Global,
+    store: &mut S,
+    table: CreateTable,
+) -> Result<Reply, Refusal>
+    ensures changes { IfOk result (λ reply. (reading : CheckReading) → S.is_sound store.old → get (S.shows store.old).working table.name ≡ None
+        → HasChanged reading (S.shows store.old) (does.CreateTable table) reply (S.shows store.new)) }
+    ensures refused { IfErr result (λ refusal. S.is_sound store.old → IsReserved refusal) }
+    ensures device { IfErr result (λ refusal. refusal ≡ Disk → HasRisen (S.refused store.old) (S.refused store.new)) }
+    ensures same { OnErr result (SameButMark (S.shows store.old) (S.shows store.new)) }
+    ensures sound { S.is_sound store.old → S.is_sound store.new }
+    ensures counts { S.refused store.old ≤ S.refused store.new }
+{
+    let declared = declared_table(alloc, table)?;
+    if let Err(error) = store.mark() {
+        return Err(refusal_of(error));
+    }
+    match store.create_table(declared) {
+        Ok(()) => Ok(Reply::Done),
+        Err(error) => Err(refusal_of(error)),
+    }
+}
+
+/// The table as a store is given it.
+fn declared_table(alloc: Global, table: CreateTable) -> Result<Table, AllocError>
+    ensures name { IfOk result (λ t. t.name ≡ table.name) }
+    ensures columns { IfOk result (λ t. t.columns ≡ table.columns) }
+    ensures constraints { IfOk result (λ t. t.constraints ≡ table.constraints) }
+    ensures indexes { IfOk result (λ t. map index_of t.indexes ≡ filter_map (λ k. owned_index k.rule) table.constraints) }
+{
+    let CreateTable {
+        name,
+        columns,
+        constraints,
+    } = table;
+    let indexes = owned_indexes(alloc, constraints.as_slice())?;
+    Ok(Table {
+        name,
+        columns,
+        constraints,
+        indexes,
+        root: 0,
+    })
+}
+
+/// The indexes that PRIMARY KEY and UNIQUE own.
+fn owned_indexes(alloc: Global, constraints: &[Constraint]) -> Result<Items<Index>, AllocError>
+    ensures { IfOk result (λ indexes. map index_of indexes ≡ filter_map (λ k. owned_index k.rule) constraints.now) }
+{
+    let mut indexes = Items::new(alloc);
+    for (place, constraint) in constraints.iter().enumerate() {
+        if let Some(columns) = key_columns(&constraint.rule) {
+            indexes.push(Index {
+                name: None,
+                columns: copied(alloc, columns)?,
+                owner: Some(place),
+                root: 0,
+            })?;
+        }
+    }
+    Ok(indexes)
+}
+
+/// The columns of a PRIMARY KEY or a UNIQUE.
+fn key_columns(rule: &Rule) -> Option<&[usize]>
+    ensures { option_map (λ columns. key_index columns.now) result ≡ owned_index rule.now }
+{
+    match rule {
+        Rule::NotNull(_) => None,
+        Rule::PrimaryKey(columns) => Some(columns.as_slice()),
+        Rule::Unique(columns) => Some(columns.as_slice()),
+        Rule::Check(_) => None,
+    }
+}
+
+fn copied(alloc: Global, places: &[usize]) -> Result<Items<usize>, AllocError>
+    ensures { IfOk result (λ copied. copied ≡ places.now) }
+{
+    let mut copied = Items::new(alloc);
+    for place in places {
+        copied.push(*place)?;
+    }
+    Ok(copied)
+}
