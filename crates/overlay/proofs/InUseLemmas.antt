@@ -7,6 +7,7 @@ use Rattle.pagefile.specs.Number.{number_at}
 use Rattle.pool.specs.Pages.{PageMap, over, only, pick}
 use Rattle.pool.proofs.SlotLemmas.{lt-true, lt-false}
 use Rattle.overlay.specs.InUse.{unless_free, not_free, is_counted, in_use}
+use Rattle.overlay.specs.Whole.{IsWritable}
 use Rattle.overlay.specs.Bounded.{known, unknown, by_known, if_none, some_is, in_use-bounded}
 use Rattle.overlay.proofs.LayerLemmas.{put_here, put_apart}
 
@@ -72,10 +73,10 @@ not_free-same : (p q : PageMap) (n : ℕ) → q n ≡ p n → not_free q n ≡ n
 not_free-same p q n e = ap (λ (o : Option (List ℕ)). if nat_lt 0 n && nat_lt n 65536 then unless_free o else None) e
 
 -- other pages written, and a page 0 that counts this one alike
-pub in_use-apart : (version written next : PageMap) (n : ℕ) → next n ≡ written n → is_counted (over next version 0) n ≡ is_counted (over written version 0) n
-    → in_use version next n ≡ in_use version written n
+pub in_use-apart : (version written next : PageMap) (n : ℕ) → next n ≡ written n
+    → (is_some (version 0) ≡ true → is_counted (over next version 0) n ≡ is_counted (over written version 0) n) → in_use version next n ≡ in_use version written n
 in_use-apart version written next n same counted = by_known version (in_use version next n ≡ in_use version written n)
-    (λ k. known version next n k ∙ ap (λ b. cond b (not_free (over next version) n) None) counted
+    (λ k. known version next n k ∙ ap (λ b. cond b (not_free (over next version) n) None) (counted k)
     ∙ ap (λ (o : Option (List ℕ)). cond (is_counted (over written version 0) n) o None) (not_free-same (over written version) (over next version) n (ap (λ (o : Option (List ℕ)). pick o (version n)) same))
     ∙ sym (known version written n k))
     (λ k. unknown version next n k ∙ not_free-same written next n same ∙ sym (unknown version written n k))
@@ -117,10 +118,41 @@ in_use-freed version written n page e kind = none_free version written n
 -- a page other than page 0 written: each other page is as it was
 pub in_use-others : (version written next : PageMap) (n : ℕ) → n ≢ 0 → ((m : ℕ) → m ≢ n → next m ≡ written m) → (m : ℕ) → m ≢ n → in_use version next m ≡ in_use version written m
 in_use-others version written next n some same m differs = in_use-apart version written next m (same m differs)
-    (ap (λ (o : Option (List ℕ)). is_counted (pick o (version 0)) m) (same 0 (λ h. some (sym h))))
+    (λ k. ap (λ (o : Option (List ℕ)). is_counted (pick o (version 0)) m) (same 0 (λ h. some (sym h))))
 
 -- what was read is what lies in a page in use
 pub reads_in_use : {E : Type 0} (result : Result (Unit {0}) E) (version written : PageMap) (n : ℕ) (into : List ℕ)
     → OnOk result ((bytes : List ℕ) → over written version n ≡ Some bytes → into ≡ bytes) → OnOk result ((bytes : List ℕ) → in_use version written n ≡ Some bytes → into ≡ bytes)
 reads_in_use (Ok done) version written n into value = λ bytes e. value bytes (in_use-read version written n bytes e)
 reads_in_use (Err e) version written n into value = value
+
+-- pages that the transaction has not written
+pub stored_behind : (version written : PageMap) (page count : ℕ) → written page ≡ None → ((first : List ℕ) → over written version 0 ≡ Some first → number_at first 8 ≡ count)
+    → count ≤ page → in_use version written page ≡ None
+stored_behind version written page count unwritten says behind = none_behind version written page unwritten
+    (λ first e. let same = says first e in omega (arith, same, behind))
+
+pub stored_free : (version same written : PageMap) (page : ℕ) (into : List ℕ) → same ≡ version → written page ≡ None → ((bytes : List ℕ) → same page ≡ Some bytes → into ≡ bytes)
+    → slice_index into 0 ≡ 3 → in_use version written page ≡ None
+stored_free version same written page into is unwritten value kind = none_free version written page
+    (λ bytes e. subst (λ (p : List ℕ). slice_index p 0 ≡ 3) (value bytes (ap (λ (v : PageMap). v page) is ∙ sym (ap (λ o. pick o (version page)) unwritten) ∙ e)) kind)
+
+pub stored_writable : (version same written : PageMap) (page count : ℕ) (into : List ℕ) → same ≡ version → written page ≡ None → ((bytes : List ℕ) → same page ≡ Some bytes → into ≡ bytes)
+    → slice_index into 0 ≢ 3 → ((first : List ℕ) → over written version 0 ≡ Some first → number_at first 8 ≡ count) → page < count → IsWritable (over written version) page
+stored_writable version same written page count into is unwritten value kind says below = record {
+  kind = λ bytes e. subst (λ (p : List ℕ). slice_index p 0 ≢ 3) (value bytes (ap (λ (v : PageMap). v page) is ∙ sym (ap (λ o. pick o (version page)) unwritten) ∙ e)) kind;
+  place = λ first e none. let same_count = says first e in omega (arith, same_count, below);
+}
+
+-- pages that it has written
+pub written_writable : (version written : PageMap) (page : ℕ) (bytes : List ℕ) → written page ≡ Some bytes → slice_index bytes 0 ≢ 3 → IsWritable (over written version) page
+written_writable version written page bytes e kind = record {
+  kind = λ other h. subst (λ (p : List ℕ). slice_index p 0 ≢ 3) (same bytes other (sym (pick_some (written page) (version page) bytes e) ∙ h)) kind;
+  place = λ first h none. absurd (never bytes (sym (pick_some (written page) (version page) bytes e) ∙ none));
+}
+  where
+    same : (a b : List ℕ) → Some a ≡ Some b → a ≡ b
+    same a b h = cc
+
+    never : (a : List ℕ) → Some a ≡ None → ⊥
+    never a h = cc

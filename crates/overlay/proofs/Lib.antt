@@ -1,3 +1,5 @@
 pub mod CountLemmas
 pub mod LayerLemmas
 pub mod InUseLemmas
+pub mod WholeLemmas
+pub mod WriteLemmas

@@ -1,5 +1,7 @@
 -- Files whose list of free pages is one.
-use Rattle.std.specs.Prelude.{◌≡◌, ◌≢◌, ℕ, ◌<◌, ◌≤◌, List, [], ◌∷◌, Some, None, ⊤, ◌⊎◌, slice_index}
+use Rattle.std.specs.Prelude.{◌≡◌, ◌≢◌, Option, ℕ, ◌<◌, ◌≤◌, List, [], ◌∷◌, Some, None, ⊤, ◌⊎◌, slice_index}
+use Rattle.page_space.specs.declared.fault.Fault.{Fault}
+use Rattle.page_space.specs.declared.fault.Fault.TheVariants.{Memory, Disk, Damaged, Pages, Private}
 use Rattle.pagefile.specs.Number.{number_at}
 use Rattle.pagefile.specs.declared.header.FileHeader.{FileHeader}
 use Rattle.pagefile.specs.Header.{IsHeader, IsInBounds}
@@ -28,11 +30,10 @@ abbrev pub IsFreeList : PageMap → ℕ → List ℕ → Type 0
 IsFreeList pages first [] = first ≡ 0
 IsFreeList pages first (p ∷ ps) = (first ≡ p) × (0 < p) × ((link : FreeAt pages p) × IsFreeList pages link.next ps)
 
--- page 0 is a header, the free pages are a list in which none stands twice, and nothing lies behind the page count
-pub record IsWhole (pages : PageMap) : Type 0 where
+-- page 0 is this header, the free pages are a list in which none stands twice, and nothing lies behind the page count
+pub record HasFreeList (pages : PageMap) (header : FileHeader) : Type 0 where
   pub first : List ℕ
   pub there : pages 0 ≡ Some first
-  pub header : FileHeader
   pub says : IsHeader first header
   pub bounds : IsInBounds header
   pub free : List ℕ
@@ -41,7 +42,24 @@ pub record IsWhole (pages : PageMap) : Type 0 where
   pub within : (n : ℕ) → IsIn n free → n < header.page_count
   pub ends : (n : ℕ) → header.page_count ≤ n → pages n ≡ None
 
+-- the list of free pages is one
+abbrev pub IsWhole : PageMap → Type 0
+IsWhole pages = (header : FileHeader) × HasFreeList pages header
+
 -- a page that is not free, and lies below the page count or is there
 pub record IsWritable (pages : PageMap) (page : ℕ) : Type 0 where
   pub kind : (bytes : List ℕ) → pages page ≡ Some bytes → slice_index bytes 0 ≢ 3
   pub place : (first : List ℕ) → pages 0 ≡ Some first → pages page ≡ None → page < number_at first 8
+
+-- page 0, where it is known, has the greatest page count and no free page
+abbrev pub HasMostPages : Option (List ℕ) → Type 0
+HasMostPages None = ⊤
+HasMostPages (Some first) = (65536 ≤ number_at first 8) × (number_at first 12 ≡ 0)
+
+-- the limit that a fault names is reached, with this page 0 and so many private pages
+abbrev pub AtLimit : Option (List ℕ) → ℕ → Fault → Type 0
+AtLimit first size Memory = ⊥
+AtLimit first size Disk = ⊥
+AtLimit first size Damaged = ⊥
+AtLimit first size Pages = HasMostPages first
+AtLimit first size Private = 1024 ≤ size

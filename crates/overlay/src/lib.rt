@@ -6,12 +6,15 @@ mod commits;
 mod layers;
 mod snapshot;
 mod space;
+mod uses;
 mod version;
+mod writes;
 
 pub use changes::Changes;
 pub use commits::commit;
 pub use snapshot::Snapshot;
 pub use space::Overlay;
+pub use writes::replace_page;
 
 /// How many pages a transaction may have written, page 0 among them.
 pub const PRIVATE_PAGES: usize = 1_024;

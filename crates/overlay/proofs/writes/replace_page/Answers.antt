@@ -1,0 +1,23 @@
+use Rattle.std.proofs.Common.{ap}
+use Rattle.pool.specs.Versions.{Versions, versions_of}
+use Rattle.overlay.specs.Changes.{private_of}
+use Rattle.overlay.proofs.WriteLemmas.{shown_after, others_after, whole_after}
+use Rattle.overlay.proofs.writes.replace_page.Goals as goal
+
+pub returns-clause-written : goal.returns-clause-written
+returns-clause-written g c =
+    shown_after c.write_page.result ((versions_of c.args.pool.now).pages c.args.at) ((versions_of c.write_page.new.pool).pages c.args.at)
+    (private_of c.args.changes.now) (private_of c.write_page.new.changes) c.args.page c.args.bytes.now
+    (ap (λ (v : Versions). v.pages c.args.at) c.write_page.ensures.versions) c.requires c.write_page.ensures.written
+
+pub returns-clause-others : goal.returns-clause-others
+returns-clause-others g c =
+    others_after c.write_page.result ((versions_of c.args.pool.now).pages c.args.at) ((versions_of c.write_page.new.pool).pages c.args.at)
+    (private_of c.args.changes.now) (private_of c.write_page.new.changes) c.args.page c.args.bytes.now
+    (ap (λ (v : Versions). v.pages c.args.at) c.write_page.ensures.versions) c.write_page.ensures.written c.write_page.ensures.left c.write_page.ensures.within
+
+pub returns-clause-whole : goal.returns-clause-whole
+returns-clause-whole g c =
+    whole_after c.write_page.result ((versions_of c.args.pool.now).pages c.args.at) ((versions_of c.write_page.new.pool).pages c.args.at)
+    (private_of c.args.changes.now) (private_of c.write_page.new.changes) c.args.page c.args.bytes.now
+    (ap (λ (v : Versions). v.pages c.args.at) c.write_page.ensures.versions) c.write_page.ensures.written c.write_page.ensures.used c.write_page.ensures.within

@@ -1,0 +1,40 @@
+//! Pages written over a version.
+ghost use Rattle.std.specs.Prelude.{◌≡◌, ◌≢◌, ◌≤◌, ℕ, Some, None, IsSome, slice_index, OnOk, IfErr};
+ghost use Rattle.page_space.specs.Space.{ChangeRefused};
+ghost use Rattle.pool.specs.Pages.{over};
+ghost use Rattle.pool.specs.Versions.{versions_of, device_of};
+ghost use Rattle.overlay.specs.Changes.{settled_of, private_of};
+ghost use Rattle.overlay.specs.InUse.{in_use};
+ghost use Rattle.overlay.specs.Layers.{size_of};
+ghost use Rattle.overlay.specs.Whole.{IsWhole, AtLimit};
+
+use crate::changes::Changes;
+use crate::uses::write_page;
+use disk::Disk;
+use page_space::Fault;
+use pagefile::Page;
+use pool::Pool;
+
+/// Puts these bytes, which are not those of a free page, in place of a page in use at a commit with a
+/// transaction's pages over it. Refused for memory, where the device refuses a call, at the limit of
+/// private pages, and as damaged only where the page is not in use; then no page is other than it was.
+pub fn replace_page<D: Disk>(
+    pool: &mut Pool<D>,
+    changes: &mut Changes,
+    at: u64,
+    page: u32,
+    bytes: &Page,
+) -> Result<(), Fault>
+    requires { slice_index bytes.now 0 ≢ 3 }
+    ensures written { OnOk result (IsSome (in_use ((versions_of pool.old).pages at) (private_of changes.old) page)
+        → in_use ((versions_of pool.new).pages at) (private_of changes.new) page ≡ Some bytes.now) }
+    ensures others { (n : ℕ) → n ≢ page → in_use ((versions_of pool.new).pages at) (private_of changes.new) n ≡ in_use ((versions_of pool.old).pages at) (private_of changes.old) n }
+    ensures whole { OnOk result (IsWhole (over (private_of changes.old) ((versions_of pool.old).pages at)) → IsWhole (over (private_of changes.new) ((versions_of pool.new).pages at))) }
+    ensures settled { settled_of changes.new ≡ settled_of changes.old }
+    ensures versions { versions_of pool.new ≡ versions_of pool.old }
+    ensures refusal { IfErr result (ChangeRefused (AtLimit (over (private_of changes.new) ((versions_of pool.new).pages at) 0) (size_of (private_of changes.new)))
+        (in_use ((versions_of pool.old).pages at) (private_of changes.old) page ≡ None) (D.refused (device_of pool.old)) (D.refused (device_of pool.new))) }
+    ensures rising { D.refused (device_of pool.old) ≤ D.refused (device_of pool.new) }
+{
+    write_page(pool, changes, at, page, bytes)
+}
