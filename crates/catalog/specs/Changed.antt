@@ -42,11 +42,16 @@ pub record SchemaWritten (old new : PageMap) (owned : List ℕ) (tables : List T
   pub own : (n : ℕ) → Has n now_owned → Has n owned ⊎ (old n ≡ None)
   pub others : (n : ℕ) → (Has n owned → ⊥) → IsSome (old n) → new n ≡ old n
 
--- Why a change of a schema may be refused, with the counts of refused device calls before and after: as a change of pages is, and where a record is too long.
-abbrev pub MayRefuse : (Fault → Type 0) → ℕ → ℕ → ChangeError → Type 0
-MayRefuse AtLimit before after (Space fault) = ChangeRefused AtLimit ⊤ before after fault
-MayRefuse AtLimit before after Record = ⊤
-MayRefuse AtLimit before after Key = ⊤
+-- no tables are held there in a space whose list of free pages is one
+abbrev pub HoldsNoSchemaIn : PageMap → ℕ → Type 0 → Type 0
+HoldsNoSchemaIn pages root Whole = (owned : List ℕ) (tables : List Table) → HoldsSchema pages root owned tables → Whole → ⊥
+
+-- Why a change of a schema may be refused, with what is known where it was for damage and with the counts of refused device calls before and after: as a
+-- change of pages is, and where a record is too long.
+abbrev pub MayRefuse : (Fault → Type 0) → Type 0 → ℕ → ℕ → ChangeError → Type 0
+MayRefuse AtLimit Harm before after (Space fault) = ChangeRefused AtLimit Harm before after fault
+MayRefuse AtLimit Harm before after Record = ⊤
+MayRefuse AtLimit Harm before after Key = ⊤
 
 -- of these, those that a record alone is the reason for, and want of memory
 abbrev pub IsOfRecord : ChangeError → Type 0

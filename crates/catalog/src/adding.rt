@@ -7,11 +7,12 @@ ghost use Rattle.sqlrecord.specs.Row.{row_code};
 ghost use Rattle.btree_read.specs.declared.entry.Entry.{Entry};
 ghost use Rattle.btree_read.specs.Sorted.{put};
 ghost use Rattle.btree_read.specs.Tree.{IsTree};
+ghost use Rattle.btree.specs.Overfull.{IsNoTreeIn};
 ghost use Rattle.btree.specs.Written.{IsWritten};
 ghost use Rattle.catalog_records.specs.Records.{table_records, table_record as table_record_of};
 ghost use Rattle.catalog_read.specs.Keepable.{IsTable};
 ghost use Rattle.catalog.specs.Held.{IsCoded, AreCoded, HoldsSchema};
-ghost use Rattle.catalog.specs.Changed.{with_table, with_root, IsFree, put_all, SchemaWritten, MayRefuse, IsOfRecord};
+ghost use Rattle.catalog.specs.Changed.{with_table, with_root, IsFree, put_all, SchemaWritten, MayRefuse, HoldsNoSchemaIn, IsOfRecord};
 
 use crate::ChangeError;
 use btree::insert;
@@ -69,7 +70,7 @@ fn put_record<S: PageSpace>(
         → IfOk result (IsWritten (S.pages space.old) (S.pages space.new) owned (put (key_code r.now.key) (row_code r.now.row) entries)) }
     ensures coded { OnOk result (IsCoded r.now) }
     ensures whole { OnOk result (S.is_whole space.old → S.is_whole space.new) }
-    ensures refusal { IfErr result (MayRefuse (S.at_limit space.new) (S.refused space.old) (S.refused space.new)) }
+    ensures refusal { IfErr result (MayRefuse (S.at_limit space.new) (IsNoTreeIn (S.pages space.old) root (S.is_whole space.old)) (S.refused space.old) (S.refused space.new)) }
     ensures rising { S.refused space.old ≤ S.refused space.new }
     ensures follows { S.follows space.old space.new }
 {
@@ -95,7 +96,7 @@ fn put_records<S: PageSpace>(
         → IfOk result (IsWritten (S.pages space.old) (S.pages space.new) owned (put_all records.now entries)) }
     ensures coded { OnOk result (AreCoded records.now) }
     ensures whole { OnOk result (S.is_whole space.old → S.is_whole space.new) }
-    ensures refusal { IfErr result (MayRefuse (S.at_limit space.new) (S.refused space.old) (S.refused space.new)) }
+    ensures refusal { IfErr result (MayRefuse (S.at_limit space.new) (IsNoTreeIn (S.pages space.old) root (S.is_whole space.old)) (S.refused space.old) (S.refused space.new)) }
     ensures rising { S.refused space.old ≤ S.refused space.new }
     ensures follows { S.follows space.old space.new }
 {
@@ -121,8 +122,8 @@ fn records_of(alloc: Global, table: &Table) -> Result<Items<Record>, ChangeError
 /// Puts a table whose name is free into the schema that the tree at a root holds, and answers the root; root 0 is the
 /// schema without tables.
 ///
-/// Refused for want of memory, where the device refuses a call, at the limits of pages, for damage, and where one of the
-/// table's records is too long. After a refusal nothing is said of the pages but what every call of the space keeps.
+/// Refused for want of memory, where the device refuses a call, at the limits of pages, as damaged only where no schema is
+/// held there or the list of free pages is none, and where one of the table's records is too long. After a refusal nothing is said of the pages but what every call of the space keeps.
 pub fn add_table<S: PageSpace>(
     space: &mut S,
     alloc: Global,
@@ -132,7 +133,7 @@ pub fn add_table<S: PageSpace>(
     ensures added { (owned : List ℕ) (tables : List AnyTable) → HoldsSchema (S.pages space.old) root owned tables → IsTable table.now → IsFree table.now.name tables
         → IfOk result (SchemaWritten (S.pages space.old) (S.pages space.new) owned (with_table table.now tables)) }
     ensures whole { OnOk result (S.is_whole space.old → S.is_whole space.new) }
-    ensures refusal { IfErr result (MayRefuse (S.at_limit space.new) (S.refused space.old) (S.refused space.new)) }
+    ensures refusal { IfErr result (MayRefuse (S.at_limit space.new) (HoldsNoSchemaIn (S.pages space.old) root (S.is_whole space.old)) (S.refused space.old) (S.refused space.new)) }
     ensures rising { S.refused space.old ≤ S.refused space.new }
     ensures follows { S.follows space.old space.new }
 {
@@ -153,7 +154,7 @@ pub fn set_root<S: PageSpace>(
     ensures set { (owned : List ℕ) (before behind : List AnyTable) (table : AnyTable) → HoldsSchema (S.pages space.old) root owned (before ++ table ∷ behind) → table.name ≡ name.now
         → IfOk result (SchemaWritten (S.pages space.old) (S.pages space.new) owned (before ++ with_root rows table ∷ behind)) }
     ensures whole { OnOk result (S.is_whole space.old → S.is_whole space.new) }
-    ensures refusal { IfErr result (MayRefuse (S.at_limit space.new) (S.refused space.old) (S.refused space.new)) }
+    ensures refusal { IfErr result (MayRefuse (S.at_limit space.new) (HoldsNoSchemaIn (S.pages space.old) root (S.is_whole space.old)) (S.refused space.old) (S.refused space.new)) }
     ensures rising { S.refused space.old ≤ S.refused space.new }
     ensures follows { S.follows space.old space.new }
 {

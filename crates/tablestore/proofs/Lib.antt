@@ -2,3 +2,4 @@ pub mod DecodeLemmas
 pub mod NumberLemmas
 pub mod AppendLemmas
 pub mod OneLemmas
+pub mod RefusalLemmas

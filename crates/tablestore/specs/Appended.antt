@@ -19,11 +19,16 @@ pub record RowsWritten (old new : PageMap) (owned : List ℕ) (rows : List store
   pub own : (n : ℕ) → Has n now_owned → Has n owned ⊎ (old n ≡ None)
   pub others : (n : ℕ) → (Has n owned → ⊥) → IsSome (old n) → new n ≡ old n
 
--- Why rows may be refused, with the counts of refused device calls before and after: as a change of pages is, and where a row is too long.
-abbrev pub MayRefuse : (Fault → Type 0) → ℕ → ℕ → List Row → AppendError → Type 0
-MayRefuse AtLimit before after rows (Space fault) = ChangeRefused AtLimit ⊤ before after fault
-MayRefuse AtLimit before after rows Record = HasLongRow rows
-MayRefuse AtLimit before after rows Number = ⊤
+-- no rows are held there in a space whose list of free pages is one
+abbrev pub HoldsNoRowsIn : PageMap → ℕ → Type 0 → Type 0
+HoldsNoRowsIn pages root Whole = (owned : List ℕ) (rows : List stored.Entry) → HoldsRows pages root owned rows → Whole → ⊥
+
+-- Why rows may be refused, with what is known where it was for damage and with the counts of refused device calls before and after: as a change of pages is,
+-- and where a row is too long.
+abbrev pub MayRefuse : (Fault → Type 0) → Type 0 → ℕ → ℕ → List Row → AppendError → Type 0
+MayRefuse AtLimit Harm before after rows (Space fault) = ChangeRefused AtLimit Harm before after fault
+MayRefuse AtLimit Harm before after rows Record = HasLongRow rows
+MayRefuse AtLimit Harm before after rows Number = ⊤
 
 -- for want of a number only where the numbers end
 abbrev pub NumbersEnd : List stored.Entry → ℕ → AppendError → Type 0
@@ -38,7 +43,7 @@ IsOfRow row Record = 1000 < row_length row
 IsOfRow row Number = ⊥
 
 -- a refusal of one row that is put into a tree
-abbrev pub MayRefuseRow : (Fault → Type 0) → ℕ → ℕ → Row → AppendError → Type 0
-MayRefuseRow AtLimit before after row (Space fault) = ChangeRefused AtLimit ⊤ before after fault
-MayRefuseRow AtLimit before after row Record = 1000 < row_length row
-MayRefuseRow AtLimit before after row Number = ⊥
+abbrev pub MayRefuseRow : (Fault → Type 0) → Type 0 → ℕ → ℕ → Row → AppendError → Type 0
+MayRefuseRow AtLimit Harm before after row (Space fault) = ChangeRefused AtLimit Harm before after fault
+MayRefuseRow AtLimit Harm before after row Record = 1000 < row_length row
+MayRefuseRow AtLimit Harm before after row Number = ⊥

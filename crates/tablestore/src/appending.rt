@@ -8,9 +8,10 @@ ghost use Rattle.sqlrecord.specs.Row.{row_code, IsCodeOf};
 ghost use Rattle.btree_read.specs.declared.entry.Entry.{Entry as AnyEntry};
 ghost use Rattle.btree_read.specs.Sorted.{put};
 ghost use Rattle.btree_read.specs.Tree.{IsTree};
+ghost use Rattle.btree.specs.Overfull.{IsNoTreeIn};
 ghost use Rattle.btree.specs.Written.{IsWritten};
 ghost use Rattle.tablestore.specs.Held.{HoldsRows};
-ghost use Rattle.tablestore.specs.Appended.{RowsWritten, MayRefuse, MayRefuseRow, NumbersEnd, IsOfRow};
+ghost use Rattle.tablestore.specs.Appended.{RowsWritten, HoldsNoRowsIn, MayRefuse, MayRefuseRow, NumbersEnd, IsOfRow};
 
 use crate::AppendError;
 use crate::number::next_number;
@@ -49,7 +50,7 @@ fn put_row<S: PageSpace>(
         → IfOk result (IsWritten (S.pages space.old) (S.pages space.new) owned (put (number_code number) (row_code row.now) entries)) }
     ensures coded { OnOk result (IsCodeOf (row_code row.now) row.now) }
     ensures whole { OnOk result (S.is_whole space.old → S.is_whole space.new) }
-    ensures refusal { IfErr result (MayRefuseRow (S.at_limit space.new) (S.refused space.old) (S.refused space.new) row.now) }
+    ensures refusal { IfErr result (MayRefuseRow (S.at_limit space.new) (IsNoTreeIn (S.pages space.old) root (S.is_whole space.old)) (S.refused space.old) (S.refused space.new) row.now) }
     ensures rising { S.refused space.old ≤ S.refused space.new }
     ensures follows { S.follows space.old space.new }
 {
@@ -62,8 +63,9 @@ fn put_row<S: PageSpace>(
 
 /// Puts rows behind those of the tree at a root, numbered on, and answers the root; root 0 is the table without rows.
 ///
-/// Refused for want of memory, where the device refuses a call, at the limits of pages, for damage, where a row's code
-/// takes more than 1,000 bytes, and where the row numbers end, at 2^63. After a refusal nothing is said of the pages but
+/// Refused for want of memory, where the device refuses a call, at the limits of pages, as damaged only where no rows are
+/// held there or the list of free pages is none, where a row's code takes more than 1,000 bytes, and where the row numbers
+/// end, at 2^63. After a refusal nothing is said of the pages but
 /// what every call of the space keeps.
 pub fn append<S: PageSpace>(
     space: &mut S,
@@ -75,7 +77,7 @@ pub fn append<S: PageSpace>(
         → IfOk result (RowsWritten (S.pages space.old) (S.pages space.new) owned (held ++ enumerate_from (stored.next_number held) rows.now)) }
     ensures numbers { (owned : List ℕ) (held : List stored.Entry) → HoldsRows (S.pages space.old) root owned held → IfErr result (NumbersEnd held (length rows.now)) }
     ensures whole { OnOk result (S.is_whole space.old → S.is_whole space.new) }
-    ensures refusal { IfErr result (MayRefuse (S.at_limit space.new) (S.refused space.old) (S.refused space.new) rows.now) }
+    ensures refusal { IfErr result (MayRefuse (S.at_limit space.new) (HoldsNoRowsIn (S.pages space.old) root (S.is_whole space.old)) (S.refused space.old) (S.refused space.new) rows.now) }
     ensures rising { S.refused space.old ≤ S.refused space.new }
     ensures follows { S.follows space.old space.new }
 {

@@ -1,8 +1,9 @@
+use Rattle.btree.specs.Overfull.{IsNoTreeIn}
 use Rattle.catalog.proofs.RefusalLemmas.{record_refused}
 use Rattle.catalog.proofs.adding.put_record.Goals as goal
 
 pub returns-in_err-key-clause-refusal : goal.returns-in_err-key-clause-refusal
-returns-in_err-key-clause-refusal g c = record_refused _ c.in_err-key.field-0.0 (g.S.PageSpace.at_limit c.args.space.now) _ _ c.from_residual.ensures.1 c.in_err-key.ensures.refusal
+returns-in_err-key-clause-refusal g c = record_refused _ c.in_err-key.field-0.0 (g.S.PageSpace.at_limit c.args.space.now) (IsNoTreeIn (g.S.PageReader.pages c.args.space.now) c.args.root (g.S.PageReader.is_whole c.args.space.now)) _ _ c.from_residual.ensures.1 c.in_err-key.ensures.refusal
 
 pub returns-in_err-row-clause-refusal : goal.returns-in_err-row-clause-refusal
-returns-in_err-row-clause-refusal g c = record_refused _ c.in_err-row.field-0.0 (g.S.PageSpace.at_limit c.args.space.now) _ _ c.from_residual-in_err-row.ensures.1 c.in_err-row.ensures.refusal
+returns-in_err-row-clause-refusal g c = record_refused _ c.in_err-row.field-0.0 (g.S.PageSpace.at_limit c.args.space.now) (IsNoTreeIn (g.S.PageReader.pages c.args.space.now) c.args.root (g.S.PageReader.is_whole c.args.space.now)) _ _ c.from_residual-in_err-row.ensures.1 c.in_err-row.ensures.refusal

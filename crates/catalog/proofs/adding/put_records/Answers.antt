@@ -4,6 +4,8 @@ use Rattle.btree.specs.Written.{IsWritten}
 use Rattle.catalog.specs.Changed.{put_all}
 use Rattle.catalog.proofs.PutLemmas.{put_all_more, coded_more}
 use Rattle.tree_entries.proofs.ChangeLemmas.{written_on}
+use Rattle.btree.specs.Overfull.{IsNoTreeIn}
+use Rattle.catalog.proofs.RefusalLemmas.{refused_later}
 use Rattle.catalog.proofs.adding.put_records.Goals as goal
 
 pub loop-r-preserved : goal.loop-r-preserved
@@ -22,3 +24,11 @@ loop-r-preserved g c =
       rising = omega (arith, known.rising, done.rising);
       follows = g.met.S.PageReader.follows_trans _ _ _ known.follows done.follows;
     }
+
+pub returns-in_err-top-clause-refusal : goal.returns-in_err-top-clause-refusal
+returns-in_err-top-clause-refusal g c =
+    let known = c.loop-r.invariant in
+    refused_later _ c.in_err-top.field-0.0 (g.S.PageSpace.at_limit c.put_record.new.space)
+        (IsNoTreeIn (g.S.PageReader.pages c.loop-r.space) c.loop-r.top (g.S.PageReader.is_whole c.loop-r.space))
+        (IsNoTreeIn (g.S.PageReader.pages c.args.space.now) c.args.root (g.S.PageReader.is_whole c.args.space.now))
+        _ _ _ known.rising (λ none owned entries t whole. let w = known.put owned entries t in none w.now_owned _ w.stored (known.whole whole)) c.from_residual.ensures.1 c.in_err-top.ensures.refusal
