@@ -6,7 +6,7 @@ use lexer::tokens;
 use parser::{parse, parse_condition};
 use printer::{print, print_condition, print_condition_tokens, print_tokens};
 use refusals::Refusal;
-use std::alloc::Global;
+use std::alloc::{AllocError, Global};
 use std::test::Fail;
 use tree_copies::{copy_condition, copy_expression, copy_query, copy_statement};
 
@@ -62,18 +62,28 @@ fn conditions_are_copied_and_printed(rt: HostRuntime) -> Result<(), Fail> {
     Ok(())
 }
 
+fn count_of_statement(alloc: Global, statement: &Statement) -> Result<usize, AllocError> {
+    let printed = print_tokens(alloc, statement)?;
+    Ok(printed.len())
+}
+
+fn count_of_condition(alloc: Global, condition: &Condition) -> Result<usize, AllocError> {
+    let printed = print_condition_tokens(alloc, condition)?;
+    Ok(printed.len())
+}
+
 /// How many tokens a statement is printed as.
 fn tokens_of_statement(alloc: Global, text: &[u8]) -> Result<usize, Refusal> {
     let all = tokens(alloc, text)?;
     let statement = parse(alloc, &all)?;
-    Ok(print_tokens(alloc, &statement)?.len())
+    Ok(count_of_statement(alloc, &statement)?)
 }
 
 /// And a condition.
 fn tokens_of_condition(alloc: Global, text: &[u8]) -> Result<usize, Refusal> {
     let all = tokens(alloc, text)?;
     let condition = parse_condition(alloc, &all)?;
-    Ok(print_condition_tokens(alloc, &condition)?.len())
+    Ok(count_of_condition(alloc, &condition)?)
 }
 
 #[test]
