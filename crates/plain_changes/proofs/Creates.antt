@@ -1,5 +1,5 @@
 -- CREATE TABLE makes of the newest version what the definitions say.
-use Rattle.std.proofs.Common.{◌≡◌, Bool, true, false, cond, not, ◌&&◌, ◌||◌, List, [], ◌∷◌, map, is_some, Option, Some, None, refl, sym, ap, subst, ◌∙◌}
+use Rattle.std.proofs.Common.{◌≡◌, Bool, true, false, cond, ◌&&◌, ◌||◌, List, [], ◌∷◌, map, is_some, Option, Some, None, refl, sym, ap, subst, ◌∙◌}
 use Rattle.std.proofs.lemmas.Map.Text.{is_eq-slice_cmp}
 use Rattle.std.specs.List.{list_all, list_any, filter_map}
 use Rattle.std.specs.Option.{option_map}
@@ -12,14 +12,12 @@ use Rattle.sqlval.specs.declared.schema.Schema.{Schema}
 use Rattle.sqlval.specs.declared.schema.Table as schema
 use Rattle.sqlval.specs.Comparison.{text_order}
 use Rattle.sqlval.specs.Schema.{same_name}
-use Rattle.sqlval.specs.Value.{Row}
 use Rattle.typing.specs.declared.statement.Change.TheVariants as does
 use Rattle.typing.specs.declared.statement.CreateTable.{CreateTable}
 use Rattle.denote.specs.Bag.{Permutes, nothing, keeps, exchanges, goes_on}
 use Rattle.denote.specs.Change.{created, owned_index}
-use Rattle.denote.specs.Database.{Name, IndexDeclaration, Table, Database, AreSame, IsSameDatabase}
+use Rattle.denote.specs.Database.{Name, Table, Database, AreSame, IsSameDatabase}
 use Rattle.denote.specs.SchemaOf.{IsSchemaOf}
-use Rattle.replies.specs.declared.reply.Reply.{Reply}
 use Rattle.replies.specs.declared.reply.Reply.TheVariants as says
 use Rattle.session_definitions.specs.Rules.{Rules}
 use Rattle.store.specs.Contents.{Contents, table_of, database_of, new_table, with_table}

@@ -1,7 +1,7 @@
 -- INSERT makes of the newest version what the definitions say.
 use Rattle.std.proofs.Common.{◌≡◌, ℕ, ◌+◌, Bool, true, false, cond, ◌&&◌, ◌||◌, List, [], ◌∷◌, ◌++◌, map, filter, length, Option, Some, None, Ok, Err, Contains, refl, sym, ap, subst, ◌∙◌, arith}
 use Rattle.std.proofs.lemmas.List.{map-append}
-use Rattle.std.specs.List.{list_all, list_any, filter_map, enumerate_from}
+use Rattle.std.specs.List.{list_all, list_any, enumerate_from}
 use Rattle.std.specs.Option.{option_map}
 use Rattle.std.specs.FinMap.{get, insert}
 use Rattle.refusals.specs.declared.refusal.Refusal.{Refusal}
@@ -13,7 +13,7 @@ use Rattle.sqlval.specs.Value.{Row, is_null}
 use Rattle.typing.specs.declared.statement.Change.TheVariants as does
 use Rattle.typing.specs.declared.statement.Insert.{Insert}
 use Rattle.denote.specs.declared.fault.Fault.{Fault}
-use Rattle.denote.specs.Change.{Changed, Makes, Raises, Violates, changed, inserted_rows, on_table, insert_into, unless_raised, unless_violated, with_rows as with_new_rows, IsAccepted, IsRaised, IsNamed}
+use Rattle.denote.specs.Change.{Changed, Makes, Raises, changed, inserted_rows, on_table, insert_into, unless_raised, unless_violated, with_rows as with_new_rows, IsAccepted, IsRaised, IsNamed}
 use Rattle.denote.specs.Database.{Name, Table, Database, CheckReading, checks_of, is_violated, violated_by, breaks_not_null, broken_not_nulls, has_null, rows_in, IsGood}
 use Rattle.denote.specs.Evaluation.{Evaluation, faults_in}
 use Rattle.replies.specs.declared.reply.Reply.{Reply}

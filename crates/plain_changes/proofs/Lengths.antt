@@ -1,5 +1,5 @@
 -- The rows of an INSERT that faults in nothing are short enough to be stored.
-use Rattle.std.proofs.Common.{◌≡◌, ℕ, zero, suc, ◌+◌, ◌<◌, ◌≤◌, Bool, true, false, cond, nat_le, List, [], ◌∷◌, ◌++◌, map, length, get_or, Option, Some, None, Ok, Err, Contains, refl, sym, ap, subst, ◌∙◌, arith}
+use Rattle.std.proofs.Common.{◌≡◌, ℕ, zero, suc, ◌+◌, ◌<◌, ◌≤◌, Bool, true, false, cond, nat_le, List, [], ◌∷◌, ◌++◌, map, length, get_or, Ok, Err, refl, ap, subst, ◌∙◌, arith}
 use Rattle.std.specs.Prelude.{flat_map}
 use Rattle.std.proofs.lemmas.Bool.{leb-true}
 use Rattle.std.specs.FinMap.{get}
@@ -14,14 +14,12 @@ use Rattle.typing.specs.Evaluated.{insert_evaluated}
 use Rattle.denote.specs.declared.fault.Fault.{Fault}
 use Rattle.denote.specs.declared.fault.Fault.TheVariants as fault
 use Rattle.denote.specs.Change.{inserted_rows}
-use Rattle.denote.specs.Database.{IndexDeclaration, Table, Database, CheckReading, rows_in, checks_of, check_at}
-use Rattle.denote.specs.Evaluation.{Evaluation, ◌>>=◌, faults_in, together, joined, unless}
+use Rattle.denote.specs.Database.{IndexDeclaration, Table, CheckReading, rows_in, checks_of, check_at}
+use Rattle.denote.specs.Evaluation.{Evaluation, faults_in, together, joined, unless}
 use Rattle.denote.specs.Meaning.{Tables, value_of}
 use Rattle.denote.specs.StoredRow.{record_faults, key_faults, row_faults, admitted, inserted_row, row_with}
-use Rattle.store.specs.declared.error.StoreLimit.{StoreLimit}
-use Rattle.store.specs.declared.error.StoreLimit.TheVariants as limit
-use Rattle.store.specs.Contents.{StoredTable, Contents, table_of, database_of}
-use Rattle.store.specs.Errors.{HasLongRow, HasLongKey, StoringReaches, indexes_of}
+use Rattle.store.specs.Contents.{Contents, database_of}
+use Rattle.store.specs.Errors.{HasLongRow, HasLongKey, indexes_of}
 use Rattle.plain_changes.specs.Inserted.{GivesNew}
 use Rattle.plain_changes.proofs.Inserts.{held_as}
 

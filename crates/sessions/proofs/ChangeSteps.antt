@@ -1,9 +1,8 @@
 -- A change of a session is a step.
-use Rattle.std.proofs.Common.{◌≡◌, ℕ, Bool, true, false, cond, Option, Some, None, Ok, refl, sym, ap, subst, ◌∙◌}
+use Rattle.std.proofs.Common.{◌≡◌, ℕ, true, false, cond, Option, Some, None, Ok, refl, sym, ap, subst, ◌∙◌}
 use Rattle.std.specs.FinMap.{get}
 use Rattle.refusals.specs.declared.refusal.Refusal.{Refusal}
-use Rattle.refusals.specs.declared.refusal.Refusal.TheVariants as refused
-use Rattle.refusals.specs.declared.refusal.Refusal.TheVariants.{TransactionState, SerializationFailure, Violated}
+use Rattle.refusals.specs.declared.refusal.Refusal.TheVariants.{TransactionState, SerializationFailure}
 use Rattle.lexer.specs.Token.{Bytes}
 use Rattle.ast.specs.declared.statement.AccessMode.{AccessMode}
 use Rattle.ast.specs.declared.statement.AccessMode.TheVariants.{ReadOnly, ReadWrite}
@@ -14,9 +13,8 @@ use Rattle.typing.specs.declared.statement.Change.{Change}
 use Rattle.typing.specs.declared.statement.Typed.{Typed}
 use Rattle.typing.specs.declared.statement.Typed.TheVariants as does
 use Rattle.typing.specs.Statement.{answered_found}
-use Rattle.denote.specs.declared.fault.Fault.{Fault}
 use Rattle.denote.specs.Change.{changed, IsAccepted}
-use Rattle.denote.specs.Database.{Name, Database, IsGood}
+use Rattle.denote.specs.Database.{Database, IsGood}
 use Rattle.denote.specs.SchemaOf.{IsSchemaOf}
 use Rattle.replies.specs.declared.reply.Reply.{Reply}
 use Rattle.replies.specs.declared.reply.Reply.TheVariants as says
@@ -29,14 +27,13 @@ use Rattle.session_definitions.specs.Statements.{Changes, CarriesOut}
 use Rattle.session_definitions.specs.Step.{Replies}
 use Rattle.session_definitions.specs.Transactions.{is_read_only}
 use Rattle.session_definitions.specs.World.{Transaction, Session}
-use Rattle.store.specs.Contents.{Contents, database_of}
+use Rattle.store.specs.Contents.{database_of}
 use Rattle.store.specs.Stored.{Found, Stored, SameButMark, begun, ended}
 use Rattle.transactions.specs.Moves.{Moves}
 use Rattle.transactions.specs.Orderly.{IsOrderly, is_too_late}
-use Rattle.transactions.specs.Shown.{session_of}
 use Rattle.transactions.proofs.Obstacles.{runs, stop, stop_is}
 use Rattle.transactions.proofs.Orders.{begun_working, late_not_writer, same}
-use Rattle.transactions.proofs.Steps.{Answered, changes, changed_to, next_after, nothing_moves, rolls_back, sees_working, withholds}
+use Rattle.transactions.proofs.Steps.{Answered, changes, next_after, nothing_moves, rolls_back, sees_working, withholds}
 use Rattle.sessions.specs.Changed.{HasChanged, MakesChange, RefusesChange, RefusesStatement}
 use Rattle.sessions.specs.Kinds.{is_change}
 use Rattle.sessions.specs.Seen.{seen_in}

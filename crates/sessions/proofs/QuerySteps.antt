@@ -1,9 +1,7 @@
 -- A query of a session is a step.
-use Rattle.std.proofs.Common.{◌≡◌, ◌⊎◌, ℕ, Bool, true, false, not, cond, List, [], Option, Some, None, Ok, Err, Contains, refl, sym, ap, subst, ◌∙◌, inl, inr, arith}
-use Rattle.std.specs.Prelude.{IfOk, IfErr}
+use Rattle.std.proofs.Common.{◌≡◌, ℕ, Bool, true, false, cond, List, Option, Some, Ok, refl, sym, ap, subst, ◌∙◌, inl, inr}
 use Rattle.std.specs.FinMap.{get}
 use Rattle.refusals.specs.declared.refusal.Refusal.{Refusal}
-use Rattle.refusals.specs.declared.refusal.Refusal.TheVariants as refused
 use Rattle.lexer.specs.Token.{Bytes}
 use Rattle.ast.specs.declared.statement.AccessMode.{AccessMode}
 use Rattle.ast.specs.declared.statement.OrderedQuery.{OrderedQuery}
@@ -14,34 +12,29 @@ use Rattle.sqlval.specs.Value.{Row}
 use Rattle.typing.specs.declared.statement.Typed.{Typed}
 use Rattle.typing.specs.declared.statement.Typed.TheVariants as does
 use Rattle.typing.specs.declared.typed.OrderedQuery as typed
-use Rattle.typing.specs.Finding.{Finding, reasons_in}
-use Rattle.typing.specs.Finds.{Finds, IsReasonOf}
 use Rattle.typing.specs.Statement.{answered_found}
-use Rattle.denote.specs.declared.fault.Fault.{Fault}
 use Rattle.denote.specs.Answer.{Answers}
 use Rattle.denote.specs.Database.{Database}
 use Rattle.denote.specs.Query.{denotes}
 use Rattle.denote.specs.SchemaOf.{IsSchemaOf}
-use Rattle.replies.specs.declared.reply.Reply.{Reply}
 use Rattle.replies.specs.declared.reply.Reply.TheVariants as says
-use Rattle.statement_reading.specs.Reading.{IsRead, IsUnread}
+use Rattle.statement_reading.specs.Reading.{IsRead}
 use Rattle.statement_reading.specs.Rollback.{IsRollback}
 use Rattle.session_definitions.specs.Effect.{Effect}
-use Rattle.session_definitions.specs.Refusals.{IsReserved, Refuses, refusal_of}
-use Rattle.session_definitions.specs.Rules.{Rules, AreRules, Means, IsReason}
+use Rattle.session_definitions.specs.Refusals.{IsReserved}
+use Rattle.session_definitions.specs.Rules.{Rules, AreRules}
 use Rattle.session_definitions.specs.Statements.{Queries}
 use Rattle.session_definitions.specs.Step.{Replies}
-use Rattle.session_definitions.specs.Transactions.{active}
 use Rattle.session_definitions.specs.World.{is_session}
 use Rattle.store.specs.declared.view.View.{View}
-use Rattle.store.specs.Contents.{Contents, database_of}
+use Rattle.store.specs.Contents.{database_of}
 use Rattle.store.specs.Stored.{Found, Stored, SameButMark, begun}
 use Rattle.store.specs.View.{seen_by, found_in}
 use Rattle.transactions.specs.Moves.{Moves}
 use Rattle.transactions.specs.Orderly.{IsOrderly}
-use Rattle.transactions.specs.Shown.{session_in, session_of, transaction_of, view_in}
+use Rattle.transactions.specs.Shown.{view_in}
 use Rattle.transactions.proofs.Maps.{get_here}
-use Rattle.transactions.proofs.Obstacles.{runs, stop}
+use Rattle.transactions.proofs.Obstacles.{runs}
 use Rattle.transactions.proofs.Orders.{begun_by, not_writer}
 use Rattle.transactions.proofs.Steps.{Answered, answers, nothing_moves, withholds}
 use Rattle.answers.specs.Refused.{MayRefuse}

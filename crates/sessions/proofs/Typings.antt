@@ -1,5 +1,5 @@
 -- What the rules of names and types give for a query and for a change.
-use Rattle.std.proofs.Common.{◌≡◌, Bool, true, false, cond, List, [], ◌∷◌, Result, Ok, Err, Contains, refl, sym, ap, ◌∙◌, arith}
+use Rattle.std.proofs.Common.{◌≡◌, Bool, true, false, cond, [], ◌∷◌, Ok, Err, Contains, refl, sym, ap, ◌∙◌, arith}
 use Rattle.refusals.specs.declared.refusal.Refusal.{Refusal}
 use Rattle.refusals.specs.declared.refusal.Refusal.TheVariants as refused
 use Rattle.refusals.specs.declared.refusal.Refusal.TheVariants.{NotSupported}
@@ -16,7 +16,7 @@ use Rattle.typing.specs.declared.typed.OrderedQuery as typed
 use Rattle.typing.specs.Built.{is_built, has_one_table}
 use Rattle.typing.specs.CreateTable.{create_found}
 use Rattle.typing.specs.Finding.{Finding, ◌>>=◌, exceeded, reasons_in}
-use Rattle.typing.specs.Finds.{Finds, IsReasonOf}
+use Rattle.typing.specs.Finds.{IsReasonOf}
 use Rattle.typing.specs.Insert.{insert_found}
 use Rattle.typing.specs.Known.{known}
 use Rattle.typing.specs.Order.{ordered_found}

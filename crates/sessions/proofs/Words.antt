@@ -1,6 +1,5 @@
 -- A form that comes later has a word that is not supported, so that no text is read as it.
-use Rattle.std.proofs.Common.{◌≡◌, true, false, List, [], ◌∷◌, Option, Some, None, refl, sym, ap, ◌∙◌}
-use Rattle.std.specs.Prelude.{map}
+use Rattle.std.proofs.Common.{◌≡◌, true, false, List, [], ◌∷◌, Some, None, refl, sym, ap, ◌∙◌}
 use Rattle.lexer.specs.declared.kinds.Kind.{Kind}
 use Rattle.lexer.specs.declared.kinds.Kind.TheVariants as kind
 use Rattle.lexer.specs.declared.kinds.Token.{Token}
@@ -9,7 +8,7 @@ use Rattle.lexer.specs.declared.words.Word.TheVariants as word
 use Rattle.lexer.specs.Support.{first_unsupported, unsupported_word, or_else}
 use Rattle.lexer.specs.Token.{Bytes}
 use Rattle.lexer.specs.Tokens.{kinds_of}
-use Rattle.lexer.specs.Words.{is_supported, supports, vocabulary}
+use Rattle.lexer.specs.Words.{is_supported}
 use Rattle.ast.specs.declared.statement.Statement.{Statement}
 use Rattle.ast.specs.declared.statement.Statement.TheVariants as asks
 use Rattle.statement_reading.specs.Reading.{IsRead}

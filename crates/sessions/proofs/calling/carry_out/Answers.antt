@@ -1,4 +1,4 @@
-use Rattle.std.proofs.Common.{◌≡◌, subst}
+use Rattle.std.proofs.Common.{subst}
 use Rattle.statement_reading.specs.Reading.{IsRead}
 use Rattle.sessions.proofs.Words.{later_unread}
 use Rattle.sessions.proofs.calling.carry_out.Goals as goal

@@ -2,10 +2,8 @@ use Rattle.std.proofs.Common.{◌≡◌, sym, subst}
 use Rattle.std.proofs.lemmas.Result.{IfOk-weaker, IfErr-weaker}
 use Rattle.typing.specs.declared.statement.Change.{Change}
 use Rattle.typing.specs.declared.statement.Typed.TheVariants as does
-use Rattle.denote.specs.Database.{Database}
 use Rattle.session_definitions.specs.Rules.{Means}
 use Rattle.store.specs.Contents.{database_of}
-use Rattle.store.specs.Stored.{Stored}
 use Rattle.sessions.specs.Changed.{HasChanged, RefusesChange}
 use Rattle.sessions.proofs.change.make_typed.Goals as goal
 

@@ -1,4 +1,3 @@
-use Rattle.std.proofs.Common.{◌≡◌}
 use Rattle.std.proofs.lemmas.Result.{IfOk-weaker, IfErr-weaker}
 use Rattle.sessions.proofs.QuerySteps.{gives_typed, refuses_typed}
 use Rattle.sessions.proofs.query.rows_seen.Goals as goal

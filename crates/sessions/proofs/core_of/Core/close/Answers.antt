@@ -1,4 +1,4 @@
-use Rattle.std.proofs.Common.{refl, sym, subst, ap, ◌∙◌}
+use Rattle.std.proofs.Common.{refl, sym, subst}
 use Rattle.store.specs.Stored.{Stored, closed}
 use Rattle.transactions.specs.Orderly.{IsOrderly}
 use Rattle.std.proofs.Common.{◌≡◌, None}

@@ -1,4 +1,4 @@
-use Rattle.std.proofs.Common.{◌≡◌, true, false, Some, None, refl, sym, subst, ◌∙◌}
+use Rattle.std.proofs.Common.{◌≡◌, true, false, Some, None, sym, subst, ◌∙◌}
 use Rattle.session_definitions.specs.Run.{DropsSession}
 use Rattle.transactions.specs.Shown.{Slots, slot_at, shown}
 use Rattle.transactions.proofs.SlotLemmas.{slot_within}

@@ -1,4 +1,4 @@
-use Rattle.std.proofs.Common.{◌≡◌, None, refl, sym, subst, ap, ◌∙◌}
+use Rattle.std.proofs.Common.{◌≡◌, None, sym, subst}
 use Rattle.session_definitions.specs.World.{opened}
 use Rattle.transactions.specs.Shown.{Slots, shown}
 use Rattle.sessions.proofs.Cores.{orderly_alone, none_read, opens, opening_refused}

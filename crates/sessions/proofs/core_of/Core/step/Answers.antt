@@ -1,4 +1,4 @@
-use Rattle.std.proofs.Common.{◌≡◌, ◌≤◌, ◌<◌, ℕ, true, false, Some, None, length, refl, sym, ap, subst, ◌∙◌}
+use Rattle.std.proofs.Common.{◌≡◌, true, false, Some, None, sym, subst, ◌∙◌}
 use Rattle.session_definitions.specs.Step.{Step}
 use Rattle.transactions.specs.Shown.{Slots, slot_at, shown}
 use Rattle.transactions.proofs.SlotLemmas.{slot_within}
