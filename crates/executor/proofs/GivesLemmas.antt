@@ -1,5 +1,5 @@
 -- Replies of the evaluator, put together.
-use Rattle.std.proofs.Common.{◌≡◌, ◌≢◌, ◌+◌, add-one, append_assoc, refl, ℕ, suc, ◌<◌, List, [], ◌∷◌, ◌++◌, map, length, get_or, drop, drop-cons, Ok, Err, ap, sym, ◌∙◌, append-nil, subst, Option, Some, None}
+use Rattle.std.proofs.Common.{arith, ◌≡◌, ◌≢◌, ◌+◌, add-one, append_assoc, refl, ℕ, suc, ◌<◌, List, [], ◌∷◌, ◌++◌, map, length, get_or, drop, drop-cons, Ok, Err, ap, sym, ◌∙◌, append-nil, subst, Option, Some, None}
 use Rattle.std.specs.Prelude.{flat_map}
 use Rattle.sqlval.specs.declared.value.Value.{Value}
 use Rattle.sqlval.specs.declared.truth.Truth.{Truth}
@@ -262,3 +262,14 @@ pub Gives-together_item : {X A : Type 0} (s : Stop) (f : X → Evaluation A) (fo
 Gives-together_item s f found items i item below is h =
     let e : drop i items ≡ item ∷ drop (suc i) items = drop-cons items i item below ∙ ap (λ x. x ∷ drop (suc i) items) (sym is) in
     rw e (Gives-joined_err s found (f item) (together (map f (drop (suc i) items))) h)
+
+-- ---- the same of rows that are moved out of a list
+
+pub row-moved : (f : Row → Evaluation (List Row)) (end : Outcome) (found more : List Row) (row : Row) (rest : List Row) → f row ≡ Ok more
+    → listed_before found (then_list (row_by_row f (row ∷ rest)) end) ≡ listed_before (found ++ more) (then_list (row_by_row f rest) end)
+row-moved f end found more row rest value = row-found f end found more (row ∷ rest) 0 row (omega arith) refl value
+
+pub row-moved-ends : {A : Type 0} (f : Row → Evaluation (List Row)) (end : Outcome) (found : List Row) (row : Row) (rest : List Row) (s : Stop) (x : Evaluation A) (next : A → Evaluation (List Row))
+    → f row ≡ (x >>= next) → IsGiven (Err s) x → (whole : Outcome) → listed_before found (then_list (row_by_row f (row ∷ rest)) end) ≡ whole
+    → (fault : Raised) → s ≡ Fault fault → record { rows = found; faults = fault ∷ [] } ≡ whole
+row-moved-ends f end found row rest s x next first given whole sum = row-ends f end found (row ∷ rest) 0 row s x next (omega arith) refl first given whole sum
