@@ -15,7 +15,6 @@ use Rattle.ast.specs.declared.tree.Conjunction.{Conjunction, out-Conjunction}
 use Rattle.ast.specs.declared.tree.Expression.{Expression, out-Expression}
 use Rattle.ast.specs.declared.tree.Factor.{Factor, out-Factor}
 use Rattle.ast.specs.declared.tree.Negation.{Negation, out-Negation}
-use Rattle.ast.specs.declared.tree.Predicate.{Predicate}
 use Rattle.ast.specs.declared.tree.Predicate.TheVariants as p
 use Rattle.ast.specs.declared.tree.Primary.{Primary}
 use Rattle.ast.specs.declared.tree.Primary.TheVariants as primary
@@ -24,7 +23,7 @@ use Rattle.ast.specs.declared.tree.SelectItem.{SelectItem, out-SelectItem}
 use Rattle.ast.specs.declared.tree.Term.{Term, out-Term}
 use Rattle.ast.specs.declared.tree.Test.{out-Test}
 use Rattle.ast.specs.declared.tree.Select.{Select, out-Select}
-use Rattle.typing.specs.Finding.{Finding, ◌>>=◌, also, before, each, reasons_in}
+use Rattle.typing.specs.Finding.{Finding, also, before, each, reasons_in}
 use Rattle.typing.specs.Finds.{Finds}
 use Rattle.typing.specs.declared.typed.SetFunction.{SetFunction as Typed}
 use Rattle.typing.specs.Expression.{sum_chain, product_chain}
@@ -34,7 +33,7 @@ use Rattle.typing.specs.Scope.{Scope}
 use Rattle.typing.specs.SetFunction.{aggregate_found, count_rows}
 use Rattle.typing.specs.Typing.{condition_part, conjunction_part, expression_part, factor_part, item_part, negation_part, predicate_part, primary_part, term_part, with_sign, ExpressionPart}
 use Rattle.typing.proofs.Nodes as node
-use Rattle.typing.specs.Select.{is_grouped, select_list}
+use Rattle.typing.specs.Select.{is_grouped}
 use Rattle.scopes.specs.Seen.{capped, count_of}
 use Rattle.query_types.specs.Parts.{appended, factor_after, function_in, function_of, functions_in, term_after}
 use Rattle.query_types.specs.Selects.{clauses_of, list_part}

@@ -1,13 +1,11 @@
 -- Items of a select list, and set functions where they are seen.
-use Rattle.std.proofs.Common.{◌≡◌, ◌∙◌, refl, ap, ℕ, suc, ◌<◌, ◌≤◌, List, [], ◌∷◌, map, length, Option, Some, Result, Err}
+use Rattle.std.proofs.Common.{◌≡◌, ◌∙◌, refl, ap, suc, ◌<◌, ◌≤◌, List, [], ◌∷◌, map, length, Option, Some, Result, Err}
 use Rattle.refusals.specs.declared.limit.Limit.TheVariants as limit
 use Rattle.refusals.specs.declared.refusal.Refusal.TheVariants.{Exceeded}
 use Rattle.refusals.specs.declared.refusal.Refusal.{Refusal}
-use Rattle.sqlval.specs.declared.value.ValueType.{ValueType}
 use Rattle.ast.specs.declared.operator.Quantifier.{Quantifier}
 use Rattle.ast.specs.declared.operator.SetFunction.{SetFunction as Written}
 use Rattle.ast.specs.declared.tree.SelectItem.{SelectItem, out-SelectItem}
-use Rattle.typing.specs.declared.typed.SetFunction.{SetFunction}
 use Rattle.typing.specs.declared.scope.TypedExpression.{TypedExpression}
 use Rattle.typing.specs.declared.scope.ShownItem.{ShownItem}
 use Rattle.typing.specs.Finding.{each}

@@ -10,7 +10,7 @@ use Rattle.typing.specs.declared.scope.TypedFrom.{TypedFrom}
 use Rattle.typing.specs.Finding.{Finding, ◌>>=◌, also}
 use Rattle.typing.specs.Finds.{Finds}
 use Rattle.typing.specs.From.{From, all_crossed, crossed, frame_over, from_found, joined_by, joined_on}
-use Rattle.typing.specs.Part.{Part, Plain, View}
+use Rattle.typing.specs.Part.{Part, Plain}
 use Rattle.typing.specs.Scope.{Scope}
 use Rattle.findings.proofs.Covers.{also-either, then-only}
 use Rattle.findings.proofs.FindsLemmas.{Finds-then_err, Finds-also_first, Finds-also_second}

@@ -1,5 +1,5 @@
 -- What may not stand in the argument of a set function.
-use Rattle.std.proofs.Common.{◌≡◌, refl, ◌∷◌, ℕ, ◌<◌, length, get_or, arith, Option, Err}
+use Rattle.std.proofs.Common.{refl, arith, Option, Err}
 use Rattle.refusals.specs.declared.reason.Reason.TheVariants.{Grouping}
 use Rattle.refusals.specs.declared.refusal.Refusal.TheVariants.{Invalid}
 use Rattle.ast.specs.declared.operator.Quantifier.{Quantifier}

@@ -1,8 +1,7 @@
 -- What is found at the nodes of an expression, wherever it is seen.
-use Rattle.std.proofs.Common.{◌≡◌, ◌≢◌, ℕ, Bool, List, [], ◌∷◌, map, Option, Some, None, Ok, Err, refl, sym, ◌∙◌, ap}
+use Rattle.std.proofs.Common.{◌≡◌, ◌≢◌, ℕ, List, [], ◌∷◌, map, Option, Some, None, Ok, Err, refl, sym, ◌∙◌, ap}
 use Rattle.std.specs.List.{zip}
 use Rattle.sqlval.specs.declared.value.Value.TheVariants as value
-use Rattle.refusals.specs.declared.reason.Reason.TheVariants as reason
 use Rattle.ast.specs.declared.operator.AddOperator.{AddOperator}
 use Rattle.ast.specs.declared.operator.AddOperator.TheVariants as add
 use Rattle.ast.specs.declared.operator.MultiplyOperator.{MultiplyOperator}
@@ -12,7 +11,6 @@ use Rattle.ast.specs.declared.operator.Quantifier.{Quantifier}
 use Rattle.ast.specs.declared.operator.SetFunction.{SetFunction}
 use Rattle.ast.specs.declared.tree.Expression.{Expression, out-Expression}
 use Rattle.ast.specs.declared.tree.Factor.{Factor, out-Factor}
-use Rattle.ast.specs.declared.tree.Primary.{Primary}
 use Rattle.ast.specs.declared.tree.Primary.TheVariants as p
 use Rattle.ast.specs.declared.tree.Query.{Query}
 use Rattle.ast.specs.declared.tree.Term.{Term, out-Term}

@@ -1,8 +1,6 @@
 -- What is found of set operators and SELECTs, from what is found of their parts.
-use Rattle.std.proofs.Common.{◌≡◌, refl, sym, ap, ◌∙◌, ℕ, Bool, List, [], ◌∷◌, ◌++◌, map, Option, Some, None, Ok, Err, inl, inr}
+use Rattle.std.proofs.Common.{◌≡◌, refl, ap, ◌∙◌, ℕ, Bool, List, [], ◌∷◌, map, Option, None, Ok, Err, inl, inr}
 use Rattle.refusals.specs.declared.refusal.Refusal.{Refusal}
-use Rattle.ast.specs.declared.operator.Column.{Column}
-use Rattle.ast.specs.declared.operator.Quantifier.{Quantifier}
 use Rattle.ast.specs.declared.operator.SetOperator.{SetOperator}
 use Rattle.ast.specs.declared.tree.Addend.{Addend, out-Addend}
 use Rattle.ast.specs.declared.tree.Operand.{Operand}
@@ -19,11 +17,11 @@ use Rattle.typing.specs.declared.scope.TypedFrom.{TypedFrom}
 use Rattle.typing.specs.declared.scope.TypedQuery.{TypedQuery}
 use Rattle.typing.specs.Finding.{Finding, ◌>>=◌, also, each}
 use Rattle.typing.specs.Finds.{Finds}
-use Rattle.typing.specs.From.{From, frame_over, from_found}
+use Rattle.typing.specs.From.{frame_over, from_found}
 use Rattle.typing.specs.Known.{Known}
-use Rattle.typing.specs.Part.{Part, Plain, Shown, View, if_written, past}
+use Rattle.typing.specs.Part.{Plain, Shown, if_written, past}
 use Rattle.typing.specs.Scope.{Scope}
-use Rattle.typing.specs.Select.{Clauses, clauses_found, functions_found, is_grouped, key_found, select_list, settled_over, tables_found, typed_select, width}
+use Rattle.typing.specs.Select.{Clauses, functions_found, is_grouped, key_found, select_list, settled_over, tables_found, typed_select, width}
 use Rattle.typing.specs.SetOperator.{combinable, intersection, operation, set_chain}
 use Rattle.typing.specs.Typing.{addend_found, operand_found, query_found, select_found}
 use Rattle.typing.proofs.Nodes as node

@@ -1,5 +1,5 @@
 -- What is found of the parts of SELECTs and queries, put together.
-use Rattle.std.specs.Prelude.{ℕ, Bool, List, [], ◌∷◌, map, Option, None, Ok}
+use Rattle.std.specs.Prelude.{ℕ, Bool, List, [], ◌∷◌, map, Option, Ok}
 use Rattle.std.specs.Option.{option_map}
 use Rattle.ast.specs.declared.operator.Column.{Column}
 use Rattle.ast.specs.declared.operator.Quantifier.{Quantifier}

@@ -1,4 +1,4 @@
-use Rattle.std.proofs.Common.{◌≡◌, ◌∙◌, [], ◌∷◌, ap, map, subst, sym, take, Ok}
+use Rattle.std.proofs.Common.{◌≡◌, ◌∙◌, ◌∷◌, ap, map, subst, sym, take, Ok}
 use Rattle.ast.specs.declared.tree.Condition.{out-Condition}
 use Rattle.ast.specs.declared.tree.Conjunction.{out-Conjunction}
 use Rattle.std.proofs.lemmas.Result.{err_from_is_err_and}

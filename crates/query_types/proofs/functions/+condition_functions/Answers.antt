@@ -1,10 +1,9 @@
-use Rattle.std.proofs.Common.{◌∙◌, ap, sym, ◌++◌, [], map, take}
+use Rattle.std.proofs.Common.{◌∙◌, ap, sym, ◌++◌, map, take}
 use Rattle.ast.specs.declared.tree.Condition.{out-Condition}
 use Rattle.ast.specs.declared.tree.Conjunction.{out-Conjunction}
 use Rattle.typing.specs.Part.{functions_of}
 use Rattle.typing.specs.Typing.{conjunction_part, negation_part}
 use Rattle.scopes.specs.Seen.{frames}
-use Rattle.query_types.specs.Parts.{functions_in}
 use Rattle.query_types.proofs.FunctionLists.{of, found-same, found-first, found-none, functions-more, functions-all, condition-functions, conjunction-functions, negation-functions, nested-functions, compare-functions, between-functions, like-functions, in_list-functions, in_query-functions, is_null-functions, exists-functions}
 use Rattle.query_types.proofs.functions.+condition_functions.Goals as goal
 

@@ -1,11 +1,10 @@
-use Rattle.std.proofs.Common.{◌∙◌, ap, sym, ◌++◌, [], map, take}
+use Rattle.std.proofs.Common.{◌∙◌, ap, sym, ◌++◌, map, take}
 use Rattle.ast.specs.declared.tree.Expression.{out-Expression}
-use Rattle.ast.specs.declared.tree.Factor.{out-Factor}
 use Rattle.ast.specs.declared.tree.Term.{out-Term}
 use Rattle.typing.specs.Part.{functions_of}
-use Rattle.typing.specs.Typing.{expression_part, factor_part, term_part}
+use Rattle.typing.specs.Typing.{factor_part, term_part}
 use Rattle.scopes.specs.Seen.{frames}
-use Rattle.query_types.specs.Parts.{factor_after, functions_in, term_after}
+use Rattle.query_types.specs.Parts.{factor_after, term_after}
 use Rattle.query_types.proofs.FunctionLists.{found-same, found-first, found-none, functions-more, functions-all, expression-functions, term-functions, rows-functions, aggregate-functions, inner-functions, number-functions, text-functions, column-functions, query-functions}
 use Rattle.query_types.proofs.functions.+functions.Goals as goal
 

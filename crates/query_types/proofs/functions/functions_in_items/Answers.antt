@@ -1,4 +1,4 @@
-use Rattle.std.proofs.Common.{◌∙◌, ap, sym, map, take}
+use Rattle.std.proofs.Common.{sym, map, take}
 use Rattle.typing.specs.Part.{functions_of}
 use Rattle.typing.specs.Typing.{item_part}
 use Rattle.scopes.specs.Seen.{frames}
