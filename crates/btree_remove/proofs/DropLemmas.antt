@@ -1,5 +1,5 @@
 -- A tree dropped page by page, over plain variables.
-use Rattle.std.proofs.Common.{◌≡◌, ◌≢◌, ℕ, zero, suc, ◌+◌, ◌<◌, ◌≤◌, List, [], ◌∷◌, ◌++◌, map, length, ◌⊎◌, inl, inr, refl, sym, ap, ◌∙◌, subst, Bool, true, false, nat_eq, Option, Some, None, IsSome, Result, Ok, Err, OnOk, arith, append_assoc, add-one}
+use Rattle.std.proofs.Common.{◌≡◌, ◌≢◌, ℕ, zero, suc, ◌+◌, ◌<◌, ◌≤◌, List, [], ◌∷◌, ◌++◌, map, length, ◌⊎◌, inl, inr, refl, sym, ap, ◌∙◌, subst, Bool, true, false, nat_eq, Option, None, IsSome, Result, Ok, Err, OnOk, arith, append_assoc, add-one}
 use Rattle.std.specs.Prelude.{⊤}
 use Rattle.std.specs.List.{flat_map}
 use Rattle.std.proofs.lemmas.List.{append-nil as append_nil}
@@ -11,12 +11,12 @@ use Rattle.sqlrecord.specs.Page.{PageView}
 use Rattle.btree_read.specs.declared.entry.Entry.{Entry}
 use Rattle.btree_read.specs.Lists.{Has, Apart}
 use Rattle.btree_read.specs.Nodes.{Key, Node, LeafNode, InnerNode, HasNode, entry_of, branch_of}
-use Rattle.btree_read.specs.Tree.{Tree, page_of, branch_to, kids, nodes_of, pages_in, Holds, IsTree, IsTreeOf}
+use Rattle.btree_read.specs.Tree.{Tree, page_of, branch_to, kids, nodes_of, pages_in, IsTree}
 use Rattle.btree_read.specs.Search.{Sees, IsUnder, HasNoTree, child_at}
 use Rattle.btree_read.proofs.Kids.{kid_at, low_at, high_at}
-use Rattle.btree_read.proofs.ListLemmas.{has_left, has_right, has_either, apart_parts, Parted}
-use Rattle.btree_read.proofs.NodeLemmas.{node_is_used, not_fresh}
-use Rattle.btree_read.proofs.PageLemmas.{holds_kept, holds_used, pages_append, pages_middle}
+use Rattle.btree_read.proofs.ListLemmas.{has_left, has_right, has_either, apart_parts}
+use Rattle.btree_read.proofs.NodeLemmas.{node_is_used}
+use Rattle.btree_read.proofs.PageLemmas.{holds_kept, pages_append, pages_middle}
 use Rattle.btree_read.proofs.CountLemmas.{few_levels}
 use Rattle.btree_read.proofs.SearchLemmas.{sees_leaf, sees_inner, leaf_shown, inner_shown, child_found, under_root, no_node_no_tree}
 use Rattle.btree.specs.Overfull.{IsNoTreeIn}

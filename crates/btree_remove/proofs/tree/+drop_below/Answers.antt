@@ -1,4 +1,4 @@
-use Rattle.std.proofs.Common.{◌≡◌, ◌≤◌, ◌+◌, ◌-◌, ◌∙◌, sym, ap, arith, length}
+use Rattle.std.proofs.Common.{◌+◌, ◌-◌, sym, arith}
 use Rattle.std.proofs.lemmas.Result.{err_from_is_err_and}
 use Rattle.btree_read.proofs.SearchLemmas.{no_level_left}
 use Rattle.btree.proofs.RefusalLemmas.{change_refused, change_refused_on, read_as_change, both_rise}
