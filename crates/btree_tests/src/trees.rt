@@ -1,6 +1,8 @@
-use btree::insert;
-use btree_read::{get, next, seek};
+use btree::{insert, insert_all};
+use btree_read::{Entry, get, next, seek};
+use btree_remove::drop_tree;
 use btree_scan::scan;
+use items::Items;
 use memory_space::MemorySpace;
 use page_space::Fault;
 use std::alloc::Global;
@@ -64,6 +66,29 @@ fn a_value_is_replaced(rt: HostRuntime) -> Result<(), Fail> {
 }
 
 #[test]
+fn many_are_put_in(rt: HostRuntime) -> Result<(), Fail> {
+    let alloc = rt.alloc();
+    let mut space = MemorySpace::new(alloc);
+    let root = insert(&mut space, alloc, 0, b"a", b"1")?;
+    let second = Entry {
+        key: Items::from_slice(alloc, b"b")?,
+        value: Items::from_slice(alloc, b"2")?,
+    };
+    let third = Entry {
+        key: Items::from_slice(alloc, b"c")?,
+        value: Items::from_slice(alloc, b"3")?,
+    };
+    let root = insert_all(&mut space, alloc, root, &[second, third])?;
+    let all = scan(&mut space, alloc, root)?;
+    assert_eq!(rt; all.len(), 3);
+    match get(&mut space, alloc, root, b"c")? {
+        Some(value) => assert_eq!(rt; value.as_slice(), b"3".as_slice()),
+        None => assert!(rt; false),
+    }
+    Ok(())
+}
+
+#[test]
 fn a_scan_has_all_entries_in_order(rt: HostRuntime) -> Result<(), Fail> {
     let alloc = rt.alloc();
     let mut space = MemorySpace::new(alloc);
@@ -97,6 +122,20 @@ fn a_walk_goes_from_key_to_key(rt: HostRuntime) -> Result<(), Fail> {
             None => assert_eq!(rt; i, 119),
         }
     }
+    Ok(())
+}
+
+#[test]
+fn a_dropped_tree_is_gone(rt: HostRuntime) -> Result<(), Fail> {
+    let alloc = rt.alloc();
+    let mut space = MemorySpace::new(alloc);
+    let other = insert(&mut space, alloc, 0, b"a", b"1")?;
+    let root = tree(&mut space, alloc)?;
+    drop_tree(&mut space, 0)?;
+    drop_tree(&mut space, root)?;
+    assert!(rt; matches!(scan(&mut space, alloc, root), Err(Fault::Damaged)));
+    assert!(rt; matches!(drop_tree(&mut space, root), Err(Fault::Damaged)));
+    assert_eq!(rt; scan(&mut space, alloc, other)?.len(), 1);
     Ok(())
 }
 
