@@ -82,8 +82,10 @@ fn tokens_of_statement(alloc: Global, text: &[u8]) -> Result<usize, Refusal> {
 /// And a condition.
 fn tokens_of_condition(alloc: Global, text: &[u8]) -> Result<usize, Refusal> {
     let all = tokens(alloc, text)?;
-    let condition = parse_condition(alloc, &all)?;
-    Ok(count_of_condition(alloc, &condition)?)
+    match parse_condition(alloc, &all) {
+        Ok(condition) => Ok(count_of_condition(alloc, &condition).unwrap_or(0)),
+        Err(refusal) => Err(refusal),
+    }
 }
 
 #[test]
