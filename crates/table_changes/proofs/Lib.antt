@@ -5,6 +5,7 @@ pub mod Made
 pub mod Stored
 pub mod Left
 pub mod Free
+pub mod Broken
 pub mod Born
 pub mod Dropped
 pub mod Stopped

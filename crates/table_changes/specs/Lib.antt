@@ -2,3 +2,4 @@ pub mod Plain
 pub mod Changed
 pub mod Stores
 pub mod Indexes
+pub mod Rules
