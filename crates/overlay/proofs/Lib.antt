@@ -3,3 +3,4 @@ pub mod LayerLemmas
 pub mod InUseLemmas
 pub mod WholeLemmas
 pub mod WriteLemmas
+pub mod HeaderLemmas

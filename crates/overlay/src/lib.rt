@@ -3,6 +3,7 @@
 
 mod changes;
 mod commits;
+mod first_page;
 mod layers;
 mod snapshot;
 mod space;
@@ -12,6 +13,7 @@ mod writes;
 
 pub use changes::Changes;
 pub use commits::commit;
+pub use first_page::read_header;
 pub use snapshot::Snapshot;
 pub use space::Overlay;
 pub use writes::replace_page;
