@@ -4,3 +4,4 @@ pub mod InUseLemmas
 pub mod WholeLemmas
 pub mod WriteLemmas
 pub mod HeaderLemmas
+pub mod PutLemmas

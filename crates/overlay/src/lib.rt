@@ -4,6 +4,7 @@
 mod changes;
 mod commits;
 mod first_page;
+mod frees;
 mod layers;
 mod snapshot;
 mod space;
