@@ -3,3 +3,5 @@ pub mod LayerLemmas
 pub mod InUseLemmas
 pub mod WholeLemmas
 pub mod WriteLemmas
+pub mod HeaderLemmas
+pub mod PutLemmas

@@ -4,3 +4,4 @@ pub mod InUse
 pub mod Bounded
 pub mod Whole
 pub mod Follows
+pub mod Puts

@@ -63,3 +63,8 @@ AtLimit first size Disk = ⊥
 AtLimit first size Damaged = ⊥
 AtLimit first size Pages = HasMostPages first
 AtLimit first size Private = 1024 ≤ size
+
+-- page 0 is this header, which is within its bounds
+abbrev pub IsSaid : Option (List ℕ) → FileHeader → Type 0
+IsSaid None header = ⊥
+IsSaid (Some first) header = IsHeader first header × IsInBounds header

@@ -3,6 +3,8 @@
 
 mod changes;
 mod commits;
+mod first_page;
+mod frees;
 mod layers;
 mod snapshot;
 mod space;
@@ -12,6 +14,7 @@ mod writes;
 
 pub use changes::Changes;
 pub use commits::commit;
+pub use first_page::read_header;
 pub use snapshot::Snapshot;
 pub use space::Overlay;
 pub use writes::replace_page;

@@ -1,0 +1,52 @@
+//! Page 0 of a version with a transaction's changes.
+ghost use Rattle.std.specs.Prelude.{◌≡◌, ◌≤◌, ℕ, List, Some, IsNone, IfOk, IfErr, IfSome};
+ghost use Rattle.page_space.specs.Space.{ReadRefused};
+ghost use Rattle.pagefile.specs.declared.header.FileHeader.{FileHeader};
+ghost use Rattle.pagefile.specs.Header.{IsHeader, IsInBounds};
+ghost use Rattle.pool.specs.Pages.{over};
+ghost use Rattle.pool.specs.Versions.{versions_of, device_of};
+ghost use Rattle.overlay.specs.Changes.{private_of};
+ghost use Rattle.overlay.specs.Whole.{IsSaid};
+
+use crate::changes::Changes;
+use crate::version::read_changed;
+use disk::Disk;
+use page_space::Fault;
+use pagefile::{FileHeader, PAGE_SIZE, Page};
+use pool::Pool;
+
+/// The header that a page is; none where it is no header within its bounds.
+fn header_of(first: &Page) -> Option<FileHeader>
+    ensures header { IfSome result (λ h. IsHeader first.now h) }
+    ensures bounds { IfSome result IsInBounds }
+    ensures none { IsNone result → (h : _) → IsHeader first.now h → IsInBounds h → ⊥ }
+{
+    let header = FileHeader::decode(first)?;
+    if !header.is_in_bounds() {
+        return None;
+    }
+    Some(header)
+}
+
+/// The fields of page 0 at a commit with a transaction's pages over it: the page count, the first free
+/// page and the root of the catalogue. Refused for memory, where the device refuses a call, and as
+/// damaged only where page 0 is no header within its bounds.
+pub fn read_header<D: Disk>(
+    pool: &mut Pool<D>,
+    changes: &Changes,
+    at: u64,
+) -> Result<FileHeader, Fault>
+    ensures says { IfOk result (λ header. (first : List ℕ) → over (private_of changes.now) ((versions_of pool.old).pages at) 0 ≡ Some first → IsHeader first header) }
+    ensures bounds { IfOk result IsInBounds }
+    ensures versions { versions_of pool.new ≡ versions_of pool.old }
+    ensures refusal { IfErr result (ReadRefused ((header : FileHeader) → IsSaid (over (private_of changes.now) ((versions_of pool.old).pages at) 0) header → ⊥)
+        (D.refused (device_of pool.old)) (D.refused (device_of pool.new))) }
+    ensures rising { D.refused (device_of pool.old) ≤ D.refused (device_of pool.new) }
+{
+    let mut first = [0; PAGE_SIZE];
+    read_changed(pool, changes, at, 0, &mut first)?;
+    match header_of(&first) {
+        Some(header) => Ok(header),
+        None => Err(Fault::Damaged),
+    }
+}
