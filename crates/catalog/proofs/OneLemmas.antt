@@ -1,5 +1,5 @@
 -- Records by their entries.
-use Rattle.std.proofs.Common.{◌≡◌, ℕ, List, [], ◌∷◌, IsSome, refl, sym, ap, ◌∙◌}
+use Rattle.std.proofs.Common.{◌≡◌, ℕ, List, [], ◌∷◌, IsSome, refl, ap, ◌∙◌}
 use Rattle.sqlval.specs.declared.schema.Table.{Table}
 use Rattle.catalog_records.specs.declared.record.Record.{Record}
 use Rattle.catalog_records.specs.Records.{schema_records}

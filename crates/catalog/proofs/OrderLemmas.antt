@@ -1,9 +1,9 @@
 -- The order of records.
-use Rattle.std.proofs.Common.{◌≡◌, ◌≢◌, ℕ, zero, suc, ◌+◌, ◌<◌, ◌≤◌, Bool, true, false, List, [], ◌∷◌, ◌++◌, map, refl, sym, ap, ◌∙◌, subst, arith, nat_lt}
+use Rattle.std.proofs.Common.{◌≡◌, ◌≢◌, ℕ, ◌+◌, ◌<◌, ◌≤◌, true, false, List, [], ◌∷◌, ◌++◌, map, refl, sym, ap, ◌∙◌, arith, nat_lt}
 use Rattle.std.specs.List.{AllByRecursion, enumerate_from}
 use Rattle.std.specs.declared.cmp.Ordering.{Ordering}
 use Rattle.std.specs.declared.cmp.Ordering.TheVariants.{Less, Equal, Greater}
-use Rattle.std.specs.Ordering.{is_lt, nat_cmp, ordering_then}
+use Rattle.std.specs.Ordering.{is_lt}
 use Rattle.std.specs.Prelude.{pos}
 use Rattle.std.specs.Ordering.{int_cmp}
 use Rattle.std.proofs.lemmas.Bool.{lt-ltb}
@@ -15,14 +15,14 @@ use Rattle.sqlval.specs.declared.schema.Table.{Table}
 use Rattle.sqlval.specs.declared.schema.Column.{Column}
 use Rattle.sqlval.specs.declared.schema.Constraint.{Constraint}
 use Rattle.sqlval.specs.declared.schema.Index.{Index}
-use Rattle.sqlval.specs.Comparison.{text_order, value_order}
+use Rattle.sqlval.specs.Comparison.{text_order}
 use Rattle.catalog_records.specs.declared.record.Record.{Record}
-use Rattle.catalog_records.specs.Records.{counted, key_of, table_record, column_record, constraint_record, index_record, column_records, constraint_records, index_records, table_records}
-use Rattle.sqlrecord.specs.Key.{key_code, byte_order, key_order}
+use Rattle.catalog_records.specs.Records.{key_of, table_record, column_record, constraint_record, index_record, column_records, constraint_records, index_records, table_records}
+use Rattle.sqlrecord.specs.Key.{key_code, key_order}
 use Rattle.sqlrecord.proofs.OrderLemmas.{whole_keys}
 use Rattle.btree_read.specs.Nodes.{precedes}
 use Rattle.btree_read.proofs.ListLemmas.{each_append, each_map}
-use Rattle.catalog.specs.Held.{IsCoded, AreCoded}
+use Rattle.catalog.specs.Held.{IsCoded}
 
 -- the key of one record is less than that of another
 abbrev pub IsLess : Record → Record → Type 0

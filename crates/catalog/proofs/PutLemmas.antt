@@ -1,13 +1,10 @@
 -- Records put into a tree's entries.
-use Rattle.std.proofs.Common.{◌≡◌, ◌≢◌, ℕ, ◌+◌, ◌<◌, Bool, true, false, List, [], ◌∷◌, ◌++◌, map, length, get_or, take, Option, Some, None, IsSome, ◌⊎◌, inl, inr, refl, sym, ap, ◌∙◌, subst, append_assoc}
-use Rattle.std.specs.Bool.{◌==◌}
+use Rattle.std.proofs.Common.{◌≡◌, ℕ, ◌+◌, ◌<◌, Bool, true, false, List, [], ◌∷◌, ◌++◌, length, get_or, take, refl, sym, ap, ◌∙◌, subst, append_assoc}
 use Rattle.std.specs.Prelude.{Result, Ok, Err, OnOk, IfOk}
-use Rattle.std.proofs.lemmas.Bool.{eqb-true}
-use Rattle.std.proofs.Common.{eq-eqb}
-use Rattle.std.specs.List.{AllByRecursion, flat_map}
+use Rattle.std.specs.List.{AllByRecursion}
 use Rattle.std.specs.Ordering.{is_lt}
 use Rattle.std.specs.Prelude.{if◌then◌else◌}
-use Rattle.std.proofs.lemmas.List.{append-nil, map-append, take_more}
+use Rattle.std.proofs.lemmas.List.{take_more}
 use Rattle.sqlval.specs.declared.schema.Table.{Table}
 use Rattle.sqlval.specs.Comparison.{text_order}
 use Rattle.catalog_records.specs.declared.record.Record.{Record}
@@ -17,13 +14,12 @@ use Rattle.sqlrecord.specs.Row.{row_code}
 use Rattle.btree_read.specs.declared.entry.Entry.{Entry}
 use Rattle.btree_read.specs.Nodes.{Key, precedes}
 use Rattle.page_space.specs.Space.{PageMap}
-use Rattle.btree_read.specs.Lists.{Has}
 use Rattle.btree_read.specs.Tree.{IsTree}
 use Rattle.btree_read.specs.Sorted.{put}
 use Rattle.tree_entries.proofs.ChangeLemmas.{put_past}
 use Rattle.btree.specs.Written.{IsWritten}
 use Rattle.catalog_read.specs.Keepable.{IsTable}
-use Rattle.btree_read.proofs.ListLemmas.{each_append, each_left, each_right, each_map}
+use Rattle.btree_read.proofs.ListLemmas.{each_append, each_left, each_right}
 use Rattle.btree_read.proofs.OrderLemmas.{not_both}
 use Rattle.catalog.specs.Held.{entry_of, entries_of, IsCoded, AreCoded, HoldsSchema}
 use Rattle.catalog.specs.Changed.{with_table, IsFree, put_all, SchemaWritten}

@@ -1,5 +1,5 @@
 -- Another root of a table's rows.
-use Rattle.std.proofs.Common.{◌≡◌, ℕ, ◌^◌, ◌<◌, Bool, true, false, List, [], ◌∷◌, ◌++◌, map, refl, sym, ap, ◌∙◌, subst, append_assoc}
+use Rattle.std.proofs.Common.{◌≡◌, ℕ, ◌^◌, ◌<◌, true, false, List, [], ◌∷◌, ◌++◌, refl, sym, ap, ◌∙◌, subst, append_assoc}
 use Rattle.std.specs.Prelude.{Result, Ok, Err, OnOk, IfOk}
 use Rattle.std.specs.List.{AllByRecursion}
 use Rattle.sqlval.specs.declared.schema.Table.{Table}
@@ -13,7 +13,7 @@ use Rattle.btree_read.specs.declared.entry.Entry.{Entry}
 use Rattle.btree_read.specs.Nodes.{Key, precedes}
 use Rattle.btree_read.specs.Sorted.{Ascends, put}
 use Rattle.btree_read.specs.Tree.{IsTree}
-use Rattle.btree_read.proofs.ListLemmas.{each_append, each_left, each_right}
+use Rattle.btree_read.proofs.ListLemmas.{each_right}
 use Rattle.btree_read.proofs.OrderLemmas.{not_self}
 use Rattle.btree.specs.Written.{IsWritten}
 use Rattle.tree_entries.proofs.AscendLemmas.{root_ascends}

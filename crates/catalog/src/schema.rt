@@ -5,11 +5,11 @@ ghost use Rattle.page_space.specs.Space.{ReadRefused};
 ghost use Rattle.catalog.specs.Held.{HoldsSchema, HoldsNoSchema};
 
 use crate::decoding::schema_of_entries;
+use btree_scan::scan;
 use catalog_read::ReadError;
 use page_space::{Fault, PageReader};
 use sqlval::Schema;
 use std::alloc::Global;
-use tree_entries::all_entries;
 
 /// The schema that the tree at a root holds; root 0 is the schema without tables.
 ///
@@ -23,7 +23,7 @@ pub fn read_schema<R: PageReader>(space: &mut R, alloc: Global, root: u32) -> Re
     ensures rising { R.refused space.old ≤ R.refused space.new }
     ensures follows { R.follows space.old space.new }
 {
-    let entries = all_entries(space, alloc, root)?;
+    let entries = scan(space, alloc, root)?;
     match schema_of_entries(alloc, entries.as_slice()) {
         Ok(schema) => Ok(schema),
         Err(ReadError::Memory) => Err(Fault::Memory),

@@ -1,11 +1,10 @@
 -- Schemas by their records.
-use Rattle.std.proofs.Common.{◌≡◌, ℕ, zero, suc, ◌+◌, ◌^◌, ◌<◌, ◌≤◌, List, [], ◌∷◌, ◌++◌, map, length, Option, Some, None, refl, sym, ap, ◌∙◌, arith, append_assoc, subst}
+use Rattle.std.proofs.Common.{◌≡◌, ℕ, ◌+◌, ◌^◌, ◌<◌, List, [], ◌∷◌, ◌++◌, map, length, Option, Some, None, refl, sym, ap, ◌∙◌, arith}
 use Rattle.std.specs.List.{AllByRecursion, enumerate_from, flat_map}
 use Rattle.std.specs.Fmt.{decimal}
 use Rattle.std.proofs.lemmas.Fmt.{decimal_injective, decimal_nonempty}
 use Rattle.std.proofs.lemmas.List.{length-append}
 use Rattle.sqlval.specs.declared.value.Value.{Value}
-use Rattle.sqlval.specs.declared.value.Value.TheVariants.{Null, Int, Text}
 use Rattle.sqlval.specs.declared.storing.ColumnType.{ColumnType}
 use Rattle.sqlval.specs.declared.storing.ColumnType.TheVariants.{Integer, Varchar}
 use Rattle.sqlval.specs.declared.schema.Table.{Table}
@@ -16,11 +15,11 @@ use Rattle.sqlval.specs.declared.schema.Rule.TheVariants.{NotNull, PrimaryKey, U
 use Rattle.sqlval.specs.declared.schema.Index.{Index}
 use Rattle.catalog_records.specs.declared.record.Record.{Record}
 use Rattle.catalog_records.specs.Places.{next_place, places_text}
-use Rattle.catalog_records.specs.Records.{counted, key_of, width_of, sort_of, detail_of, name_value, owner_number, table_record, column_record, constraint_record, index_record, column_records, constraint_records, index_records, table_records, schema_records}
+use Rattle.catalog_records.specs.Records.{key_of, width_of, sort_of, detail_of, name_value, owner_number, table_record, column_record, constraint_record, index_record, table_records, schema_records}
 use Rattle.catalog_read.specs.Keepable.{ArePlaces, IsType, IsColumn, IsRule, IsConstraint, IsIndex, IsTable, AreTables}
 use Rattle.catalog_read.specs.Rows.{column_row, constraint_row, index_row, EndsAt, EndsTable}
 use Rattle.catalog_read.proofs.PlaceLemmas.{decimal_none, cut_same, at_comma}
-use Rattle.catalog_read.proofs.TableLemmas.{IsFront, schema_ends, table_front, table_parts, table_is, some_records}
+use Rattle.catalog_read.proofs.TableLemmas.{schema_ends, table_front, table_parts, table_is}
 
 -- ---- places
 

@@ -1,9 +1,6 @@
 -- Rows by their entries.
-use Rattle.std.proofs.Common.{◌≡◌, ℕ, ◌^◌, ◌<◌, List, [], ◌∷◌, IsSome, refl, sym, ap, ◌∙◌, arith}
-use Rattle.sqlval.specs.Value.{Row}
+use Rattle.std.proofs.Common.{◌≡◌, ℕ, List, [], ◌∷◌, IsSome, refl, ap, ◌∙◌, arith}
 use Rattle.store.specs.Contents as stored
-use Rattle.sqlrecord.specs.Key.{number_code}
-use Rattle.sqlrecord.specs.Row.{row_code}
 use Rattle.sqlrecord.proofs.OrderLemmas.{index_keys_apart, rows_apart}
 use Rattle.page_space.specs.Space.{PageMap}
 use Rattle.btree_read.specs.declared.entry.Entry.{Entry}

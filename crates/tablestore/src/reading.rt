@@ -13,7 +13,6 @@ use page_space::{Fault, PageReader};
 use sqlrecord::DecodeError;
 use std::alloc::Global;
 use store::{Numbered, NumberedRow};
-use tree_entries::all_entries;
 
 /// All rows of the tree at a root, in the order of their numbers; root 0 is the table without rows.
 ///
@@ -26,7 +25,7 @@ pub fn scan<R: PageReader>(space: &mut R, alloc: Global, root: u32) -> Result<Nu
     ensures rising { R.refused space.old ≤ R.refused space.new }
     ensures follows { R.follows space.old space.new }
 {
-    let entries = all_entries(space, alloc, root)?;
+    let entries = btree_scan::scan(space, alloc, root)?;
     match rows_of_entries(alloc, entries.as_slice()) {
         Ok(found) => Ok(found),
         Err(DecodeError::OutOfMemory) => Err(Fault::Memory),

@@ -1,11 +1,11 @@
 -- The tree under a page is one.
-use Rattle.std.proofs.Common.{◌≡◌, ℕ, zero, suc, List, [], ◌∷◌, ◌++◌, map, Option, None, refl, sym, ap, ◌∙◌, subst}
-use Rattle.std.specs.List.{AllByRecursion, flat_map}
+use Rattle.std.proofs.Common.{◌≡◌, ℕ, zero, suc, List, [], ◌∷◌, ◌++◌, map, refl, sym, ap, ◌∙◌, subst}
+use Rattle.std.specs.List.{flat_map}
 use Rattle.page_space.specs.Space.{PageMap}
 use Rattle.btree_read.specs.declared.entry.Entry.{Entry}
 use Rattle.btree_read.specs.declared.entry.Branch.{Branch}
 use Rattle.btree_read.specs.Nodes.{Key, Node, LeafNode, InnerNode, HasNode}
-use Rattle.btree_read.specs.Tree.{Tree, page_of, branch_to, kids, entries_of, nodes_of, Holds, IsTree, IsTreeOf}
+use Rattle.btree_read.specs.Tree.{Tree, page_of, branch_to, kids, entries_of, nodes_of, Holds, IsTree}
 use Rattle.btree_read.proofs.ListLemmas.{each_left, each_right}
 use Rattle.btree_read.proofs.NodeLemmas.{one_node}
 

@@ -1,8 +1,6 @@
-//! All entries of a tree.
+//! What a tree's entries are known by.
 #![tactic(auto)]
 
 mod laws;
-mod walk;
 
 pub use laws::{entries_are_one, entries_ascend};
-pub use walk::all_entries;

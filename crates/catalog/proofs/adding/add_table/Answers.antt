@@ -1,4 +1,4 @@
-use Rattle.std.proofs.Common.{◌≡◌, ◌∙◌}
+use Rattle.std.proofs.Common.{◌∙◌}
 use Rattle.catalog_records.specs.Records.{schema_records}
 use Rattle.catalog.specs.Held.{entries_of}
 use Rattle.catalog.proofs.PutLemmas.{schema_added}
@@ -15,9 +15,9 @@ returns-clause-added g c = λ owned tables held good free.
 pub returns-clause-refusal : goal.returns-clause-refusal
 returns-clause-refusal g c =
     refused_so c.put_records.result (g.S.PageSpace.at_limit c.put_records.new.space)
-        (IsNoTreeIn (g.S.PageReader.pages c.args.space.now) c.args.root (g.S.PageReader.is_whole c.args.space.now))
-        (HoldsNoSchemaIn (g.S.PageReader.pages c.args.space.now) c.args.root (g.S.PageReader.is_whole c.args.space.now))
-        _ _ (λ none owned tables held whole. none owned _ held.tree whole) c.put_records.ensures.refusal
+    (IsNoTreeIn (g.S.PageReader.pages c.args.space.now) c.args.root (g.S.PageReader.is_whole c.args.space.now))
+    (HoldsNoSchemaIn (g.S.PageReader.pages c.args.space.now) c.args.root (g.S.PageReader.is_whole c.args.space.now))
+    _ _ (λ none owned tables held whole. none owned _ held.tree whole) c.put_records.ensures.refusal
 
 pub returns-in_err-records-clause-refusal : goal.returns-in_err-records-clause-refusal
 returns-in_err-records-clause-refusal g c = record_refused _ c.in_err-records.field-0.0 (g.S.PageSpace.at_limit c.args.space.now)

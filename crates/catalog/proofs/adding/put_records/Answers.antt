@@ -1,4 +1,4 @@
-use Rattle.std.proofs.Common.{◌≡◌, ℕ, ◌+◌, ◌≤◌, List, take, sym, subst, arith}
+use Rattle.std.proofs.Common.{List, take, sym, subst, arith}
 use Rattle.btree_read.specs.declared.entry.Entry.{Entry}
 use Rattle.btree.specs.Written.{IsWritten}
 use Rattle.catalog.specs.Changed.{put_all}
@@ -29,6 +29,6 @@ pub returns-in_err-top-clause-refusal : goal.returns-in_err-top-clause-refusal
 returns-in_err-top-clause-refusal g c =
     let known = c.loop-r.invariant in
     refused_later _ c.in_err-top.field-0.0 (g.S.PageSpace.at_limit c.put_record.new.space)
-        (IsNoTreeIn (g.S.PageReader.pages c.loop-r.space) c.loop-r.top (g.S.PageReader.is_whole c.loop-r.space))
-        (IsNoTreeIn (g.S.PageReader.pages c.args.space.now) c.args.root (g.S.PageReader.is_whole c.args.space.now))
-        _ _ _ known.rising (λ none owned entries t whole. let w = known.put owned entries t in none w.now_owned _ w.stored (known.whole whole)) c.from_residual.ensures.1 c.in_err-top.ensures.refusal
+    (IsNoTreeIn (g.S.PageReader.pages c.loop-r.space) c.loop-r.top (g.S.PageReader.is_whole c.loop-r.space))
+    (IsNoTreeIn (g.S.PageReader.pages c.args.space.now) c.args.root (g.S.PageReader.is_whole c.args.space.now))
+    _ _ _ known.rising (λ none owned entries t whole. let w = known.put owned entries t in none w.now_owned _ w.stored (known.whole whole)) c.from_residual.ensures.1 c.in_err-top.ensures.refusal

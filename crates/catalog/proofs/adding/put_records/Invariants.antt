@@ -1,4 +1,4 @@
-use Rattle.std.proofs.Common.{◌≡◌, ℕ, ◌≤◌, List, take}
+use Rattle.std.proofs.Common.{ℕ, ◌≤◌, List, take}
 use Rattle.btree_read.specs.declared.entry.Entry.{Entry}
 use Rattle.btree_read.specs.Tree.{IsTree}
 use Rattle.btree.specs.Written.{IsWritten}

@@ -15,9 +15,9 @@ returns-clause-set g c = λ owned before behind table held named.
 pub returns-clause-refusal : goal.returns-clause-refusal
 returns-clause-refusal g c =
     refused_so c.put_record.result (g.S.PageSpace.at_limit c.put_record.new.space)
-        (IsNoTreeIn (g.S.PageReader.pages c.args.space.now) c.args.root (g.S.PageReader.is_whole c.args.space.now))
-        (HoldsNoSchemaIn (g.S.PageReader.pages c.args.space.now) c.args.root (g.S.PageReader.is_whole c.args.space.now))
-        _ _ (λ none owned tables held whole. none owned _ held.tree whole) c.put_record.ensures.refusal
+    (IsNoTreeIn (g.S.PageReader.pages c.args.space.now) c.args.root (g.S.PageReader.is_whole c.args.space.now))
+    (HoldsNoSchemaIn (g.S.PageReader.pages c.args.space.now) c.args.root (g.S.PageReader.is_whole c.args.space.now))
+    _ _ (λ none owned tables held whole. none owned _ held.tree whole) c.put_record.ensures.refusal
 
 pub returns-in_err-r-clause-refusal : goal.returns-in_err-r-clause-refusal
 returns-in_err-r-clause-refusal g c = record_refused _ c.in_err-r.field-0.0 (g.S.PageSpace.at_limit c.args.space.now)

@@ -1,4 +1,3 @@
-use Rattle.std.proofs.Common.{◌≡◌, ◌∙◌, sym, [], ◌∷◌, ◌++◌}
 use Rattle.catalog_read.proofs.Exits.{refused}
 use Rattle.catalog.proofs.DecodeLemmas.{record_read}
 use Rattle.catalog.proofs.decoding.records_of.Goals as goal

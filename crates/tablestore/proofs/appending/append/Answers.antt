@@ -1,5 +1,4 @@
-use Rattle.std.proofs.Common.{subst, sym}
-use Rattle.std.proofs.Common.{◌^◌, ◌<◌, ◌++◌, take, arith}
+use Rattle.std.proofs.Common.{◌^◌, ◌<◌, ◌++◌, take, arith, subst, sym}
 use Rattle.std.specs.List.{enumerate_from}
 use Rattle.store.specs.Contents as stored
 use Rattle.tablestore.specs.Held.{entries_of}
@@ -28,16 +27,16 @@ loop-row-preserved g c = record {
 pub returns-in_err-number-clause-refusal : goal.returns-in_err-number-clause-refusal
 returns-in_err-number-clause-refusal g c =
     read_refused _ c.in_err-number.field-0.0 (g.S.PageSpace.at_limit c.next_number.new.space)
-        (HoldsNoRows (g.S.PageReader.pages c.args.space.now) c.args.root)
-        (HoldsNoRowsIn (g.S.PageReader.pages c.args.space.now) c.args.root (g.S.PageReader.is_whole c.args.space.now))
-        _ _ c.args.rows.now c.from_residual.ensures.1 (λ none owned rows held whole. none owned rows held) c.in_err-number.ensures.refusal
+    (HoldsNoRows (g.S.PageReader.pages c.args.space.now) c.args.root)
+    (HoldsNoRowsIn (g.S.PageReader.pages c.args.space.now) c.args.root (g.S.PageReader.is_whole c.args.space.now))
+    _ _ c.args.rows.now c.from_residual.ensures.1 (λ none owned rows held whole. none owned rows held) c.in_err-number.ensures.refusal
 
 pub returns-in_err-top-clause-refusal : goal.returns-in_err-top-clause-refusal
 returns-in_err-top-clause-refusal g c =
     let known = c.loop-row.invariant in
     let among = subst (λ (r : Row). Contains c.args.rows.now r) (sym c.row-item.is) (Contains-get_or c.args.rows.now c.loop-row.row-index c.row-item.result c.loop-row-test.true) in
     row_refused _ c.in_err-top.field-0.0 (g.S.PageSpace.at_limit c.put_row.new.space)
-        (IsNoTreeIn (g.S.PageReader.pages c.loop-row.space) c.loop-row.top (g.S.PageReader.is_whole c.loop-row.space))
-        (HoldsNoRowsIn (g.S.PageReader.pages c.args.space.now) c.args.root (g.S.PageReader.is_whole c.args.space.now))
-        _ _ _ c.args.rows.now c.row-item.result c.from_residual-in_err-top.ensures.1 known.rising among
-        (λ none owned rows held whole. let w = known.appends owned rows held in none w.written.now_owned _ w.written.holds.tree (known.whole whole)) c.in_err-top.ensures.refusal
+    (IsNoTreeIn (g.S.PageReader.pages c.loop-row.space) c.loop-row.top (g.S.PageReader.is_whole c.loop-row.space))
+    (HoldsNoRowsIn (g.S.PageReader.pages c.args.space.now) c.args.root (g.S.PageReader.is_whole c.args.space.now))
+    _ _ _ c.args.rows.now c.row-item.result c.from_residual-in_err-top.ensures.1 known.rising among
+    (λ none owned rows held whole. let w = known.appends owned rows held in none w.written.now_owned _ w.written.holds.tree (known.whole whole)) c.in_err-top.ensures.refusal
