@@ -1,11 +1,12 @@
-ghost use Rattle.std.specs.Prelude.{◌≡◌};
+ghost use Rattle.std.specs.Prelude.{◌≡◌, IfOk};
+ghost use Rattle.sqlcore.specs.Held.{frames_of as kept_frames};
 ghost use Rattle.shell.specs.Status.{refusal_of, status_of, IsStatus};
 
 use crate::options::Settings;
 use disk::Disk;
 use refusals::Refusal;
 use replies::{Reply, print_reply};
-use sqlcore::{Core, ScriptFault, run};
+use sqlcore::{Core, Refused, ScriptFault, run};
 use std::alloc::Global;
 use std::io::{Read, Write};
 
@@ -28,7 +29,7 @@ pub fn run_on<D: Disk + Drop, R: Read, W: Write>(
 ) -> u8
     ensures { IsStatus result }
 {
-    let mut core = match Core::open(alloc, disk, frames_of(settings)) {
+    let mut core = match opened(alloc, settings, disk) {
         Ok(core) => core,
         Err(refused) => return fail(refused.refusal, writer),
     };
@@ -37,6 +38,13 @@ pub fn run_on<D: Disk + Drop, R: Read, W: Write>(
         Ok(_disk) => status,
         Err(refused) => fail(refused.refusal, writer),
     }
+}
+
+/// The device's core, with room for as many pages as the settings ask for.
+fn opened<D: Disk>(alloc: Global, settings: &Settings, disk: D) -> Result<Core<D>, Refused<D>>
+    ensures frames { IfOk result (λ core. kept_frames core ≡ settings.now.frames.count) }
+{
+    Core::open(alloc, disk, frames_of(settings))
 }
 
 /// How many pages the pool may keep in memory.

@@ -29,6 +29,10 @@ sessions_made core = core.made
 abbrev pub device_of : {D : Type 0} → Core D → D
 device_of core = core.disk
 
+-- how many pages it was asked to keep in memory
+abbrev pub frames_of : {D : Type 0} → Core D → ℕ
+frames_of core = core.frames
+
 abbrev pub number_of : SessionId → ℕ
 number_of session = session.number
 

@@ -39,6 +39,7 @@ pub struct Core<D: Disk> {
     store: Store,
     session: Option<SessionId>,
     made: u64,
+    frames: usize,
 }
 
 impl<D: Disk> Core<D> {
@@ -48,7 +49,7 @@ impl<D: Disk> Core<D> {
     ghost use Rattle.refusals.specs.declared.refusal.Refusal.TheVariants as refusals;
     ghost use Rattle.typing.specs.Evaluated.{is_evaluated};
     ghost use Rattle.sqlcore.specs.Carried.{Calls, Does};
-    ghost use Rattle.sqlcore.specs.Held.{session_of, sessions_made, device_of, IsNew, HasMade, HasEnded, HasRolledBack, IsNoStatement, IsUnchanged, Leaves, RefusesUnread};
+    ghost use Rattle.sqlcore.specs.Held.{frames_of, session_of, sessions_made, device_of, IsNew, HasMade, HasEnded, HasRolledBack, IsNoStatement, IsUnchanged, Leaves, RefusesUnread};
     ghost use Rattle.statement_reading.specs.Reading.{IsUnread};
     ghost use Rattle.statement_reading.specs.Rollback.{IsRollback};
 
@@ -58,14 +59,15 @@ impl<D: Disk> Core<D> {
     pub fn open(alloc: Global, disk: D, frames: usize) -> Result<Core<D>, Refused<D>>
         ensures accepted { IsOk result }
         ensures new { IfOk result (λ core. IsNew disk core) }
+        ensures frames { IfOk result (λ core. frames_of core ≡ frames) }
     {
-        let _ = frames;
         Ok(Core {
             alloc,
             disk,
             store: Store::new(alloc),
             session: None,
             made: 0,
+            frames,
         })
     }
 
@@ -142,6 +144,7 @@ impl<D: Disk> Core<D> {
             store: _,
             session: _,
             made: _,
+            frames: _,
         } = self;
         Ok(disk)
     }
