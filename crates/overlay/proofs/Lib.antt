@@ -5,3 +5,4 @@ pub mod WholeLemmas
 pub mod WriteLemmas
 pub mod HeaderLemmas
 pub mod PutLemmas
+pub mod FreeLemmas

@@ -15,6 +15,7 @@ mod writes;
 pub use changes::Changes;
 pub use commits::commit;
 pub use first_page::read_header;
+pub use frees::free_page;
 pub use snapshot::Snapshot;
 pub use space::Overlay;
 pub use writes::replace_page;

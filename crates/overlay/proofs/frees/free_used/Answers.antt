@@ -1,0 +1,33 @@
+use Rattle.std.proofs.Common.{◌≡◌, List, ℕ, Some, IsSome, ap, subst, rules}
+use Rattle.pagefile.specs.Header.{IsHeader}
+use Rattle.pool.specs.Pages.{over}
+use Rattle.pagefile.specs.declared.header.FileHeader.{FileHeader}
+use Rattle.overlay.specs.Layers.{size_of}
+use Rattle.overlay.specs.Whole.{IsWhole, IsSaid, AtLimit}
+use Rattle.pool.specs.Versions.{Versions, versions_of, device_of}
+use Rattle.overlay.specs.Changes.{private_of}
+use Rattle.overlay.specs.InUse.{in_use}
+use Rattle.overlay.proofs.FreeLemmas.{never_used, never_whole, read_more, frees_by}
+use Rattle.overlay.proofs.frees.free_used.Goals as goal
+
+pub returns-then-not-used-clause-refusal : goal.returns-then-not-used-clause-refusal
+returns-then-not-used-clause-refusal g c = λ whole there.
+    never_used (in_use ((versions_of c.args.pool.now).pages c.args.at) (private_of c.args.changes.now) c.args.page) (c.in_ok-used.ensures.unused (search rules)) there
+
+pub returns-in-Err-clause-refusal : goal.returns-in-Err-clause-refusal
+returns-in-Err-clause-refusal g c =
+    read_more c.in-Err.fault (AtLimit (over (private_of c.args.changes.now) ((versions_of c.read_header.new.pool).pages c.args.at) 0) (size_of (private_of c.args.changes.now)))
+    ((header : FileHeader) → IsSaid (over (private_of c.args.changes.now) ((versions_of c.is_in_use.new.pool).pages c.args.at) 0) header → ⊥)
+    (IsWhole (over (private_of c.args.changes.now) ((versions_of c.args.pool.now).pages c.args.at))
+    → IsSome (in_use ((versions_of c.args.pool.now).pages c.args.at) (private_of c.args.changes.now) c.args.page) → ⊥)
+    (g.D.Disk.refused (device_of c.args.pool.now)) (g.D.Disk.refused (device_of c.is_in_use.new.pool)) (g.D.Disk.refused (device_of c.read_header.new.pool))
+    (λ never whole there. never_whole (over (private_of c.args.changes.now) ((versions_of c.args.pool.now).pages c.args.at)) (over (private_of c.args.changes.now) ((versions_of c.is_in_use.new.pool).pages c.args.at))
+    (ap (λ (v : Versions). over (private_of c.args.changes.now) (v.pages c.args.at)) c.is_in_use.ensures.versions) never whole)
+    c.is_in_use.ensures.rising c.in-Err.ensures.refusal
+
+pub returns-in-Ok-clause-written : goal.returns-in-Ok-clause-written
+returns-in-Ok-clause-written g c =
+    frees_by c.put_free.result (over (private_of c.args.changes.now) ((versions_of c.args.pool.now).pages c.args.at)) c.args.page (private_of c.args.changes.now) (private_of c.put_free.new.changes)
+    c.in-Ok.header
+    (subst (λ (v : Versions). (first : List ℕ) → over (private_of c.args.changes.now) (v.pages c.args.at) 0 ≡ Some first → IsHeader first c.in-Ok.header) c.is_in_use.ensures.versions c.in-Ok.ensures.says)
+    c.in-Ok.ensures.bounds (c.in_ok-used.ensures.within (search rules)) (c.in_ok-used.ensures.used (search rules)) c.put_free.ensures.written
