@@ -1,7 +1,7 @@
 -- What each call of a core keeps.
-use Rattle.std.proofs.Common.{◌≡◌, refl, ap, sym, subst, ◌∙◌, ℕ, ◌<◌, ◌≤◌, ◌+◌, Bool, true, false, List, [], ◌∷◌, drop, get_or, length, Option, Some, None, Ok, Err}
+use Rattle.std.proofs.Common.{◌≡◌, refl, ap, sym, subst, ◌∙◌, ℕ, ◌<◌, ◌≤◌, ◌+◌, Bool, true, false, [], ◌∷◌, drop, get_or, length, Option, Some, None, Ok}
 use Rattle.std.specs.Prelude.{slice_set, is_some}
-use Rattle.refusals.specs.declared.refusal.Refusal.{Refusal}
+use Rattle.std.specs.FinMap.{get}
 use Rattle.lexer.specs.Token.{Bytes}
 use Rattle.ast.specs.declared.statement.AccessMode.{AccessMode}
 use Rattle.denote.specs.Database.{Database, CheckReading, IsGood}
@@ -13,8 +13,8 @@ use Rattle.session_definitions.specs.World.{Transaction, World, is_live}
 use Rattle.session_laws.specs.Sound.{IsGoodWorld}
 use Rattle.session_laws.proofs.GoodSteps.{good_run}
 use Rattle.session_laws.proofs.Live.{keeps_live}
-use Rattle.store.specs.Stored.{Stored}
-use Rattle.transactions.specs.Orderly.{IsOrderly}
+use Rattle.store.specs.Stored.{Found, Stored}
+use Rattle.transactions.specs.Orderly.{IsOrderly, WriterIsCurrent}
 use Rattle.transactions.specs.Shown.{Slots, slot_at, session_of, shown}
 use Rattle.transactions.proofs.Obstacles.{runs}
 use Rattle.transactions.proofs.SlotLemmas.{stands}
@@ -24,7 +24,7 @@ use Rattle.sessions.specs.OfCore.{IsSound, number_of, world_of}
 use Rattle.sessions.specs.Seen.{seen_in}
 use Rattle.sessions.proofs.Cores.{live_is}
 use Rattle.sessions.proofs.QuerySteps.{sees}
-use Rattle.scripts.specs.Settled.{IsSettled, IsKept, Places, HoldAll, HasNoSession}
+use Rattle.scripts.specs.Settled.{IsSettled, IsCommitted, IsKept, Places, HoldAll}
 use Rattle.scripts.proofs.Placed.{held_same, held_made, held_fallen, held_dropped, held_skipped, held_past}
 
 -- ---- databases stay good
@@ -59,6 +59,28 @@ module _ {S L D : Type 0} (is_sound : S → Type 0) (shows : S → Stored) (rule
   pub settled_at_last : (places : Places) (i : ℕ) (core : Core S L D) → length places ≤ i → IsKept is_sound shows rules.check (drop i places) core
       → IsSettled is_sound shows rules.check core
   settled_at_last places i core past h = record { sound = h.sound; good = h.good; ended = held_past places i (world_of shows core) past h.held }
+
+  -- where no session stands, none has written
+  pub settled_committed : (core : Core S L D) → IsSettled is_sound shows rules.check core → IsCommitted shows core
+  settled_committed core h = by core.writer refl
+    where
+      unread : (s : ℕ) → get (shows core.store).readers s ≡ None
+      unread s = at_slot (slot_at core.slots.modes s) refl
+        where
+          at_slot : (slot : Option AccessMode) → slot_at core.slots.modes s ≡ slot → get (shows core.store).readers s ≡ None
+          at_slot None is = h.sound.readers s is
+          at_slot (Some mode) is =
+              let live : is_live (world_of shows core) s ≡ true = live_is (shows core.store) core.writer core.slots.modes s ∙ ap is_some is in
+              let dead : is_live (world_of shows core) s ≡ false = h.ended s in absurd (cc)
+
+      by : (writer : Option ℕ) → core.writer ≡ writer → IsCommitted shows core
+      by None is = subst (λ (writer : Option ℕ). WriterIsCurrent (shows core.store) writer) is h.sound.order.current
+      by (Some s) is =
+          let current : WriterIsCurrent (shows core.store) (Some s) = subst (λ (writer : Option ℕ). WriterIsCurrent (shows core.store) writer) is h.sound.order.current in
+          absurd (not_both s current.0 current.1)
+        where
+          not_both : (s : ℕ) (f : Found) → get (shows core.store).readers s ≡ Some f → ⊥
+          not_both s f found = let none : get (shows core.store).readers s ≡ None = unread s in absurd (cc)
 
   -- ---- calls
 

@@ -1,5 +1,5 @@
 -- Which sessions stand, and whether a script has them in its places.
-use Rattle.std.proofs.Common.{◌≡◌, ◌≢◌, ◌⊎◌, refl, ap, sym, ◌∙◌, ℕ, suc, zero, ◌<◌, ◌≤◌, ◌+◌, add-one, Bool, true, false, List, [], ◌∷◌, drop, drop-cons, get_or, length, Option, Some, None, Ok, inl, inr}
+use Rattle.std.proofs.Common.{◌≡◌, ◌≢◌, ◌⊎◌, refl, ap, sym, ◌∙◌, ℕ, suc, zero, ◌<◌, ◌≤◌, ◌+◌, add-one, Bool, true, false, [], ◌∷◌, drop, drop-cons, get_or, length, Some, None, Ok, inl, inr}
 use Rattle.std.specs.Prelude.{slice_get, slice_set}
 use Rattle.std.proofs.lemmas.Bool.{cases_eq}
 use Rattle.std.proofs.lemmas.List.{drop_all}

@@ -21,6 +21,10 @@ pub record IsSettled {S L D : Type 0} (is_sound : S → Type 0) (shows : S → S
   pub good : IsGoodWorld reading (world_of shows core)
   pub ended : HasNoSession (world_of shows core)
 
+-- nothing is there but what is committed
+abbrev pub IsCommitted : {S L D : Type 0} → (S → Stored) → Core S L D → Type 0
+IsCommitted shows core = (shows (store_of core)).working ≡ (shows (store_of core)).last
+
 -- ---- while a script runs
 
 -- The sessions that a script has made, in the places of their numbers in the script.

@@ -1,7 +1,7 @@
 //! A script: the pieces of an input, carried out in order.
 ghost use Rattle.std.specs.Prelude.{◌≡◌, ◌≤◌, length, IfOk};
 ghost use Rattle.session_definitions.specs.Rules.{Rules, AreRules};
-ghost use Rattle.scripts.specs.Settled.{IsKept, IsSettled, Places, store_of};
+ghost use Rattle.scripts.specs.Settled.{IsCommitted, IsKept, IsSettled, Places, store_of};
 
 use refusals::{Reason, Refusal};
 use replies::{Reply, print_reply};
@@ -60,6 +60,7 @@ pub fn run<S: Store, L: Language + Changes<S>, R: Read, W: Write>(
     writer: &mut W,
 ) -> Result<bool, ScriptFault>
     ensures settled { (rules : Rules) → AreRules rules → IsSettled S.is_sound S.shows rules.check core.old → IsSettled S.is_sound S.shows rules.check core.new }
+    ensures committed { (rules : Rules) → AreRules rules → IsSettled S.is_sound S.shows rules.check core.old → IsCommitted S.shows core.new }
     ensures counts { S.refused (store_of core.old) ≤ S.refused (store_of core.new) }
 {
     let mut cutter = Cutter::new(alloc)?;
