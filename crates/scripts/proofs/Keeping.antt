@@ -1,0 +1,149 @@
+-- What each call of a core keeps.
+use Rattle.std.proofs.Common.{◌≡◌, refl, ap, sym, subst, ◌∙◌, ℕ, ◌<◌, ◌≤◌, ◌+◌, Bool, true, false, [], ◌∷◌, drop, get_or, length, Option, Some, None, Ok}
+use Rattle.std.specs.Prelude.{slice_set, is_some}
+use Rattle.std.specs.FinMap.{get}
+use Rattle.lexer.specs.Token.{Bytes}
+use Rattle.ast.specs.declared.statement.AccessMode.{AccessMode}
+use Rattle.denote.specs.Database.{Database, CheckReading, IsGood}
+use Rattle.replies.specs.declared.reply.Reply.{Reply}
+use Rattle.session_definitions.specs.Rules.{Rules}
+use Rattle.session_definitions.specs.Run.{Event, Happens, MakesSession, DropsSession}
+use Rattle.session_definitions.specs.Step.{Step}
+use Rattle.session_definitions.specs.World.{Transaction, World, is_live}
+use Rattle.session_laws.specs.Sound.{IsGoodWorld}
+use Rattle.session_laws.proofs.GoodSteps.{good_run}
+use Rattle.session_laws.proofs.Live.{keeps_live}
+use Rattle.store.specs.Stored.{Found, Stored}
+use Rattle.transactions.specs.Orderly.{IsOrderly, WriterIsCurrent}
+use Rattle.transactions.specs.Shown.{Slots, slot_at, session_of, shown}
+use Rattle.transactions.proofs.Obstacles.{runs}
+use Rattle.transactions.proofs.SlotLemmas.{stands}
+use Rattle.sessions.specs.declared.core_of.Core.{Core}
+use Rattle.sessions.specs.declared.core_of.SessionId.{SessionId}
+use Rattle.sessions.specs.OfCore.{IsSound, number_of, world_of}
+use Rattle.sessions.specs.Seen.{seen_in}
+use Rattle.sessions.proofs.Cores.{live_is}
+use Rattle.sessions.proofs.QuerySteps.{sees}
+use Rattle.scripts.specs.Settled.{IsSettled, IsCommitted, IsKept, Places, HoldAll}
+use Rattle.scripts.proofs.Placed.{held_same, held_made, held_fallen, held_dropped, held_skipped, held_past}
+
+-- ---- databases stay good
+
+good_event : (rules : Rules) (old : World) (event : Event) (new : World) → IsGoodWorld rules.check old → Happens rules old event new → IsGoodWorld rules.check new
+good_event rules old event new good happens = good_run rules old new (record { before = old; event = event } ∷ []) good (refl, happens)
+
+-- a session that stands sees a good database
+good_seen : (reading : CheckReading) (st : Stored) (writer : Option ℕ) (slots : Slots) (s : ℕ) → IsOrderly st writer → is_live (shown st writer slots) s ≡ true
+    → IsGoodWorld reading (shown st writer slots) → IsGood reading (seen_in st writer s)
+good_seen reading st writer slots s order live good = at_slot (slot_at slots s) refl (sym (live_is st writer slots s) ∙ live)
+  where
+    working : (mode : AccessMode) → slot_at slots s ≡ Some mode → (o : Option Transaction) → (session_of st writer s mode).transaction ≡ o → IsGood reading (runs st writer s mode).working
+    working mode is None e = rw e good.last
+    working mode is (Some t) e = rw e (good.transactions s (session_of st writer s mode) t (stands st writer slots s mode is) e).1
+
+    at_slot : (slot : Option AccessMode) → slot_at slots s ≡ slot → is_some slot ≡ true → IsGood reading (seen_in st writer s)
+    at_slot None is some = absurd (cc some)
+    at_slot (Some mode) is some =
+        subst (λ (db : Database). IsGood reading db) (sym (sees st writer s mode order)) (working mode is (session_of st writer s mode).transaction refl)
+
+module _ {S L D : Type 0} (is_sound : S → Type 0) (shows : S → Stored) (rules : Rules) where
+  -- ---- at the beginning and at the end
+
+  pub kept_at_first : (places : Places) (core : Core S L D) → IsSettled is_sound shows rules.check core → IsKept is_sound shows rules.check places core
+  kept_at_first places core h = record {
+    sound = h.sound;
+    good = h.good;
+    held = λ k live. let dead : is_live (world_of shows core) k ≡ false = h.ended k in absurd (cc);
+  }
+
+  pub settled_at_last : (places : Places) (i : ℕ) (core : Core S L D) → length places ≤ i → IsKept is_sound shows rules.check (drop i places) core
+      → IsSettled is_sound shows rules.check core
+  settled_at_last places i core past h = record { sound = h.sound; good = h.good; ended = held_past places i (world_of shows core) past h.held }
+
+  -- where no session stands, none has written
+  pub settled_committed : (core : Core S L D) → IsSettled is_sound shows rules.check core → IsCommitted shows core
+  settled_committed core h = by core.writer refl
+    where
+      unread : (s : ℕ) → get (shows core.store).readers s ≡ None
+      unread s = at_slot (slot_at core.slots.modes s) refl
+        where
+          at_slot : (slot : Option AccessMode) → slot_at core.slots.modes s ≡ slot → get (shows core.store).readers s ≡ None
+          at_slot None is = h.sound.readers s is
+          at_slot (Some mode) is =
+              let live : is_live (world_of shows core) s ≡ true = live_is (shows core.store) core.writer core.slots.modes s ∙ ap is_some is in
+              let dead : is_live (world_of shows core) s ≡ false = h.ended s in absurd (cc)
+
+      by : (writer : Option ℕ) → core.writer ≡ writer → IsCommitted shows core
+      by None is = subst (λ (writer : Option ℕ). WriterIsCurrent (shows core.store) writer) is h.sound.order.current
+      by (Some s) is =
+          let current : WriterIsCurrent (shows core.store) (Some s) = subst (λ (writer : Option ℕ). WriterIsCurrent (shows core.store) writer) is h.sound.order.current in
+          absurd (not_both s current.0 current.1)
+        where
+          not_both : (s : ℕ) (f : Found) → get (shows core.store).readers s ≡ Some f → ⊥
+          not_both s f found = let none : get (shows core.store).readers s ≡ None = unread s in absurd (cc)
+
+  -- ---- calls
+
+  pub kept_step : (places : Places) (old new : Core S L D) (session : SessionId) (text : Bytes) (reply : Reply)
+      → (IsSound is_sound shows old → is_live (world_of shows old) (number_of session) ≡ true → IsGood rules.check (seen_in (shows old.store) old.writer (number_of session))
+      → Step rules (world_of shows old) (number_of session) text reply (world_of shows new))
+      → (IsSound is_sound shows old → IsGood rules.check (seen_in (shows old.store) old.writer (number_of session)) → IsSound is_sound shows new)
+      → (is_live (world_of shows old) (number_of session) ≡ false → new ≡ old)
+      → IsKept is_sound shows rules.check places old → IsKept is_sound shows rules.check places new
+  kept_step places old new session text reply step sound ended h = by (is_live (world_of shows old) (number_of session)) refl
+    where
+      by : (b : Bool) → is_live (world_of shows old) (number_of session) ≡ b → IsKept is_sound shows rules.check places new
+      by true live =
+          let good = good_seen rules.check (shows old.store) old.writer old.slots.modes (number_of session) h.sound.order live h.good in
+          let steps = step h.sound live good in
+          record {
+            sound = sound h.sound good;
+            good = good_event rules (world_of shows old) (Event.Calls (number_of session) text reply steps.0) (world_of shows new) h.good steps.1;
+            held = held_same places (world_of shows old) (world_of shows new)
+                (keeps_live rules (world_of shows old) (world_of shows new) (number_of session) text reply steps) h.held;
+          }
+      by false dead = subst (λ (core : Core S L D). IsKept is_sound shows rules.check places core) (sym (ended dead)) h
+
+  pub kept_made : (places : Places) (i : ℕ) (session : SessionId) (old new : Core S L D) → i < length places → get_or places i None ≡ None
+      → (IsSound is_sound shows old → MakesSession (world_of shows old) (Ok (number_of session)) (world_of shows new))
+      → (IsSound is_sound shows old → IsSound is_sound shows new)
+      → IsKept is_sound shows rules.check places old → IsKept is_sound shows rules.check (slice_set places i (Some session)) new
+  kept_made places i session old new within empty makes sound h = record {
+    sound = sound h.sound;
+    good = good_event rules (world_of shows old) (Event.Makes (Ok (number_of session))) (world_of shows new) h.good (makes h.sound);
+    held = held_made places i session (world_of shows old) (world_of shows new) within empty (makes h.sound) h.held;
+  }
+
+  -- what shows the same world is kept alike
+  pub kept_same : (places : Places) (old new : Core S L D) → (new.slots.modes ≡ old.slots.modes) × (new.writer ≡ old.writer) × (shows new.store ≡ shows old.store)
+      → (IsSound is_sound shows old → IsSound is_sound shows new)
+      → IsKept is_sound shows rules.check places old → IsKept is_sound shows rules.check places new
+  kept_same places old new (modes, writer, store) sound h =
+      let same : world_of shows old ≡ world_of shows new = λ i. shown (sym store i) (sym writer i) (sym modes i) in
+      record {
+        sound = sound h.sound;
+        good = subst (λ (w : World). IsGoodWorld rules.check w) same h.good;
+        held = subst (λ (w : World). HoldAll places w) same h.held;
+      }
+
+  -- ---- sessions end, one after another
+
+  pub kept_ended : (places : Places) (i : ℕ) (session : SessionId) (old new : Core S L D) → i < length places → get_or places i None ≡ Some session
+      → (is_live (world_of shows old) (number_of session) ≡ true → DropsSession (world_of shows old) (number_of session) (world_of shows new))
+      → (is_live (world_of shows old) (number_of session) ≡ false → new ≡ old)
+      → (IsSound is_sound shows old → IsSound is_sound shows new)
+      → IsKept is_sound shows rules.check (drop i places) old → IsKept is_sound shows rules.check (drop (i + 1) places) new
+  kept_ended places i session old new within is drops ended sound h = by (is_live (world_of shows old) (number_of session)) refl
+    where
+      by : (b : Bool) → is_live (world_of shows old) (number_of session) ≡ b → IsKept is_sound shows rules.check (drop (i + 1) places) new
+      by true live = record {
+        sound = sound h.sound;
+        good = good_event rules (world_of shows old) (Event.Drops (number_of session)) (world_of shows new) h.good (drops live);
+        held = held_dropped places i session (world_of shows old) (world_of shows new) within is (drops live) h.held;
+      }
+      by false dead = subst (λ (core : Core S L D). IsKept is_sound shows rules.check (drop (i + 1) places) core) (sym (ended dead))
+          (record { sound = h.sound; good = h.good; held = held_fallen places i session (world_of shows old) within is dead h.held })
+
+  pub kept_skipped : (places : Places) (i : ℕ) (core : Core S L D) → i < length places → get_or places i None ≡ None
+      → IsKept is_sound shows rules.check (drop i places) core → IsKept is_sound shows rules.check (drop (i + 1) places) core
+  kept_skipped places i core within is h = record { sound = h.sound; good = h.good; held = held_skipped places i (world_of shows core) within is h.held }
