@@ -170,6 +170,7 @@ impl<S: Store, L: Language + Changes<S>> Core<S, L> {
         frames: usize,
     ) -> Result<Core<S, L>, Refused<S::Device>>
         requires { (16 ≤ frames) × (frames ≤ 4096) }
+        ensures room { IfOk result (λ core. S.room core.store ≡ frames) }
         ensures opened { IfOk result (λ core. (db : Database) → S.saved device db → IsSound S.is_sound S.shows core × (world_of S.shows core ≡ opened db)) }
         ensures left { IfErr result (λ back. (db : Database) → S.saved device db → S.saved back.value db) }
         ensures refused { IfErr result (λ back. (db : Database) → S.saved device db → IsReserved back.refusal) }
