@@ -1,5 +1,4 @@
 pub mod Nodes
-pub mod EvaluatedNodes
 mod Examples
 mod FlatChains
 mod Roots

@@ -2,7 +2,6 @@
 use Rattle.std.specs.Prelude.{[], ◌∷◌, Ok, Err, if◌then◌else◌}
 use Rattle.sqlval.specs.declared.schema.Schema.{Schema}
 use Rattle.typing.specs.Known.{Known, known}
-use Rattle.refusals.specs.declared.limit.Limit.TheVariants.{Tables}
 use Rattle.refusals.specs.declared.refusal.Refusal.TheVariants.{NotSupported}
 use Rattle.ast.specs.declared.statement.AccessMode.{AccessMode as Written}
 use Rattle.ast.specs.declared.statement.AccessMode.TheVariants as written
@@ -14,13 +13,13 @@ use Rattle.typing.specs.declared.statement.Change.{Change}
 use Rattle.typing.specs.declared.statement.Change.TheVariants as change
 use Rattle.typing.specs.declared.statement.Typed.{Typed}
 use Rattle.typing.specs.declared.statement.Typed.TheVariants as typed
-use Rattle.typing.specs.Finding.{Finding, ◌>>=◌, exceeded}
+use Rattle.typing.specs.Finding.{Finding, ◌>>=◌}
 use Rattle.typing.specs.Order.{ordered_found}
 use Rattle.typing.specs.CreateTable.{create_found}
 use Rattle.typing.specs.Index.{index_found, dropped_index, dropped_table}
 use Rattle.typing.specs.Insert.{insert_found}
 use Rattle.typing.specs.Update.{update_found, delete_found}
-use Rattle.typing.specs.Built.{is_built, has_one_table}
+use Rattle.typing.specs.Built.{is_built}
 
 abbrev pub mode_of : Written → AccessMode
 mode_of written.ReadOnly = mode.ReadOnly
@@ -54,6 +53,6 @@ statement_found tree schema = found_over (known schema) tree
 
 -- ---- until all forms are built
 
--- a form that is not built yet is refused before all reasons of names, types and limits, and then a second table in a FROM
+-- a form that is not built yet is refused before all reasons of names, types and limits
 abbrev pub answered_found : Statement → Schema → Finding Typed
-answered_found tree schema = if is_built tree then (if has_one_table tree then statement_found tree schema else exceeded Tables) else Err (NotSupported ∷ [])
+answered_found tree schema = if is_built tree then statement_found tree schema else Err (NotSupported ∷ [])

@@ -5,10 +5,10 @@ ghost use Rattle.std.specs.List.{list_all};
 ghost use Rattle.sqlval.specs.declared.schema.Column.{Column};
 ghost use Rattle.sqlval.specs.declared.schema.Schema.{Schema};
 ghost use Rattle.sqlval.specs.Schema.{AreSameButForRoots};
-ghost use Rattle.refusals.specs.declared.limit.Limit.TheVariants.{Tables};
 ghost use Rattle.refusals.specs.declared.refusal.Refusal.TheVariants.{NotSupported};
 ghost use Rattle.lexer.specs.Printing.{HasKinds};
 ghost use Rattle.ast.specs.declared.statement.CreateTable.{CreateTable as Tree};
+ghost use Rattle.ast.specs.declared.statement.OrderedQuery.{OrderedQuery};
 ghost use Rattle.ast.specs.declared.statement.Statement.{Statement};
 ghost use Rattle.ast.specs.declared.tree.Condition.{Condition};
 ghost use Rattle.ast.specs.Grammar.{IsConditionText, IsText, nested_at};
@@ -16,10 +16,9 @@ ghost use Rattle.ast.specs.Notation.{Tokens};
 ghost use Rattle.typing.specs.declared.statement.CreateTable.{CreateTable};
 ghost use Rattle.typing.specs.declared.statement.Typed.{Typed};
 ghost use Rattle.typing.specs.declared.typed.Condition.{Condition as TypedCondition};
-ghost use Rattle.typing.specs.Built.{is_built, has_one_table};
+ghost use Rattle.typing.specs.Built.{is_built};
 ghost use Rattle.typing.specs.Condition.{conjuncts, disjuncts, and_of, or_of};
 ghost use Rattle.typing.specs.Flat.{has_flat_and, has_flat_or};
-ghost use Rattle.typing.specs.Finding.{exceeded};
 ghost use Rattle.typing.specs.Known.{Known, table_of, has_index};
 ghost use Rattle.typing.specs.CreateTable.{create_found};
 ghost use Rattle.typing.specs.Check.{ReadsCheck, check_found};
@@ -48,11 +47,11 @@ pub fn transactions_end_over_every_schema()
     ensures rollback { (has_work : Bool) (schema : Schema) → statement_found (Statement.Rollback has_work) schema ≡ Ok Typed.Rollback }
 {}
 
-/// A form that is not built is refused as such, then a second table in a FROM by the limit of tables; every other
-/// statement is answered as it stands.
+/// Every query is answered as it stands, as is every other form that is built; a form that is not built is refused as
+/// such.
 pub fn only_what_is_built_is_answered()
-    ensures built { (tree : Statement) (schema : Schema) → is_built tree ≡ true → has_one_table tree ≡ true → answered_found tree schema ≡ statement_found tree schema }
-    ensures one_table { (tree : Statement) (schema : Schema) → is_built tree ≡ true → has_one_table tree ≡ false → answered_found tree schema ≡ exceeded Tables }
+    ensures query { (query : OrderedQuery) (schema : Schema) → answered_found (Statement.Query query) schema ≡ statement_found (Statement.Query query) schema }
+    ensures built { (tree : Statement) (schema : Schema) → is_built tree ≡ true → answered_found tree schema ≡ statement_found tree schema }
     ensures not_built { (tree : Statement) (schema : Schema) → is_built tree ≡ false → answered_found tree schema ≡ Err (NotSupported ∷ []) }
 {}
 
