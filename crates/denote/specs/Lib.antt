@@ -15,4 +15,3 @@ pub mod Answer
 pub mod StoredRow
 pub mod Change
 pub mod Stop
-pub mod OnePass

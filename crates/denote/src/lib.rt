@@ -1,14 +1,10 @@
-//! What queries and changes mean, and a plain evaluator that is exact.
+//! What queries and changes mean, and the faults and lent tables that an evaluator over them names.
 #![tactic(auto)]
 
-mod evaluate;
+mod constraints;
 mod fault;
-mod insert;
-mod query;
 mod tables;
 
-pub use evaluate::{condition_truth, expression_value};
+pub use constraints::broken_not_null;
 pub use fault::{Fault, Stop};
-pub use insert::{broken_not_null, rows_to_insert};
-pub use query::query_rows;
-pub use tables::{Env, Row, Rows, Tables};
+pub use tables::{Row, Rows, Tables};

@@ -8,7 +8,7 @@ use Rattle.sqlval.specs.Truth.{truth_and, truth_or}
 use Rattle.typing.specs.declared.typed.Arithmetic.{Arithmetic}
 use Rattle.denote.specs.declared.fault.Fault.{Fault as Raised}
 use Rattle.denote.specs.declared.fault.Stop.{Stop}
-use Rattle.denote.specs.declared.fault.Stop.TheVariants.{Memory, NotBuilt, Fault}
+use Rattle.denote.specs.declared.fault.Stop.TheVariants.{Memory, Fault}
 use Rattle.sqlval.specs.Concatenation.{concatenation as concatenation_of}
 use Rattle.denote.specs.Evaluation.{Env, Evaluation, ◌>>=◌, faults_in, given, joined, together}
 use Rattle.denote.specs.Outcome.{Outcome}
@@ -31,7 +31,6 @@ Gives-first {A = A} s x f h = record { ok = tt; err = at s x h.err }
   where
     at : (s : Stop) (x : Evaluation A) → IsFirstOf (faults_in x) s → IsFirstOf (faults_in (x >>= f)) s
     at Memory x g = tt
-    at NotBuilt x g = absurd g
     at (Fault fault) (Ok v) g = absurd (cc)
     at (Fault fault) (Err faults) g = g
 
@@ -121,7 +120,6 @@ Gives-joined_err {A = A} s found x rest h = record { ok = tt; err = at s x h.err
   where
     at : (s : Stop) (x : Evaluation A) → IsFirstOf (faults_in x) s → IsFirstOf (faults_in (after found (joined x rest))) s
     at Memory x g = tt
-    at NotBuilt x g = absurd g
     at (Fault fault) (Ok v) g = absurd (cc)
     at (Fault fault) (Err faults) g = first-append faults (faults_in rest) fault g
 

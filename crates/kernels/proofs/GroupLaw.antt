@@ -10,7 +10,7 @@ use Rattle.algebra.specs.Meaning.{MeantFunction, Rows, Argument, function_of}
 use Rattle.denote.specs.declared.fault.Fault.{Fault as Raised}
 use Rattle.denote.specs.declared.fault.Fault.TheVariants.{OutOfRange}
 use Rattle.denote.specs.declared.fault.Stop.{Stop}
-use Rattle.denote.specs.declared.fault.Stop.TheVariants.{Memory, NotBuilt, Fault}
+use Rattle.denote.specs.declared.fault.Stop.TheVariants.{Memory, Fault}
 use Rattle.denote.specs.Bag.{are_alike}
 use Rattle.denote.specs.Evaluation.{Env, Evaluation, ◌>>=◌, given, adding, together, joined, faults_in}
 use Rattle.denote.specs.Expression.{cell}
@@ -244,7 +244,6 @@ group-law columns functions env aggregates rows arguments groups reply kinds eva
       err = tt;
     }
     go (Err Memory) k = record { ok = tt; err = tt }
-    go (Err NotBuilt) k = absurd k.err
     go (Err (Fault fault)) k = record {
       ok = tt;
       err = listing ∙ whole-ended _ fault (rows-ended arguments (map kind_of functions) (group_of (all_keys columns rows)) (keys_of columns rows) fault

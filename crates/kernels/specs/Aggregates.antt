@@ -11,7 +11,7 @@ use Rattle.algebra.specs.Meaning.{MeantFunction, Rows, Argument}
 use Rattle.denote.specs.declared.fault.Fault.{Fault as Raised}
 use Rattle.denote.specs.declared.fault.Fault.TheVariants.{OutOfRange}
 use Rattle.denote.specs.declared.fault.Stop.{Stop}
-use Rattle.denote.specs.declared.fault.Stop.TheVariants.{Memory, NotBuilt, Fault}
+use Rattle.denote.specs.declared.fault.Stop.TheVariants.{Memory, Fault}
 use Rattle.denote.specs.Evaluation.{Env, Evaluation, ◌>>=◌, given, adding, together, faults_in}
 use Rattle.denote.specs.Expression.{cell}
 use Rattle.denote.specs.Group.{taken, aggregated, keys_of}
@@ -83,7 +83,6 @@ groups_in columns rows = map (group_of (all_keys columns rows)) (keys_of columns
 -- the first of the faults; want of memory may stand in place of anything
 abbrev pub IsFirstFault : List Raised → Stop → Type 0
 IsFirstFault faults Memory = Unit {0}
-IsFirstFault faults NotBuilt = ⊥
 IsFirstFault [] (Fault fault) = ⊥
 IsFirstFault (first ∷ faults) (Fault fault) = first ≡ fault
 
@@ -95,7 +94,6 @@ pub record GivesFirst {A : Type 0} (reply : Result A Stop) (meant : Evaluation A
 -- a list that this stop ends before its first row
 abbrev pub IsEndedBy : Outcome → Stop → Type 0
 IsEndedBy meant Memory = Unit {0}
-IsEndedBy meant NotBuilt = ⊥
 IsEndedBy meant (Fault fault) = meant ≡ record { rows = []; faults = fault ∷ [] }
 
 -- all rows of a list, or the fault before them; want of memory may stand in place of either

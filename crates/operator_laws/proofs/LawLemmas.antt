@@ -15,7 +15,7 @@ use Rattle.denote.specs.Bag.{Permutes, nothing, keeps, exchanges, goes_on, IsSam
 use Rattle.operator_laws.specs.Law.{is_true_at, IsOrderless}
 use Rattle.denote.specs.Meaning.{Tables, truth_at}
 use Rattle.denote.proofs.Nodes.{truth_and as truth_of_and, truth_or as truth_of_or, truth_negation}
-use Rattle.denote.proofs.OnePassLemmas.{before-faults}
+use Rattle.denote.proofs.FaultSets.{before-faults}
 use Rattle.operator_laws.proofs.Permuting.{Permutes-refl, Permutes-after, Permutes-exchange, Permutes-map, Permutes-flat_map, Permutes-each_flat_map, HasSame-permutes, HasSame-append}
 
 -- ---- connectives

@@ -1,6 +1,6 @@
 use Rattle.std.proofs.Common.{◌≡◌, [], ◌∷◌, drop}
 use Rattle.denote.specs.Database.{has_null}
-use Rattle.denote.proofs.insert.has_null_at.Given as goal
+use Rattle.denote.proofs.constraints.has_null_at.Given as goal
 
 -- no row before this one has null there
 abbrev pub invariant-loop-row : goal.invariant-loop-row

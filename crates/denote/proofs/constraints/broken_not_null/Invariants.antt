@@ -1,6 +1,6 @@
 use Rattle.std.proofs.Common.{◌≡◌, drop}
 use Rattle.denote.specs.Database.{broken_not_nulls}
-use Rattle.denote.proofs.insert.broken_not_null.Given as goal
+use Rattle.denote.proofs.constraints.broken_not_null.Given as goal
 
 -- no constraint before this one is broken
 abbrev pub invariant-loop-constraint : goal.invariant-loop-constraint

@@ -1,6 +1,0 @@
-use Rattle.std.proofs.Common.{◌≡◌, take}
-use Rattle.denote.specs.Condition.{among}
-use Rattle.denote.proofs.evaluate.is_among.Given as goal
-
-abbrev pub invariant-loop-value : goal.invariant-loop-value
-invariant-loop-value l = l.found ≡ among l.x (take l.value-index l.values)
