@@ -5,15 +5,20 @@ use Rattle.std.specs.Option.{option_map}
 use Rattle.std.specs.Ordering.{nat_cmp}
 use Rattle.std.specs.FinMap.{FinMap, empty, from_entries}
 use Rattle.list_store.specs.declared.change.Change.{Change}
-use Rattle.list_store.specs.declared.change.Change.TheVariants.{CreateTable, Append}
+use Rattle.list_store.specs.declared.change.Change.TheVariants.{CreateTable, DropTable, CreateIndex, DropIndex, Append, Replace, Delete}
 use Rattle.list_store.specs.declared.readers.Reader.{Reader}
-use Rattle.store.specs.Contents.{Contents, with_table, appended}
+use Rattle.store.specs.Contents.{Contents, with_table, without_table, indexed, unindexed, appended, replaced, deleted}
 use Rattle.store.specs.Stored.{Found, Stored}
 
 -- what a change makes of tables
 abbrev pub made : Contents → Change → Contents
 made c (CreateTable table) = with_table c table
+made c (DropTable name) = without_table c name
+made c (CreateIndex name index) = indexed c name index
+made c (DropIndex name) = unindexed c name
 made c (Append name rows) = appended c name rows
+made c (Replace name number row) = replaced c name number row
+made c (Delete name number) = deleted c name number
 
 -- what changes make, one after another, where there was no table
 abbrev pub replayed : List Change → Contents
