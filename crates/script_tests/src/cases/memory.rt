@@ -2,15 +2,16 @@
 //!
 //! With ample memory these tests compare replies. `rt try --test --fail-alloc 1..` refuses each allocation in turn.
 
-use disk::MemDisk;
+use engine::{Core, Sql};
+use list_store::{ListStore, Lists};
 use refusals::Refusal;
 use replies::{Reply, print_reply};
-use sqlcore::{Core, SessionId};
+use sessions::SessionId;
 use std::process::Abort;
 use std::test::Fail;
 
 /// The reply of a statement, or, where memory was wanting, of the same statement given again.
-fn step_again(core: &mut Core<MemDisk>, session: SessionId, text: &[u8]) -> Reply {
+fn step_again(core: &mut Core<ListStore>, session: SessionId, text: &[u8]) -> Reply {
     match core.step(session, text) {
         Reply::Refused(Refusal::Memory) => core.step(session, text),
         reply => reply,
@@ -23,7 +24,7 @@ fn check_again(rt: &(impl Abort + AllocGlobal), statements: &[(&str, &str)]) -> 
     let Ok(mut writer) = Vec::with_capacity(alloc, 256) else {
         return Ok(());
     };
-    let Ok(mut core) = Core::open(alloc, MemDisk::new(alloc), 256) else {
+    let Ok(mut core) = Core::<ListStore>::open(alloc, Sql, Lists::new(alloc), 256) else {
         return Ok(());
     };
     let Ok(session) = core.new_session() else {

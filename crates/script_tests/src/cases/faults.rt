@@ -1,8 +1,7 @@
 //! Readers and writers that fail.
 
 use super::plain;
-use disk::MemDisk;
-use shell::run_on;
+use shell::run_over_lists;
 use std::io;
 use std::io::{Read, Write};
 use std::test::Fail;
@@ -60,13 +59,7 @@ fn pieces_that_ended_before_a_fault_of_the_reader_are_carried_out(
     };
     let mut writer = Vec::new(alloc);
     let settings = plain(alloc)?;
-    let status = run_on(
-        alloc,
-        &settings,
-        MemDisk::new(alloc),
-        &mut reader,
-        &mut writer,
-    );
+    let status = run_over_lists(alloc, &settings, &mut reader, &mut writer);
     assert!(rt; status == 3);
     assert!(rt; writer.as_slice() == b"00000\nERROR X0002\n".as_slice());
     Ok(())
@@ -81,13 +74,7 @@ fn a_beginning_is_printed_before_a_fault_of_the_writer(rt: HostRuntime) -> Resul
         room: 9,
     };
     let settings = plain(alloc)?;
-    let status = run_on(
-        alloc,
-        &settings,
-        MemDisk::new(alloc),
-        &mut reader,
-        &mut writer,
-    );
+    let status = run_over_lists(alloc, &settings, &mut reader, &mut writer);
     assert!(rt; status == 3);
     assert!(rt; writer.taken.as_slice() == b"00000\nERR".as_slice());
     Ok(())

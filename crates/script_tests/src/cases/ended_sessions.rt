@@ -1,22 +1,23 @@
 //! Sessions that have ended.
 
-use disk::MemDisk;
-use refusals::{Reason, Refusal};
+use engine::{Core, Sql};
+use list_store::{ListStore, Lists};
+use refusals::{Limit, Reason, Refusal};
 use replies::Reply;
-use sqlcore::{Core, Refused, SessionId};
+use sessions::{Refused, SessionId};
 use std::alloc::Global;
 use std::test::Fail;
 
-/// A core over a new device.
-fn new_core(alloc: Global) -> Result<Core<MemDisk>, Fail> {
-    match Core::open(alloc, MemDisk::new(alloc), 256) {
+/// A core over no tables.
+fn new_core(alloc: Global) -> Result<Core<ListStore>, Fail> {
+    match Core::open(alloc, Sql, Lists::new(alloc), 256) {
         Ok(core) => Ok(core),
         Err(Refused { refusal, value: _ }) => Err(refusal)?,
     }
 }
 
 /// Whether a statement of this session is refused, as one of a session that has ended.
-fn has_ended(core: &mut Core<MemDisk>, session: SessionId) -> bool {
+fn has_ended(core: &mut Core<ListStore>, session: SessionId) -> bool {
     matches!(
         core.step(session, b"COMMIT"),
         Reply::Refused(Refusal::Invalid(Reason::Session))
@@ -27,13 +28,36 @@ fn has_ended(core: &mut Core<MemDisk>, session: SessionId) -> bool {
 fn an_ended_session_is_refused(rt: HostRuntime) -> Result<(), Fail> {
     let mut core = new_core(rt.alloc())?;
     let first = core.new_session()?;
-    assert!(rt; !has_ended(&mut core, first));
-    core.end_session(first);
-    assert!(rt; has_ended(&mut core, first));
     let second = core.new_session()?;
+    assert!(rt; first != second && !has_ended(&mut core, first));
+    core.end_session(first);
     assert!(rt; has_ended(&mut core, first));
     core.end_session(first);
     assert!(rt; !has_ended(&mut core, second));
+    Ok(())
+}
+
+#[test]
+fn a_new_session_takes_the_least_free_number(rt: HostRuntime) -> Result<(), Fail> {
+    let mut core = new_core(rt.alloc())?;
+    let first = core.new_session()?;
+    let second = core.new_session()?;
+    core.end_session(first);
+    let third = core.new_session()?;
+    assert!(rt; third == first && !has_ended(&mut core, third));
+    core.end_session(second);
+    assert!(rt; has_ended(&mut core, second) && !has_ended(&mut core, third));
+    Ok(())
+}
+
+#[test]
+fn there_are_64_sessions(rt: HostRuntime) -> Result<(), Fail> {
+    let mut core = new_core(rt.alloc())?;
+    for _ in 0..64 {
+        core.new_session()?;
+    }
+    let refused = core.new_session();
+    assert!(rt; matches!(refused, Err(Refusal::Exceeded(Limit::Sessions))));
     Ok(())
 }
 

@@ -37,13 +37,10 @@ fn pieces_choose_sessions(rt: HostRuntime) -> Result<(), Fail> {
 }
 
 #[test]
-fn the_second_session_is_refused(rt: HostRuntime) -> Result<(), Fail> {
-    check(
-        &rt,
-        "COMMIT; @2 COMMIT; @1 COMMIT;",
-        "00000\nERROR X0003 sessions\n00000\n",
-        1,
-    )
+fn pieces_have_64_sessions(rt: HostRuntime) -> Result<(), Fail> {
+    let script = "COMMIT; @2 COMMIT; @1 COMMIT; @64 COMMIT; @65 COMMIT;";
+    let printed = "00000\n00000\n00000\n00000\nERROR 42000 session\n";
+    check(&rt, script, printed, 1)
 }
 
 #[test]
