@@ -16,7 +16,8 @@ pub(crate) fn has_long_row(rows: &[Row]) -> bool
     rows.iter().any(|row| is_long_row(row.as_slice()))
 }
 
-fn is_long_row(row: &[Value]) -> bool
+/// Whether this row's code does.
+pub(crate) fn is_long_row(row: &[Value]) -> bool
     ensures { result ≡ is_long row.now }
 {
     coded_row_length(row) > MAXIMUM_ROW

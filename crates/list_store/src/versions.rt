@@ -5,10 +5,10 @@ ghost use Rattle.store.specs.View.{count_of};
 
 use crate::change::Change;
 use crate::declared_tables::declared_tables;
-use crate::limits::has_long_row;
+use crate::limits::{has_long_row, is_long_row};
 use crate::lists::Lists;
 use crate::readers::{Reader, add_reader, find_reader, remove_reader};
-use crate::table_rows::{numbered_rows, row_after};
+use crate::reading::{all_rows, row_after, row_beyond, rows_sought, rows_within};
 use denote::{Row, Rows};
 use items::{Items, Text};
 use sqlval::{Index, Schema, Table, Value};
@@ -18,8 +18,7 @@ use store::{Numbered, NumberedRow, Position, Returned, Store, StoreError, StoreL
 
 /// Tables in memory, as the list of the changes that made them. Each version is a beginning of that list, so that a version takes a number, and what is taken back is cut off.
 ///
-/// It refuses for want of memory, rows whose code takes more than 1,000 bytes, and more than 2^64 - 1 commits. What is not carried out yet (dropping tables, making and dropping indexes, replacing and deleting rows, and
-/// reading by an index) is refused as for want of memory.
+/// It refuses for want of memory, rows whose code takes more than 1,000 bytes, and more than 2^64 - 1 commits. A row number past 2^64 - 1 counts as want of memory.
 #[derive(Drop)]
 pub struct ListStore {
     alloc: Global,
@@ -241,15 +240,24 @@ impl Store for ListStore {
     }
 
     fn drop_table(&mut self, name: &Text) -> Result<(), StoreError> {
-        self.refuse(StoreError::Memory)
+        match name.copy(self.alloc) {
+            Ok(table) => self.make(Change::DropTable(table)),
+            Err(_) => self.refuse(StoreError::Memory),
+        }
     }
 
     fn create_index(&mut self, name: &Text, index: Index) -> Result<(), StoreError> {
-        self.refuse(StoreError::Memory)
+        match name.copy(self.alloc) {
+            Ok(table) => self.make(Change::CreateIndex(table, index)),
+            Err(_) => self.refuse(StoreError::Memory),
+        }
     }
 
     fn drop_index(&mut self, name: &Text) -> Result<(), StoreError> {
-        self.refuse(StoreError::Memory)
+        match name.copy(self.alloc) {
+            Ok(own) => self.make(Change::DropIndex(own)),
+            Err(_) => self.refuse(StoreError::Memory),
+        }
     }
 
     fn append(&mut self, name: &Text, rows: Rows) -> Result<(), StoreError> {
@@ -263,15 +271,24 @@ impl Store for ListStore {
     }
 
     fn replace(&mut self, name: &Text, number: u64, row: Row) -> Result<(), StoreError> {
-        self.refuse(StoreError::Memory)
+        if is_long_row(row.as_slice()) {
+            return self.refuse(StoreError::Exceeded(StoreLimit::Record));
+        }
+        match name.copy(self.alloc) {
+            Ok(table) => self.make(Change::Replace(table, number, row)),
+            Err(_) => self.refuse(StoreError::Memory),
+        }
     }
 
     fn delete(&mut self, name: &Text, number: u64) -> Result<(), StoreError> {
-        self.refuse(StoreError::Memory)
+        match name.copy(self.alloc) {
+            Ok(table) => self.make(Change::Delete(table, number)),
+            Err(_) => self.refuse(StoreError::Memory),
+        }
     }
 
     fn scan(&mut self, alloc: Global, view: View, name: &Text) -> Result<Numbered, StoreError> {
-        let found = numbered_rows(alloc, self.changes_seen(view), name)?;
+        let found = all_rows(alloc, self.changes_seen(view), name)?;
         self.count(found.rows.len());
         Ok(found)
     }
@@ -296,7 +313,9 @@ impl Store for ListStore {
         index: usize,
         key: &[Value],
     ) -> Result<Numbered, StoreError> {
-        Err(StoreError::Memory)
+        let found = rows_sought(alloc, self.changes_seen(view), name, index, key)?;
+        self.count(found.rows.len());
+        Ok(found)
     }
 
     fn range(
@@ -308,7 +327,9 @@ impl Store for ListStore {
         low: &Bound<Value>,
         high: &Bound<Value>,
     ) -> Result<Numbered, StoreError> {
-        Err(StoreError::Memory)
+        let found = rows_within(alloc, self.changes_seen(view), name, index, low, high)?;
+        self.count(found.rows.len());
+        Ok(found)
     }
 
     fn next_in(
@@ -319,7 +340,9 @@ impl Store for ListStore {
         index: usize,
         after: Option<&Position>,
     ) -> Result<Option<NumberedRow>, StoreError> {
-        Err(StoreError::Memory)
+        let found = row_beyond(alloc, self.changes_seen(view), name, index, after)?;
+        self.count(rows_in(&found));
+        Ok(found)
     }
 
     fn rows_read(&self) -> u64 {

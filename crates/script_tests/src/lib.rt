@@ -1,5 +1,5 @@
-//! Tests of whole scripts over a device in memory, and of command lines.
+//! Tests of whole scripts over tables in memory, and of command lines.
 #![tactic(auto)]
 
 #[cfg(test)]
-mod scripts;
+mod cases;

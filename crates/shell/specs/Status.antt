@@ -2,8 +2,8 @@
 use Rattle.std.specs.Prelude.{◌≡◌, ◌⊎◌, ℕ, Bool, true, false, Result, Ok, Err}
 use Rattle.refusals.specs.declared.refusal.Refusal.{Refusal}
 use Rattle.refusals.specs.declared.refusal.Refusal.TheVariants as refusal
-use Rattle.sqlcore.specs.declared.script.ScriptFault.{ScriptFault}
-use Rattle.sqlcore.specs.declared.script.ScriptFault.TheVariants.{Memory, Reader, Writer}
+use Rattle.scripts.specs.declared.script.ScriptFault.{ScriptFault}
+use Rattle.scripts.specs.declared.script.ScriptFault.TheVariants.{Memory, Reader, Writer}
 
 -- of a script: no reply was a refusal; some reply was one; it was not carried out to its end
 abbrev pub IsStatus : ℕ → Type 0

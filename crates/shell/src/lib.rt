@@ -8,5 +8,5 @@ mod run;
 
 pub use command_line::settings;
 pub use options::{DEFAULT_FRAMES, Frames, GREATEST_FRAMES, LEAST_FRAMES, Settings};
-pub use program::sqlsh;
+pub use program::{run_over_lists, sqlsh};
 pub use run::run_on;

@@ -3,12 +3,13 @@ ghost use Rattle.clap.specs.Words.{kind_of};
 ghost use Rattle.shell.specs.Status.{IsStatus};
 
 use crate::command_line::settings;
+use crate::options::Settings;
 use crate::run::run_on;
 use clap::Error;
 use clap::error::ErrorKind;
-use disk::MemDisk;
+use list_store::{ListStore, Lists};
 use std::alloc::Global;
-use std::io::BufWriter;
+use std::io::{BufWriter, Read, Write};
 use std::rt::Env;
 use std::{env, io};
 
@@ -27,12 +28,23 @@ pub fn sqlsh<R: Env + Input + Print + Eprint + AllocGlobal>(rt: &R) -> u8
         Ok(settings) => settings,
         Err(error) => return told(rt, &error),
     };
-    let disk = MemDisk::new(alloc);
     let mut reader = rt.reader();
     match BufWriter::new(alloc, io::writer(rt)) {
-        Ok(mut writer) => run_on(alloc, &settings, disk, &mut reader, &mut writer),
-        Err(_) => run_on(alloc, &settings, disk, &mut reader, &mut io::writer(rt)),
+        Ok(mut writer) => run_over_lists(alloc, &settings, &mut reader, &mut writer),
+        Err(_) => run_over_lists(alloc, &settings, &mut reader, &mut io::writer(rt)),
     }
+}
+
+/// Does what `sqlsh run` does over tables in memory, of which nothing is left at the end.
+pub fn run_over_lists<R: Read, W: Write>(
+    alloc: Global,
+    settings: &Settings,
+    reader: &mut R,
+    writer: &mut W,
+) -> u8
+    ensures { IsStatus result }
+{
+    run_on::<ListStore, R, W>(alloc, settings, Lists::new(alloc), reader, writer)
 }
 
 /// Prints help, or what is wrong with the words, and answers the exit status: 0 for help and 2 for a fault.

@@ -1,63 +1,71 @@
-ghost use Rattle.std.specs.Prelude.{◌≡◌, IfOk};
-ghost use Rattle.sqlcore.specs.Held.{frames_of as kept_frames};
+ghost use Rattle.std.specs.Prelude.{◌≡◌, ◌≤◌, IfOk};
+ghost use Rattle.scripts.specs.Settled.{store_of};
 ghost use Rattle.shell.specs.Status.{refusal_of, status_of, IsStatus};
 
 use crate::options::Settings;
-use disk::Disk;
+use engine::{Core, Sql};
 use refusals::Refusal;
 use replies::{Reply, print_reply};
-use sqlcore::{Core, Refused, ScriptFault, run};
+use scripts::{ScriptFault, run};
+use sessions::Refused;
 use std::alloc::Global;
 use std::io::{Read, Write};
+use store::Store;
 
 /// The exit status where a reply was a refusal.
 const REFUSED: u8 = 1;
 
-/// The exit status where a device could not be opened or closed, or a script was not read or printed to its end.
+/// The exit status where a store could not be opened or closed, or a script was not read or printed to its end.
 const FAILED: u8 = 3;
 
-/// Does what `sqlsh run` does over this device, from reader to writer: opens it, carries out the script and closes
-/// it. The answer is the exit status: 0; 1 where a reply was a refusal; 3 where the device could not be opened or
-/// closed, or the script was not read or printed to its end, which a line `ERROR` and the code then says where it
-/// can be written.
-pub fn run_on<D: Disk + Drop, R: Read, W: Write>(
+/// Does what `sqlsh run` does over the store on this device, from reader to writer: opens it, carries out the script
+/// and closes it. The answer is the exit status: 0; 1 where a reply was a refusal; 3 where the store could not be
+/// opened or closed, or the script was not read or printed to its end, which a line `ERROR` and the code then says
+/// where it can be written.
+pub fn run_on<S: Store, R: Read, W: Write>(
     alloc: Global,
     settings: &Settings,
-    disk: D,
+    device: S::Device,
     reader: &mut R,
     writer: &mut W,
 ) -> u8
     ensures { IsStatus result }
 {
-    let mut core = match opened(alloc, settings, disk) {
+    let mut core: Core<S> = match opened(alloc, settings, device) {
         Ok(core) => core,
         Err(refused) => return fail(refused.refusal, writer),
     };
     let status = carry_out(alloc, &mut core, reader, writer);
     match core.close() {
-        Ok(_disk) => status,
+        Ok(_device) => status,
         Err(refused) => fail(refused.refusal, writer),
     }
 }
 
-/// The device's core, with room for as many pages as the settings ask for.
-fn opened<D: Disk>(alloc: Global, settings: &Settings, disk: D) -> Result<Core<D>, Refused<D>>
-    ensures frames { IfOk result (λ core. kept_frames core ≡ settings.now.frames.count) }
+/// The core of the store on a device, with room for as many pages as the settings ask for.
+fn opened<S: Store>(
+    alloc: Global,
+    settings: &Settings,
+    device: S::Device,
+) -> Result<Core<S>, Refused<S::Device>>
+    ensures frames { IfOk result (λ core. S.room (store_of core) ≡ settings.now.frames.count) }
 {
-    Core::open(alloc, disk, frames_of(settings))
+    Core::open(alloc, Sql, device, frames_of(settings))
 }
 
 /// How many pages the pool may keep in memory.
 fn frames_of(settings: &Settings) -> usize
-    ensures { result ≡ settings.now.frames.count }
+    ensures count { result ≡ settings.now.frames.count }
+    ensures enough { 16 ≤ result }
+    ensures bounded { result ≤ 4096 }
 {
     settings.frames.get() as usize
 }
 
 /// Carries out the script, and answers the exit status.
-fn carry_out<D: Disk, R: Read, W: Write>(
+fn carry_out<S: Store, R: Read, W: Write>(
     alloc: Global,
-    core: &mut Core<D>,
+    core: &mut Core<S>,
     reader: &mut R,
     writer: &mut W,
 ) -> u8

@@ -255,67 +255,130 @@ fn a_row_that_is_too_long_is_refused(rt: HostRuntime) -> Result<(), Fail> {
     Ok(())
 }
 
-/// What changes of tables, indexes and single rows answer.
-fn changes<S: Store>(
-    alloc: Global,
-    store: &mut S,
-    name: &Text,
-) -> Result<[Result<(), StoreError>; 5], StoreError> {
+/// Replaces the first row and deletes the second; what comes then has the next number.
+fn changed<S: Store>(alloc: Global, store: &mut S, name: &Text) -> Result<bool, Fail> {
     store.mark()?;
-    let index = Index {
-        name: None,
-        columns: Items::new(alloc),
-        owner: None,
-        root: 0,
-    };
-    let created = store.create_index(name, index);
-    let replaced = store.replace(name, 0, row(alloc, Value::Int(1))?);
-    Ok([
-        created,
-        store.drop_index(name),
-        store.drop_table(name),
-        replaced,
-        store.delete(name, 0),
-    ])
+    store.replace(name, 0, row(alloc, Value::Int(70))?)?;
+    store.replace(name, 5, row(alloc, Value::Int(75))?)?;
+    store.delete(name, 1)?;
+    let left = scanned(alloc, store, View::Working, name, (&[0], &[70]))?;
+    add(alloc, store, name, &[9, 10])?;
+    store.delete(name, 1)?;
+    let more = scanned(alloc, store, View::Working, name, (&[0, 2], &[70, 10]))?;
+    store.undo();
+    let undone = scanned(alloc, store, View::Working, name, (&[0], &[70]))?;
+    Ok(left && more && undone)
 }
 
-/// Whether an index is read.
-fn reads_indexes<R: Reading>(alloc: Global, reading: &mut R, name: &Text) -> bool {
-    let place = Position {
-        key: Items::new(alloc),
-        number: 0,
-    };
-    let sought = reading.seek(alloc, name, 0, &[]).is_ok();
-    let ranged = reading
-        .range(alloc, name, 0, &Bound::Unbounded, &Bound::Unbounded)
-        .is_ok();
-    let next = reading.next_in(alloc, name, 0, Some(&place)).is_ok();
-    sought || ranged || next
-}
-
-// What lists do not carry out yet goes back to the mark.
 #[test]
-fn what_is_not_carried_out_changes_nothing(rt: HostRuntime) -> Result<(), Fail> {
+fn rows_are_replaced_and_deleted(rt: HostRuntime) -> Result<(), Fail> {
     let name = text(rt.alloc(), "T")?;
     let mut store = new_store(rt.alloc())?;
     fill(rt.alloc(), &mut store, &name)?;
-    assert_eq!(rt;
-        changes(rt.alloc(), &mut store, &name)?,
-        [Err(StoreError::Memory); 5]
-    );
-    assert!(rt;
-        scanned(
-            rt.alloc(),
-            &mut store,
-            View::Working,
-            &name,
-            (&[0, 1], &[7, 8])
-        )?
-    );
+    assert!(rt; changed(rt.alloc(), &mut store, &name)?);
+    Ok(())
+}
+
+fn dropped<S: Store>(alloc: Global, store: &mut S, name: &Text) -> Result<bool, Fail> {
+    store.mark()?;
+    store.drop_table(name)?;
+    store.prepare(View::Working)?;
+    let gone = store.schema().find_table(name.as_slice()).is_none();
+    let empty = scanned(alloc, store, View::Working, name, (&[], &[]))?;
+    store.create_table(table(alloc, name)?)?;
+    store.append(name, rows(alloc, &[9])?)?;
+    let anew = scanned(alloc, store, View::Working, name, (&[0], &[9]))?;
+    let committed = scanned(alloc, store, View::Found(1), name, (&[0, 1], &[7, 8]))?;
+    Ok(gone && empty && anew && committed)
+}
+
+#[test]
+fn a_table_that_was_dropped_can_be_made_again(rt: HostRuntime) -> Result<(), Fail> {
+    let name = text(rt.alloc(), "T")?;
+    let mut store = new_store(rt.alloc())?;
+    fill(rt.alloc(), &mut store, &name)?;
+    assert!(rt; dropped(rt.alloc(), &mut store, &name)?);
+    Ok(())
+}
+
+/// An index over the first column.
+fn first_column(alloc: Global, name: &Text) -> Result<Index, AllocError> {
+    let mut columns = Items::new(alloc);
+    columns.push(0)?;
+    Ok(Index {
+        name: Some(name.copy(alloc)?),
+        columns,
+        owner: None,
+        root: 0,
+    })
+}
+
+/// Whether these rows have the value 8.
+fn seeks<R: Reading>(
+    alloc: Global,
+    reading: &mut R,
+    name: &Text,
+    numbers: &[u64],
+    values: &[i64],
+) -> Result<bool, StoreError> {
+    let found = reading.seek(alloc, name, 0, &[Value::Int(8)])?;
+    Ok(are(&found, numbers, values))
+}
+
+/// Whether values below 9 come in their order.
+fn ranges<R: Reading>(alloc: Global, reading: &mut R, name: &Text) -> Result<bool, StoreError> {
+    let high = Bound::Excluded(Value::Int(9));
+    let found = reading.range(alloc, name, 0, &Bound::Unbounded, &high)?;
+    Ok(are(&found, &[3, 0, 1, 4], &[6, 7, 8, 8]))
+}
+
+/// The number of the first row behind this place in the index.
+fn number_behind<R: Reading>(
+    alloc: Global,
+    reading: &mut R,
+    name: &Text,
+    place: Option<(i64, u64)>,
+) -> Result<Option<u64>, StoreError> {
+    let found = match place {
+        Some((value, number)) => {
+            let key = row(alloc, Value::Int(value))?;
+            reading.next_in(alloc, name, 0, Some(&Position { key, number }))?
+        }
+        None => reading.next_in(alloc, name, 0, None)?,
+    };
+    Ok(found.map(|found| found.number))
+}
+
+fn walks<R: Reading>(alloc: Global, reading: &mut R, name: &Text) -> Result<bool, StoreError> {
+    let first = number_behind(alloc, reading, name, None)?;
+    let second = number_behind(alloc, reading, name, Some((8, 1)))?;
+    let last = number_behind(alloc, reading, name, Some((9, 2)))?;
+    Ok(first == Some(3) && second == Some(4) && last.is_none())
+}
+
+/// Whether an index finds rows, and finds none once it is dropped.
+fn finds<S: Store>(alloc: Global, store: &mut S, name: &Text, index: &Text) -> Result<bool, Fail> {
+    store.mark()?;
+    store.append(name, rows(alloc, &[9, 6, 8])?)?;
+    store.create_index(name, first_column(alloc, index)?)?;
     let mut seen = Seen {
-        store: &mut store,
+        store,
         view: View::Working,
     };
-    assert!(rt; !reads_indexes(rt.alloc(), &mut seen, &name));
+    let sought = seeks(alloc, &mut seen, name, &[1, 4], &[8, 8])?;
+    let ranged = ranges(alloc, &mut seen, name)?;
+    let walked = walks(alloc, &mut seen, name)?;
+    seen.store.drop_index(index)?;
+    let dropped = seeks(alloc, &mut seen, name, &[], &[])?;
+    Ok(sought && ranged && walked && dropped)
+}
+
+#[test]
+fn an_index_finds_rows(rt: HostRuntime) -> Result<(), Fail> {
+    let name = text(rt.alloc(), "T")?;
+    let index = text(rt.alloc(), "I")?;
+    let mut store = new_store(rt.alloc())?;
+    fill(rt.alloc(), &mut store, &name)?;
+    assert!(rt; finds(rt.alloc(), &mut store, &name, &index)?);
     Ok(())
 }

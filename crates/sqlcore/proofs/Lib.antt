@@ -1,6 +1,0 @@
-pub mod Rollbacks
-pub mod Stored
-pub mod KnownSessions
-pub mod ReadTexts
-pub mod Answered
-pub mod Called
