@@ -1,0 +1,27 @@
+use Rattle.std.proofs.Common.{◌≡◌, false, [], Option, Some, None, IfSome, IfNone, Contains}
+use Rattle.denote.specs.Database.{Name, CheckReading, table_of, violated_by}
+use Rattle.constraint_checks.specs.Rules.{broken, has_checks}
+use Rattle.constraint_checks.proofs.Broken.{is_broken_too, none_violated}
+use Rattle.constraint_checks.proofs.constraints.violated_constraint.Goals as goal
+
+some_weaker : {X : Type 0} (o : Option X) (P Q : X → Type 0) → ((x : X) → P x → Q x) → IfSome o P → IfSome o Q
+some_weaker None P Q f h = h
+some_weaker (Some x) P Q f h = f x h
+
+none_weaker : {X : Type 0} (o : Option X) (P Q : Type 0) → (P → Q) → IfNone o P → IfNone o Q
+none_weaker None P Q f h = f h
+none_weaker (Some x) P Q f h = h
+
+pub returns-clause-found : goal.returns-clause-found
+returns-clause-found c = some_weaker c.broken_constraint.result
+    (λ found. Contains (broken c.args.table.now.constraints c.args.rows.now) found.now)
+    (λ found. (reading : CheckReading) (name : Name) → Contains (violated_by reading name (table_of c.args.table.now c.args.rows.now)) found.now)
+    (λ found h reading name. is_broken_too reading name (table_of c.args.table.now c.args.rows.now) found.now h)
+    c.broken_constraint.ensures.found
+
+pub returns-clause-none : goal.returns-clause-none
+returns-clause-none c = none_weaker c.broken_constraint.result
+    (broken c.args.table.now.constraints c.args.rows.now ≡ [])
+    ((reading : CheckReading) (name : Name) → has_checks c.args.table.now.constraints ≡ false → violated_by reading name (table_of c.args.table.now c.args.rows.now) ≡ [])
+    (λ e reading name checks. none_violated reading name (table_of c.args.table.now c.args.rows.now) checks e)
+    c.broken_constraint.ensures.none

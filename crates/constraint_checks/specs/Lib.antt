@@ -1,0 +1,4 @@
+pub mod Rules
+pub mod Changed
+pub mod Settled
+pub mod Stopped

@@ -1,0 +1,28 @@
+-- The constraints that a table violates but for its CHECKs (ISO/IEC 9075:1992, 11.4, 11.7; that PRIMARY KEY is UNIQUE and NOT NULL in one is our own choice).
+use Rattle.std.specs.Prelude.{Bool, true, false, ◌||◌, List, [], ◌∷◌, map, filter}
+use Rattle.std.specs.List.{list_any}
+use Rattle.sqlval.specs.declared.schema.Constraint.{Constraint}
+use Rattle.sqlval.specs.declared.schema.Rule.{Rule}
+use Rattle.sqlval.specs.declared.schema.Rule.TheVariants.{NotNull, PrimaryKey, Unique, Check}
+use Rattle.sqlval.specs.Value.{Row}
+use Rattle.denote.specs.Database.{Name, has_null, has_twins}
+
+-- whether these rows violate a rule that is no CHECK
+abbrev pub breaks_rule : List Row → Rule → Bool
+breaks_rule rows (NotNull column) = has_null (column ∷ []) rows
+breaks_rule rows (PrimaryKey columns) = has_null columns rows || has_twins columns rows
+breaks_rule rows (Unique columns) = has_twins columns rows
+breaks_rule rows (Check text) = false
+
+-- the names of the constraints that these rows violate, but for CHECKs
+abbrev pub broken : List Constraint → List Row → List Name
+broken constraints rows = map (λ c. c.name) (filter (λ c. breaks_rule rows c.rule) constraints)
+
+abbrev pub is_check_rule : Rule → Bool
+is_check_rule (NotNull column) = false
+is_check_rule (PrimaryKey columns) = false
+is_check_rule (Unique columns) = false
+is_check_rule (Check text) = true
+
+abbrev pub has_checks : List Constraint → Bool
+has_checks = list_any (λ c. is_check_rule c.rule)

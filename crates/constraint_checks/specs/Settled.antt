@@ -1,0 +1,17 @@
+-- What is said of a table of a database that would be: that it violates no constraint, or why the database is not made (ISO/IEC 9075:1992, 4.10; 11.4 to 11.9).
+use Rattle.std.specs.Prelude.{◌≡◌, [], Some, Contains}
+use Rattle.std.specs.FinMap.{get}
+use Rattle.refusals.specs.declared.refusal.Refusal.{Refusal}
+use Rattle.refusals.specs.declared.refusal.Refusal.TheVariants.{Violated}
+use Rattle.denote.specs.Database.{Name, Table, Database, CheckReading, violated_by}
+use Rattle.session_definitions.specs.Refusals.{IsReserved}
+
+-- the table of this name, if there is one, violates nothing
+abbrev pub Holds : CheckReading → Database → Name → Type 0
+Holds reading db name = (table : Table) → get db name ≡ Some table → violated_by reading name table ≡ []
+
+-- what may stand in place of any reply, or a constraint that the table violates
+pub data Breaks (reading : CheckReading) (db : Database) (name : Name) (refusal : Refusal) : Type 0 where
+  withheld : IsReserved refusal → Breaks reading db name refusal
+  violates : (table : Table) (constraint : Name) → get db name ≡ Some table → refusal ≡ Violated constraint → Contains (violated_by reading name table) constraint
+      → Breaks reading db name refusal
