@@ -19,12 +19,12 @@ use Rattle.btree_read.proofs.PageLemmas.{holds_used, holds_kept, around, flat_cu
 use Rattle.btree.specs.Grow.{flat_nodes, flat_leaves, IsGrown, SamePages, IsInnerCut}
 use Rattle.btree.proofs.LeafLemmas.{used_not_fresh}
 
-inner_moved : (pages : PageMap) (p q a b : ℕ) (bs cs : List Branch) → p ≡ q → a ≡ b → bs ≡ cs → HasNode pages p (InnerNode a bs) → HasNode pages q (InnerNode b cs)
+pub inner_moved : (pages : PageMap) (p q a b : ℕ) (bs cs : List Branch) → p ≡ q → a ≡ b → bs ≡ cs → HasNode pages p (InnerNode a bs) → HasNode pages q (InnerNode b cs)
 inner_moved pages p q a b bs cs e f g h =
     subst (λ n. HasNode pages n (InnerNode b cs)) e (subst (λ x. HasNode pages p (InnerNode x cs)) f (subst (λ x. HasNode pages p (InnerNode a x)) g h))
 
 -- where a list whose image is cut is cut itself
-record IsCutAt {T : Type 0} (f : Key × T → Branch) (cs : List (Key × T)) (xs : List Branch) (y : Branch) (ys : List Branch) : Type 0 where
+pub record IsCutAt {T : Type 0} (f : Key × T → Branch) (cs : List (Key × T)) (xs : List Branch) (y : Branch) (ys : List Branch) : Type 0 where
   pub left : List (Key × T)
   pub mid : Key × T
   pub right : List (Key × T)
@@ -33,7 +33,7 @@ record IsCutAt {T : Type 0} (f : Key × T → Branch) (cs : List (Key × T)) (xs
   pub is_mid : f mid ≡ y
   pub is_right : map f right ≡ ys
 
-cut_at : {T : Type 0} (f : Key × T → Branch) (cs : List (Key × T)) (xs : List Branch) (y : Branch) (ys : List Branch) → map f cs ≡ xs ++ y ∷ ys → IsCutAt f cs xs y ys
+pub cut_at : {T : Type 0} (f : Key × T → Branch) (cs : List (Key × T)) (xs : List Branch) (y : Branch) (ys : List Branch) → map f cs ≡ xs ++ y ∷ ys → IsCutAt f cs xs y ys
 cut_at f [] [] y ys h = cc
 cut_at f [] (x ∷ xs) y ys h = cc
 cut_at f (c ∷ cs) [] y ys h = record { left = []; mid = c; right = cs; parts = refl; is_left = refl; is_mid = cc; is_right = cc }

@@ -78,7 +78,7 @@ small_entry_at [] i l h = absurd (omega arith)
 small_entry_at (c ∷ cells) zero l h = h.0.key
 small_entry_at (c ∷ cells) (suc i) l h = small_entry_at cells i (omega arith) h.1
 
-small_branch_at : (cells : List (List ℕ)) (i : ℕ) → i < length cells → AllByRecursion IsSmallBranch (map branch_of cells) → length (key_of (slice_index_or cells i [])) ≤ 600
+pub small_branch_at : (cells : List (List ℕ)) (i : ℕ) → i < length cells → AllByRecursion IsSmallBranch (map branch_of cells) → length (key_of (slice_index_or cells i [])) ≤ 600
 small_branch_at [] i l h = absurd (omega arith)
 small_branch_at (c ∷ cells) zero l h = h.0
 small_branch_at (c ∷ cells) (suc i) l h = small_branch_at cells i (omega arith) h.1

@@ -11,8 +11,9 @@ use btree_read::{Start, first_place, is_before};
 use sqlrecord::{SlotPage, fits};
 use std::alloc::{AllocError, Global};
 
-/// A page's cells with another one in place of those from `at` up to `behind`.
-pub(crate) fn cells_with<'a>(
+/// A page's cells with another one in place of those from `at` up to `behind`. Refused for want of
+/// memory.
+pub fn cells_with<'a>(
     alloc: Global,
     page: &SlotPage<'a>,
     at: usize,

@@ -17,8 +17,11 @@ use page_space::{Fault, PageSpace};
 use sqlrecord::{MAXIMUM_KEY, PageKind, SlotPage, are_cells, fits};
 use std::alloc::Global;
 
-/// Writes an inner page of these cells, in two pages where they are too many for one.
-fn write_inner<S: PageSpace>(
+/// Writes an inner page of these cells, in two pages where they are too many for one; a branch in the
+/// answer is to the second one. Refused for memory, where the device refuses a call, at a limit where
+/// the space is at it, and as damaged only where the page is not in use, the list of free pages is
+/// none, a key has more than 600 bytes, or the cells are too many for two pages.
+pub fn write_inner<S: PageSpace>(
     space: &mut S,
     alloc: Global,
     page: u32,

@@ -10,5 +10,8 @@ mod leaf;
 mod page;
 
 pub use append::insert_all;
+pub use cells::cells_with;
+pub use inner::write_inner;
 pub use insertion::insert;
 pub use laws::other_trees_stay;
+pub use page::write_page;

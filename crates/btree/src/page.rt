@@ -10,8 +10,8 @@ ghost use Rattle.std.specs.Prelude.{None};
 use page_space::{Fault, PAGE_SIZE, PageSpace};
 use sqlrecord::{PageKind, build_page};
 
-/// Writes a page of these cells.
-pub(crate) fn write_page<S: PageSpace>(
+/// Writes a page of these cells. Refused as `PageSpace::write` is.
+pub fn write_page<S: PageSpace>(
     space: &mut S,
     page: u32,
     kind: PageKind,
