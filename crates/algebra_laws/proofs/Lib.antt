@@ -15,3 +15,4 @@ mod Replies
 pub mod RolledTrees
 mod Safe
 mod Plain
+mod Meanings

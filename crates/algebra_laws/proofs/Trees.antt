@@ -176,3 +176,9 @@ module _ (tables : Tables) where
 
   pub trees-list : (t : Tree) → ListsTree t
   trees-list = ind-Tree ShowsCondition ShowsExpression ShowsSetFunction ListsTree condition_node expression_node function_node tree_node
+
+  pub conditions-show : (c : Condition) → ShowsCondition c
+  conditions-show = ind-Condition ShowsCondition ShowsExpression ShowsSetFunction ListsTree condition_node expression_node function_node tree_node
+
+  pub expressions-show : (e : Expression) → ShowsExpression e
+  expressions-show = ind-Expression ShowsCondition ShowsExpression ShowsSetFunction ListsTree condition_node expression_node function_node tree_node

@@ -7,4 +7,4 @@ mod translation;
 
 pub use listing::{listings_answer_outcomes, listings_answer_queries};
 pub use raising::denials_are_certain;
-pub use translation::translation_keeps_the_meaning;
+pub use translation::{evaluation_keeps_the_meaning, translation_keeps_the_meaning};

@@ -5,5 +5,5 @@ mod laws;
 mod names;
 mod parts;
 
-pub use laws::listings_read_their_tables;
-pub use names::tables_in_tree;
+pub use laws::{listings_read_their_tables, values_read_their_tables};
+pub use names::{tables_in_condition, tables_in_expression, tables_in_tree};

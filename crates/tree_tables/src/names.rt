@@ -114,9 +114,10 @@ pub fn tables_in_tree(alloc: Global, tree: &Tree) -> Result<Items<Text>, AllocEr
     }
 }
 
+/// Those that a condition reads.
 #[cycle(named)]
 #[tactic(auto, using(crate::proofs::Nodes::naming_nodes))]
-fn tables_in_condition(alloc: Global, condition: &Condition) -> Result<Items<Text>, AllocError>
+pub fn tables_in_condition(alloc: Global, condition: &Condition) -> Result<Items<Text>, AllocError>
     ensures named { IfOk result (λ names. names ≡ tables_in_condition condition.now) }
 {
     match condition {
@@ -161,9 +162,10 @@ fn tables_in_conditions(alloc: Global, operands: &[Condition]) -> Result<Items<T
     Ok(names)
 }
 
+/// Those that an expression reads.
 #[cycle(named)]
 #[tactic(auto, using(crate::proofs::Nodes::naming_nodes))]
-fn tables_in_expression(alloc: Global, expression: &Expression) -> Result<Items<Text>, AllocError>
+pub fn tables_in_expression(alloc: Global, expression: &Expression) -> Result<Items<Text>, AllocError>
     ensures named { IfOk result (λ names. names ≡ tables_in_expression expression.now) }
 {
     match expression {
