@@ -10,7 +10,7 @@ use std::process::Abort;
 use std::test::Fail;
 
 /// A key so long that few fit into a page, with a number at its end.
-fn key_of(number: u8) -> [u8; 500] {
+pub(crate) fn key_of(number: u8) -> [u8; 500] {
     let mut key = [7; 500];
     key[499] = number;
     key
@@ -24,7 +24,7 @@ fn put(space: &mut MemorySpace, alloc: Global, root: u32, number: u8) -> Result<
 }
 
 /// A tree of the numbers below 120, put in out of order.
-fn tree(space: &mut MemorySpace, alloc: Global) -> Result<u32, Fault> {
+pub(crate) fn tree(space: &mut MemorySpace, alloc: Global) -> Result<u32, Fault> {
     let mut root = 0;
     for i in 0..60u8 {
         root = put(space, alloc, root, 119 - i)?;
