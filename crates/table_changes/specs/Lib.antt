@@ -1,5 +1,2 @@
-pub mod Plain
-pub mod Changed
-pub mod Stores
 pub mod Indexes
-pub mod Rules
+pub mod Given
