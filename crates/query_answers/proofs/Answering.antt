@@ -15,7 +15,7 @@ use Rattle.denote.specs.Outcome.{Outcome, OrderedOutcome}
 use Rattle.denote.specs.Query.{denotes}
 use Rattle.session_definitions.specs.Refusals.{IsReserved, refusal_of}
 use Rattle.store.specs.Contents.{Contents, database_of}
-use Rattle.answers.specs.Refused.{MayRefuse}
+use Rattle.query_answers.specs.Refused.{MayRefuse}
 use Rattle.tree_tables.specs.TablesRead.{Agree, tables_in_tree}
 use Rattle.query_answers.specs.Answered.{rows_found, IsTreeOf, RefusesAs}
 
