@@ -2,7 +2,7 @@ mod Made
 mod Kept
 mod NoKeys
 mod Ordered
-mod Evaluations
+pub mod Evaluations
 mod Rows
 mod Queries
 mod Joins

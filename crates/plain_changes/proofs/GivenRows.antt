@@ -19,7 +19,8 @@ use Rattle.denote.specs.Database.{Name, Table, Database, CheckReading, table_of,
 use Rattle.denote.specs.Evaluation.{Evaluation, faults_in}
 use Rattle.denote.specs.SchemaOf.{IsSchemaOf, Declares}
 use Rattle.session_definitions.specs.Refusals.{IsReserved}
-use Rattle.answers.specs.Refused.{GivesFaults}
+use Rattle.query_answers.specs.Refused.{GivesFaults}
+use Rattle.query_answers.specs.Sources.{AreChecksOf}
 use Rattle.plain_changes.specs.Inserted.{IsPlainTable, GivesNew, RefusesNew}
 use Rattle.plain_changes.specs.Plain.{is_not_null}
 
@@ -86,3 +87,7 @@ module _ (check : CheckReading) (db : Database) (s : Schema) (d : schema.Table) 
       → Contains (broken_not_nulls d.constraints rows) name → RefusesNew check db i (Violated name)
   violates_new rows name given one =
       RefusesNew.violates found.0 name rows is refl (same_rows ∙ given) (subst (λ (ks : List Constraint). Contains (broken_not_nulls ks rows) name) found.2.constraints one)
+
+-- no CHECKs have no trees
+pub no_trees : AreChecksOf [] []
+no_trees = record { described = λ name. record { name = name; width = 0; key = None; indexes = [] }; names = λ name. refl; are = refl }

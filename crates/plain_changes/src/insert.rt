@@ -1,24 +1,32 @@
 //! INSERT of VALUES.
-ghost use Rattle.std.specs.Prelude.{◌≡◌, ◌≤◌, true, IfOk, IfErr, OnErr};
-ghost use Rattle.denote.specs.Database.{Database, IsGood};
+ghost use Rattle.std.specs.Prelude.{◌≡◌, ◌≤◌, true, List, IfOk, IfErr, OnErr};
+ghost use Rattle.denote.specs.Database.{Database, IsGood, rows_in};
 ghost use Rattle.denote.specs.SchemaOf.{IsSchemaOf};
+ghost use Rattle.session_definitions.specs.Refusals.{IsReserved};
 ghost use Rattle.session_definitions.specs.Rules.{Rules};
 ghost use Rattle.session_definitions.specs.Statements.{counted as reply_counted};
 ghost use Rattle.store.specs.Contents.{database_of};
 ghost use Rattle.store.specs.Stored.{SameButMark};
 ghost use Rattle.typing.specs.declared.statement.Change.TheVariants as does;
+ghost use Rattle.typing.specs.declared.statement.InsertSource.TheVariants as from;
+ghost use Rattle.typing.specs.declared.typed.Expression.{Expression as Typed};
 ghost use Rattle.typing.specs.Evaluated.{insert_evaluated};
+ghost use Rattle.tree_tables.specs.TablesRead.{Agree};
+ghost use Rattle.query_answers.specs.Lent.{rows_lent};
+ghost use Rattle.query_answers.specs.Sources.{AreTreesOf, tables_in_rows};
 ghost use Rattle.sessions.specs.Changed.{HasChanged, RefusesChange};
 ghost use Rattle.plain_changes.specs.Inserted.{GivesNew, RefusesNew};
 
 use crate::declared::{declared, is_plain};
-use answers::sources;
+use algebra::Expression;
 use denote::{Rows, broken_not_null};
+use items::Items;
+use query_answers::{LentTables, rows_to_insert, source_trees, tables_for_sources};
 use refusals::Refusal;
 use replies::Reply;
 use sqlval::Schema;
 use std::alloc::Global;
-use store::Store;
+use store::{Seen, Store, View};
 use transactions::refusal_of;
 use typing::{Insert, InsertSource};
 
@@ -38,13 +46,13 @@ pub(crate) fn insert<S: Store>(
     ensures sound { S.is_sound store.old → S.is_sound store.new }
     ensures counts { S.refused store.old ≤ S.refused store.new }
 {
-    if let Err(error) = store.mark() {
-        return Err(refusal_of(error));
-    }
-    let rows = match new_rows(alloc, store.schema(), insert) {
+    let rows = match new_rows(alloc, store, insert) {
         Ok(rows) => rows,
         Err(refusal) => return Err(refusal),
     };
+    if let Err(error) = store.mark() {
+        return Err(refusal_of(error));
+    }
     let count = rows.len();
     match store.append(&insert.table, rows) {
         Ok(()) => Ok(counted(count)),
@@ -62,11 +70,62 @@ fn counted(count: usize) -> Reply
     Reply::Changed(count)
 }
 
-/// The rows that are inserted, which violate no NOT NULL.
-fn new_rows(alloc: Global, schema: &Schema, insert: &Insert) -> Result<Rows, Refusal>
+/// The rows that are inserted, which violate no NOT NULL. The tables that the sources name are read, and the store is left as it was.
+fn new_rows<S: Store>(alloc: Global, store: &mut S, insert: &Insert) -> Result<Rows, Refusal>
     requires { insert_evaluated insert.now.source ≡ true }
-    ensures gives { IfOk result (λ rows. (rules : Rules) (db : Database) → IsSchemaOf schema.now db → GivesNew rules.check db insert.now rows) }
-    ensures refused { IfErr result (λ refusal. (rules : Rules) (db : Database) → IsSchemaOf schema.now db → RefusesNew rules.check db insert.now refusal) }
+    ensures gives { IfOk result (λ rows. (rules : Rules) → S.is_sound store.old → IsSchemaOf (S.prepared store.old) (database_of (S.shows store.old).working)
+        → GivesNew rules.check (database_of (S.shows store.old).working) insert.now rows) }
+    ensures refused { IfErr result (λ refusal. (rules : Rules) → S.is_sound store.old → IsSchemaOf (S.prepared store.old) (database_of (S.shows store.old).working)
+        → RefusesNew rules.check (database_of (S.shows store.old).working) insert.now refusal) }
+    ensures shows { S.shows store.new ≡ S.shows store.old }
+    ensures sound { S.is_sound store.old → S.is_sound store.new }
+    ensures counts { S.refused store.old ≤ S.refused store.new }
+{
+    let InsertSource::Values(values) = &insert.source else {
+        return Err(Refusal::NotSupported);
+    };
+    let trees = match source_trees(alloc, store.schema(), values.as_slice()) {
+        Ok(trees) => trees,
+        Err(_) => return Err(Refusal::Memory),
+    };
+    match tables_named(alloc, store, trees.as_slice()) {
+        Ok(lent) => given_rows(alloc, store.schema(), insert, &lent, trees.as_slice()),
+        Err(refusal) => Err(refusal),
+    }
+}
+
+/// The tables that sources name, as they stand in the newest version.
+fn tables_named<S: Store>(
+    alloc: Global,
+    store: &mut S,
+    trees: &[Items<Expression>],
+) -> Result<LentTables, Refusal>
+    ensures lent { S.is_sound store.old → IfOk result (λ lent. Agree (rows_lent lent.tables) (rows_in (database_of (S.shows store.old).working)) (tables_in_rows trees.now)) }
+    ensures refused { IfErr result (λ refusal. S.is_sound store.old → IsReserved refusal) }
+    ensures prepared { S.prepared store.new ≡ S.prepared store.old }
+    ensures shows { S.shows store.new ≡ S.shows store.old }
+    ensures sound { S.is_sound store.old → S.is_sound store.new }
+    ensures counts { S.refused store.old ≤ S.refused store.new }
+{
+    let mut seen = Seen {
+        store,
+        view: View::Working,
+    };
+    tables_for_sources(alloc, &mut seen, trees)
+}
+
+/// The rows of an INSERT by the trees of its sources, over the tables that these name.
+fn given_rows(
+    alloc: Global,
+    schema: &Schema,
+    insert: &Insert,
+    lent: &LentTables,
+    trees: &[Items<Expression>],
+) -> Result<Rows, Refusal>
+    ensures gives { IfOk result (λ rows. (rules : Rules) (db : Database) (values : List (List Typed)) → IsSchemaOf schema.now db → insert.now.source ≡ from.Values values → AreTreesOf values trees.now
+        → Agree (rows_lent lent.now.tables) (rows_in db) (tables_in_rows trees.now) → GivesNew rules.check db insert.now rows) }
+    ensures refused { IfErr result (λ refusal. (rules : Rules) (db : Database) (values : List (List Typed)) → IsSchemaOf schema.now db → insert.now.source ≡ from.Values values → AreTreesOf values trees.now
+        → Agree (rows_lent lent.now.tables) (rows_in db) (tables_in_rows trees.now) → RefusesNew rules.check db insert.now refusal) }
 {
     let Some(table) = declared(schema, &insert.table) else {
         return Err(Refusal::Memory);
@@ -74,10 +133,7 @@ fn new_rows(alloc: Global, schema: &Schema, insert: &Insert) -> Result<Rows, Ref
     if !is_plain(table.constraints.as_slice()) {
         return Err(Refusal::Memory);
     }
-    let InsertSource::Values(values) = &insert.source else {
-        return Err(Refusal::NotSupported);
-    };
-    let rows = match sources(alloc, table, insert.columns.as_slice(), values.as_slice()) {
+    let rows = match rows_to_insert(alloc, lent, table, &[], insert.columns.as_slice(), trees) {
         Ok(rows) => rows,
         Err(refusal) => return Err(refusal),
     };

@@ -1,5 +1,5 @@
 -- What a listing over lent tables says of the query that its tree is of.
-use Rattle.std.proofs.Common.{◌≡◌, refl, sym, ap, subst, ◌∙◌, ℕ, List, [], ◌∷◌, Result, Ok, Err, IfOk, IfErr, inl, inr}
+use Rattle.std.proofs.Common.{◌≡◌, refl, sym, ap, subst, ◌∙◌, ℕ, List, [], Result, Ok, Err, IfOk, IfErr, inl, inr}
 use Rattle.refusals.specs.declared.refusal.Refusal.{Refusal}
 use Rattle.sqlval.specs.Value.{Row}
 use Rattle.typing.specs.declared.typed.OrderedQuery.{OrderedQuery}
@@ -13,9 +13,9 @@ use Rattle.denote.specs.Database.{Database, rows_in}
 use Rattle.denote.specs.Meaning.{Tables}
 use Rattle.denote.specs.Outcome.{Outcome, OrderedOutcome}
 use Rattle.denote.specs.Query.{denotes}
-use Rattle.session_definitions.specs.Refusals.{IsReserved, refusal_of}
+use Rattle.session_definitions.specs.Refusals.{IsReserved}
 use Rattle.store.specs.Contents.{Contents, database_of}
-use Rattle.answers.specs.Refused.{MayRefuse}
+use Rattle.query_answers.specs.Refused.{MayRefuse}
 use Rattle.tree_tables.specs.TablesRead.{Agree, tables_in_tree}
 use Rattle.query_answers.specs.Answered.{rows_found, IsTreeOf, RefusesAs}
 

@@ -1,2 +1,5 @@
 pub mod Lending
 pub mod Answering
+pub mod Faults
+pub mod InsertLemmas
+pub mod Meant

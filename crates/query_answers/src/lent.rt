@@ -40,6 +40,17 @@ impl Tables for LentTables {
     }
 }
 
+/// No tables: each name has no rows.
+pub(crate) struct NoTables;
+
+impl Tables for NoTables {
+    ghost rows_of = { λ _ _. [] };
+
+    fn rows(&self, _name: &Text) -> &[Row] {
+        &[]
+    }
+}
+
 /// Whether the table of this name is among these.
 fn is_lent(tables: &[LentTable], name: &Text) -> bool
     ensures { result ≡ is_lent tables.now name.now }

@@ -6,7 +6,7 @@ ghost use Rattle.denote.specs.Answer.{Answers};
 ghost use Rattle.denote.specs.Query.{denotes};
 ghost use Rattle.store.specs.Contents.{database_of};
 ghost use Rattle.store.specs.Errors.{HasRisen};
-ghost use Rattle.answers.specs.Refused.{MayRefuse};
+ghost use Rattle.query_answers.specs.Refused.{MayRefuse};
 ghost use Rattle.algebra.specs.Listing.{reply_of};
 ghost use Rattle.denote.specs.Outcome.{Outcome};
 ghost use Rattle.executor.specs.Reply.{Lists};

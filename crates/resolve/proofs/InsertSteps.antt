@@ -1,4 +1,4 @@
--- INSERT of VALUES of built forms: its rows, and the whole.
+-- INSERT of VALUES: its rows, and the whole.
 use Rattle.std.proofs.Common.{◌≡◌, refl, sym, ap, ◌∙◌, ℕ, zero, suc, ◌+◌, ◌<◌, ◌≤◌, Bool, true, false, ◌&&◌, List, [], ◌∷◌, ◌++◌, map, length, get_or, drop, drop-cons, Option, Some, None, Result, Ok, Err, arith, add-one, append_assoc}
 use Rattle.std.specs.Prelude.{if◌then◌else◌, ◌==◌, not}
 use Rattle.std.specs.List.{list_all, list_any, zip}
@@ -8,7 +8,6 @@ use Rattle.sqlval.specs.declared.value.ValueType.{ValueType}
 use Rattle.refusals.specs.declared.reason.Reason.TheVariants.{Columns}
 use Rattle.refusals.specs.declared.refusal.Refusal.{Refusal}
 use Rattle.refusals.specs.declared.refusal.Refusal.TheVariants.{Invalid}
-use Rattle.ast.specs.declared.operator.Column.{Column}
 use Rattle.ast.specs.declared.statement.Insert.{Insert as Tree}
 use Rattle.ast.specs.declared.statement.InsertRows.TheVariants as rows
 use Rattle.ast.specs.declared.statement.StoredSource.{StoredSource}
@@ -18,88 +17,37 @@ use Rattle.typing.specs.declared.typed.Expression.{Expression as Typed}
 use Rattle.typing.specs.declared.statement.Insert.{Insert}
 use Rattle.typing.specs.declared.statement.InsertSource.{InsertSource}
 use Rattle.typing.specs.declared.statement.InsertSource.TheVariants as from
-use Rattle.typing.specs.declared.scope.Frame.{Frame}
 use Rattle.typing.specs.declared.scope.TypedExpression.{TypedExpression}
 use Rattle.typing.specs.Finding.{Finding, reasons_in, ◌>>=◌, also, before, each, misplaced}
 use Rattle.typing.specs.Finds.{Finds}
-use Rattle.typing.specs.Known.{Known, KnownTable, nothing_known}
+use Rattle.typing.specs.Known.{Known, KnownTable}
 use Rattle.typing.specs.Part.{Plain}
-use Rattle.typing.specs.Scope.{column_in}
 use Rattle.typing.specs.Expression.{must_be}
 use Rattle.typing.specs.Insert.{Target, insert_found, row_stored, rows_stored, source_found, sources_found, stored_as, target_named, targets_found, targets_from, values_stored}
 use Rattle.typing.specs.Table.{are_distinct, distinct_found, table_found}
 use Rattle.typing.specs.Typing.{expression_part}
-use Rattle.typing.specs.Built.{expression_built, rows_built, stored_built}
-use Rattle.resolve.specs.Here.{expression_found}
 use Rattle.resolve.specs.Rows.{rows_in, source_stored, stored_found}
-use Rattle.resolve.proofs.Everywhere.{expressions-same}
 use Rattle.type_rules.specs.Parts.{of_type}
 use Rattle.findings.proofs.FindsLemmas.{after, Finds-then_err, Finds-also_first, Finds-also_second, Finds-each_item, each-next, each-finds, IsReasonOf-left, Finds-before_first, Finds-before_others}
-use Rattle.resolve.proofs.Plain.{left, right}
 
 -- ---- sources, which see no column
 
-abbrev pub no_columns : Frame
-no_columns = record { tables = []; columns = []; key = None }
-
-nothing_named : (table : Option (List ℕ)) (name : List ℕ) → column_in (record { table = table; name = name }) [] ≡ column_in (record { table = table; name = name }) (no_columns ∷ [])
-nothing_named None name = refl
-nothing_named (Some table) name = refl
-
-value_here : (k : Known) (tree : Expression) → expression_built tree ≡ true → source_found k [] (written.Value tree) ≡ (expression_found no_columns tree >>= (λ x. Ok (Some x)))
-value_here k tree h =
-    ap (λ found. found >>= (λ x. Ok (Some x)))
-    ((expressions-same k tree h).found no_columns (record { scope = []; clause = Plain }) (λ column. nothing_named column.table column.name))
-
-pub value_is : (wanted : ValueType) (tree : Expression) → expression_built tree ≡ true →
-    (source_found nothing_known [] (written.Value tree) >>= stored_as wanted) ≡ of_type wanted (expression_found no_columns tree)
-value_is wanted tree h = rw (value_here nothing_known tree h) (beside (expression_found no_columns tree))
+pub value_is : (k : Known) (wanted : ValueType) (tree : Expression) →
+    (source_found k [] (written.Value tree) >>= stored_as wanted) ≡ of_type wanted ((expression_part k tree).found (record { scope = []; clause = Plain }))
+value_is k wanted tree = beside ((expression_part k tree).found (record { scope = []; clause = Plain }))
   where
     beside : (found : Finding TypedExpression) → (found >>= (λ x. Ok (Some x)) >>= stored_as wanted) ≡ of_type wanted found
     beside (Ok x) = refl
     beside (Err reasons) = refl
 
-same_source : (k : Known) (s : StoredSource) → stored_built s ≡ true → source_found k [] s ≡ source_found nothing_known [] s
-same_source k (written.Value tree) h = value_here k tree h ∙ sym (value_here nothing_known tree h)
-same_source k written.Null h = refl
-
 -- ---- rows
 
-module _ (k : Known) where
-  same_sources : (row : List StoredSource) → list_all stored_built row ≡ true → map (source_found k []) row ≡ map (source_found nothing_known []) row
-  same_sources [] h = refl
-  same_sources (s ∷ row) h =
-      rw (same_source k s (left (stored_built s) (list_all stored_built row) h), same_sources row (right (stored_built s) (list_all stored_built row) h)) refl
-
-  same_pairs : (targets : List Target) (row : List StoredSource) → list_all stored_built row ≡ true →
-      map (λ p. source_found k [] p.1 >>= stored_as (p.0).1) (zip targets row) ≡ map stored_found (zip targets row)
-  same_pairs [] row h = refl
-  same_pairs (t ∷ targets) [] h = refl
-  same_pairs (t ∷ targets) (s ∷ row) h =
-      rw (same_source k s (left (stored_built s) (list_all stored_built row) h), same_pairs targets row (right (stored_built s) (list_all stored_built row) h)) refl
-
-  same_row : (targets : List Target) (row : List StoredSource) → list_all stored_built row ≡ true → row_stored k targets row ≡ row_stored nothing_known targets row
-  same_row targets row h = rw (same_sources row h, same_pairs targets row h) refl
-
-  same_rows : (targets : List Target) (values : List (List StoredSource)) → list_all (list_all stored_built) values ≡ true → map (row_stored k targets) values ≡ map (row_stored nothing_known targets) values
-  same_rows targets [] h = refl
-  same_rows targets (row ∷ values) h =
-      rw (
-        same_row targets row (left (list_all stored_built row) (list_all (list_all stored_built) values) h),
-        same_rows targets values (right (list_all stored_built row) (list_all (list_all stored_built) values) h),
-      ) refl
-
-pub all-item : {X : Type 0} (p : X → Bool) (xs : List X) (i : ℕ) (x : X) → i < length xs → x ≡ get_or xs i x → list_all p xs ≡ true → p x ≡ true
-all-item p [] i x below is h = absurd (omega arith)
-all-item p (y ∷ ys) zero x below is h = rw is (left (p y) (list_all p ys) h)
-all-item p (y ∷ ys) (suc i) x below is h = all-item p ys i x (omega arith) is (right (p y) (list_all p ys) h)
-
 -- a row of another length
-pub row_refused : (targets : List Target) (row : List StoredSource) → (length targets == length row) ≡ false → Finds (Err (Invalid Columns)) (row_stored nothing_known targets row)
-row_refused targets row n = rw n (record { ok = tt; err = (0, omega arith, refl) })
+pub row_refused : (k : Known) (targets : List Target) (row : List StoredSource) → (length targets == length row) ≡ false → Finds (Err (Invalid Columns)) (row_stored k targets row)
+row_refused k targets row n = rw n (record { ok = tt; err = (0, omega arith, refl) })
 
-pub row_is : (targets : List Target) (row : List StoredSource) → (length targets == length row) ≡ true → row_stored nothing_known targets row ≡ each (map stored_found (zip targets row))
-row_is targets row e = rw e refl
+pub row_is : (k : Known) (targets : List Target) (row : List StoredSource) → (length targets == length row) ≡ true → row_stored k targets row ≡ each (map (stored_found k) (zip targets row))
+row_is k targets row e = rw e refl
 
 -- ---- two lists side by side
 
@@ -129,14 +77,14 @@ same_at (x ∷ xs) zero d e below = refl
 same_at (x ∷ xs) (suc i) d e below = same_at xs i d e (omega arith)
 
 -- the same, where the first list is read
-pub zip-item-at : (r : Refusal) (xs : List Target) (ys : List StoredSource) (i : ℕ) (d : Target) (y : StoredSource) → i < length xs → i < length ys → y ≡ get_or ys i y →
-    Finds (Err r) (source_stored (get_or xs i d).1 y) → Finds (Err r) (each (map stored_found (zip xs ys)))
-zip-item-at r xs ys i d y a b q h = zip-item stored_found r xs ys i (get_or xs i d) y a b (same_at xs i d (get_or xs i d) a) q h
+pub zip-item-at : (k : Known) (r : Refusal) (xs : List Target) (ys : List StoredSource) (i : ℕ) (d : Target) (y : StoredSource) → i < length xs → i < length ys → y ≡ get_or ys i y →
+    Finds (Err r) (source_stored k (get_or xs i d).1 y) → Finds (Err r) (each (map (stored_found k) (zip xs ys)))
+zip-item-at k r xs ys i d y a b q h = zip-item (stored_found k) r xs ys i (get_or xs i d) y a b (same_at xs i d (get_or xs i d) a) q h
 
-pub zip-next-at : (xs : List Target) (ys : List StoredSource) (i : ℕ) (d : Target) (y : StoredSource) (found : List Typed) (v : Typed) → i < length xs → i < length ys → y ≡ get_or ys i y →
-    source_stored (get_or xs i d).1 y ≡ Ok v →
-    after (found ++ v ∷ []) (each (map stored_found (zip (drop (i + 1) xs) (drop (i + 1) ys)))) ≡ after found (each (map stored_found (zip (drop i xs) (drop i ys))))
-zip-next-at xs ys i d y found v a b q e = zip-next stored_found xs ys i (get_or xs i d) y found v a b (same_at xs i d (get_or xs i d) a) q e
+pub zip-next-at : (k : Known) (xs : List Target) (ys : List StoredSource) (i : ℕ) (d : Target) (y : StoredSource) (found : List Typed) (v : Typed) → i < length xs → i < length ys → y ≡ get_or ys i y →
+    source_stored k (get_or xs i d).1 y ≡ Ok v →
+    after (found ++ v ∷ []) (each (map (stored_found k) (zip (drop (i + 1) xs) (drop (i + 1) ys)))) ≡ after found (each (map (stored_found k) (zip (drop i xs) (drop i ys))))
+zip-next-at k xs ys i d y found v a b q e = zip-next (stored_found k) xs ys i (get_or xs i d) y found v a b (same_at xs i d (get_or xs i d) a) q e
 
 pub zip-finds : (f : Target × StoredSource → Finding Typed) (xs : List Target) (ys : List StoredSource) (i : ℕ) (found : List Typed) → length xs ≤ i →
     after found (each (map f (zip (drop i xs) (drop i ys)))) ≡ each (map f (zip xs ys)) → Finds (Ok found) (each (map f (zip xs ys)))
@@ -174,22 +122,22 @@ module _ (k : Known) (tree : Tree) where
         (Finds-also_first r (distinct_found tree.columns) (values_stored k targets_of values) h))
 
     module _ (t : KnownTable) (targets : List Target) (there : table_found k tree.table ≡ Ok t) (found : targets_found t.columns tree.columns ≡ Ok targets)
-        (h : list_all (list_all stored_built) values ≡ true) where
-      targets_are : targets_of ≡ Ok targets
-      targets_are = rw there found
+      where
+        targets_are : targets_of ≡ Ok targets
+        targets_are = rw there found
 
-      abbrev insert_of : Finding (Unit {0} × (List Target × InsertSource)) → Finding Insert
-      insert_of found = found >>= (λ p. Ok (record { table = tree.table; columns = map (λ target. target.0) (p.1).0; source = (p.1).1 }))
+        abbrev insert_of : Finding (Unit {0} × (List Target × InsertSource)) → Finding Insert
+        insert_of found = found >>= (λ p. Ok (record { table = tree.table; columns = map (λ target. target.0) (p.1).0; source = (p.1).1 }))
 
-      abbrev with_targets : Finding (List (List Typed)) → Finding (List Target × InsertSource)
-      with_targets found = found >>= (λ stored. Ok (targets, from.Values stored))
+        abbrev with_targets : Finding (List (List Typed)) → Finding (List Target × InsertSource)
+        with_targets found = found >>= (λ stored. Ok (targets, from.Values stored))
 
-      pub insert_is : are_distinct tree.columns ≡ true → insert_found k tree ≡ rows_in tree.table targets (each (map (row_stored nothing_known targets) values))
-      insert_is distinct = rw (is, targets_are, distinct, same_rows k targets values h) (beside (each (map (row_stored nothing_known targets) values)))
-        where
-          beside : (stored : Finding (List (List Typed))) → insert_of (also (Ok tt) (with_targets stored)) ≡ rows_in tree.table targets stored
-          beside (Ok stored) = refl
-          beside (Err reasons) = refl
+        pub insert_is : are_distinct tree.columns ≡ true → insert_found k tree ≡ rows_in tree.table targets (each (map (row_stored k targets) values))
+        insert_is distinct = rw (is, targets_are, distinct) (beside (each (map (row_stored k targets) values)))
+          where
+            beside : (stored : Finding (List (List Typed))) → insert_of (also (Ok tt) (with_targets stored)) ≡ rows_in tree.table targets stored
+            beside (Ok stored) = refl
+            beside (Err reasons) = refl
 
 -- rows beside the places of their columns
 abbrev rows_of : List ℕ → Finding (List ℕ × List (List Typed)) → Finding Insert

@@ -1,14 +1,5 @@
 pub mod BuiltSteps
-pub mod EvaluatedStatements
-pub mod EvaluatedTrees
-pub mod Fitting
-pub mod ConditionSteps
-pub mod Everywhere
+pub mod FindingSteps
 pub mod InsertSteps
-pub mod Nodes
-pub mod OneFrom
-pub mod Plain
-pub mod Rolled
-pub mod Selects
 pub mod Statements
 pub mod TableSteps

@@ -33,7 +33,7 @@ use Rattle.typing.specs.Known.{Known}
 use Rattle.typing.specs.Table.{are_distinct, at_most, distinct_found, is_new}
 use Rattle.resolve.specs.Constraints.{NotNull, element_found, has_table, not_nulls_found, not_nulls_from, numbered}
 use Rattle.findings.proofs.FindsLemmas.{Finds-then_err, Finds-also_first, Finds-also_second, Finds-exceeded, Finds-invalid}
-use Rattle.resolve.proofs.Plain.{left, right}
+use Rattle.resolve.proofs.BuiltSteps.{left, right}
 use Rattle.type_rules.proofs.Stars.{not_within}
 
 -- ---- columns

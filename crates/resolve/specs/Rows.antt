@@ -7,14 +7,14 @@ use Rattle.typing.specs.declared.statement.Insert.{Insert}
 use Rattle.typing.specs.declared.statement.InsertSource.TheVariants.{Values}
 use Rattle.typing.specs.Finding.{Finding, ◌>>=◌}
 use Rattle.typing.specs.Insert.{Target, source_found, stored_as}
-use Rattle.typing.specs.Known.{nothing_known}
+use Rattle.typing.specs.Known.{Known}
 
-abbrev pub stored_found : Target × StoredSource → Finding Expression
-stored_found p = source_found nothing_known [] p.1 >>= stored_as (p.0).1
+abbrev pub stored_found : Known → Target × StoredSource → Finding Expression
+stored_found k p = source_found k [] p.1 >>= stored_as (p.0).1
 
 -- a source for a column of this type
-abbrev pub source_stored : ValueType → StoredSource → Finding Expression
-source_stored wanted source = source_found nothing_known [] source >>= stored_as wanted
+abbrev pub source_stored : Known → ValueType → StoredSource → Finding Expression
+source_stored k wanted source = source_found k [] source >>= stored_as wanted
 
 -- rows for these columns of a table
 abbrev pub rows_in : List ℕ → List Target → Finding (List (List Expression)) → Finding Insert

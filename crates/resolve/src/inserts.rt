@@ -1,34 +1,32 @@
 //! The columns and types of INSERT.
 
 ghost use Rattle.std.specs.Prelude.{◌≡◌, true, List, Ok, length, map, IfOk};
-ghost use Rattle.std.specs.List.{list_all, zip};
-ghost use Rattle.typing.specs.Built.{rows_built, stored_built};
-ghost use Rattle.typing.specs.Evaluated.{insert_evaluated};
+ghost use Rattle.std.specs.List.{zip};
+ghost use Rattle.typing.specs.Built.{rows_built};
 ghost use Rattle.typing.specs.Finding.{Finding, each};
 ghost use Rattle.typing.specs.Finds.{Finds};
 ghost use Rattle.typing.specs.Insert.{insert_found, row_stored, target_named, targets_found, targets_from};
-ghost use Rattle.typing.specs.Known.{known, nothing_known};
+ghost use Rattle.typing.specs.Known.{known};
 ghost use Rattle.typing.specs.Table.{are_distinct};
 ghost use Rattle.resolve.specs.Rows.{rows_in, source_stored, stored_found};
 
-use crate::expressions::typed_expression;
 use ast::{InsertRows, StoredSource};
 use findings::both;
 use items::{Items, Text};
 use lexer::Name;
+use query_types::typed_expression;
 use refusals::{Reason, Refusal};
-use scopes::are_distinct;
+use scopes::{Clause, Scope, View, are_distinct};
 use sqlval::{Column, Schema, Table, Value, ValueType};
 use std::alloc::{AllocError, Global};
 use type_rules::{of_type, table_named, value_type_of};
-use typing::{Expression, Frame, Insert, InsertSource};
+use typing::{Expression, Insert, InsertSource};
 
 /// What an INSERT stands for over a schema.
 #[tactic(auto, using(crate::proofs::InsertSteps::insert_steps))]
 pub fn typed_insert(alloc: Global, tree: &ast::Insert, schema: &Schema) -> Result<Insert, Refusal>
     requires built { rows_built tree.now.rows ≡ true }
-    ensures finds { Finds result (insert_found (known schema.now) tree.now) }
-    ensures evaluated { IfOk result (λ insert. insert_evaluated insert.source ≡ true) }
+    ensures { Finds result (insert_found (known schema.now) tree.now) }
 {
     let InsertRows::Values(rows) = &tree.rows else {
         return Err(Refusal::NotSupported);
@@ -39,7 +37,7 @@ pub fn typed_insert(alloc: Global, tree: &ast::Insert, schema: &Schema) -> Resul
     if !is_distinct {
         return Err(Refusal::Invalid(Reason::Duplicate));
     }
-    let rows = typed_rows(alloc, targets.as_slice(), rows.as_slice());
+    let rows = typed_rows(alloc, schema, targets.as_slice(), rows.as_slice());
     inserted(alloc, &tree.table, targets.as_slice(), rows)
 }
 
@@ -141,15 +139,15 @@ fn places_of(alloc: Global, targets: &[(usize, ValueType)]) -> Result<Items<usiz
 #[tactic(auto, using(crate::proofs::InsertSteps::rows_steps))]
 fn typed_rows(
     alloc: Global,
+    schema: &Schema,
     targets: &[(usize, ValueType)],
     rows: &[Items<StoredSource>],
 ) -> Result<Items<Items<Expression>>, Refusal>
-    requires built { list_all (list_all stored_built) rows.now ≡ true }
-    ensures { Finds result (each (map (row_stored nothing_known targets.now) rows.now)) }
+    ensures { Finds result (each (map (row_stored (known schema.now) targets.now) rows.now)) }
 {
     let mut typed = Items::new(alloc);
     for row in rows {
-        typed.push(typed_row(alloc, targets, row.as_slice())?)?;
+        typed.push(typed_row(alloc, schema, targets, row.as_slice())?)?;
     }
     Ok(typed)
 }
@@ -157,32 +155,32 @@ fn typed_rows(
 #[tactic(auto, using(crate::proofs::InsertSteps::row_steps))]
 fn typed_row(
     alloc: Global,
+    schema: &Schema,
     targets: &[(usize, ValueType)],
     sources: &[StoredSource],
 ) -> Result<Items<Expression>, Refusal>
-    requires built { list_all stored_built sources.now ≡ true }
-    ensures { Finds result (row_stored nothing_known targets.now sources.now) }
+    ensures { Finds result (row_stored (known schema.now) targets.now sources.now) }
 {
     if targets.len() != sources.len() {
         return Err(Refusal::Invalid(Reason::Columns));
     }
-    typed_sources(alloc, targets, sources)
+    typed_sources(alloc, schema, targets, sources)
 }
 
 #[tactic(auto, using(crate::proofs::InsertSteps::zip_steps))]
 fn typed_sources(
     alloc: Global,
+    schema: &Schema,
     targets: &[(usize, ValueType)],
     sources: &[StoredSource],
 ) -> Result<Items<Expression>, Refusal>
-    requires built { list_all stored_built sources.now ≡ true }
     requires same_length { length targets.now ≡ length sources.now }
-    ensures { Finds result (each (map stored_found (zip targets.now sources.now))) }
+    ensures { Finds result (each (map (stored_found (known schema.now)) (zip targets.now sources.now))) }
 {
     let mut row = Items::new(alloc);
     for (at, source) in sources.iter().enumerate() {
         let (_, wanted) = targets[at];
-        row.push(typed_source(alloc, wanted, source)?)?;
+        row.push(typed_source(alloc, schema, wanted, source)?)?;
     }
     Ok(row)
 }
@@ -190,21 +188,21 @@ fn typed_sources(
 /// A source of VALUES, which sees no column, for a column of this type.
 fn typed_source(
     alloc: Global,
+    schema: &Schema,
     wanted: ValueType,
     source: &StoredSource,
 ) -> Result<Expression, Refusal>
-    requires built { stored_built source.now ≡ true }
-    ensures { Finds result (source_stored wanted source.now) }
+    ensures { Finds result (source_stored (known schema.now) wanted source.now) }
 {
     match source {
         StoredSource::Null => Ok(Expression::Constant(Value::Null)),
         StoredSource::Value(tree) => {
-            let nothing = Frame {
-                tables: Items::new(alloc),
-                columns: Items::new(alloc),
-                key: None,
+            let scope = Scope::Outermost;
+            let view = View {
+                scope: &scope,
+                clause: Clause::Plain,
             };
-            of_type(typed_expression(alloc, &nothing, tree), wanted)
+            of_type(typed_expression(alloc, schema, tree, &view), wanted)
         }
     }
 }

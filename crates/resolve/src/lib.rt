@@ -1,12 +1,8 @@
 //! Names and types: how a statement becomes a typed tree.
 #![tactic(auto)]
 
-mod conditions;
-mod expressions;
 mod inserts;
-mod queries;
 mod resolving;
-mod scope;
 mod support;
 mod tables;
 

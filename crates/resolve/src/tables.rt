@@ -92,7 +92,7 @@ fn element_column(alloc: Global, element: &TableElement) -> Result<Column, Refus
     }
 }
 
-#[tactic(auto, using(crate::proofs::ConditionSteps::then_steps))]
+#[tactic(auto, using(crate::proofs::FindingSteps::then_steps))]
 fn typed_column(alloc: Global, definition: &ColumnDefinition) -> Result<Column, Refusal>
     ensures { Finds result (column_found definition.now) }
 {

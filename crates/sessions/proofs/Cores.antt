@@ -23,7 +23,7 @@ use Rattle.store.specs.Contents.{database_of}
 use Rattle.store.specs.Stored.{Found, Stored, IsOpened, closed}
 use Rattle.transactions.specs.Orderly.{IsOrderly}
 use Rattle.transactions.specs.Shown.{Slots, slot_at, session_of, sessions_of, shown}
-use Rattle.transactions.proofs.SlotLemmas.{session_at, slot_set, slot_beside, stands}
+use Rattle.transactions.proofs.SlotLemmas.{session_at, slot_set, slot_beside, slot_within, stands}
 use Rattle.transactions.proofs.Standing.{made}
 use Rattle.sessions.specs.Numbers.{no_modes}
 
@@ -43,6 +43,25 @@ is_live_at st w slots s mode e = live_is st w slots s ∙ ap is_some e
 
 pub some_live : (st : Stored) (w : Option ℕ) (slots : Slots) (s : ℕ) → IsSome (slot_at slots s) → is_live (shown st w slots) s ≡ true
 some_live st w slots s h = live_is st w slots s ∙ h
+
+-- a mode is put in the slot of a session that stands
+pub set_alike : (st new : Stored) (w v : Option ℕ) (slots : Slots) (s : ℕ) (old mode : AccessMode) → slot_at slots s ≡ Some old
+    → (q : ℕ) → is_live (shown new v (slice_set slots s (Some mode))) q ≡ is_live (shown st w slots) q
+set_alike st new w v slots s old mode is q = live_is new v (slice_set slots s (Some mode)) q ∙ by (cases_eq q s) ∙ sym (live_is st w slots q)
+  where
+    by : (q ≡ s) ⊎ (q ≡ s → ⊥) → is_some (slot_at (slice_set slots s (Some mode)) q) ≡ is_some (slot_at slots q)
+    by (inl e) =
+        ap (λ k. is_some (slot_at (slice_set slots s (Some mode)) k)) e ∙ ap is_some (slot_set slots s (Some mode) (slot_within slots s old is))
+        ∙ sym (ap (λ k. is_some (slot_at slots k)) e ∙ ap is_some is)
+    by (inr ne) = ap is_some (slot_beside slots s q (Some mode) ne)
+
+-- what is in a slot is no matter of the others
+pub set_beside : (st new : Stored) (w v : Option ℕ) (slots : Slots) (s : ℕ) (slot : Option AccessMode) → (q : ℕ) → q ≢ s
+    → is_live (shown new v (slice_set slots s slot)) q ≡ is_live (shown st w slots) q
+set_beside st new w v slots s slot q ne = live_is new v (slice_set slots s slot) q ∙ ap is_some (slot_beside slots s q slot ne) ∙ sym (live_is st w slots q)
+
+pub set_there : (st : Stored) (w : Option ℕ) (slots : Slots) (s : ℕ) (slot : Option AccessMode) → s < length slots → is_live (shown st w (slice_set slots s slot)) s ≡ is_some slot
+set_there st w slots s slot within = live_is st w (slice_set slots s slot) s ∙ ap is_some (slot_set slots s slot within)
 
 -- no reader is left of a session that does not stand, after a call of one that stood or is made
 pub readers_kept : (st new : Stored) (slots : Slots) (s : ℕ) (slot : Option AccessMode) → s < length slots → ((q : ℕ) → q ≢ s → get new.readers q ≡ get st.readers q)

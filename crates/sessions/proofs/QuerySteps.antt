@@ -37,7 +37,7 @@ use Rattle.transactions.proofs.Maps.{get_here}
 use Rattle.transactions.proofs.Obstacles.{runs}
 use Rattle.transactions.proofs.Orders.{begun_by, not_writer}
 use Rattle.transactions.proofs.Steps.{Answered, answers, nothing_moves, withholds}
-use Rattle.answers.specs.Refused.{MayRefuse}
+use Rattle.query_answers.specs.Refused.{MayRefuse}
 use Rattle.sessions.specs.Answered.{GivesRows, RefusesQuery}
 use Rattle.sessions.proofs.Typings.{typed_query, means, Against, read_as}
 

@@ -1,7 +1,7 @@
 -- The world of a core, and what holds of it.
-use Rattle.std.specs.Prelude.{◌≡◌, ℕ, None}
+use Rattle.std.specs.Prelude.{◌≡◌, ◌≢◌, ℕ, None}
 use Rattle.std.specs.FinMap.{get}
-use Rattle.session_definitions.specs.World.{World}
+use Rattle.session_definitions.specs.World.{World, is_live}
 use Rattle.store.specs.Stored.{Stored}
 use Rattle.transactions.specs.Orderly.{IsOrderly}
 use Rattle.transactions.specs.Shown.{slot_at, shown}
@@ -20,3 +20,11 @@ pub record IsSound {S L D : Type 0} (is_sound : S → Type 0) (shows : S → Sto
   pub store : is_sound core.store
   pub order : IsOrderly (shows core.store) core.writer
   pub readers : (q : ℕ) → slot_at core.slots.modes q ≡ None → get (shows core.store).readers q ≡ None
+
+-- the same sessions stand
+abbrev pub StandAlike : World → World → Type 0
+StandAlike old new = (s : ℕ) → is_live new s ≡ is_live old s
+
+-- the same others stand
+abbrev pub StandBeside : ℕ → World → World → Type 0
+StandBeside s old new = (q : ℕ) → q ≢ s → is_live new q ≡ is_live old q

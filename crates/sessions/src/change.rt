@@ -14,7 +14,7 @@ ghost use Rattle.transactions.specs.Moves.{Moves};
 ghost use Rattle.transactions.specs.Orderly.{IsOrderly};
 ghost use Rattle.typing.specs.declared.statement.Change.{Change as Typing};
 ghost use Rattle.typing.specs.declared.statement.Typed.TheVariants as does;
-ghost use Rattle.typing.specs.Evaluated.{is_evaluated};
+ghost use Rattle.typing.specs.Evaluated.{change_evaluated};
 ghost use Rattle.sessions.specs.Changed.{HasChanged, MakesChange, RefusesChange, RefusesStatement};
 ghost use Rattle.sessions.specs.Kinds.{is_change};
 ghost use Rattle.sessions.specs.Seen.{seen_in};
@@ -90,7 +90,7 @@ fn make<S: Store, L: Language + Changes<S>>(
         → MakesChange rules (S.shows store.old) statement.now reply (S.shows store.new)) }
     ensures refused { IfErr result (λ refusal. (rules : Rules) → AreRules rules → is_change statement.now ≡ true → S.is_sound store.old → IsGood rules.check (database_of (S.shows store.old).working)
         → RefusesStatement rules (database_of (S.shows store.old).working) statement.now refusal) }
-    ensures same { OnErr result (SameButMark (S.shows store.old) (S.shows store.new)) }
+    ensures same { S.is_sound store.old → OnErr result (SameButMark (S.shows store.old) (S.shows store.new)) }
     ensures sound { S.is_sound store.old → S.is_sound store.new }
     ensures counts { S.refused store.old ≤ S.refused store.new }
 {
@@ -110,12 +110,12 @@ fn make_typed<S: Store, L: Language + Changes<S>>(
     store: &mut S,
     typed: Typed,
 ) -> Result<Reply, Refusal>
-    requires { is_evaluated typed ≡ true }
+    requires { (change : Typing) → typed ≡ does.Change change → change_evaluated change ≡ true }
     ensures changes { IfOk result (λ reply. (rules : Rules) (x : Tree) (change : Typing) → AreRules rules → typed ≡ does.Change change → S.is_sound store.old → IsSchemaOf (S.prepared store.old) (database_of (S.shows store.old).working)
         → IsGood rules.check (database_of (S.shows store.old).working) → Means rules (database_of (S.shows store.old).working) x (does.Change change) → HasChanged rules (S.shows store.old) change reply (S.shows store.new)) }
     ensures refused { IfErr result (λ refusal. (rules : Rules) (x : Tree) (change : Typing) → AreRules rules → typed ≡ does.Change change → S.is_sound store.old → IsSchemaOf (S.prepared store.old) (database_of (S.shows store.old).working)
         → IsGood rules.check (database_of (S.shows store.old).working) → Means rules (database_of (S.shows store.old).working) x (does.Change change) → RefusesChange rules (database_of (S.shows store.old).working) change refusal) }
-    ensures same { OnErr result (SameButMark (S.shows store.old) (S.shows store.new)) }
+    ensures same { S.is_sound store.old → OnErr result (SameButMark (S.shows store.old) (S.shows store.new)) }
     ensures sound { S.is_sound store.old → S.is_sound store.new }
     ensures counts { S.refused store.old ≤ S.refused store.new }
 {

@@ -27,7 +27,7 @@ pub trait Changes<S: Store>: Drop {
         ensures refused { IfErr result (λ refusal. (rules : Rules) (x : Tree) → AreRules rules → S.is_sound store.old → IsSchemaOf (S.prepared store.old) (database_of (S.shows store.old).working)
             → IsGood rules.check (database_of (S.shows store.old).working) → Means rules (database_of (S.shows store.old).working) x (does.Change change)
             → RefusesChange rules (database_of (S.shows store.old).working) change refusal) }
-        ensures same { OnErr result (SameButMark (S.shows store.old) (S.shows store.new)) }
+        ensures same { S.is_sound store.old → OnErr result (SameButMark (S.shows store.old) (S.shows store.new)) }
         ensures sound { S.is_sound store.old → S.is_sound store.new }
         ensures counts { S.refused store.old ≤ S.refused store.new };
 }

@@ -52,7 +52,7 @@ impl<S: Store, L: Language + Changes<S>> Core<S, L> {
     ghost use Rattle.refusals.specs.declared.reason.Reason.TheVariants as reason;
     ghost use Rattle.refusals.specs.declared.refusal.Refusal.TheVariants.{Disk, Exceeded, Invalid};
     ghost use Rattle.sessions.specs.Seen.{seen_in};
-    ghost use Rattle.sessions.specs.OfCore.{IsSound, number_of, world_of};
+    ghost use Rattle.sessions.specs.OfCore.{IsSound, StandAlike, StandBeside, number_of, world_of};
 
     /// Carries out a statement of this session, and answers its reply. A call of a session that has ended is refused by `session`, and nothing changes.
     ///
@@ -64,6 +64,7 @@ impl<S: Store, L: Language + Changes<S>> Core<S, L> {
             → IsSound S.is_sound S.shows self.new }
         ensures rolled_back { IsRollback text.now → is_live (world_of S.shows self.old) (number_of session) ≡ true → result ≡ Reply.Done }
         ensures ended { is_live (world_of S.shows self.old) (number_of session) ≡ false → (result ≡ Reply.Refused (Invalid reason.Session)) × (self.new ≡ self.old) }
+        ensures live { StandAlike (world_of S.shows self.old) (world_of S.shows self.new) }
         ensures counts { S.refused self.old.store ≤ S.refused self.new.store }
     {
         let Some(mut mode) = self.slots.mode_of(session.number) else {
@@ -87,6 +88,7 @@ impl<S: Store, L: Language + Changes<S>> Core<S, L> {
         ensures makes { IsSound S.is_sound S.shows self.old → MatchResult result (λ session. MakesSession (world_of S.shows self.old) (Ok (number_of session)) (world_of S.shows self.new))
             (λ refusal. MakesSession (world_of S.shows self.old) (Err refusal) (world_of S.shows self.new)) }
         ensures refused { IfErr result (λ refusal. (refusal ≡ Exceeded limit.Sessions) × (self.new ≡ self.old)) }
+        ensures live { IfOk result (λ session. (is_live (world_of S.shows self.new) (number_of session) ≡ true) × StandBeside (number_of session) (world_of S.shows self.old) (world_of S.shows self.new)) }
         ensures sound { IsSound S.is_sound S.shows self.old → IsSound S.is_sound S.shows self.new }
         ensures counts { S.refused self.new.store ≡ S.refused self.old.store }
     {
@@ -101,6 +103,7 @@ impl<S: Store, L: Language + Changes<S>> Core<S, L> {
     pub fn end_session(&mut self, session: SessionId)
         ensures drops { is_live (world_of S.shows self.old) (number_of session) ≡ true → DropsSession (world_of S.shows self.old) (number_of session) (world_of S.shows self.new) }
         ensures ended { is_live (world_of S.shows self.old) (number_of session) ≡ false → self.new ≡ self.old }
+        ensures live { (is_live (world_of S.shows self.new) (number_of session) ≡ false) × StandBeside (number_of session) (world_of S.shows self.old) (world_of S.shows self.new) }
         ensures sound { IsSound S.is_sound S.shows self.old → IsSound S.is_sound S.shows self.new }
         ensures counts { S.refused self.old.store ≤ S.refused self.new.store }
     {

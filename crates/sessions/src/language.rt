@@ -1,9 +1,8 @@
 //! How the texts of statements are read and typed, which sessions take as it is.
-ghost use Rattle.std.specs.Prelude.{◌≡◌, ◌≢◌, ◌↔◌, true, IsTrue, IfOk, IfErr};
+ghost use Rattle.std.specs.Prelude.{◌≡◌, ◌≢◌, ◌↔◌, IsTrue, IfOk, IfErr};
 ghost use Rattle.refusals.specs.declared.refusal.Refusal.TheVariants.{Memory};
 ghost use Rattle.statement_reading.specs.Reading.{IsRead, IsUnread};
 ghost use Rattle.statement_reading.specs.Rollback.{IsRollback};
-ghost use Rattle.typing.specs.Evaluated.{is_evaluated};
 ghost use Rattle.typing.specs.Finds.{Finds};
 ghost use Rattle.typing.specs.Statement.{answered_found};
 
@@ -24,9 +23,7 @@ pub trait Language: Drop {
         ensures read { IfOk result (λ x. IsRead text.now x) }
         ensures unread { IfErr result (λ refusal. refusal ≢ Memory → IsUnread text.now refusal) };
 
-    /// What a statement stands for over a schema: by the rules of names and types, or a reason of theirs against it; any may be refused for want of memory. It gives only
-    /// what is evaluated so far.
+    /// What a statement stands for over a schema: by the rules of names and types, or a reason of theirs against it; any may be refused for want of memory.
     fn typed(&self, alloc: Global, statement: &Statement, schema: &Schema) -> Result<Typed, Refusal>
-        ensures finds { Finds result (answered_found statement.now schema.now) }
-        ensures evaluated { IfOk result (λ typed. is_evaluated typed ≡ true) };
+        ensures finds { Finds result (answered_found statement.now schema.now) };
 }

@@ -1,15 +1,14 @@
 //! A query in a session.
-ghost use Rattle.std.specs.Prelude.{◌≡◌, ◌≤◌, true, Ok, IfOk, IfErr};
-ghost use Rattle.answers.specs.Refused.{MayRefuse};
+ghost use Rattle.std.specs.Prelude.{◌≡◌, ◌≤◌, Ok, IfOk, IfErr};
 ghost use Rattle.denote.specs.Answer.{Answers};
 ghost use Rattle.denote.specs.Query.{denotes};
 ghost use Rattle.typing.specs.declared.statement.Typed.TheVariants as does;
 ghost use Rattle.typing.specs.declared.typed.OrderedQuery.{OrderedQuery as Query};
-ghost use Rattle.typing.specs.Evaluated.{is_evaluated};
 ghost use Rattle.ast.specs.declared.statement.AccessMode.{AccessMode as Mode};
 ghost use Rattle.ast.specs.declared.statement.OrderedQuery.{OrderedQuery};
 ghost use Rattle.ast.specs.declared.statement.Statement.TheVariants as asks;
 ghost use Rattle.lexer.specs.Token.{Bytes};
+ghost use Rattle.query_answers.specs.Refused.{MayRefuse};
 ghost use Rattle.session_definitions.specs.Rules.{Rules, AreRules};
 ghost use Rattle.statement_reading.specs.Reading.{IsRead};
 ghost use Rattle.statement_reading.specs.Rollback.{IsRollback};
@@ -20,9 +19,9 @@ ghost use Rattle.transactions.specs.Orderly.{IsOrderly};
 ghost use Rattle.sessions.specs.Answered.{GivesRows, RefusesQuery};
 
 use crate::language::Language;
-use answers::answer;
 use ast::Statement;
 use denote::Rows;
+use query_answers::{answer, query_tree};
 use refusals::Refusal;
 use replies::Reply;
 use std::alloc::Global;
@@ -83,14 +82,13 @@ fn rows_seen<S: Store, L: Language>(
     }
 }
 
-/// The rows of a typed query.
+/// The rows of a typed query, by its tree.
 fn evaluate<S: Store>(
     alloc: Global,
     store: &mut S,
     view: View,
     typed: &Typed,
 ) -> Result<Rows, Refusal>
-    requires { is_evaluated typed.now ≡ true }
     ensures answers { IfOk result (λ rows. (query : Query) → typed.now ≡ does.Query query → S.is_sound store.old → Answers (Ok rows) (denotes (database_of (seen_by (S.shows store.old) view)) query)) }
     ensures refused { IfErr result (λ refusal. (query : Query) → typed.now ≡ does.Query query → S.is_sound store.old → MayRefuse (denotes (database_of (seen_by (S.shows store.old) view)) query).unordered.faults refusal) }
     ensures shows { S.shows store.new ≡ S.shows store.old }
@@ -99,8 +97,12 @@ fn evaluate<S: Store>(
 {
     match typed {
         Typed::Query(query) => {
+            let tree = match query_tree(alloc, store.schema(), query) {
+                Ok(tree) => tree,
+                Err(_) => return Err(Refusal::Memory),
+            };
             let mut seen = Seen { store, view };
-            answer(alloc, &mut seen, query)
+            answer(alloc, &mut seen, &tree)
         }
         _ => Err(Refusal::NotSupported),
     }

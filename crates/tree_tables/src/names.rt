@@ -165,7 +165,10 @@ fn tables_in_conditions(alloc: Global, operands: &[Condition]) -> Result<Items<T
 /// Those that an expression reads.
 #[cycle(named)]
 #[tactic(auto, using(crate::proofs::Nodes::naming_nodes))]
-pub fn tables_in_expression(alloc: Global, expression: &Expression) -> Result<Items<Text>, AllocError>
+pub fn tables_in_expression(
+    alloc: Global,
+    expression: &Expression,
+) -> Result<Items<Text>, AllocError>
     ensures named { IfOk result (λ names. names ≡ tables_in_expression expression.now) }
 {
     match expression {

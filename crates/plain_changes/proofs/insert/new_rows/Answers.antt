@@ -1,32 +1,22 @@
-use Rattle.std.proofs.Common.{◌≡◌, List, true, Contains, sym, ap, subst, ◌∙◌}
-use Rattle.std.specs.List.{list_all}
-use Rattle.sqlval.specs.declared.schema.Constraint.{Constraint}
-use Rattle.sqlval.specs.Value.{Row}
-use Rattle.denote.specs.Database.{broken_not_nulls, rows_in}
-use Rattle.plain_changes.specs.Plain.{is_not_null}
-use Rattle.plain_changes.proofs.GivenRows.{gives_new, faults_new, violates_new}
+use Rattle.std.proofs.Common.{◌≡◌, sym, subst, ◌∙◌}
+use Rattle.std.proofs.lemmas.Result.{IfOk-weaker, IfErr-weaker}
+use Rattle.sqlval.specs.declared.schema.Schema.{Schema}
+use Rattle.denote.specs.SchemaOf.{IsSchemaOf}
+use Rattle.store.specs.Contents.{database_of}
 use Rattle.plain_changes.proofs.insert.new_rows.Goals as goal
 
-pub returns-in-Err-clause-refused : goal.returns-in-Err-clause-refused
-returns-in-Err-clause-refused c = λ rules db of.
-    let plain : list_all (λ (k : Constraint). is_not_null k.rule) c.in-Some.table.now.constraints ≡ true =
-    ap (list_all (λ (k : Constraint). is_not_null k.rule)) (sym c.as_slice.ensures) ∙ sym c.if-not-is_plain.ensures in
-    faults_new rules.check db c.args.schema.now c.in-Some.table.now c.args.insert.now c.in-Values.values of c.in-Some.ensures.among c.in-Some.ensures.named plain c.in-Values.is
-    _ _ c.as_slice-2.ensures c.as_slice-3.ensures c.in-Err.refusal (c.in-Err.ensures.refused (rows_in db))
+pub returns-in-Ok-tables_named-clause-gives : goal.returns-in-Ok-tables_named-clause-gives
+returns-in-Ok-tables_named-clause-gives g c = IfOk-weaker c.given_rows.result _ _
+    (λ rows h rules sound of.
+    let lent : IsSchemaOf c.schema-in-Ok.result.now (database_of (g.S.Store.shows c.args.store.now).working) =
+    subst (λ (s : Schema). IsSchemaOf s (database_of (g.S.Store.shows c.args.store.now).working)) (sym (c.schema-in-Ok.ensures ∙ c.tables_named.ensures.prepared)) of in
+    h rules _ c.in-Values.values lent c.in-Values.is c.in-Ok.ensures.trees (c.in-Ok-tables_named.ensures.lent sound))
+    c.given_rows.ensures.gives
 
-pub returns-in-None-clause-gives : goal.returns-in-None-clause-gives
-returns-in-None-clause-gives c = λ rules db of.
-    let plain : list_all (λ (k : Constraint). is_not_null k.rule) c.in-Some.table.now.constraints ≡ true =
-    ap (list_all (λ (k : Constraint). is_not_null k.rule)) (sym c.as_slice.ensures) ∙ sym c.if-not-is_plain.ensures in
-    gives_new rules.check db c.args.schema.now c.in-Some.table.now c.args.insert.now c.in-Values.values of c.in-Some.ensures.among c.in-Some.ensures.named plain c.in-Values.is
-    _ _ c.as_slice-2.ensures c.as_slice-3.ensures c.in-Ok.rows (c.in-Ok.ensures.gives (rows_in db))
-    (ap (broken_not_nulls c.in-Some.table.now.constraints) (sym c.as_slice-4.ensures) ∙ c.in-None.ensures.none)
-
-pub returns-in-Ok-copy-clause-refused : goal.returns-in-Ok-copy-clause-refused
-returns-in-Ok-copy-clause-refused c = λ rules db of.
-    let plain : list_all (λ (k : Constraint). is_not_null k.rule) c.in-Some.table.now.constraints ≡ true =
-    ap (list_all (λ (k : Constraint). is_not_null k.rule)) (sym c.as_slice.ensures) ∙ sym c.if-not-is_plain.ensures in
-    rw c.in-Ok-copy.ensures.copied
-    (violates_new rules.check db c.args.schema.now c.in-Some.table.now c.args.insert.now c.in-Values.values of c.in-Some.ensures.among c.in-Some.ensures.named plain c.in-Values.is
-    _ _ c.as_slice-2.ensures c.as_slice-3.ensures c.in-Ok.rows _ (c.in-Ok.ensures.gives (rows_in db))
-    (subst (λ (rows : List Row). Contains (broken_not_nulls c.in-Some.table.now.constraints rows) c.in-Some-broken_not_null.name.now) c.as_slice-4.ensures c.in-Some-broken_not_null.ensures.found))
+pub returns-in-Ok-tables_named-clause-refused : goal.returns-in-Ok-tables_named-clause-refused
+returns-in-Ok-tables_named-clause-refused g c = IfErr-weaker c.given_rows.result _ _
+    (λ refusal h rules sound of.
+    let lent : IsSchemaOf c.schema-in-Ok.result.now (database_of (g.S.Store.shows c.args.store.now).working) =
+    subst (λ (s : Schema). IsSchemaOf s (database_of (g.S.Store.shows c.args.store.now).working)) (sym (c.schema-in-Ok.ensures ∙ c.tables_named.ensures.prepared)) of in
+    h rules _ c.in-Values.values lent c.in-Values.is c.in-Ok.ensures.trees (c.in-Ok-tables_named.ensures.lent sound))
+    c.given_rows.ensures.refused

@@ -36,4 +36,4 @@ returns-in-Err-make-clause-moves g c = λ rules text are is read other sound ord
     (c.in-Err-make.ensures.refused rules are is (c.begin.ensures.sound sound)
     (good_begun rules _ _ _ _ text _ order is read (sym c.is_read_only.ensures ∙ c.if-is_read_only.false) (sym c.comes_too_late.ensures ∙ c.if-comes_too_late.false) _ begins good))
     (unbegun _ _ _ _ _ c.number.ensures c.is_none-idle.ensures _
-    (subst (λ (y : Stored). SameButMark y (g.S.Store.shows c.make.new.store)) begins c.in-Err-make.ensures.same) c.take_back.ensures.shows)
+    (subst (λ (y : Stored). SameButMark y (g.S.Store.shows c.make.new.store)) begins (c.in-Err-make.ensures.same (c.begin.ensures.sound sound))) c.take_back.ensures.shows)

@@ -4,7 +4,7 @@ use Rattle.sqlval.specs.declared.schema.Schema.{Schema}
 use Rattle.denote.specs.SchemaOf.{IsSchemaOf}
 use Rattle.store.specs.Contents.{database_of}
 use Rattle.sessions.proofs.ChangeSteps.{makes_typed, refuses_typed, refuses_wrong}
-use Rattle.sessions.proofs.Typings.{against}
+use Rattle.sessions.proofs.Typings.{against, typed_evaluated}
 use Rattle.sessions.proofs.change.make.Goals as goal
 
 pub returns-in-Ok-clause-changes : goal.returns-in-Ok-clause-changes
@@ -26,3 +26,6 @@ returns-in-Err-typed-clause-refused g c = λ rules are is sound good.
     let of : IsSchemaOf c.schema.result.now (database_of (g.S.Store.shows c.args.store.now).working) =
     subst (λ (schema : Schema). IsSchemaOf schema (database_of (g.S.Store.shows c.args.store.now).working)) (sym c.schema.ensures) ((rw c.in_default.is at c.prepare.ensures.prepared) sound) in
     refuses_wrong rules _ c.args.statement.now _ (against rules _ c.schema.result.now c.args.statement.now _ are of c.in-Err-typed.ensures.finds.err)
+
+pub make_typed-requires : goal.make_typed-requires
+make_typed-requires g c = λ change is. typed_evaluated c.args.statement.now _ c.in-Ok.typed c.in-Ok.ensures.finds.ok change is

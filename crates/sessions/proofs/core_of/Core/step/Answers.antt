@@ -1,8 +1,9 @@
 use Rattle.std.proofs.Common.{◌≡◌, true, false, Some, None, sym, subst, ◌∙◌}
 use Rattle.session_definitions.specs.Step.{Step}
+use Rattle.session_definitions.specs.World.{is_live}
 use Rattle.transactions.specs.Shown.{Slots, slot_at, shown}
 use Rattle.transactions.proofs.SlotLemmas.{slot_within}
-use Rattle.sessions.proofs.Cores.{not_live, is_live_at, readers_kept}
+use Rattle.sessions.proofs.Cores.{not_live, is_live_at, readers_kept, set_alike}
 use Rattle.sessions.proofs.core_of.Core.step.Goals as goal
 
 pub returns-in_default-clause-step : goal.returns-in_default-clause-step
@@ -39,3 +40,10 @@ returns-clause-ended g c = λ dead.
     let is : slot_at c.args.self.now.slots.modes c.args.session.number ≡ Some c.in-Some.mode = sym c.mode_of.ensures.is ∙ c.in-Some.is in
     let live = is_live_at (g.S.Store.shows c.args.self.now.store) c.args.self.now.writer c.args.self.now.slots.modes c.args.session.number c.in-Some.mode is in
     let bad : true ≡ false = sym live ∙ dead in absurd (cc)
+
+pub returns-clause-live : goal.returns-clause-live
+returns-clause-live g c = λ q.
+    let is : slot_at c.args.self.now.slots.modes c.args.session.number ≡ Some c.in-Some.mode = sym c.mode_of.ensures.is ∙ c.in-Some.is in
+    subst (λ (slots : Slots). is_live (shown (g.S.Store.shows c.call-reply.new.store) c.call-reply.new.writer slots) q ≡ is_live (shown (g.S.Store.shows c.args.self.now.store) c.args.self.now.writer c.args.self.now.slots.modes) q)
+    (sym c.set.ensures)
+    (set_alike (g.S.Store.shows c.args.self.now.store) (g.S.Store.shows c.call-reply.new.store) c.args.self.now.writer c.call-reply.new.writer c.args.self.now.slots.modes c.args.session.number c.in-Some.mode c.call-reply.new.mode is q)

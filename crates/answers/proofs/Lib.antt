@@ -1,3 +1,0 @@
-pub mod Independent
-pub mod OneTableQueries
-pub mod StoredValues

@@ -1,0 +1,88 @@
+//! The sources of VALUES, as trees, and the tables that they name.
+ghost use Rattle.std.specs.Prelude.{◌≡◌, IfOk, IfErr, map};
+ghost use Rattle.refusals.specs.declared.refusal.Refusal.TheVariants.{Disk};
+ghost use Rattle.session_definitions.specs.Refusals.{IsReserved};
+ghost use Rattle.store.specs.Errors.{HasRisen};
+ghost use Rattle.algebra.specs.Described.{described_in};
+ghost use Rattle.algebra.specs.Translated.{tree_of_expression};
+ghost use Rattle.tree_tables.specs.TablesRead.{Agree};
+ghost use Rattle.query_answers.specs.Answered.{rows_found};
+ghost use Rattle.query_answers.specs.Lent.{rows_lent};
+ghost use Rattle.query_answers.specs.Sources.{AreTreesOf, tables_in_row, tables_in_rows};
+
+use crate::lent::{LentTables, lent_tables};
+use algebra::Expression;
+use items::{Items, Text};
+use refusals::Refusal;
+use sqlval::Schema;
+use std::alloc::{AllocError, Global};
+use store::Reading;
+use translation::translate_expression;
+use tree_tables::tables_in_expression;
+
+/// The trees of the sources of VALUES that were typed over this schema, row by row. Refuses for want of memory alone.
+pub fn source_trees(
+    alloc: Global,
+    schema: &Schema,
+    rows: &[Items<typing::Expression>],
+) -> Result<Items<Items<Expression>>, AllocError>
+    ensures trees { IfOk result (λ trees. AreTreesOf rows.now trees) }
+{
+    let mut trees = Items::new(alloc);
+    for row in rows {
+        trees.push(row_trees(alloc, schema, row.as_slice())?)?;
+    }
+    Ok(trees)
+}
+
+fn row_trees(
+    alloc: Global,
+    schema: &Schema,
+    sources: &[typing::Expression],
+) -> Result<Items<Expression>, AllocError>
+    ensures { IfOk result (λ trees. trees ≡ map (tree_of_expression (described_in schema.now)) sources.now) }
+{
+    let mut trees = Items::new(alloc);
+    for source in sources {
+        trees.push(translate_expression(alloc, schema, source)?)?;
+    }
+    Ok(trees)
+}
+
+fn names_in_row(alloc: Global, sources: &[Expression]) -> Result<Items<Text>, AllocError>
+    ensures { IfOk result (λ names. names ≡ tables_in_row sources.now) }
+{
+    let mut names = Items::new(alloc);
+    for source in sources {
+        names.append(tables_in_expression(alloc, source)?)?;
+    }
+    Ok(names)
+}
+
+fn names_in_rows(alloc: Global, rows: &[Items<Expression>]) -> Result<Items<Text>, AllocError>
+    ensures { IfOk result (λ names. names ≡ tables_in_rows rows.now) }
+{
+    let mut names = Items::new(alloc);
+    for sources in rows {
+        names.append(names_in_row(alloc, sources.as_slice())?)?;
+    }
+    Ok(names)
+}
+
+/// The tables that sources name, each read once. It is refused for what the store is refused for.
+pub fn tables_for_sources<R: Reading>(
+    alloc: Global,
+    reading: &mut R,
+    trees: &[Items<Expression>],
+) -> Result<LentTables, Refusal>
+    ensures lent { R.is_sound reading.old → IfOk result (λ lent. Agree (rows_lent lent.tables) (rows_found (R.shows reading.old).contents) (tables_in_rows trees.now)) }
+    ensures refused { IfErr result (λ refusal. R.is_sound reading.old → IsReserved refusal) }
+    ensures counts { IfErr result (λ refusal. refusal ≡ Disk → HasRisen (R.shows reading.old).refused (R.shows reading.new).refused) }
+    ensures follows { R.follows reading.old reading.new }
+{
+    let names = match names_in_rows(alloc, trees) {
+        Ok(names) => names,
+        Err(_) => return Err(Refusal::Memory),
+    };
+    lent_tables(alloc, reading, names.as_slice())
+}
