@@ -1,7 +1,7 @@
 -- INSERT of VALUES: its rows, and the whole.
-use Rattle.std.proofs.Common.{◌≡◌, refl, sym, ap, ◌∙◌, ℕ, zero, suc, ◌+◌, ◌<◌, ◌≤◌, Bool, true, false, ◌&&◌, List, [], ◌∷◌, ◌++◌, map, length, get_or, drop, drop-cons, Option, Some, None, Result, Ok, Err, arith, add-one, append_assoc}
-use Rattle.std.specs.Prelude.{if◌then◌else◌, ◌==◌, not}
-use Rattle.std.specs.List.{list_all, list_any, zip}
+use Rattle.std.proofs.Common.{◌≡◌, refl, sym, ap, ◌∙◌, ℕ, zero, suc, ◌+◌, ◌<◌, ◌≤◌, true, false, List, [], ◌∷◌, ◌++◌, map, length, get_or, drop, drop-cons, Some, Ok, Err, arith, add-one, append_assoc}
+use Rattle.std.specs.Prelude.{◌==◌}
+use Rattle.std.specs.List.{zip}
 use Rattle.std.proofs.lemmas.List.{append-nil, drop_all}
 use Rattle.sqlval.specs.declared.schema.Column.{Column as Defined}
 use Rattle.sqlval.specs.declared.value.ValueType.{ValueType}
@@ -18,12 +18,11 @@ use Rattle.typing.specs.declared.statement.Insert.{Insert}
 use Rattle.typing.specs.declared.statement.InsertSource.{InsertSource}
 use Rattle.typing.specs.declared.statement.InsertSource.TheVariants as from
 use Rattle.typing.specs.declared.scope.TypedExpression.{TypedExpression}
-use Rattle.typing.specs.Finding.{Finding, reasons_in, ◌>>=◌, also, before, each, misplaced}
+use Rattle.typing.specs.Finding.{Finding, reasons_in, ◌>>=◌, also, before, each}
 use Rattle.typing.specs.Finds.{Finds}
 use Rattle.typing.specs.Known.{Known, KnownTable}
 use Rattle.typing.specs.Part.{Plain}
-use Rattle.typing.specs.Expression.{must_be}
-use Rattle.typing.specs.Insert.{Target, insert_found, row_stored, rows_stored, source_found, sources_found, stored_as, target_named, targets_found, targets_from, values_stored}
+use Rattle.typing.specs.Insert.{Target, insert_found, row_stored, source_found, sources_found, stored_as, target_named, targets_found, targets_from, values_stored}
 use Rattle.typing.specs.Table.{are_distinct, distinct_found, table_found}
 use Rattle.typing.specs.Typing.{expression_part}
 use Rattle.resolve.specs.Rows.{rows_in, source_stored, stored_found}
@@ -160,8 +159,8 @@ pub ruleset insert_steps = (insert_missing, insert_targets, insert_twice)
 
 pub ruleset target_steps = (targets_none, targets_some)
 
-pub ruleset rows_steps = (all-item, Finds-each_item, each-next, each-finds)
+pub ruleset rows_steps = (Finds-each_item, each-next, each-finds)
 
 pub ruleset row_steps = (row_refused, row_is)
 
-pub ruleset zip_steps = (all-item, zip-finds)
+pub ruleset zip_steps = (zip-finds)

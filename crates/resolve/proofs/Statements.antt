@@ -1,7 +1,6 @@
 -- What a statement is answered, kind by kind.
-use Rattle.std.proofs.Common.{◌≡◌, refl, ℕ, Bool, true, false, ◌&&◌, List, [], ◌∷◌, Result, Ok, Err, arith}
+use Rattle.std.proofs.Common.{◌≡◌, refl, true, false, Ok, Err, arith}
 use Rattle.sqlval.specs.declared.schema.Schema.{Schema}
-use Rattle.refusals.specs.declared.refusal.Refusal.{Refusal}
 use Rattle.refusals.specs.declared.refusal.Refusal.TheVariants.{NotSupported}
 use Rattle.ast.specs.declared.statement.CreateTable.{CreateTable}
 use Rattle.ast.specs.declared.statement.Insert.{Insert}
@@ -10,7 +9,7 @@ use Rattle.ast.specs.declared.statement.Statement.TheVariants as statement
 use Rattle.typing.specs.declared.statement.Change.TheVariants as change
 use Rattle.typing.specs.Built.{is_built}
 use Rattle.typing.specs.CreateTable.{create_found}
-use Rattle.typing.specs.Finding.{Finding, ◌>>=◌}
+use Rattle.typing.specs.Finding.{◌>>=◌}
 use Rattle.typing.specs.Finds.{Finds}
 use Rattle.typing.specs.Insert.{insert_found}
 use Rattle.typing.specs.Known.{known}

@@ -1,6 +1,6 @@
 -- CREATE TABLE of columns and NOT NULL.
-use Rattle.std.proofs.Common.{◌≡◌, refl, sym, ap, ◌∙◌, ℕ, zero, suc, ◌+◌, ◌<◌, ◌≤◌, ◌/◌, ◌%◌, Bool, true, false, ◌&&◌, List, [], ◌∷◌, ◌++◌, map, length, get_or, drop, drop-cons, add-one, append_assoc, Option, Some, None, Result, Ok, Err, arith}
-use Rattle.std.specs.Prelude.{filter, nat_le, not, if◌then◌else◌}
+use Rattle.std.proofs.Common.{◌≡◌, refl, sym, ap, ◌∙◌, ℕ, suc, ◌+◌, ◌<◌, ◌≤◌, ◌/◌, ◌%◌, true, false, List, [], ◌∷◌, ◌++◌, map, length, get_or, drop, drop-cons, add-one, append_assoc, Ok, Err, arith}
+use Rattle.std.specs.Prelude.{filter}
 use Rattle.std.specs.Fmt.{decimal}
 use Rattle.std.specs.List.{list_all, zip}
 use Rattle.std.proofs.lemmas.Bool.{le-leb}
@@ -8,7 +8,6 @@ use Rattle.std.proofs.lemmas.Fmt.{decimal_digit, decimal_step}
 use Rattle.std.proofs.lemmas.List.{append-nil, length-map, map-append}
 use Rattle.sqlval.specs.declared.schema.Column.{Column}
 use Rattle.sqlval.specs.declared.schema.Constraint.{Constraint}
-use Rattle.sqlval.specs.declared.schema.Rule.{Rule}
 use Rattle.sqlval.specs.declared.schema.Rule.TheVariants as rule
 use Rattle.sqlval.specs.declared.storing.ColumnType.{ColumnType}
 use Rattle.refusals.specs.declared.limit.Limit.TheVariants as limit
@@ -22,12 +21,11 @@ use Rattle.ast.specs.declared.statement.ColumnRule.TheVariants as column_rule
 use Rattle.ast.specs.declared.statement.CreateTable.{CreateTable as Tree}
 use Rattle.ast.specs.declared.statement.TableElement.{TableElement}
 use Rattle.ast.specs.declared.statement.TableElement.TheVariants as element
-use Rattle.typing.specs.declared.statement.CreateTable.{CreateTable}
 use Rattle.typing.specs.declared.scope.Frame.{Frame}
 use Rattle.typing.specs.Built.{element_built, is_not_null}
-use Rattle.typing.specs.Constraint.{Declared, are_allowed, column_rule_at, constraint_name, constraints_found, declared_from, named, names_from, one_primary_key, plain}
+use Rattle.typing.specs.Constraint.{Declared, column_rule_at, constraint_name, constraints_found, declared_from, named, names_from, plain}
 use Rattle.typing.specs.CreateTable.{column_found, columns_found, create_found, defined_frame, definitions, type_found}
-use Rattle.typing.specs.Finding.{Finding, reasons_in, ◌>>=◌, also, before, each, invalid}
+use Rattle.typing.specs.Finding.{Finding, reasons_in, ◌>>=◌, also, before, each}
 use Rattle.typing.specs.Finds.{Finds}
 use Rattle.typing.specs.Known.{Known}
 use Rattle.typing.specs.Table.{are_distinct, at_most, distinct_found, is_new}

@@ -112,3 +112,12 @@ module _ (rules : Rules) (st : Stored) (w : Option ℕ) (s : ℕ) (mode : Access
   refuses refusal new other found k =
       nothing_moves rules st w s mode text (says.Refused refusal) new h
       (refusing refusal other (subst (λ (db : Database). RefusesQuery rules db x refusal) there found)) k
+
+-- ---- what a typed query is
+
+query_in : Typed → typed.OrderedQuery → typed.OrderedQuery
+query_in (does.Query query) other = query
+query_in t other = other
+
+pub one_query : (a b : typed.OrderedQuery) → does.Query a ≡ does.Query b → a ≡ b
+one_query a b e = ap (λ t. query_in t a) e
