@@ -115,7 +115,7 @@ module _ (rules : Rules) (st : Stored) (w : Option ℕ) (s : ℕ) (mode : Access
 
 -- ---- what a typed query is
 
-query_in : Typed → typed.OrderedQuery → typed.OrderedQuery
+abbrev query_in : Typed → typed.OrderedQuery → typed.OrderedQuery
 query_in (does.Query query) other = query
 query_in t other = other
 
