@@ -10,4 +10,7 @@ mod parts;
 mod queries;
 mod tables;
 
+pub use conditions::typed_condition;
+pub use expressions::typed_expression;
 pub use order::typed_query;
+pub use queries::typed_query_expression;
