@@ -1,0 +1,11 @@
+//! Names and types of the statements that change rows or indexes: what each stands for over a schema.
+#![tactic(auto)]
+
+mod drops;
+mod indexes;
+mod names;
+mod targets;
+
+pub use drops::{typed_drop_index, typed_drop_table};
+pub use indexes::typed_create_index;
+pub use targets::{target_named, targets_in};
