@@ -1,0 +1,41 @@
+use Rattle.std.proofs.Common.{◌≡◌, ◌≤◌, ◌⊎◌, ℕ, List, Some, None, IsSome, IfOk, OnErr, true, false, refl, sym, ap, subst, ◌∙◌, arith, rules, inl}
+use Rattle.pagefile.specs.declared.header.FileHeader.{FileHeader}
+use Rattle.pagefile.specs.Header.{IsHeader}
+use Rattle.pool.specs.Pages.{PageMap, over}
+use Rattle.pool.specs.Versions.{Versions, versions_of, device_of}
+use Rattle.overlay.specs.Changes.{private_of}
+use Rattle.overlay.specs.InUse.{in_use}
+use Rattle.overlay.specs.Layers.{size_of}
+use Rattle.overlay.specs.Whole.{IsWhole, IsSaid, AtLimit}
+use Rattle.overlay.specs.Puts.{Took, TookAtMost}
+use Rattle.overlay.proofs.FreeLemmas.{never_whole, read_more}
+use Rattle.overlay.proofs.RefusalLemmas.{change_more, changed_more, put_refused}
+use Rattle.overlay.proofs.TakeLemmas.{takes_first, takes_new, never_first, never_behind, at_most_pages, leaf_written, taken_leaf, left_leaf, is_none, written_there, fresh_after, taken_others_after, kept_after, taken_whole_after}
+use Rattle.overlay.proofs.RootLemmas.{root_put, rooted_by, rooted_before, never_above, root_after, root_others_after, root_whole_after}
+use Rattle.overlay.proofs.roots.set_root.Goals as goal
+
+pub returns-then-header-root-clause-written : goal.returns-then-header-root-clause-written
+returns-then-header-root-clause-written g c =
+    rooted_before (over (private_of c.args.changes.now) ((versions_of c.args.pool.now).pages c.args.at)) c.args.root c.in-Ok.header (private_of c.args.changes.now) c.in-Ok.ensures.says c.in-Ok.ensures.bounds c.if-header-root.true
+
+pub returns-then-root-header-clause-refusal : goal.returns-then-root-header-clause-refusal
+returns-then-root-header-clause-refusal g c = λ whole used.
+    never_above ((versions_of c.args.pool.now).pages c.args.at) (private_of c.args.changes.now) c.in-Ok.header c.args.root c.in-Ok.ensures.says c.in-Ok.ensures.bounds c.if-root-header.true whole used
+
+pub returns-else-root-header-clause-written : goal.returns-else-root-header-clause-written
+returns-else-root-header-clause-written g c =
+    rooted_by c.put_root.result (over (private_of c.args.changes.now) ((versions_of c.args.pool.now).pages c.args.at)) c.args.root c.in-Ok.header (private_of c.args.changes.now) (private_of c.put_root.new.changes) c.in-Ok.ensures.says c.in-Ok.ensures.bounds
+    (let below = c.if-root-header.false in omega (arith, below)) c.put_root.ensures.written
+
+pub returns-else-root-header-clause-refusal : goal.returns-else-root-header-clause-refusal
+returns-else-root-header-clause-refusal g c =
+    put_refused c.put_root.result (over (private_of c.put_root.new.changes) ((versions_of c.read_header.new.pool).pages c.args.at) 0) (size_of (private_of c.put_root.new.changes))
+    (IsWhole (over (private_of c.args.changes.now) ((versions_of c.args.pool.now).pages c.args.at)) → (c.args.root ≡ 0) ⊎ IsSome (in_use ((versions_of c.args.pool.now).pages c.args.at) (private_of c.args.changes.now) c.args.root) → ⊥)
+    (g.D.Disk.refused (device_of c.args.pool.now)) (g.D.Disk.refused (device_of c.read_header.new.pool)) c.put_root.ensures.refusal
+
+pub returns-in-Err-clause-refusal : goal.returns-in-Err-clause-refusal
+returns-in-Err-clause-refusal g c =
+    read_more c.in-Err.fault (AtLimit (over (private_of c.args.changes.now) ((versions_of c.read_header.new.pool).pages c.args.at) 0) (size_of (private_of c.args.changes.now)))
+    ((header : FileHeader) → IsSaid (over (private_of c.args.changes.now) ((versions_of c.args.pool.now).pages c.args.at) 0) header → ⊥) (IsWhole (over (private_of c.args.changes.now) ((versions_of c.args.pool.now).pages c.args.at)) → (c.args.root ≡ 0) ⊎ IsSome (in_use ((versions_of c.args.pool.now).pages c.args.at) (private_of c.args.changes.now) c.args.root) → ⊥)
+    (g.D.Disk.refused (device_of c.args.pool.now)) (g.D.Disk.refused (device_of c.args.pool.now)) (g.D.Disk.refused (device_of c.read_header.new.pool))
+    (λ never whole used. never_whole (over (private_of c.args.changes.now) ((versions_of c.args.pool.now).pages c.args.at)) (over (private_of c.args.changes.now) ((versions_of c.args.pool.now).pages c.args.at)) refl never whole) (omega arith) c.in-Err.ensures.refusal
