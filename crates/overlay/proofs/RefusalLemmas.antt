@@ -1,10 +1,9 @@
 -- Refusals of a call after another one.
-use Rattle.std.proofs.Common.{◌≡◌, ℕ, ◌≤◌, arith, Result, Ok, Err, IfErr, subst}
+use Rattle.std.proofs.Common.{ℕ, ◌≤◌, arith, Result, Ok, Err, IfErr}
 use Rattle.page_space.specs.declared.fault.Fault.{Fault}
 use Rattle.page_space.specs.declared.fault.Fault.TheVariants.{Memory, Disk, Damaged, Pages, Private}
-use Rattle.page_space.specs.Space.{ReadRefused, ChangeRefused}
-use Rattle.pool.specs.Pages.{PageMap, over}
-use Rattle.overlay.specs.Layers.{IsNotKept, size_of}
+use Rattle.page_space.specs.Space.{ChangeRefused}
+use Rattle.overlay.specs.Layers.{IsNotKept}
 use Rattle.overlay.specs.Whole.{AtLimit}
 
 pub change_more : (f : Fault) (A : Fault → Type 0) (H G : Type 0) (k b m : ℕ) → (H → G) → k ≤ b → ChangeRefused A H b m f → ChangeRefused A G k m f

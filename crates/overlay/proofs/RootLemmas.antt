@@ -6,7 +6,7 @@ use Rattle.pagefile.specs.Number.{number_at}
 use Rattle.pool.specs.Pages.{PageMap, over, only, pick}
 use Rattle.overlay.specs.InUse.{in_use}
 use Rattle.overlay.specs.Bounded.{some_is}
-use Rattle.overlay.specs.Whole.{IsIn, HasFreeList, IsWhole, HasRoot}
+use Rattle.overlay.specs.Whole.{HasFreeList, IsWhole, HasRoot}
 use Rattle.overlay.specs.Puts.{Rooted, PutsHeader, with_root}
 use Rattle.overlay.proofs.LayerLemmas.{put_here, put_apart, over_twice}
 use Rattle.overlay.proofs.InUseLemmas.{in_use-read, none_outside}

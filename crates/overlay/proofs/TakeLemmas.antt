@@ -1,18 +1,17 @@
 -- What a page that was taken leaves.
-use Rattle.std.proofs.Common.{◌≡◌, ◌≢◌, ℕ, ◌+◌, ◌<◌, ◌≤◌, Bool, true, false, arith, Result, Ok, Err, OnOk, OnErr, IfOk, IfErr, Option, Some, None, List, [], ◌∷◌, IsSome, refl, sym, ap, subst, ◌∙◌, ◌⊎◌, inl, inr}
+use Rattle.std.proofs.Common.{◌≡◌, ◌≢◌, ℕ, ◌+◌, ◌<◌, ◌≤◌, Bool, true, false, arith, Result, Ok, Err, OnOk, OnErr, IfOk, Option, Some, None, List, [], ◌∷◌, IsSome, refl, sym, ap, subst, ◌∙◌, ◌⊎◌, inl, inr}
 use Rattle.std.specs.Prelude.{slice_index, nat_lt}
 use Rattle.std.specs.Option.{is_some}
 use borrow.Author.Tests.{ltb-true, ltb-false}
 use Rattle.pagefile.specs.declared.header.FileHeader.{FileHeader}
 use Rattle.pagefile.specs.Header.{IsHeader, IsInBounds}
 use Rattle.pagefile.specs.Free.{IsFree}
-use Rattle.pagefile.specs.Number.{number_at}
 use Rattle.page_space.specs.Space.{IsFresh}
 use Rattle.pool.specs.Pages.{PageMap, over, only, pick}
 use Rattle.pool.proofs.SlotLemmas.{lt-true, lt-false}
 use Rattle.overlay.specs.InUse.{in_use, is_counted}
-use Rattle.overlay.specs.Whole.{IsIn, AreApart, FreeAt, IsFreeList, HasFreeList, IsWhole, HasMostPages}
-use Rattle.overlay.specs.Puts.{PutsBoth, PutsAtMost, PutsLeaf, PutsLeafAtMost, Takes, TakesFirst, TakesNew, Took, TookAtMost}
+use Rattle.overlay.specs.Whole.{IsIn, AreApart, IsFreeList, HasFreeList, IsWhole, HasMostPages}
+use Rattle.overlay.specs.Puts.{PutsBoth, PutsLeaf, PutsLeafAtMost, Takes, TakesFirst, TakesNew, Took, TookAtMost}
 use Rattle.overlay.proofs.LayerLemmas.{put_here, put_apart, over_twice}
 use Rattle.overlay.proofs.InUseLemmas.{in_use-here, in_use-others, none_free, none_behind}
 use Rattle.overlay.proofs.WholeLemmas.{kind_of_free, list_same, in_list, same_header}
