@@ -49,7 +49,7 @@ pub freed_others_after : {E : Type 0} (result : Result (Unit {0}) E) (version ne
     → OnErr result (WritesAtMost page written next) → (n : ℕ) → n ≢ page → in_use next_version next n ≡ in_use version written n
 freed_others_after (Ok done) version next_version written next page is f left = λ n differs.
     ap (λ (v : PageMap). in_use v next n) is
-    ∙ others_both version written next page f.freed.bytes f.header (with_first_free f.header page) f.some refl f.says f.freed.both n differs
+    ∙ others_both version written next page f.freed.bytes f.header (with_first_free f.header page) f.some (λ m apart. refl) f.says f.freed.both n differs
 freed_others_after (Err e) version next_version written next page is f left = λ n differs. ap (λ (v : PageMap). in_use v next n) is ∙ by left n differs
   where
     by : WritesAtMost page written next → (n : ℕ) → n ≢ page → in_use version next n ≡ in_use version written n

@@ -6,3 +6,6 @@ pub mod WriteLemmas
 pub mod HeaderLemmas
 pub mod PutLemmas
 pub mod FreeLemmas
+pub mod RefusalLemmas
+pub mod TakeLemmas
+pub mod RootLemmas

@@ -30,19 +30,19 @@ pick_there : (a b : Option (List ℕ)) → is_some b ≡ true → IsSome (pick a
 pick_there (Some x) b h = refl
 pick_there None b h = h
 
--- a page 0 with the same count
-recounted : (version mid : PageMap) (first : List ℕ) (count n : ℕ) → ((f : List ℕ) → over mid version 0 ≡ Some f → number_at f 8 ≡ count) → number_at first 8 ≡ count → n ≢ 0
-    → in_use version (over (only 0 first) mid) n ≡ in_use version mid n
-recounted version mid first count n says is some = in_use-apart version mid (over (only 0 first) mid) n (put_apart 0 n first mid some)
+-- a page 0 with a count that counts this page alike
+pub recounted : (version mid : PageMap) (first : List ℕ) (count new_count n : ℕ) → ((f : List ℕ) → over mid version 0 ≡ Some f → number_at f 8 ≡ count) → number_at first 8 ≡ new_count
+    → nat_lt n new_count ≡ nat_lt n count → n ≢ 0 → in_use version (over (only 0 first) mid) n ≡ in_use version mid n
+recounted version mid first count new_count n says is same some = in_use-apart version mid (over (only 0 first) mid) n (put_apart 0 n first mid some)
     (λ k. let there = some_is (over mid version 0) (pick_there (mid 0) (version 0) k) in
-    ap (λ (o : Option (List ℕ)). is_counted (pick o (version 0)) n) (put_here 0 first mid) ∙ ap (λ (c : ℕ). nat_lt n c) (is ∙ sym (says there.0 there.1))
-    ∙ sym (ap (λ (o : Option (List ℕ)). is_counted o n) there.1))
+    ap (λ (o : Option (List ℕ)). is_counted (pick o (version 0)) n) (put_here 0 first mid) ∙ ap (λ (c : ℕ). nat_lt n c) is ∙ same
+    ∙ ap (λ (c : ℕ). nat_lt n c) (sym (says there.0 there.1)) ∙ sym (ap (λ (o : Option (List ℕ)). is_counted o n) there.1))
 
 above : (k : ℕ) → 0 < k → k ≢ 0
 above k some = omega arith
 
 -- each page but the one written is in use as before
-pub others_both : (version written next : PageMap) (page : ℕ) (bytes : List ℕ) (h new : FileHeader) → 0 < page → new.page_count ≡ h.page_count
+pub others_both : (version written next : PageMap) (page : ℕ) (bytes : List ℕ) (h new : FileHeader) → 0 < page → ((n : ℕ) → n ≢ page → nat_lt n new.page_count ≡ nat_lt n h.page_count)
     → ((f : List ℕ) → over written version 0 ≡ Some f → IsHeader f h) → PutsBoth page bytes new written next
     → (n : ℕ) → n ≢ page → in_use version next n ≡ in_use version written n
 others_both version written next page bytes h new some count says both n differs = by (n == 0) refl
@@ -54,7 +54,7 @@ others_both version written next page bytes h new some count says both n differs
     by true e = let zero_is : n ≡ 0 = eqb-true n 0 e in
         none_outside version next n (λ a b. omega (arith, zero_is, a)) ∙ sym (none_outside version written n (λ a b. omega (arith, zero_is, a)))
     by false e = ap (λ (p : PageMap). in_use version p n) both.puts
-        ∙ recounted version (over (only page bytes) written) both.first h.page_count n mid_first (both.says.page_count ∙ count) (λ z. let bad : true ≡ false = sym (eq-eqb n 0 z) ∙ e in cc)
+        ∙ recounted version (over (only page bytes) written) both.first h.page_count new.page_count n mid_first both.says.page_count (count n differs) (λ z. let bad : true ≡ false = sym (eq-eqb n 0 z) ∙ e in cc)
         ∙ in_use-others version written (over (only page bytes) written) page (above page some) (λ m apart. put_apart page m bytes written apart) n differs
 
 pub others_at_most : (version written next : PageMap) (page : ℕ) (bytes : List ℕ) → 0 < page → PutsAtMost page bytes written next

@@ -68,3 +68,8 @@ AtLimit first size Private = 1024 ≤ size
 abbrev pub IsSaid : Option (List ℕ) → FileHeader → Type 0
 IsSaid None header = ⊥
 IsSaid (Some first) header = IsHeader first header × IsInBounds header
+
+-- page 0, where it is known, names this root of the catalogue
+abbrev pub HasRoot : Option (List ℕ) → ℕ → Type 0
+HasRoot None root = ⊤
+HasRoot (Some first) root = number_at first 16 ≡ root

@@ -6,8 +6,10 @@ mod commits;
 mod first_page;
 mod frees;
 mod layers;
+mod roots;
 mod snapshot;
 mod space;
+mod takes;
 mod uses;
 mod version;
 mod writes;
@@ -16,8 +18,10 @@ pub use changes::Changes;
 pub use commits::commit;
 pub use first_page::read_header;
 pub use frees::free_page;
+pub use roots::set_catalog_root;
 pub use snapshot::Snapshot;
 pub use space::Overlay;
+pub use takes::allocate_page;
 pub use writes::replace_page;
 
 /// How many pages a transaction may have written, page 0 among them.

@@ -1,9 +1,12 @@
 ghost use Rattle.std.specs.Prelude.{◌≡◌};
 
 use crate::changes::Changes;
+use crate::frees::free_page;
+use crate::takes::allocate_page;
 use crate::version::read_changed;
+use crate::writes::replace_page;
 use disk::Disk;
-use page_space::{Fault, Page, PageReader};
+use page_space::{Fault, Page, PageReader, PageSpace};
 use pool::Pool;
 
 /// A version of a pool, of the commit of this number, with the pages that a transaction has written over it.
@@ -41,5 +44,27 @@ impl<'a, D: Disk> PageReader for Overlay<'a, D> {
 
     fn read(&mut self, page: u32, into: &mut Page) -> Result<(), Fault> {
         read_changed(self.pool, self.changes, self.at, page, into)
+    }
+}
+
+impl<'a, D: Disk> PageSpace for Overlay<'a, D> {
+    ghost use Rattle.pool.specs.Pages.{over};
+    ghost use Rattle.pool.specs.Versions.{versions_of};
+    ghost use Rattle.overlay.specs.Changes.{private_of};
+    ghost use Rattle.overlay.specs.Layers.{size_of};
+    ghost use Rattle.overlay.specs.Whole.{AtLimit};
+
+    ghost at_limit = { λ s fault. AtLimit (over (private_of s.changes.now) ((versions_of s.pool.now).pages s.at) 0) (size_of (private_of s.changes.now)) fault };
+
+    fn write(&mut self, page: u32, bytes: &Page) -> Result<(), Fault> {
+        replace_page(self.pool, self.changes, self.at, page, bytes)
+    }
+
+    fn allocate(&mut self) -> Result<u32, Fault> {
+        allocate_page(self.pool, self.changes, self.at)
+    }
+
+    fn free(&mut self, page: u32) -> Result<(), Fault> {
+        free_page(self.pool, self.changes, self.at, page)
     }
 }

@@ -1,0 +1,8 @@
+use Rattle.overlay.specs.Changes.{private_of}
+use Rattle.overlay.proofs.RootLemmas.{root_put}
+use Rattle.overlay.proofs.roots.put_root.Goals as goal
+
+pub returns-clause-written : goal.returns-clause-written
+returns-clause-written c =
+    root_put c.put.result c.encode.result (record { page_count = c.args.header.page_count; first_free = c.args.header.first_free; catalog_root = c.args.root })
+    (private_of c.args.changes.now) (private_of c.put.new.self) c.encode.ensures.reads_back c.put.ensures.put

@@ -1,0 +1,17 @@
+use Rattle.std.proofs.Common.{ap}
+use Rattle.pool.specs.Versions.{Versions, versions_of}
+use Rattle.overlay.specs.Changes.{private_of}
+use Rattle.overlay.proofs.TakeLemmas.{fresh_after, taken_others_after, kept_after, taken_whole_after}
+use Rattle.overlay.proofs.takes.allocate_page.Goals as goal
+
+pub returns-clause-fresh : goal.returns-clause-fresh
+returns-clause-fresh g c = fresh_after c.take_page.result ((versions_of c.args.pool.now).pages c.args.at) ((versions_of c.take_page.new.pool).pages c.args.at) (private_of c.args.changes.now) (private_of c.take_page.new.changes) (ap (λ (v : Versions). v.pages c.args.at) c.take_page.ensures.versions) c.take_page.ensures.taken
+
+pub returns-clause-others : goal.returns-clause-others
+returns-clause-others g c = taken_others_after c.take_page.result ((versions_of c.args.pool.now).pages c.args.at) ((versions_of c.take_page.new.pool).pages c.args.at) (private_of c.args.changes.now) (private_of c.take_page.new.changes) (ap (λ (v : Versions). v.pages c.args.at) c.take_page.ensures.versions) c.take_page.ensures.taken
+
+pub returns-clause-kept : goal.returns-clause-kept
+returns-clause-kept g c = kept_after c.take_page.result ((versions_of c.args.pool.now).pages c.args.at) ((versions_of c.take_page.new.pool).pages c.args.at) (private_of c.args.changes.now) (private_of c.take_page.new.changes) (ap (λ (v : Versions). v.pages c.args.at) c.take_page.ensures.versions) c.take_page.ensures.left
+
+pub returns-clause-whole : goal.returns-clause-whole
+returns-clause-whole g c = taken_whole_after c.take_page.result ((versions_of c.args.pool.now).pages c.args.at) ((versions_of c.take_page.new.pool).pages c.args.at) (private_of c.args.changes.now) (private_of c.take_page.new.changes) (ap (λ (v : Versions). v.pages c.args.at) c.take_page.ensures.versions) c.take_page.ensures.taken

@@ -1,0 +1,5 @@
+pub mod ValueLemmas
+pub mod TreeLemmas
+pub mod PlaceLemmas
+pub mod DeclaredLemmas
+pub mod ContentsLemmas

@@ -1,0 +1,5 @@
+pub mod Values
+pub mod Trees
+pub mod Places
+pub mod Schemas
+pub mod Contents

@@ -1,0 +1,11 @@
+//! The tables of a database in a space of pages: a schema, and of each table its rows.
+#![tactic(auto)]
+
+mod changing;
+mod laws;
+mod naming;
+mod reading;
+
+pub use changing::{append, create_table};
+pub use laws::{no_tables_at_first, numbers_rise, tables_stay};
+pub use reading::{next, read_schema, scan};
