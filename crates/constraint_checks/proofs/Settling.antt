@@ -1,11 +1,10 @@
 -- A change of a table's rows whose would-be database was looked at.
-use Rattle.std.proofs.Common.{◌≡◌, ◌∙◌, refl, sym, ap, subst, ℕ, ◌<◌, true, cond, List, [], ◌∷◌, length, Option, Some, arith}
+use Rattle.std.proofs.Common.{◌≡◌, ◌∙◌, refl, sym, ap, subst, ℕ, cond, List, [], ◌∷◌, Some, arith}
 use Rattle.std.proofs.lemmas.Cmp.{nat_list_cmp_total, tied_itself}
 use Rattle.std.specs.Prelude.{Contains}
-use Rattle.std.specs.Ordering.{eq_by_cmp, is_eq}
+use Rattle.std.specs.Ordering.{is_eq}
 use Rattle.std.specs.FinMap.{get, insert, get-insert}
 use Rattle.refusals.specs.declared.refusal.Refusal.{Refusal}
-use Rattle.sqlval.specs.Comparison.{text_order}
 use Rattle.sqlval.specs.Value.{Row}
 use Rattle.typing.specs.declared.statement.Change.{Change}
 use Rattle.denote.specs.Change.{Changed, changed, with_rows, unless_violated, IsNamed}

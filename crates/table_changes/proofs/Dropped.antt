@@ -1,9 +1,9 @@
 -- What DROP TABLE and DROP INDEX leave of a store.
-use Rattle.std.proofs.Common.{◌≡◌, ◌∙◌, refl, sym, ap, subst, Bool, true, false, cond, List, [], ◌∷◌, map, Option, Some, None}
+use Rattle.std.proofs.Common.{◌≡◌, ◌∙◌, refl, sym, ap, Bool, true, false, cond, List, [], ◌∷◌, map, Option, Some, None}
 use Rattle.std.proofs.lemmas.Cmp.{nat_list_cmp_total}
 use Rattle.std.specs.Option.{option_map}
 use Rattle.std.specs.Ordering.{eq_by_cmp}
-use Rattle.std.specs.FinMap.{FinMap, get, remove, entries, from_entries, find, get-entries, get-remove, get-from_entries}
+use Rattle.std.specs.FinMap.{FinMap, get, entries, from_entries, find, get-entries, get-from_entries}
 use Rattle.sqlval.specs.Comparison.{text_order}
 use Rattle.typing.specs.declared.statement.Change.TheVariants as does
 use Rattle.denote.specs.Change.{without_index}
@@ -14,8 +14,7 @@ use Rattle.store.specs.Contents.{StoredTable, Contents, table_of, database_of, w
 use Rattle.store.specs.Contents.{without_index as left_without}
 use Rattle.store.specs.Stored.{Stored, marked_now, working_on}
 use Rattle.store.proofs.Databases.{same_tables, database-get, database-remove}
-use Rattle.table_changes.specs.Changed.{HasChanged}
-use Rattle.table_changes.specs.Plain.{IsPlain, IsPlainTable}
+use Rattle.constraint_checks.specs.Changed.{HasChanged}
 
 option_map-cond : {X Y : Type 0} (f : X → Y) (b : Bool) (x y : Option X) → option_map f (cond b x y) ≡ cond b (option_map f x) (option_map f y)
 option_map-cond f true x y = refl
@@ -64,35 +63,3 @@ index_dropped reading old mid new name m e = record {
   says_so = refl;
   leaves = e ∙ ap (λ (s : Stored). working_on s (unindexed s.working name)) m;
 }
-
-plain_remove : (db : Database) (q : Name) → IsPlain db → IsPlain (remove db q)
-plain_remove db q plain name table found = by (eq_by_cmp text_order name q) (sym (get-remove nat_list_cmp_total db q name) ∙ found)
-  where
-    by : (b : Bool) → cond b None (get db name) ≡ Some table → IsPlainTable table
-    by true e = absurd (cc e)
-    by false e = plain name table e
-
-pub plain_dropped : (old mid new : Stored) (name : Name) → mid ≡ marked_now old → new ≡ working_on mid (without_table mid.working name) → IsPlain (database_of old.working) → IsPlain (database_of new.working)
-plain_dropped old mid new name m e plain =
-    let is : database_of new.working ≡ remove (database_of old.working) name =
-    ap (λ (s : Stored). database_of s.working) (e ∙ ap (λ (s : Stored). working_on s (without_table s.working name)) m) ∙ database-remove old.working name in
-    subst (λ (db : Database). IsPlain db) (sym is) (plain_remove (database_of old.working) name plain)
-
-same_some : {X : Type 0} (x y : X) → Some x ≡ Some y → x ≡ y
-same_some x y e = cc
-
-plain_unindexed : (db : Database) (index : Name) → IsPlain db → IsPlain (from_entries (map (λ (e : Name × Table). (e.0, without_index index e.1)) (entries db)))
-plain_unindexed db index plain name table found = by (get db name) refl (sym (get_mapped (without_index index) db name) ∙ found)
-  where
-    by : (o : Option Table) → get db name ≡ o → option_map (without_index index) o ≡ Some table → IsPlainTable table
-    by None is e = absurd (cc e)
-    by (Some t) is e =
-        let p = plain name t is in
-        let there : IsPlainTable (without_index index t) = record { not_nulls = p.not_nulls; unbroken = p.unbroken } in
-        subst (λ (u : Table). IsPlainTable u) (same_some (without_index index t) table e) there
-
-pub plain_without_index : (old mid new : Stored) (name : Name) → mid ≡ marked_now old → new ≡ working_on mid (unindexed mid.working name) → IsPlain (database_of old.working) → IsPlain (database_of new.working)
-plain_without_index old mid new name m e plain =
-    let is : database_of new.working ≡ from_entries (map (λ (e : Name × Table). (e.0, without_index name e.1)) (entries (database_of old.working))) =
-    ap (λ (s : Stored). database_of s.working) (e ∙ ap (λ (s : Stored). working_on s (unindexed s.working name)) m) ∙ unindexed-database old.working name in
-    subst (λ (db : Database). IsPlain db) (sym is) (plain_unindexed (database_of old.working) name plain)

@@ -1,11 +1,3 @@
-pub mod Tables
-pub mod Checked
-pub mod Limits
 pub mod Made
-pub mod Stored
-pub mod Left
-pub mod Free
-pub mod Broken
 pub mod Born
 pub mod Dropped
-pub mod Stopped

@@ -2,16 +2,17 @@
 use Rattle.std.proofs.Common.{◌≡◌, ◌∙◌, refl, sym, ap, ℕ, ◌+◌, false, List, [], ◌∷◌, ◌++◌, map, is_some, Option, Some, None}
 use Rattle.std.proofs.lemmas.List.{map-append}
 use Rattle.std.specs.List.{enumerate_from, filter_map}
-use Rattle.std.specs.Option.{option_map}
 use Rattle.std.specs.FinMap.{get, insert, contains_key}
+use Rattle.sqlval.specs.declared.schema.Index.{Index}
 use Rattle.sqlval.specs.declared.schema.Table as declared
 use Rattle.sqlval.specs.Value.{Row}
 use Rattle.typing.specs.declared.statement.CreateTable.{CreateTable}
 use Rattle.denote.specs.Change.{created, owned_index}
 use Rattle.denote.specs.Database.{Name, Table}
 use Rattle.denote.specs.SchemaOf.{index_of}
-use Rattle.store.specs.Contents.{Entry, StoredTable, Contents, table_of, rows_of, database_of, next_number, with_rows, new_table, put_back, with_table, appended}
-use Rattle.store.proofs.Databases.{database-get, database-insert}
+use Rattle.store.specs.Contents.{Entry, StoredTable, Contents, table_of, rows_of, database_of, next_number, with_rows, with_index, new_table, with_table, appended, indexed}
+use Rattle.store.proofs.Databases.{database-insert}
+use Rattle.constraint_checks.proofs.Held.{held_as, changed-database}
 
 rows_numbered : (k : ℕ) (rows : List Row) → rows_of (enumerate_from k rows) ≡ rows
 rows_numbered k [] = refl
@@ -23,22 +24,24 @@ with_rows-table rows t =
     map-append (λ (e : Entry). e.1) t.entries (enumerate_from (next_number t.entries) rows) ∙ ap (λ r. rows_of t.entries ++ r) (rows_numbered (next_number t.entries) rows) in
     λ i. record { columns = t.columns; constraints = t.constraints; indexes = t.indexes; rows = more i }
 
-same_some : {X : Type 0} (x y : X) → Some x ≡ Some y → x ≡ y
-same_some x y e = cc
-
 -- with rows at the end of a table
 pub appended-database : (c : Contents) (name : Name) (table : Table) (rows : List Row) → get (database_of c) name ≡ Some table
     → database_of (appended c name rows) ≡ insert (database_of c) name (record table { rows = table.rows ++ rows })
-appended-database c name table rows there = by (get c name) refl
-  where
-    by : (o : Option StoredTable) → get c name ≡ o
-        → database_of (put_back c name (option_map (with_rows rows) o)) ≡ insert (database_of c) name (record table { rows = table.rows ++ rows })
-    by None is = let none : get (database_of c) name ≡ None = database-get c name ∙ ap (option_map table_of) is in absurd (cc (none, there))
-    by (Some t) is =
-        let found : Some (table_of t) ≡ Some table = sym (database-get c name ∙ ap (option_map table_of) is) ∙ there in
-        let same : table_of t ≡ table = same_some (table_of t) table found in
-        database-insert c name (with_rows rows t)
-        ∙ ap (insert (database_of c) name) (with_rows-table rows t ∙ ap (λ (u : Table). record u { rows = u.rows ++ rows }) same)
+appended-database c name table rows there =
+    let held = held_as c name table there in
+    changed-database (with_rows rows) c name held.0 held.1
+    ∙ ap (insert (database_of c) name) (with_rows-table rows held.0 ∙ ap (λ (u : Table). record u { rows = u.rows ++ rows }) held.2)
+
+-- with one more index
+with_index-table : (index : Index) (t : StoredTable) → table_of (with_index index t) ≡ record (table_of t) { indexes = t.indexes ++ index_of index ∷ [] }
+with_index-table index t = refl
+
+pub indexed-database : (c : Contents) (name : Name) (table : Table) (index : Index) → get (database_of c) name ≡ Some table
+    → database_of (indexed c name index) ≡ insert (database_of c) name (record table { indexes = table.indexes ++ index_of index ∷ [] })
+indexed-database c name table index there =
+    let held = held_as c name table there in
+    changed-database (with_index index) c name held.0 held.1
+    ∙ ap (insert (database_of c) name) (with_index-table index held.0 ∙ ap (λ (u : Table). record u { indexes = u.indexes ++ index_of index ∷ [] }) held.2)
 
 none_of : (c : Contents) (name : Name) → get c name ≡ None → contains_key c name ≡ false
 none_of c name e = ap is_some e

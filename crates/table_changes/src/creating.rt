@@ -1,19 +1,20 @@
 //! CREATE TABLE.
-ghost use Rattle.std.specs.Prelude.{◌≡◌, ◌≤◌, IfOk, IfErr, OnErr, map, None};
+ghost use Rattle.std.specs.Prelude.{◌≡◌, ◌≤◌, IfOk, IfErr, OnErr, map};
 ghost use Rattle.std.specs.List.{filter_map};
 ghost use Rattle.std.specs.Option.{option_map};
-ghost use Rattle.std.specs.FinMap.{get};
 ghost use Rattle.refusals.specs.declared.refusal.Refusal.TheVariants.{Disk};
 ghost use Rattle.session_definitions.specs.Refusals.{IsReserved};
 ghost use Rattle.typing.specs.declared.statement.Change.TheVariants as does;
 ghost use Rattle.denote.specs.Change.{owned_index};
 ghost use Rattle.denote.specs.Database.{CheckReading, IndexDeclaration};
-ghost use Rattle.denote.specs.SchemaOf.{index_of};
+ghost use Rattle.denote.specs.SchemaOf.{IsSchemaOf, index_of};
+ghost use Rattle.store.specs.Contents.{database_of};
 ghost use Rattle.store.specs.Errors.{HasRisen};
 ghost use Rattle.store.specs.Stored.{SameButMark};
-ghost use Rattle.table_changes.specs.Changed.{HasChanged};
+ghost use Rattle.constraint_checks.specs.Changed.{HasChanged};
 ghost use Rattle.table_changes.specs.Indexes.{key_index};
 
+use constraint_checks::{begin, has_check, table_named};
 use items::Items;
 use refusals::Refusal;
 use replies::Reply;
@@ -23,14 +24,14 @@ use store::Store;
 use transactions::refusal_of;
 use typing::CreateTable;
 
-/// CREATE TABLE of a name that no table has: the table without rows, with an index for each PRIMARY KEY and each UNIQUE. It sets the mark. It is refused for want of
-/// memory, by the device or by a limit of the store; all is then as it was, but for the mark.
+/// CREATE TABLE: the table without rows, with an index for each PRIMARY KEY and each UNIQUE. It sets the mark. It is refused for want of memory, by the device or by a limit of the store;
+/// all is then as it was, but for the mark. A name that a table has, which the rules of names exclude, is refused as for want of memory; so is a CHECK, which is not evaluated yet.
 pub fn create_table<S: Store>(
     alloc: Global,
     store: &mut S,
     table: CreateTable,
 ) -> Result<Reply, Refusal>
-    ensures changes { IfOk result (λ reply. (reading : CheckReading) → S.is_sound store.old → get (S.shows store.old).working table.name ≡ None
+    ensures changes { IfOk result (λ reply. (reading : CheckReading) → S.is_sound store.old → IsSchemaOf (S.prepared store.old) (database_of (S.shows store.old).working)
         → HasChanged reading (S.shows store.old) (does.CreateTable table) reply (S.shows store.new)) }
     ensures refused { IfErr result (λ refusal. S.is_sound store.old → IsReserved refusal) }
     ensures device { IfErr result (λ refusal. refusal ≡ Disk → HasRisen (S.refused store.old) (S.refused store.new)) }
@@ -38,9 +39,15 @@ pub fn create_table<S: Store>(
     ensures sound { S.is_sound store.old → S.is_sound store.new }
     ensures counts { S.refused store.old ≤ S.refused store.new }
 {
+    if let Some(_) = table_named(store.schema(), &table.name) {
+        return Err(Refusal::Memory);
+    }
+    if has_check(table.constraints.as_slice()) {
+        return Err(Refusal::Memory);
+    }
     let declared = declared_table(alloc, table)?;
-    if let Err(error) = store.mark() {
-        return Err(refusal_of(error));
+    if let Err(refusal) = begin(store) {
+        return Err(refusal);
     }
     match store.create_table(declared) {
         Ok(()) => Ok(Reply::Done),

@@ -1,15 +1,14 @@
 //! DROP TABLE and DROP INDEX.
-ghost use Rattle.std.specs.Prelude.{◌≡◌, ◌≤◌, IfOk, IfErr, OnOk, OnErr};
+ghost use Rattle.std.specs.Prelude.{◌≡◌, ◌≤◌, IfOk, IfErr, OnErr};
 ghost use Rattle.refusals.specs.declared.refusal.Refusal.TheVariants.{Disk};
 ghost use Rattle.session_definitions.specs.Refusals.{IsReserved};
 ghost use Rattle.typing.specs.declared.statement.Change.TheVariants as does;
 ghost use Rattle.denote.specs.Database.{CheckReading};
-ghost use Rattle.store.specs.Contents.{database_of};
 ghost use Rattle.store.specs.Errors.{HasRisen};
 ghost use Rattle.store.specs.Stored.{SameButMark};
-ghost use Rattle.table_changes.specs.Changed.{HasChanged};
-ghost use Rattle.table_changes.specs.Plain.{IsPlain};
+ghost use Rattle.constraint_checks.specs.Changed.{HasChanged};
 
+use constraint_checks::begin;
 use items::Text;
 use refusals::Refusal;
 use replies::Reply;
@@ -20,15 +19,14 @@ use transactions::refusal_of;
 /// but for the mark.
 pub fn drop_table<S: Store>(store: &mut S, name: &Text) -> Result<Reply, Refusal>
     ensures changes { IfOk result (λ reply. (reading : CheckReading) → S.is_sound store.old → HasChanged reading (S.shows store.old) (does.DropTable name.now) reply (S.shows store.new)) }
-    ensures plain { OnOk result (S.is_sound store.old → IsPlain (database_of (S.shows store.old).working) → IsPlain (database_of (S.shows store.new).working)) }
     ensures refused { IfErr result (λ refusal. S.is_sound store.old → IsReserved refusal) }
     ensures device { IfErr result (λ refusal. refusal ≡ Disk → HasRisen (S.refused store.old) (S.refused store.new)) }
     ensures same { OnErr result (SameButMark (S.shows store.old) (S.shows store.new)) }
     ensures sound { S.is_sound store.old → S.is_sound store.new }
     ensures counts { S.refused store.old ≤ S.refused store.new }
 {
-    if let Err(error) = store.mark() {
-        return Err(refusal_of(error));
+    if let Err(refusal) = begin(store) {
+        return Err(refusal);
     }
     match store.drop_table(name) {
         Ok(()) => Ok(Reply::Done),
@@ -39,15 +37,14 @@ pub fn drop_table<S: Store>(store: &mut S, name: &Text) -> Result<Reply, Refusal
 /// DROP INDEX: the index of this name goes. It sets the mark. It is refused for want of memory, by the device or by a limit of the store; all is then as it was, but for the mark.
 pub fn drop_index<S: Store>(store: &mut S, name: &Text) -> Result<Reply, Refusal>
     ensures changes { IfOk result (λ reply. (reading : CheckReading) → S.is_sound store.old → HasChanged reading (S.shows store.old) (does.DropIndex name.now) reply (S.shows store.new)) }
-    ensures plain { OnOk result (S.is_sound store.old → IsPlain (database_of (S.shows store.old).working) → IsPlain (database_of (S.shows store.new).working)) }
     ensures refused { IfErr result (λ refusal. S.is_sound store.old → IsReserved refusal) }
     ensures device { IfErr result (λ refusal. refusal ≡ Disk → HasRisen (S.refused store.old) (S.refused store.new)) }
     ensures same { OnErr result (SameButMark (S.shows store.old) (S.shows store.new)) }
     ensures sound { S.is_sound store.old → S.is_sound store.new }
     ensures counts { S.refused store.old ≤ S.refused store.new }
 {
-    if let Err(error) = store.mark() {
-        return Err(refusal_of(error));
+    if let Err(refusal) = begin(store) {
+        return Err(refusal);
     }
     match store.drop_index(name) {
         Ok(()) => Ok(Reply::Done),

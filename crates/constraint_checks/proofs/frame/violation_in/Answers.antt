@@ -1,4 +1,4 @@
-use Rattle.std.proofs.Common.{◌≡◌, ◌∙◌, sym, ap}
+use Rattle.std.proofs.Common.{◌∙◌, sym, ap}
 use Rattle.constraint_checks.specs.Rules.{has_checks}
 use Rattle.constraint_checks.proofs.frame.violation_in.Goals as goal
 

@@ -1,8 +1,13 @@
-use Rattle.table_changes.proofs.Born.{table_made}
+use Rattle.std.proofs.Common.{◌≡◌, ◌∙◌, sym, subst}
+use Rattle.sqlval.specs.declared.schema.Schema.{Schema}
+use Rattle.denote.specs.SchemaOf.{IsSchemaOf}
+use Rattle.store.specs.Contents.{database_of}
+use Rattle.table_changes.proofs.Born.{table_made, free}
 use Rattle.table_changes.proofs.creating.create_table.Goals as goal
 
 pub returns-in-Ok-clause-changes : goal.returns-in-Ok-clause-changes
-returns-in-Ok-clause-changes g c = λ reading sound free.
-    table_made reading (g.S.Store.shows c.args.store.now) (g.S.Store.shows c.mark.new.self) (g.S.Store.shows c.create_table.new.self) c.in_ok-declared.declared c.args.table
-    c.in_default.ensures.shows (c.in-Ok.ensures.shows (c.mark.ensures.sound sound)) free
+returns-in-Ok-clause-changes g c = λ reading sound of.
+    let lent = subst (λ (s : Schema). IsSchemaOf s (database_of (g.S.Store.shows c.args.store.now).working)) (sym c.schema.ensures) of in
+    table_made reading (g.S.Store.shows c.args.store.now) (g.S.Store.shows c.begin.new.store) (g.S.Store.shows c.create_table.new.self) c.in_ok-declared.declared c.args.table
+    c.in_default-begin.ensures.shows (c.in-Ok.ensures.shows (c.begin.ensures.sound sound)) (free (g.S.Store.shows c.args.store.now) c.schema.result.now c.args.table.name lent c.in_default.ensures.none)
     c.in_ok-declared.ensures.name c.in_ok-declared.ensures.columns c.in_ok-declared.ensures.constraints c.in_ok-declared.ensures.indexes
