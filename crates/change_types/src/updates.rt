@@ -27,11 +27,7 @@ use typing::{Assignment, Condition, Delete, Expression, Frame, TypedExpression, 
 ///
 /// Refused by a reason of names or types, or a limit, that holds of it; where several hold, by any of these. Refuses for want of
 /// memory too.
-pub fn typed_delete(
-    alloc: Global,
-    tree: &ast::Delete,
-    schema: &Schema,
-) -> Result<Delete, Refusal>
+pub fn typed_delete(alloc: Global, tree: &ast::Delete, schema: &Schema) -> Result<Delete, Refusal>
     ensures { Finds result (delete_found (known schema.now) tree.now) }
 {
     let table = table_named(schema, tree.table.as_text())?;
@@ -71,11 +67,7 @@ fn filter_in(
 ///
 /// Refused by a reason of names or types, or a limit, that holds of it; where several hold, by any of these. Refuses for want of
 /// memory too.
-pub fn typed_update(
-    alloc: Global,
-    tree: &ast::Update,
-    schema: &Schema,
-) -> Result<Update, Refusal>
+pub fn typed_update(alloc: Global, tree: &ast::Update, schema: &Schema) -> Result<Update, Refusal>
     ensures { Finds result (update_found (known schema.now) tree.now) }
 {
     let columns = distinct_columns(alloc, tree.assignments.as_slice());
@@ -136,7 +128,13 @@ fn assignments_in(
     ensures { Finds result (each (map (assignment_found (known schema.now) (own_rows frame.now) table.now.columns) assignments.now)) }
 {
     let outer = Scope::Outermost;
-    typed_assignments(alloc, schema, table, assignments, &Scope::Inside(frame, None, &outer))
+    typed_assignments(
+        alloc,
+        schema,
+        table,
+        assignments,
+        &Scope::Inside(frame, None, &outer),
+    )
 }
 
 fn typed_assignments(
