@@ -8,15 +8,19 @@ use Rattle.plain_changes.proofs.insert.new_rows.Goals as goal
 pub returns-in-Ok-tables_named-clause-gives : goal.returns-in-Ok-tables_named-clause-gives
 returns-in-Ok-tables_named-clause-gives g c = IfOk-weaker c.given_rows.result _ _
     (λ rows h rules sound of.
-    let lent : IsSchemaOf c.schema-in-Ok.result.now (database_of (g.S.Store.shows c.args.store.now).working) =
-    subst (λ (s : Schema). IsSchemaOf s (database_of (g.S.Store.shows c.args.store.now).working)) (sym (c.schema-in-Ok.ensures ∙ c.tables_named.ensures.prepared)) of in
-    h rules _ c.in-Values.values lent c.in-Values.is c.in-Ok.ensures.trees (c.in-Ok-tables_named.ensures.lent sound))
+    let lent : IsSchemaOf c.schema-in-Ok-tables_named.result.now (database_of (g.S.Store.shows c.args.store.now).working) =
+    subst (λ (s : Schema). IsSchemaOf s (database_of (g.S.Store.shows c.args.store.now).working)) (sym (c.schema-in-Ok-tables_named.ensures ∙ c.tables_named.ensures.prepared)) of in
+    h rules _ c.in-Values.values lent c.in-Values.is
+    (rw c.as_slice-in-Ok-tables_named.ensures (rw c.as_slice.ensures at c.in-Ok.ensures.trees))
+    (rw c.as_slice-in-Ok-tables_named.ensures (rw c.as_slice-2.ensures at c.in-Ok-tables_named.ensures.lent sound)))
     c.given_rows.ensures.gives
 
 pub returns-in-Ok-tables_named-clause-refused : goal.returns-in-Ok-tables_named-clause-refused
 returns-in-Ok-tables_named-clause-refused g c = IfErr-weaker c.given_rows.result _ _
     (λ refusal h rules sound of.
-    let lent : IsSchemaOf c.schema-in-Ok.result.now (database_of (g.S.Store.shows c.args.store.now).working) =
-    subst (λ (s : Schema). IsSchemaOf s (database_of (g.S.Store.shows c.args.store.now).working)) (sym (c.schema-in-Ok.ensures ∙ c.tables_named.ensures.prepared)) of in
-    h rules _ c.in-Values.values lent c.in-Values.is c.in-Ok.ensures.trees (c.in-Ok-tables_named.ensures.lent sound))
+    let lent : IsSchemaOf c.schema-in-Ok-tables_named.result.now (database_of (g.S.Store.shows c.args.store.now).working) =
+    subst (λ (s : Schema). IsSchemaOf s (database_of (g.S.Store.shows c.args.store.now).working)) (sym (c.schema-in-Ok-tables_named.ensures ∙ c.tables_named.ensures.prepared)) of in
+    h rules _ c.in-Values.values lent c.in-Values.is
+    (rw c.as_slice-in-Ok-tables_named.ensures (rw c.as_slice.ensures at c.in-Ok.ensures.trees))
+    (rw c.as_slice-in-Ok-tables_named.ensures (rw c.as_slice-2.ensures at c.in-Ok-tables_named.ensures.lent sound)))
     c.given_rows.ensures.refused
