@@ -1,7 +1,6 @@
 -- The text of a CHECK has one list of tokens, these one tree, and that is found to be one condition.
-use Rattle.std.proofs.Common.{◌≡◌, sym, ap, ◌∙◌, subst, ℕ, List, Option, Some, Ok}
+use Rattle.std.proofs.Common.{◌≡◌, sym, ap, ◌∙◌, subst, ℕ, List, Option, Some, Ok, Err}
 use Rattle.sqlval.specs.declared.schema.Column.{Column}
-use Rattle.lexer.specs.declared.kinds.Kind.{Kind}
 use Rattle.lexer.specs.declared.kinds.Token.{Token}
 use Rattle.lexer.specs.Printing.{HasKinds}
 use Rattle.lexer.specs.Token.{Bytes}
@@ -13,7 +12,6 @@ use Rattle.typing.specs.declared.typed.Condition.{Condition}
 use Rattle.typing.specs.Check.{ReadsCheck, check_found}
 use Rattle.typing.specs.Finding.{Finding}
 use Rattle.typing.specs.Table.{frame_of}
-use Rattle.refusals.specs.declared.refusal.Refusal.{Refusal}
 
 abbrev OneList : Type 0
 OneList = (text : Bytes) (tokens others : List Token) → AreTokens text tokens → AreTokens text others → tokens ≡ others
@@ -21,11 +19,12 @@ OneList = (text : Bytes) (tokens others : List Token) → AreTokens text tokens 
 abbrev OneTree : Type 0
 OneTree = (limit : Option ℕ) (tokens : Tokens) (x y : Tree) → IsConditionText limit tokens x → IsConditionText limit tokens y → x ≡ y
 
+abbrev condition_in : Finding Condition → Condition → Condition
+condition_in (Ok condition) other = condition
+condition_in (Err reasons) other = other
+
 one_found : (one other : Condition) (found : Finding Condition) → found ≡ Ok one → found ≡ Ok other → one ≡ other
-one_found one other found h k = Ok-injective (sym h ∙ k)
-  where
-    Ok-injective : {A : Type 0} {x y : A} → Ok {E = List Refusal} x ≡ Ok y → x ≡ y
-    Ok-injective e = search (e)
+one_found one other found h k = ap (λ (f : Finding Condition). condition_in f one) (sym h ∙ k)
 
 same_kinds : OneList → (text : List ℕ) (kinds others : Tokens) → HasKinds text kinds → HasKinds text others → others ≡ kinds
 same_kinds lists text kinds others h k = sym k.kinds_are ∙ ap kinds_of (lists text k.tokens h.tokens k.are h.are) ∙ h.kinds_are
