@@ -51,7 +51,10 @@ static TEXTS: [(&str, &str); 38] = [
     ("SELECT A + 9223372036854775807 FROM T", "22003"),
     ("SELECT A / (A - A) FROM T", "22012"),
     ("INSERT INTO T VALUES (NULL, 'b')", "23000 #1"),
-    ("SELECT A FROM T, U", "X0003 tables"),
+    (
+        "SELECT 1 FROM T, T A, T B, T C, T D, T E, T F, T G, T H",
+        "X0003 tables",
+    ),
 ];
 
 #[test]
