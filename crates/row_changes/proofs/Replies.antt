@@ -53,7 +53,7 @@ true_is true Unknown h = absurd (let e = h.0 tt in cc e)
 true_is true True h = refl
 true_is false False h = refl
 true_is false Unknown h = refl
-true_is false True h = absurd (h.1 refl)
+true_is false True h = absurd (let e = h.1 refl in cc e)
 
 -- ---- a condition at a row
 

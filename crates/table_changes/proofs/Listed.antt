@@ -1,5 +1,5 @@
 -- What a CREATE INDEX leaves of a store.
-use Rattle.std.proofs.Common.{◌≡◌, ◌∙◌, refl, sym, ap, subst, ℕ, ◌+◌, ◌<◌, false, List, [], ◌∷◌, ◌++◌, map, Option, Some, None, Ok, Err, arith}
+use Rattle.std.proofs.Common.{◌≡◌, ◌∙◌, refl, sym, ap, subst, ℕ, zero, suc, ◌+◌, ◌<◌, false, List, [], ◌∷◌, ◌++◌, map, Option, Some, None, Ok, Err, arith}
 use Rattle.std.specs.Prelude.{Contains, flat_map}
 use Rattle.std.specs.List.{list_any}
 use Rattle.std.specs.FinMap.{get, insert}
@@ -110,5 +110,5 @@ no_long_key columns rows index e none long =
     short_key long.row columns short (subst (λ (places : List ℕ). 600 < key_length (key_of places long.row) + 8) same long.long)
   where
     one : Contains (index ∷ []) long.index → long.index ≡ index
-    one (0, below, is) = sym is
+    one (zero, below, is) = sym is
     one (suc k, below, is) = absurd (omega (arith, below))
