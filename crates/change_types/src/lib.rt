@@ -3,9 +3,13 @@
 
 mod drops;
 mod indexes;
+mod inserts;
 mod names;
+mod sources;
 mod targets;
+mod updates;
 
 pub use drops::{typed_drop_index, typed_drop_table};
 pub use indexes::typed_create_index;
-pub use targets::{target_named, targets_in};
+pub use inserts::typed_insert;
+pub use updates::{typed_delete, typed_update};

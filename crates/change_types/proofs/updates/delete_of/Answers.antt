@@ -1,0 +1,12 @@
+use Rattle.std.proofs.Common.{Ok}
+use Rattle.std.proofs.lemmas.Result.{err_from_is_err_and}
+use Rattle.findings.proofs.FindsLemmas.{Finds-ok, then-err, then-ok}
+use Rattle.change_types.proofs.updates.delete_of.Goals as goal
+
+pub returns-in_err-filter : goal.returns-in_err-filter
+returns-in_err-filter c = λ x h.
+    let p = err_from_is_err_and c.from_residual.result c.from_residual.ensures.1 in
+    rw (p.1, p.2) (then-err c.args.filter _ x _ c.in_err-filter.was h)
+
+pub returns : goal.returns
+returns c = λ x h. then-ok c.args.filter _ _ x _ c.in_ok-filter.was h (rw (c.in_ok-copy.ensures.copied, c.as_text.ensures.text) (Finds-ok _))

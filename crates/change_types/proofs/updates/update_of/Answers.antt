@@ -1,0 +1,11 @@
+use Rattle.std.proofs.lemmas.Result.{err_from_is_err_and}
+use Rattle.findings.proofs.FindsLemmas.{Finds-ok, then-err, then-ok}
+use Rattle.change_types.proofs.updates.update_of.Goals as goal
+
+pub returns-in_err-assignments : goal.returns-in_err-assignments
+returns-in_err-assignments c = λ x h.
+    let p = err_from_is_err_and c.from_residual.result c.from_residual.ensures.1 in
+    rw (p.1, p.2) (then-err c.args.parts _ x _ c.in_err-assignments.was h)
+
+pub returns : goal.returns
+returns c = λ x h. then-ok c.args.parts _ _ x _ c.in_ok-assignments.was h (rw (c.in_ok-copy.ensures.copied, c.as_text.ensures.text) (Finds-ok _))
