@@ -98,6 +98,9 @@ none_at zero q = refl
 none_at (suc n) zero = refl
 none_at (suc n) (suc q) = none_at n q
 
+pub nobody_stands : (st : Stored) (w : Option ℕ) (q : ℕ) → is_live (shown st w no_modes) q ≡ false
+nobody_stands st w q = not_live st w no_modes q (none_at 64 q)
+
 pub no_sessions : (st : Stored) (w : Option ℕ) → sessions_of st w no_modes ≡ empty
 no_sessions st w = same_map nat_cmp_total nat_cmp-IsAntisymmetric _ _
     (λ q. session_at st w no_modes q ∙ ap (option_map (session_of st w q)) (none_at 64 q) ∙ sym (get-empty {X = Session} nat_cmp q))

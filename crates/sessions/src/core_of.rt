@@ -1,5 +1,5 @@
 //! A core and its calls.
-ghost use Rattle.std.specs.Prelude.{◌≡◌, ◌≤◌, ◌<◌, true, false, Ok, Err, IfOk, IfErr, OnOk, MatchResult};
+ghost use Rattle.std.specs.Prelude.{◌≡◌, ℕ, ◌≤◌, ◌<◌, true, false, Ok, Err, IfOk, IfErr, OnOk, MatchResult};
 
 use crate::calling::call;
 use crate::changes::Changes;
@@ -88,6 +88,7 @@ impl<S: Store, L: Language + Changes<S>> Core<S, L> {
         ensures makes { IsSound S.is_sound S.shows self.old → MatchResult result (λ session. MakesSession (world_of S.shows self.old) (Ok (number_of session)) (world_of S.shows self.new))
             (λ refusal. MakesSession (world_of S.shows self.old) (Err refusal) (world_of S.shows self.new)) }
         ensures refused { IfErr result (λ refusal. (refusal ≡ Exceeded limit.Sessions) × (self.new ≡ self.old)) }
+        ensures free { IfOk result (λ session. is_live (world_of S.shows self.old) (number_of session) ≡ false) }
         ensures live { IfOk result (λ session. (is_live (world_of S.shows self.new) (number_of session) ≡ true) × StandBeside (number_of session) (world_of S.shows self.old) (world_of S.shows self.new)) }
         ensures sound { IsSound S.is_sound S.shows self.old → IsSound S.is_sound S.shows self.new }
         ensures counts { S.refused self.new.store ≡ S.refused self.old.store }
@@ -175,6 +176,7 @@ impl<S: Store, L: Language + Changes<S>> Core<S, L> {
         requires { (16 ≤ frames) × (frames ≤ 4096) }
         ensures room { IfOk result (λ core. S.room core.store ≡ frames) }
         ensures opened { IfOk result (λ core. (db : Database) → S.saved device db → IsSound S.is_sound S.shows core × (world_of S.shows core ≡ opened db)) }
+        ensures empty { IfOk result (λ core. (k : ℕ) → is_live (world_of S.shows core) k ≡ false) }
         ensures left { IfErr result (λ back. (db : Database) → S.saved device db → S.saved back.value db) }
         ensures refused { IfErr result (λ back. (db : Database) → S.saved device db → IsReserved back.refusal) }
         ensures device { IfErr result (λ back. back.refusal ≡ Disk → HasRisen (S.calls_refused device) (S.calls_refused back.value)) }

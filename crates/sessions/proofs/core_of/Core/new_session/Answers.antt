@@ -3,7 +3,7 @@ use Rattle.ast.specs.declared.statement.AccessMode.TheVariants.{ReadWrite}
 use Rattle.session_definitions.specs.Run.{MakesSession}
 use Rattle.session_definitions.specs.World.{is_live}
 use Rattle.transactions.specs.Shown.{Slots, slot_at, shown}
-use Rattle.sessions.proofs.Cores.{makes, makes_none, readers_kept, set_beside, set_there}
+use Rattle.sessions.proofs.Cores.{makes, makes_none, not_live, readers_kept, set_beside, set_there}
 use Rattle.sessions.proofs.core_of.Core.new_session.Goals as goal
 
 pub returns-in_default-clause-makes : goal.returns-in_default-clause-makes
@@ -29,6 +29,11 @@ returns-clause-sound g c = λ sound.
       readers = λ q none. readers_kept (g.S.Store.shows c.args.self.now.store) (g.S.Store.shows c.args.self.now.store) c.args.self.now.slots.modes c.in-Some.number (Some ReadWrite)
           within (λ p ne. refl) sound.readers (λ gone. sound.readers c.in-Some.number free) q (subst (λ (slots : Slots). slot_at slots q ≡ None) c.set.ensures none);
     }
+
+pub returns-clause-free : goal.returns-clause-free
+returns-clause-free g c =
+    let free : slot_at c.args.self.now.slots.modes c.in-Some.number ≡ None = c.in-Some.ensures.free in
+    not_live (g.S.Store.shows c.args.self.now.store) c.args.self.now.writer c.args.self.now.slots.modes c.in-Some.number free
 
 pub returns-clause-live : goal.returns-clause-live
 returns-clause-live g c =

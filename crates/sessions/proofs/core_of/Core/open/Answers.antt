@@ -1,7 +1,7 @@
-use Rattle.std.proofs.Common.{◌≡◌, None, sym, subst}
-use Rattle.session_definitions.specs.World.{opened}
+use Rattle.std.proofs.Common.{◌≡◌, false, None, sym, subst}
+use Rattle.session_definitions.specs.World.{is_live, opened}
 use Rattle.transactions.specs.Shown.{Slots, shown}
-use Rattle.sessions.proofs.Cores.{orderly_alone, none_read, opens, opening_refused}
+use Rattle.sessions.proofs.Cores.{nobody_stands, orderly_alone, none_read, opens, opening_refused}
 use Rattle.sessions.proofs.core_of.Core.open.Goals as goal
 
 pub returns-in-Ok-clause-opened : goal.returns-in-Ok-clause-opened
@@ -14,6 +14,10 @@ returns-in-Ok-clause-opened g c = λ db saved.
       },
       subst (λ (slots : Slots). shown (g.S.Store.shows c.in-Ok.store) None slots ≡ opened db) (sym c.new.ensures) (opens db (g.S.Store.shows c.in-Ok.store) o.1),
     )
+
+pub returns-in-Ok-clause-empty : goal.returns-in-Ok-clause-empty
+returns-in-Ok-clause-empty g c = λ k.
+    subst (λ (slots : Slots). is_live (shown (g.S.Store.shows c.in-Ok.store) None slots) k ≡ false) (sym c.new.ensures) (nobody_stands (g.S.Store.shows c.in-Ok.store) None k)
 
 pub returns-in-Err-clause-refused : goal.returns-in-Err-clause-refused
 returns-in-Err-clause-refused g c = λ db saved. opening_refused _ _ _ c.in-Err.back.error c.refusal_of.result c.refusal_of.ensures c.in-Err.ensures.refused (db, saved)
