@@ -16,7 +16,7 @@ const TABLES: &str =
 const MADE: &str = "00000\n00000 4\n00000\n00000 4\n00000\n00000\n";
 
 /// Runs each statement over new tables, and compares what it prints and the exit status.
-fn check_rows(rt: &(impl Abort + AllocGlobal), rows: &[(&str, &str, u8)]) -> Result<(), Fail> {
+pub fn check_rows(rt: &(impl Abort + AllocGlobal), rows: &[(&str, &str, u8)]) -> Result<(), Fail> {
     for (statement, printed, status) in rows {
         let mut script = String::new(rt.alloc());
         write!(script, "{TABLES} {statement};")?;
