@@ -3,6 +3,7 @@
 
 mod drops;
 mod indexes;
+mod inserts;
 mod names;
 mod sources;
 mod targets;
@@ -10,4 +11,5 @@ mod updates;
 
 pub use drops::{typed_drop_index, typed_drop_table};
 pub use indexes::typed_create_index;
+pub use inserts::typed_insert;
 pub use updates::{typed_delete, typed_update};
