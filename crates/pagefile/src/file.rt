@@ -66,6 +66,13 @@ impl<D: Disk> PageFile<D> {
         }
     }
 
+    /// A file over a device as it is. No call is made.
+    pub fn over(disk: D) -> PageFile<D>
+        ensures { disk_of result ≡ disk }
+    {
+        PageFile { disk }
+    }
+
     /// Opens the file that a device holds, and gives its header too.
     ///
     /// `Damaged` where the length is not the page count times 4,096, the magic differs, the page count

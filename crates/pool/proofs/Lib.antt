@@ -4,3 +4,4 @@ pub mod CommitLemmas
 pub mod SetLemmas
 pub mod PoolLemmas
 pub mod DropLemmas
+pub mod FirstLemmas

@@ -1,5 +1,5 @@
 -- Sets of pages, by their entries.
-use Rattle.std.proofs.Common.{◌≡◌, ◌≢◌, ℕ, ◌<◌, ◌==◌, Bool, true, false, List, [], ◌∷◌, Option, Some, None, refl, sym, ap, subst, ◌∙◌, cond, arith, length, get_or, suc, IsSome, ◌⊎◌, inl, inr}
+use Rattle.std.proofs.Common.{◌≡◌, ◌≢◌, ℕ, ◌<◌, ◌==◌, Bool, true, false, List, [], ◌∷◌, Option, Some, None, refl, sym, ap, subst, ◌∙◌, cond, arith, length, get_or, suc, IsSome, ◌⊎◌, inl, inr, ◌||◌}
 use Rattle.std.specs.Cmp.{unsigned_tied}
 use Rattle.std.proofs.lemmas.Bool.{eq-eqb, eqb-true}
 use Rattle.pool.specs.declared.slot.Newest.TheVariants.{Dirty}
@@ -43,6 +43,20 @@ of_numbers P (e ∷ rest) each n there = choose P n e.0 (IsSome (pages_in rest n
         by : (b : Bool) → (n == k) ≡ b → IsSome (cond b (Some page) o) → (n ≡ k) ⊎ IsSome o
         by true e h = inl (eqb-true n k e)
         by false e h = inr h
+
+-- the number of each page is among those of the set
+pub all_listed : (set : List (ℕ × List ℕ)) (n : ℕ) → IsSome (pages_in set n) → list_any (λ k. k == n) (numbers_of set) ≡ true
+all_listed [] n there = absurd (not_some there)
+all_listed (e ∷ rest) n there = by (n == e.0) refl (subst (λ (o : Option (List ℕ)). IsSome o) (pages_cons n e.0 e.1 rest) there) (all_listed rest n)
+  where
+    or_true : (b c : Bool) → c ≡ true → (b || c) ≡ true
+    or_true true c h = refl
+    or_true false c h = h
+
+    by : (b : Bool) → (n == e.0) ≡ b → IsSome (cond b (Some e.1) (pages_in rest n)) → (IsSome (pages_in rest n) → list_any (λ k. k == n) (numbers_of rest) ≡ true)
+        → ((e.0 == n) || list_any (λ k. k == n) (numbers_of rest)) ≡ true
+    by true same h again = ap (λ b. b || list_any (λ k. k == n) (numbers_of rest)) (eq-eqb e.0 n (sym (eqb-true n e.0 same)))
+    by false same h again = or_true (e.0 == n) (list_any (λ k. k == n) (numbers_of rest)) (again h)
 
 -- one page less in the set, and in its place
 module _ (set rest : List (ℕ × List ℕ)) (slots new_slots : List Slot) (k : ℕ) (page : List ℕ)

@@ -11,6 +11,13 @@ IsRefused AtPages AtKept before after (Device e) = HasRisen before after
 IsRefused AtPages AtKept before after Pages = AtPages
 IsRefused AtPages AtKept before after Kept = AtKept
 
+-- the device refused a call, with the counts of refused device calls before and after
+abbrev pub IsOfDevice : ℕ → ℕ → PoolError → Type 0
+IsOfDevice before after Memory = ⊥
+IsOfDevice before after (Device e) = HasRisen before after
+IsOfDevice before after Pages = ⊥
+IsOfDevice before after Kept = ⊥
+
 -- the count of refused device calls does not fall
 abbrev pub Rises : ℕ → ℕ → Type 0
 Rises before after = before ≤ after

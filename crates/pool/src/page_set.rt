@@ -1,4 +1,5 @@
-ghost use Rattle.std.specs.Prelude.{◌≡◌, ◌+◌, ◌≤◌, ◌<◌, ◌∷◌, [], length, OnOk, OnErr, IfOk, IfSome, IfNone, IsTrue, ◌↔◌, None};
+ghost use Rattle.std.specs.Prelude.{◌≡◌, ◌+◌, ◌≤◌, ◌<◌, ◌∷◌, [], length, OnOk, OnErr, IfOk, IfSome, IfNone, IsSome, IsTrue, ◌↔◌, ◌==◌, ℕ, true, None};
+ghost use Rattle.std.specs.List.{list_any};
 ghost use Rattle.std.specs.Option.{option_copied};
 ghost use Rattle.pool.specs.Pages.{over, only, pages_in, numbers_of};
 
@@ -63,8 +64,9 @@ impl PageSet {
     }
 
     /// The numbers of its pages, in order. Refuses for want of memory alone.
-    pub(crate) fn numbers(&self, alloc: Global) -> Result<Vec<u32>, AllocError>
-        ensures { IfOk result (λ numbers. numbers.items ≡ numbers_of self.now) }
+    pub fn numbers(&self, alloc: Global) -> Result<Vec<u32>, AllocError>
+        ensures numbers { IfOk result (λ numbers. numbers.items ≡ numbers_of self.now) }
+        ensures all { IfOk result (λ numbers. (n : ℕ) → IsSome (pages_in self.now n) → list_any (λ k. k == n) numbers.items ≡ true) }
     {
         self.pages.keys().copied().collect(alloc)
     }

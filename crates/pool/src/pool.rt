@@ -1,17 +1,17 @@
-ghost use Rattle.std.specs.Prelude.{◌≡◌, ℕ, ◌+◌, ◌*◌, ◌-◌, ◌<◌, ◌≤◌, ◌==◌, ◌^◌, [], List, length, Some, None, IsTrue, IfOk, IfErr, OnOk, OnErr, min, if◌then◌else◌};
+ghost use Rattle.std.specs.Prelude.{◌≡◌, ℕ, ◌+◌, ◌*◌, ◌-◌, ◌<◌, ◌≤◌, ◌==◌, ◌^◌, [], ◌∷◌, List, length, Some, None, IsTrue, IfOk, IfErr, OnOk, OnErr, min, if◌then◌else◌};
 ghost use Rattle.pagefile.specs.File.{disk_of};
 ghost use Rattle.pool.specs.Pins.{pins_at};
 ghost use Rattle.pool.specs.Stands.{Stands};
 
 use crate::images::{copy_seen, drop_pages};
 use crate::pins::{Pin, pin_once, unpin_once};
-use crate::slot::Slot;
+use crate::slot::{Newest, Slot};
 use crate::steps::{fetch, install, prepare, write_last};
 use crate::{PageSet, PoolError};
 use disk::Disk;
-use items::Items;
+use items::{Boxed, Items};
 use pagefile::{Page, PageFile};
-use std::alloc::Global;
+use std::alloc::{AllocError, Global};
 
 /// How many pages a step writes.
 const PAGES_A_STEP: u32 = 4;
@@ -35,11 +35,26 @@ pub struct Pool<D: Disk> {
     ghost ordered: { (c : ℕ) → 0 < pins_at pins c → c ≤ last },
 }
 
+/// A first page that is to be written, and the list of the pages to be written.
+fn first_slot(alloc: Global, first: &Page) -> Result<(Items<Slot>, Vec<u32>), AllocError>
+    ensures slots { IfOk result (λ made. made.0 ≡ record { newest = Newest.Dirty first.now; images = [] } ∷ []) }
+    ensures unwritten { IfOk result (λ made. made.1.items ≡ 0 ∷ []) }
+{
+    let mut slots = Items::new(alloc);
+    slots.push(Slot {
+        newest: Newest::Dirty(Boxed::new(alloc, *first)?),
+        images: Items::new(alloc),
+    })?;
+    let mut unwritten = Vec::new(alloc);
+    unwritten.push(0)?;
+    Ok((slots, unwritten))
+}
+
 impl<D: Disk> Pool<D> {
-    ghost use Rattle.pool.specs.Pages.{known, over, pages_in};
+    ghost use Rattle.pool.specs.Pages.{known, over, only, pages_in};
     ghost use Rattle.pagefile.specs.Pages.{page_of};
     ghost use Rattle.disk.specs.Refused.{HasRisen};
-    ghost use Rattle.pool.specs.Refused.{IsRefused};
+    ghost use Rattle.pool.specs.Refused.{IsRefused, IsOfDevice};
     ghost use Rattle.pool.specs.Versions.{IsKept, versions_of, device_of, unwritten_of};
 
     /// A pool over a file of this many pages. `frames`, from 16 to 4,096, is how many pages it may keep in memory.
@@ -63,6 +78,40 @@ impl<D: Disk> Pool<D> {
             unwritten: Vec::new(alloc),
             pins: Items::new(alloc),
             touched: Items::new(alloc),
+        }
+    }
+
+    /// A pool over an empty file, which begins with this page 0 and no other. The page is yet to be written, as one that was committed.
+    /// Refuses for want of memory alone, and hands the file back.
+    pub fn with_first(
+        alloc: Global,
+        file: PageFile<D>,
+        first: &Page,
+        frames: u32,
+    ) -> Result<Pool<D>, PageFile<D>>
+        requires least { 16 ≤ frames }
+        requires most { frames ≤ 4096 }
+        requires empty { IsTrue D.is_honest → D.bytes (disk_of file) ≡ [] }
+        ensures last { IfOk result (λ pool. (versions_of pool).last ≡ 0) }
+        ensures pages { IfOk result (λ pool. (versions_of pool).pages ≡ (λ c. known D.is_honest (only 0 first.now))) }
+        ensures pins { IfOk result (λ pool. (versions_of pool).pins ≡ (λ c. 0)) }
+        ensures unwritten { IfOk result (λ pool. unwritten_of pool ≡ 1) }
+        ensures device { IfOk result (λ pool. device_of pool ≡ disk_of file) }
+        ensures left { IfErr result (λ back. back ≡ file) }
+    {
+        match first_slot(alloc, first) {
+            Ok((slots, unwritten)) => Ok(Pool {
+                alloc,
+                file,
+                frames,
+                began: 0,
+                last: 0,
+                slots,
+                unwritten,
+                pins: Items::new(alloc),
+                touched: Items::new(alloc),
+            }),
+            Err(_) => Err(file),
         }
     }
 
@@ -146,7 +195,7 @@ impl<D: Disk> Pool<D> {
         ensures versions { versions_of self.new ≡ versions_of self.old }
         ensures written { OnOk result (unwritten_of self.new ≡ unwritten_of self.old - 1) }
         ensures refused { OnErr result (unwritten_of self.new ≡ unwritten_of self.old) }
-        ensures refusal { IfErr result (IsRefused ⊥ ⊥ (D.refused (device_of self.old)) (D.refused (device_of self.new))) }
+        ensures refusal { IfErr result (IsOfDevice (D.refused (device_of self.old)) (D.refused (device_of self.new))) }
         ensures rising { D.refused (device_of self.old) ≤ D.refused (device_of self.new) }
         ensures synced { D.synced (device_of self.new) ≡ D.synced (device_of self.old) }
     {
@@ -183,7 +232,7 @@ impl<D: Disk> Pool<D> {
         ensures written { OnOk result (unwritten_of self.new ≡ unwritten_of self.old - 4) }
         ensures fewer { unwritten_of self.new ≤ unwritten_of self.old }
         ensures versions { versions_of self.new ≡ versions_of self.old }
-        ensures refusal { IfErr result (IsRefused ⊥ ⊥ (D.refused (device_of self.old)) (D.refused (device_of self.new))) }
+        ensures refusal { IfErr result (IsOfDevice (D.refused (device_of self.old)) (D.refused (device_of self.new))) }
         ensures rising { D.refused (device_of self.old) ≤ D.refused (device_of self.new) }
     {
         'written: for _page in 0..PAGES_A_STEP {
@@ -196,7 +245,7 @@ impl<D: Disk> Pool<D> {
     fn write_all(&mut self) -> Result<(), PoolError>
         ensures versions { versions_of self.new ≡ versions_of self.old }
         ensures written { OnOk result (unwritten_of self.new ≡ 0) }
-        ensures refusal { IfErr result (IsRefused ⊥ ⊥ (D.refused (device_of self.old)) (D.refused (device_of self.new))) }
+        ensures refusal { IfErr result (IsOfDevice (D.refused (device_of self.old)) (D.refused (device_of self.new))) }
         ensures rising { D.refused (device_of self.old) ≤ D.refused (device_of self.new) }
         ensures synced { D.synced (device_of self.new) ≡ D.synced (device_of self.old) }
     {
@@ -210,7 +259,7 @@ impl<D: Disk> Pool<D> {
     fn sync_file(&mut self) -> Result<(), PoolError>
         ensures versions { versions_of self.new ≡ versions_of self.old }
         ensures unwritten { unwritten_of self.new ≡ unwritten_of self.old }
-        ensures refusal { IfErr result (IsRefused ⊥ ⊥ (D.refused (device_of self.old)) (D.refused (device_of self.new))) }
+        ensures refusal { IfErr result (IsOfDevice (D.refused (device_of self.old)) (D.refused (device_of self.new))) }
         ensures synced { OnOk result (HasRisen (D.synced (device_of self.old)) (D.synced (device_of self.new))) }
     {
         self.file.sync()?;
@@ -221,7 +270,7 @@ impl<D: Disk> Pool<D> {
     fn sync_all(&mut self) -> Result<(), PoolError>
         ensures versions { versions_of self.new ≡ versions_of self.old }
         ensures written { OnOk result (unwritten_of self.new ≡ 0) }
-        ensures refusal { IfErr result (IsRefused ⊥ ⊥ (D.refused (device_of self.old)) (D.refused (device_of self.new))) }
+        ensures refusal { IfErr result (IsOfDevice (D.refused (device_of self.old)) (D.refused (device_of self.new))) }
         ensures synced { OnOk result (HasRisen (D.synced (device_of self.old)) (D.synced (device_of self.new))) }
     {
         self.write_all()?;
@@ -236,7 +285,7 @@ impl<D: Disk> Pool<D> {
         ensures size { IfOk result (λ disk. IsTrue D.is_honest → (m : ℕ) → ((n : ℕ) → m ≤ n → (versions_of self).pages (versions_of self).last n ≡ None) → length (D.bytes disk) ≤ 4096 * m) }
         ensures synced { IfOk result (λ disk. HasRisen (D.synced (device_of self)) (D.synced disk)) }
         ensures versions { IfErr result (λ r. versions_of r.pool ≡ versions_of self) }
-        ensures refusal { IfErr result (λ r. IsRefused ⊥ ⊥ (D.refused (device_of self)) (D.refused (device_of r.pool)) r.cause) }
+        ensures refusal { IfErr result (λ r. IsOfDevice (D.refused (device_of self)) (D.refused (device_of r.pool)) r.cause) }
     {
         match self.sync_all() {
             Ok(()) => {

@@ -35,7 +35,7 @@ ready slots pins other_pins set numbers shown a b e each n there = of_numbers (�
 
 pub install-requires-clause-room : goal.install-requires-clause-room
 install-requires-clause-room g c = λ n there.
-    (ready c.prepare.new.slots c.args.self.now.pins c.as_slice.result.now c.args.set.now c.in_ok-numbers.numbers.items c.as_slice-2.result.now c.as_slice.ensures c.as_slice-2.ensures.value c.in_ok-numbers.ensures c.in_ok-prepare.ensures.ready n there).room
+    (ready c.prepare.new.slots c.args.self.now.pins c.as_slice.result.now c.args.set.now c.in_ok-numbers.numbers.items c.as_slice-2.result.now c.as_slice.ensures c.as_slice-2.ensures.value c.in_ok-numbers.ensures.numbers c.in_ok-prepare.ensures.ready n there).room
 
 pub invariant_of-self-2 : goal.invariant_of-self-2
 invariant_of-self-2 g c = record {
@@ -70,5 +70,5 @@ returns-clause-kept g c = λ v some.
     others_kept (g.D.Disk.bytes (disk_of c.prepare.new.file)) c.args.self.now.began c.args.self.now.last c.prepare.new.slots c.install.new.slots c.args.self.now.unwritten.items c.install.new.unwritten.items c.args.set.now
     c.install.ensures.newest c.install.ensures.images
     (c.install.ensures.listed (subst (λ (u : List ℕ). AreListed c.prepare.new.slots u) (sym c.reserve.ensures.items) same.stands.listed)) same.stands v
-    (λ m there. (ready c.prepare.new.slots c.args.self.now.pins c.as_slice.result.now c.args.set.now c.in_ok-numbers.numbers.items c.as_slice-2.result.now c.as_slice.ensures c.as_slice-2.ensures.value c.in_ok-numbers.ensures c.in_ok-prepare.ensures.ready m there).covered v some) n
+    (λ m there. (ready c.prepare.new.slots c.args.self.now.pins c.as_slice.result.now c.args.set.now c.in_ok-numbers.numbers.items c.as_slice-2.result.now c.as_slice.ensures c.as_slice-2.ensures.value c.in_ok-numbers.ensures.numbers c.in_ok-prepare.ensures.ready m there).covered v some) n
     ∙ same.versions v n)
