@@ -1,0 +1,5 @@
+pub mod Histories
+pub mod Moves
+pub mod Goods
+pub mod Desks
+pub mod Asking

@@ -1,0 +1,37 @@
+use Rattle.std.proofs.Common.{◌+◌, ◌%◌, ◌^◌, sym, ap, ◌∙◌, subst, subst₂}
+use Rattle.crossbeam_utils.specs.Seq.{cell_view}
+use Rattle.sessions.specs.OfCore.{IsSound, number_of, world_of}
+use Rattle.shared.specs.declared.rule.View.{View}
+use Rattle.shared.specs.declared.event.Act.TheVariants.{Says}
+use Rattle.shared.specs.History.{event}
+use Rattle.shared.specs.Views.{keeper_in, caller_in, extended, past, Past, Told, IsDesk, Extends}
+use Rattle.shared.proofs.Goods.{says_on}
+use Rattle.shared.proofs.Desks.{desk_after, extends_after, stands_at}
+use Rattle.shared.proofs.desk.Desk.say.Goals as goal
+
+pub invariant_of-self : goal.invariant_of-self
+invariant_of-self g c =
+    let t = c.take_in.ensures in
+    let told = subst Told t.view t.told in
+    let r = c.record.ensures.keeper in
+    let act = Says (number_of c.me.inside.id) c.args.text.now c.step-reply.result in
+    let x = r.1 ∙ ap (λ (v : View). keeper_in (extended (event v.who act) v)) t.view in (
+      r.0 ∙ t.cell.0 ∙ c.self.invariant.0,
+      subst (λ (v : View). IsDesk g.J.Room.premise g.J.Room.start g.J.Room.callers (IsSound g.S.Store.is_sound g.S.Store.shows c.step-reply.new.self) (world_of g.S.Store.shows c.step-reply.new.self) ((c.self.inside.count + 1) % 2 ^ 64) v) (sym x)
+          (desk_after _ _ _ _ _ _ _ _ (cell_view c.self.inside.keeper) (cell_view c.me.inside.token) act c.self.invariant.1 told (c.step-reply.ensures.live)
+          (says_on g.S.Store.is_sound g.S.Store.shows c.self.inside.core c.step-reply.new.self c.me.inside.id c.args.text.now c.step-reply.result (stands_at _ _ _ _ _ _ (cell_view c.self.inside.keeper) (cell_view c.me.inside.token) _ c.self.invariant.1 told c.me.invariant.3) c.step-reply.ensures.step c.step-reply.ensures.sound)),
+    )
+
+pub returns : goal.returns
+returns g c =
+    let t = c.take_in.ensures in
+    let act = Says (number_of c.me.inside.id) c.args.text.now c.step-reply.result in
+    let x = c.record.ensures.caller.2 ∙ ap (λ (v : View). caller_in (extended (event v.who act) v)) t.view in
+    let told = subst Told t.view t.told in
+    record {
+      id = number_of c.me.inside.id;
+      at = ap (λ (p : Past). p.at) (sym c.me.view_is) ∙ c.me.invariant.3;
+      call = subst₂ (λ (p q : Past). Extends g.J.Room.premise g.J.Room.start p act q) c.me.view_is (ap past (sym x))
+          (extends_after _ _ _ _ (IsSound g.S.Store.is_sound g.S.Store.shows c.step-reply.new.self) _ _ _ (cell_view c.self.inside.keeper) (cell_view c.me.inside.token) act c.self.invariant.1 told
+          (says_on g.S.Store.is_sound g.S.Store.shows c.self.inside.core c.step-reply.new.self c.me.inside.id c.args.text.now c.step-reply.result (stands_at _ _ _ _ _ _ (cell_view c.self.inside.keeper) (cell_view c.me.inside.token) _ c.self.invariant.1 told c.me.invariant.3) c.step-reply.ensures.step c.step-reply.ensures.sound));
+    }

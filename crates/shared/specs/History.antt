@@ -1,0 +1,104 @@
+-- Histories of many callers of one core: what each was told, in one order; and which of them are legal (sessions are those of ISO/IEC 9075:1992, 4.30; that their calls
+-- have one order is our own choice).
+use Rattle.std.specs.Prelude.{Option, Some, None, Ok, Err, ◌≡◌, ℕ, ◌<◌, ◌==◌, Bool, true, false, not, ◌||◌, ◌&&◌, List, [], ◌∷◌, ◌++◌, map}
+use Rattle.session_definitions.specs.Rules.{Rules, AreRules}
+use Rattle.session_definitions.specs.Run as runs
+use Rattle.session_definitions.specs.World.{World}
+use Rattle.session_laws.specs.Sound.{IsGoodWorld}
+use Rattle.shared.specs.declared.event.Event.{Event}
+use Rattle.shared.specs.declared.event.Act.{Act}
+use Rattle.shared.specs.declared.event.Act.TheVariants.{Connects, Refused, Says, Ends}
+
+abbrev pub event : ℕ → Act → Event
+event who act = record { who = who; act = act }
+
+-- ---- legal histories
+
+-- What is told of an event of an engine. Of a call it is the reply, and not its effect; of a flush nobody is told, and closing and opening are no calls of a caller.
+abbrev pub told_of : runs.Event → List Act
+told_of (runs.Event.Makes (Ok s)) = Connects s ∷ []
+told_of (runs.Event.Makes (Err refusal)) = Refused refusal ∷ []
+told_of (runs.Event.Calls s text reply effect) = Says s text reply ∷ []
+told_of (runs.Event.Drops s) = Ends s ∷ []
+told_of (runs.Event.Flushes left) = []
+told_of (runs.Event.FailsToClose refusal) = []
+told_of runs.Event.Reopens = []
+
+-- what is told of these events, the latest of which stands first, in the order in which they happened
+abbrev pub told_by : List runs.Event → List Act
+told_by [] = []
+told_by (e ∷ earlier) = told_by earlier ++ told_of e
+
+-- what the callers were told, whoever they are
+abbrev pub acts_of : List Event → List Act
+acts_of log = map (λ e. e.act) log
+
+-- Some legal history of the engine, calls and flushes, leads from the one world to the other, and just this is told of it.
+pub record IsTold (rules : Rules) (start : World) (log : List Event) (end : World) : Type 0 where
+  pub events : List runs.Event
+  pub legal : runs.IsLegal rules start events end
+  pub told : told_by events ≡ acts_of log
+
+-- what was told is told of some legal history that begins in this world
+abbrev pub IsLegal : World → List Event → Type 0
+IsLegal start log = (rules : Rules) → AreRules rules → IsGoodWorld rules.check start → (end : World) × IsTold rules start log end
+
+-- a core whose world was this one is sound still, and some legal history of which this is told leads to its world
+abbrev pub Stays : World → List Event → Type 0 → World → Type 0
+Stays start log sound world = (rules : Rules) → AreRules rules → IsGoodWorld rules.check start → sound × IsTold rules start log world
+
+-- one call of a core from a good world: it stays sound, and some event happens of which just this is told
+pub record Happens (rules : Rules) (w : World) (act : Act) (w' : World) : Type 0 where
+  pub event : runs.Event
+  pub shared : (runs.is_call event || runs.is_flush event) ≡ true
+  pub told : told_of event ≡ act ∷ []
+  pub happens : runs.Happens rules w event w'
+
+-- ---- the callers of a history
+
+-- whether a session stands after a call, by whether it stood before
+abbrev pub lives_after : Act → ℕ → Bool → Bool
+lives_after (Connects i) id stood = (id == i) || stood
+lives_after (Refused refusal) id stood = stood
+lives_after (Says i text reply) id stood = stood
+lives_after (Ends i) id stood = not (id == i) && stood
+
+abbrev pub kept : Bool → Event → List Event → List Event
+kept true e es = e ∷ es
+kept false e es = es
+
+-- the calls of one caller
+abbrev pub calls_by : ℕ → List Event → List Event
+calls_by who [] = []
+calls_by who (e ∷ es) = kept (e.who == who) e (calls_by who es)
+
+abbrev pub given : Bool → Option ℕ → Option ℕ → Option ℕ
+given true new old = new
+given false new old = old
+
+-- whose session of this number it is after a call, by whose it was before
+abbrev pub moved : ℕ → ℕ → Act → Option ℕ → Option ℕ
+moved id who (Connects i) holder = given (i == id) (Some who) holder
+moved id who (Refused refusal) holder = holder
+moved id who (Says i text reply) holder = holder
+moved id who (Ends i) holder = given (i == id) None holder
+
+abbrev pub holder_from : ℕ → Option ℕ → List Event → Option ℕ
+holder_from id holder [] = holder
+holder_from id holder (e ∷ es) = holder_from id (moved id e.who e.act holder) es
+
+-- whose the session of this number is; numbers of sessions come again
+abbrev pub holder_of : ℕ → List Event → Option ℕ
+holder_of id log = holder_from id None log
+
+-- every call is one of the first n callers
+abbrev pub AllOf : ℕ → List Event → Type 0
+AllOf n [] = Unit {0}
+AllOf n (e ∷ es) = (e.who < n) × AllOf n es
+
+-- the number of the caller's session after its call
+abbrev pub at_after : Act → Option ℕ → Option ℕ
+at_after (Connects id) at = Some id
+at_after (Refused refusal) at = at
+at_after (Says id text reply) at = at
+at_after (Ends id) at = None

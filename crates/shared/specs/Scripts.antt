@@ -1,0 +1,102 @@
+-- What scripts that ran side by side asked and were answered.
+use Rattle.std.specs.Prelude.{Bool, true, false, Option, Some, None, Result, Ok, Err, ◌≡◌, ℕ, List, [], ◌∷◌, ◌++◌, map, length, slice_get}
+use mathlib.Core.List.{IsPrefix}
+use Rattle.std.specs.Global.{Vec}
+use Rattle.refusals.specs.declared.refusal.Refusal.{Refusal}
+use Rattle.replies.specs.declared.reply.Reply.{Reply}
+use Rattle.session_definitions.specs.World.{World}
+use Rattle.shared.specs.declared.event.Event.{Event}
+use Rattle.shared.specs.declared.event.Act.{Act}
+use Rattle.shared.specs.declared.event.Act.TheVariants.{Connects, Refused, Says, Ends}
+use Rattle.shared.specs.History.{Stays, AllOf, calls_by}
+use Rattle.shared.specs.Views.{Past}
+
+-- a text's answer: its reply, or why no session was made for it
+abbrev pub Answer : Type 0
+Answer = Result Reply Refusal
+
+-- a call, but for the number of its session
+pub data Ask : Type 0 where
+  joins : Ask
+  refused : Refusal → Ask
+  says : List ℕ → Reply → Ask
+  leaves : Ask
+
+abbrev pub ask_of : Act → Ask
+ask_of (Connects id) = joins
+ask_of (Refused refusal) = refused refusal
+ask_of (Says id text reply) = says text reply
+ask_of (Ends id) = leaves
+
+abbrev pub asks : List Event → List Ask
+asks [] = []
+asks (e ∷ es) = ask_of e.act ∷ asks es
+
+-- The calls for one text, by whether the session stands: it is made where it does not, and the text is asked where it was made.
+abbrev pub asked : Bool → List ℕ → Answer → List Ask
+asked stands text (Err refusal) = refused refusal ∷ []
+asked false text (Ok reply) = joins ∷ says text reply ∷ []
+asked true text (Ok reply) = says text reply ∷ []
+
+-- whether the session stands after an answer, and after these
+abbrev pub after : Bool → Answer → Bool
+after stands (Err refusal) = stands
+after stands (Ok reply) = true
+
+abbrev pub stood : Bool → List Answer → Bool
+stood stands [] = stands
+stood stands (a ∷ answers) = stood (after stands a) answers
+
+abbrev pub opened : Bool → List (List ℕ) → List Answer → List Ask
+opened stands [] answers = []
+opened stands (t ∷ ts) [] = []
+opened stands (t ∷ ts) (a ∷ answers) = asked stands t a ++ opened (after stands a) ts answers
+
+abbrev pub closing : Bool → List Ask
+closing true = leaves ∷ []
+closing false = []
+
+-- All calls of a script: its session is made before the first text for which it does not stand, every text for which it stands is asked once and in order, and at the end
+-- the session is ended.
+abbrev pub expected : List (List ℕ) → List Answer → List Ask
+expected texts answers = opened false texts answers ++ closing (stood false answers)
+
+-- these are all calls of a script of these texts that was answered so; each text has an answer
+abbrev pub Played : List (List ℕ) → List Event → List Answer → Type 0
+Played texts mine answers = (asks mine ≡ expected texts answers) × (length answers ≡ length texts)
+
+-- ---- the texts of scripts as the code has them
+
+abbrev pub Text : Type 0
+Text = Vec ℕ
+
+abbrev pub Script : Type 0
+Script = Vec Text
+
+abbrev pub Answers : Type 0
+Answers = Vec Answer
+
+abbrev pub texts_of : List Text → List (List ℕ)
+texts_of script = map (λ t. t.items) script
+
+abbrev pub texts_or : Option Script → List (List ℕ)
+texts_or None = []
+texts_or (Some script) = texts_of script.items
+
+abbrev pub texts_at : List Script → ℕ → List (List ℕ)
+texts_at scripts k = texts_or (slice_get scripts k)
+
+-- the caller made these calls more
+pub record Asks (v : Past) (more : List Ask) (w : Past) : Type 0 where
+  pub who : w.who ≡ v.who
+  pub saw : IsPrefix v.seen w.seen
+  pub mine : asks w.mine ≡ asks v.mine ++ more
+
+-- There is one history. Each call in it is a script's; of each script it has the calls of its texts, each once and in order, with the answers that are given, and no others.
+-- Under the premise it is legal, and leads from the first world to the last.
+pub record OneHistory (premise : Type 0) (start : World) (scripts : List Script) (replies : List Answers) (sound : Type 0) (end : World) : Type 0 where
+  pub log : List Event
+  pub all_of : AllOf (length scripts) log
+  pub all : length replies ≡ length scripts
+  pub each : (k : ℕ) (answers : Answers) → slice_get replies k ≡ Some answers → Played (texts_at scripts k) (calls_by k log) answers.items
+  pub tells : premise → Stays start log sound end

@@ -1,0 +1,23 @@
+//! What callers were told. No value of these types is made: a history consists of them.
+
+use refusals::Refusal;
+use replies::Reply;
+use std::collections::LinkedList;
+
+/// A call, with the number of its session and what its caller was told.
+pub enum Act {
+    /// A session was made, and has this number.
+    Connects(u64),
+    /// No session was made, for this reason.
+    Refused(Refusal),
+    /// The session's text got this reply.
+    Says(u64, LinkedList<u8>, Reply),
+    /// The session was ended.
+    Ends(u64),
+}
+
+/// A call of the caller of this number.
+pub struct Event {
+    pub who: u64,
+    pub act: Act,
+}

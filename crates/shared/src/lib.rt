@@ -1,0 +1,19 @@
+//! Sessions of one core for many threads: a lock, and one history of all that was called under it.
+#![tactic(auto)]
+
+mod callers;
+mod desk;
+mod event;
+mod gate;
+mod jobs;
+mod lock;
+mod rule;
+mod scripts;
+
+pub use callers::{Client, Session};
+pub use desk::Desk;
+pub use gate::{Gate, NoGate};
+pub use jobs::Answers;
+pub use lock::Shared;
+pub use rule::{Cell, Room, Token};
+pub use scripts::run_scripts;

@@ -1,0 +1,94 @@
+//! The calls of sessions, by any thread.
+ghost use Rattle.std.specs.Prelude.{◌≡◌, ℕ, None, [], false, IfOk, IfErr};
+ghost use Rattle.crossbeam_utils.specs.Seq.{cell_view};
+ghost use Rattle.session_definitions.specs.World.{is_live};
+ghost use Rattle.sessions.specs.OfCore.{IsSound, world_of};
+ghost use Rattle.shared.specs.Views.{keeper as keeper_of, Said, Joined, TurnedAway, Left, HasHistory};
+
+use crate::callers::{Client, Session};
+use crate::desk::Desk;
+use crate::rule::{Cell, Room, Token};
+use refusals::Refusal;
+use replies::Reply;
+use sessions::{Changes, Core, Language};
+use std::sync::{Mutex, Wait};
+use store::Store;
+
+/// A core that threads share. Whenever the lock is free, the core is as the history of all calls left it, and the cell holds the number of those calls modulo 2^64.
+#[derive(Drop)]
+pub struct Shared<S: Store, L: Language + Changes<S>, J: Room> {
+    pub(crate) cell: Cell,
+    pub(crate) desk: Mutex<Desk<S, L, J>>,
+    pub ghost table: { cell.table.shared.table_id ≡ J.table },
+}
+
+impl<S: Store, L: Language + Changes<S>, J: Room> Shared<S, L, J> {
+    /// A core in which no session stands, to be shared by callers that are not settled before. The cell and its pass are new.
+    pub fn new(cell: Cell, keeper: Token, core: Core<S, L>) -> Shared<S, L, J>
+        requires cell { (keeper.table_id ≡ cell.table.shared.table_id) × (cell.table.shared.table_id ≡ J.table) }
+        requires view { cell_view keeper ≡ keeper_of 0 [] }
+        requires core { (world_of S.shows core ≡ J.start) × ((id : ℕ) → is_live (world_of S.shows core) id ≡ false) }
+        requires sound { J.premise → IsSound S.is_sound S.shows core }
+        requires any { J.callers ≡ None }
+    {
+        Shared {
+            cell,
+            desk: Mutex::new(Desk::new(core, keeper)),
+        }
+    }
+
+    /// The core, once no thread shares it: its world is the one after some legal history.
+    pub fn into_core(self) -> Core<S, L>
+        ensures { J.premise → HasHistory J.start (IsSound S.is_sound S.shows result) (world_of S.shows result) }
+    {
+        let Shared { cell: _, desk } = self;
+        let (core, _keeper) = desk.into_inner().into_parts();
+        core
+    }
+
+    /// One caller more, which has seen nothing yet.
+    pub fn newcomer<R: Wait>(&self, rt: &R) -> Client<J>
+        requires { J.callers ≡ None }
+        ensures { (result.seen ≡ []) × (result.mine ≡ []) }
+    {
+        self.desk.lock(rt).newcomer(&self.cell)
+    }
+
+    /// Makes the caller a session. Where that is refused, by the limit `sessions`, the caller comes back and may try again.
+    pub fn connect<R: Wait>(
+        &self,
+        rt: &R,
+        me: Client<J>,
+    ) -> Result<Session<J>, (Refusal, Client<J>)>
+        ensures ok { IfOk result (λ s. Joined J.premise J.start me s) }
+        ensures err { IfErr result (λ e. TurnedAway J.premise J.start me e.0 e.1) }
+    {
+        self.desk.lock(rt).connect(rt, &self.cell, me)
+    }
+}
+
+impl<J: Room> Session<J> {
+    /// Carries out a statement, and answers its reply: the one that a step of the core gives there, in one legal history of the calls of all callers. That history begins with
+    /// all that this caller had seen, and ends with this call; its calls in it are those that it made.
+    pub fn execute<S: Store, L: Language + Changes<S>, R: Wait>(
+        &mut self,
+        rt: &R,
+        shared: &Shared<S, L, J>,
+        text: &[u8],
+    ) -> Reply
+        ensures { Said J.premise J.start self.old text.now result self.new }
+    {
+        shared.desk.lock(rt).say(rt, &shared.cell, self, text)
+    }
+
+    /// Rolls back the session's transaction and ends the session.
+    pub fn end<S: Store, L: Language + Changes<S>, R: Wait>(
+        self,
+        rt: &R,
+        shared: &Shared<S, L, J>,
+    ) -> Client<J>
+        ensures { Left J.premise J.start self result }
+    {
+        shared.desk.lock(rt).end(rt, &shared.cell, self)
+    }
+}
