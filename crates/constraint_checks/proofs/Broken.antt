@@ -1,11 +1,11 @@
 -- The constraints that rows violate, but for CHECKs.
-use Rattle.std.proofs.Common.{◌≡◌, ◌∙◌, refl, ap, ℕ, zero, suc, ◌<◌, Bool, true, false, cond, ◌||◌, List, [], ◌∷◌, map, length, slice_index_or, arith}
+use Rattle.std.proofs.Common.{◌≡◌, ◌∙◌, refl, ap, ℕ, zero, suc, ◌<◌, Bool, true, false, cond, ◌&&◌, ◌||◌, List, [], ◌∷◌, map, length, slice_index_or, arith}
 use Rattle.std.specs.Prelude.{Contains, filter}
 use Rattle.sqlval.specs.declared.schema.Constraint.{Constraint}
 use Rattle.sqlval.specs.declared.schema.Rule.{Rule}
 use Rattle.sqlval.specs.declared.schema.Rule.TheVariants.{NotNull, PrimaryKey, Unique, Check}
 use Rattle.denote.specs.Database.{Name, Table, CheckReading, is_violated, violated_by}
-use Rattle.constraint_checks.specs.Rules.{breaks_rule, broken, is_check_rule, has_checks}
+use Rattle.constraint_checks.specs.Rules.{breaks_rule, broken, is_check_rule, has_checks, broken_checks}
 
 behind : (n x : Name) (xs : List Name) → Contains xs n → Contains (x ∷ xs) n
 behind n x xs h = let below = h.1 in (suc h.0, omega (arith, below), h.2)
@@ -39,25 +39,60 @@ pub is_broken_too : (reading : CheckReading) (name : Name) (u : Table) (n : Name
 is_broken_too reading name u n h =
     wider (λ (c : Constraint). breaks_rule u.rows c.rule) (λ (c : Constraint). is_violated reading name u c.rule) (λ c e. broken_too reading name u c.rule e) u.constraints n h
 
-same_rule : (reading : CheckReading) (name : Name) (u : Table) (r : Rule) → is_check_rule r ≡ false → is_violated reading name u r ≡ breaks_rule u.rows r
-same_rule reading name u (NotNull column) e = refl
-same_rule reading name u (PrimaryKey columns) e = refl
-same_rule reading name u (Unique columns) e = refl
-same_rule reading name u (Check text) e = absurd (cc e)
+check_too : (reading : CheckReading) (name : Name) (u : Table) (r : Rule) → (is_check_rule r && is_violated reading name u r) ≡ true → is_violated reading name u r ≡ true
+check_too reading name u (NotNull column) e = absurd (cc e)
+check_too reading name u (PrimaryKey columns) e = absurd (cc e)
+check_too reading name u (Unique columns) e = absurd (cc e)
+check_too reading name u (Check text) e = e
 
-same_filter : (reading : CheckReading) (name : Name) (u : Table) (cs : List Constraint) → has_checks cs ≡ false
-    → filter (λ (c : Constraint). is_violated reading name u c.rule) cs ≡ filter (λ (c : Constraint). breaks_rule u.rows c.rule) cs
-same_filter reading name u [] e = refl
-same_filter reading name u (c ∷ cs) e = by (is_check_rule c.rule) refl e (same_filter reading name u cs)
+pub is_check_broken_too : (reading : CheckReading) (name : Name) (u : Table) (n : Name) → Contains (broken_checks reading name u) n → Contains (violated_by reading name u) n
+is_check_broken_too reading name u n h =
+    wider (λ (c : Constraint). is_check_rule c.rule && is_violated reading name u c.rule) (λ (c : Constraint). is_violated reading name u c.rule)
+    (λ c e. check_too reading name u c.rule e) u.constraints n h
+
+-- a violated rule is a CHECK, or one of the others
+either_rule : (reading : CheckReading) (name : Name) (u : Table) (r : Rule) → is_violated reading name u r ≡ ((is_check_rule r && is_violated reading name u r) || breaks_rule u.rows r)
+either_rule reading name u (NotNull column) = refl
+either_rule reading name u (PrimaryKey columns) = refl
+either_rule reading name u (Unique columns) = refl
+either_rule reading name u (Check text) = or_false (is_violated reading name u (Check text))
   where
-    by : (b : Bool) → is_check_rule c.rule ≡ b → (b || has_checks cs) ≡ false
-        → (has_checks cs ≡ false → filter (λ (c : Constraint). is_violated reading name u c.rule) cs ≡ filter (λ (c : Constraint). breaks_rule u.rows c.rule) cs)
-        → filter (λ (c : Constraint). is_violated reading name u c.rule) (c ∷ cs) ≡ filter (λ (c : Constraint). breaks_rule u.rows c.rule) (c ∷ cs)
-    by true is e rest = absurd (cc e)
-    by false is e rest =
-        let here = same_rule reading name u c.rule is in
-        let later = rest e in
-        λ i. cond (here i) (c ∷ later i) (later i)
+    or_false : (b : Bool) → b ≡ (b || false)
+    or_false true = refl
+    or_false false = refl
 
-pub none_violated : (reading : CheckReading) (name : Name) (u : Table) → has_checks u.constraints ≡ false → broken u.constraints u.rows ≡ [] → violated_by reading name u ≡ []
-none_violated reading name u checks e = ap (λ (cs : List Constraint). map (λ (c : Constraint). c.name) cs) (same_filter reading name u u.constraints checks) ∙ e
+module _ (p q r : Constraint → Bool) (either : (c : Constraint) → r c ≡ (p c || q c)) where
+  none_of_both : (cs : List Constraint) → map (λ (c : Constraint). c.name) (filter p cs) ≡ [] → map (λ (c : Constraint). c.name) (filter q cs) ≡ []
+      → map (λ (c : Constraint). c.name) (filter r cs) ≡ []
+  none_of_both [] e f = refl
+  none_of_both (c ∷ cs) e f = by (p c) (q c) (r c) (either c) e f (none_of_both cs)
+    where
+      by : (a b d : Bool) → d ≡ (a || b) → map (λ (c : Constraint). c.name) (cond a (c ∷ filter p cs) (filter p cs)) ≡ []
+          → map (λ (c : Constraint). c.name) (cond b (c ∷ filter q cs) (filter q cs)) ≡ []
+          → (map (λ (c : Constraint). c.name) (filter p cs) ≡ [] → map (λ (c : Constraint). c.name) (filter q cs) ≡ [] → map (λ (c : Constraint). c.name) (filter r cs) ≡ [])
+          → map (λ (c : Constraint). c.name) (cond d (c ∷ filter r cs) (filter r cs)) ≡ []
+      by true b d is e f rest = absurd (cc e)
+      by false true d is e f rest = absurd (cc f)
+      by false false true is e f rest = absurd (cc is)
+      by false false false is e f rest = rest e f
+
+pub none_violated : (reading : CheckReading) (name : Name) (u : Table) → broken_checks reading name u ≡ [] → broken u.constraints u.rows ≡ [] → violated_by reading name u ≡ []
+none_violated reading name u checks e =
+    none_of_both (λ (c : Constraint). is_check_rule c.rule && is_violated reading name u c.rule) (λ (c : Constraint). breaks_rule u.rows c.rule)
+    (λ (c : Constraint). is_violated reading name u c.rule) (λ c. either_rule reading name u c.rule) u.constraints checks e
+
+-- a table without CHECKs violates none
+module _ (reading : CheckReading) (name : Name) (u : Table) where
+  none_among : (cs : List Constraint) → has_checks cs ≡ false → map (λ (c : Constraint). c.name) (filter (λ (c : Constraint). is_check_rule c.rule && is_violated reading name u c.rule) cs) ≡ []
+  none_among [] e = refl
+  none_among (c ∷ cs) e = by (is_check_rule c.rule) e (none_among cs)
+    where
+      by : (b : Bool) → (b || has_checks cs) ≡ false
+          → (has_checks cs ≡ false → map (λ (c : Constraint). c.name) (filter (λ (c : Constraint). is_check_rule c.rule && is_violated reading name u c.rule) cs) ≡ [])
+          → map (λ (c : Constraint). c.name) (cond (b && is_violated reading name u c.rule) (c ∷ filter (λ (c : Constraint). is_check_rule c.rule && is_violated reading name u c.rule) cs)
+          (filter (λ (c : Constraint). is_check_rule c.rule && is_violated reading name u c.rule) cs)) ≡ []
+      by true e rest = absurd (cc e)
+      by false e rest = rest e
+
+  pub no_checks_broken : has_checks u.constraints ≡ false → broken_checks reading name u ≡ []
+  no_checks_broken e = none_among u.constraints e

@@ -45,7 +45,7 @@ pub none_holds : (reading : CheckReading) (db : Database) (schema : Schema) (nam
     → Holds reading db name
 none_holds reading db schema name h none table there = let gone = no_table schema db name h none in absurd (cc (gone, there))
 
-match_weaker : {X : Type 0} (o : Option X) (P Q : Type 0) (R S : X → Type 0) → (P → Q) → ((x : X) → R x → S x) → MatchOption o P R → MatchOption o Q S
+pub match_weaker : {X : Type 0} (o : Option X) (P Q : Type 0) (R S : X → Type 0) → (P → Q) → ((x : X) → R x → S x) → MatchOption o P R → MatchOption o Q S
 match_weaker None P Q R S f g h = f h
 match_weaker (Some x) P Q R S f g h = g x h
 

@@ -1,11 +1,11 @@
--- The constraints that a table violates but for its CHECKs (ISO/IEC 9075:1992, 11.4, 11.7; that PRIMARY KEY is UNIQUE and NOT NULL in one is our own choice).
-use Rattle.std.specs.Prelude.{Bool, true, false, ◌||◌, List, [], ◌∷◌, map, filter}
+-- The constraints that a table violates: its CHECKs, and the others (ISO/IEC 9075:1992, 11.4, 11.7; that PRIMARY KEY is UNIQUE and NOT NULL in one is our own choice).
+use Rattle.std.specs.Prelude.{Bool, true, false, ◌&&◌, ◌||◌, List, [], ◌∷◌, map, filter}
 use Rattle.std.specs.List.{list_any}
 use Rattle.sqlval.specs.declared.schema.Constraint.{Constraint}
 use Rattle.sqlval.specs.declared.schema.Rule.{Rule}
 use Rattle.sqlval.specs.declared.schema.Rule.TheVariants.{NotNull, PrimaryKey, Unique, Check}
 use Rattle.sqlval.specs.Value.{Row}
-use Rattle.denote.specs.Database.{Name, has_null, has_twins}
+use Rattle.denote.specs.Database.{Name, Table, CheckReading, has_null, has_twins, is_violated}
 
 -- whether these rows violate a rule that is no CHECK
 abbrev pub breaks_rule : List Row → Rule → Bool
@@ -26,3 +26,7 @@ is_check_rule (Check text) = true
 
 abbrev pub has_checks : List Constraint → Bool
 has_checks = list_any (λ c. is_check_rule c.rule)
+
+-- the names of the CHECKs that a table violates
+abbrev pub broken_checks : CheckReading → Name → Table → List Name
+broken_checks reading name table = map (λ c. c.name) (filter (λ c. is_check_rule c.rule && is_violated reading name table c.rule) table.constraints)

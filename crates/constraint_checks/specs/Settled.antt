@@ -1,10 +1,16 @@
 -- What is said of a table of a database that would be: that it violates no constraint, or why the database is not made (ISO/IEC 9075:1992, 4.10; 11.4 to 11.9).
-use Rattle.std.specs.Prelude.{◌≡◌, [], Some, Contains}
+use Rattle.std.specs.Prelude.{◌≡◌, List, [], Some, Contains}
 use Rattle.std.specs.FinMap.{get}
 use Rattle.refusals.specs.declared.refusal.Refusal.{Refusal}
+use Rattle.sqlval.specs.declared.schema.Column.{Column}
+use Rattle.sqlval.specs.declared.schema.Constraint.{Constraint}
 use Rattle.refusals.specs.declared.refusal.Refusal.TheVariants.{Violated}
 use Rattle.denote.specs.Database.{Name, Table, Database, CheckReading, violated_by}
 use Rattle.session_definitions.specs.Refusals.{IsReserved}
+
+-- what decides CHECKs does so for the table of this name, if there is one
+abbrev pub Decided : (Name → List Column → List Constraint → Type 0) → Database → Name → Type 0
+Decided decides db name = (table : Table) → get db name ≡ Some table → decides name table.columns table.constraints
 
 -- the table of this name, if there is one, violates nothing
 abbrev pub Holds : CheckReading → Database → Name → Type 0

@@ -1,11 +1,11 @@
 //! Which constraint a table violates.
-ghost use Rattle.std.specs.Prelude.{◌≡◌, false, IfSome, IfNone, Contains, []};
+ghost use Rattle.std.specs.Prelude.{◌≡◌, IfSome, IfNone, Contains, []};
 ghost use Rattle.std.specs.List.{list_any};
 ghost use Rattle.sqlval.specs.Matching.{key_of, is_equal, matches};
 ghost use Rattle.sqlval.specs.Value.{is_null};
 ghost use Rattle.denote.specs.Database.{Name, CheckReading, table_of, has_null, has_twins, violated_by};
 ghost use Rattle.denote.specs.Expression.{cell};
-ghost use Rattle.constraint_checks.specs.Rules.{breaks_rule, broken, is_check_rule, has_checks};
+ghost use Rattle.constraint_checks.specs.Rules.{breaks_rule, broken, is_check_rule, has_checks, broken_checks};
 
 use denote::Row;
 use items::Text;
@@ -14,7 +14,7 @@ use sqlval::{CompOp, Constraint, Rule, Table, Value, compare};
 /// The name of a constraint that a table with these rows violates: of a NOT NULL, a PRIMARY KEY or a UNIQUE. CHECKs are not looked at. Each two rows are compared.
 pub fn violated_constraint<'a>(table: &'a Table, rows: &[Row]) -> Option<&'a Text>
     ensures found { IfSome result (λ found. (reading : CheckReading) (name : Name) → Contains (violated_by reading name (table_of table.now rows.now)) found.now) }
-    ensures none { IfNone result ((reading : CheckReading) (name : Name) → has_checks table.now.constraints ≡ false → violated_by reading name (table_of table.now rows.now) ≡ []) }
+    ensures none { IfNone result ((reading : CheckReading) (name : Name) → broken_checks reading name (table_of table.now rows.now) ≡ [] → violated_by reading name (table_of table.now rows.now) ≡ []) }
 {
     broken_constraint(table, rows)
 }

@@ -7,9 +7,10 @@ ghost use Rattle.session_definitions.specs.Refusals.{IsReserved};
 ghost use Rattle.store.specs.Contents.{database_of};
 ghost use Rattle.store.specs.Errors.{HasRisen};
 ghost use Rattle.store.specs.Stored.{SameButMark, marked_now, undone};
-ghost use Rattle.constraint_checks.specs.Settled.{Holds, Breaks};
+ghost use Rattle.constraint_checks.specs.Settled.{Decided, Holds, Breaks};
 
-use crate::constraints::{has_check, violated_constraint};
+use crate::checks::Checks;
+use crate::constraints::violated_constraint;
 use crate::tables::table_named;
 use denote::Row;
 use items::Text;
@@ -36,17 +37,24 @@ pub fn begin<S: Store>(store: &mut S) -> Result<(), Refusal>
 }
 
 /// Keeps what was changed since the mark, where the table of this name now violates no constraint; else goes back to the mark. It is refused by a constraint that the table violates
-/// (23000), for want of memory or by the device. A table with a CHECK is refused as for want of memory: CHECKs are not evaluated yet.
-pub fn settle<S: Store>(alloc: Global, store: &mut S, name: &Text) -> Result<(), Refusal>
+/// (23000), for want of memory or by the device. CHECKs are decided by what is given for them.
+pub fn settle<S: Store, C: Checks>(
+    alloc: Global,
+    store: &mut S,
+    name: &Text,
+    checks: &C,
+) -> Result<(), Refusal>
     ensures kept { OnOk result (S.shows store.new ≡ S.shows store.old) }
-    ensures holds { OnOk result ((reading : CheckReading) → S.is_sound store.old → Holds reading (database_of (S.shows store.old).working) name.now) }
+    ensures holds { OnOk result ((reading : CheckReading) → S.is_sound store.old → Decided (C.decides checks.now reading) (database_of (S.shows store.old).working) name.now
+        → Holds reading (database_of (S.shows store.old).working) name.now) }
     ensures undone { OnErr result (S.shows store.new ≡ undone (S.shows store.old)) }
-    ensures refused { IfErr result (λ refusal. (reading : CheckReading) → S.is_sound store.old → Breaks reading (database_of (S.shows store.old).working) name.now refusal) }
+    ensures refused { IfErr result (λ refusal. (reading : CheckReading) → S.is_sound store.old → Decided (C.decides checks.now reading) (database_of (S.shows store.old).working) name.now
+        → Breaks reading (database_of (S.shows store.old).working) name.now refusal) }
     ensures device { IfErr result (λ refusal. refusal ≡ Disk → HasRisen (S.refused store.old) (S.refused store.new)) }
     ensures sound { S.is_sound store.old → S.is_sound store.new }
     ensures counts { S.refused store.old ≤ S.refused store.new }
 {
-    match violation(alloc, store, name) {
+    match violation(alloc, store, name, checks) {
         Ok(None) => Ok(()),
         Ok(Some(constraint)) => {
             store.undo();
@@ -60,8 +68,13 @@ pub fn settle<S: Store>(alloc: Global, store: &mut S, name: &Text) -> Result<(),
 }
 
 /// The name of a constraint that the table of this name violates in the newest version with its changes.
-fn violation<S: Store>(alloc: Global, store: &mut S, name: &Text) -> Result<Option<Text>, Refusal>
-    ensures found { IfOk result (λ found. (reading : CheckReading) → S.is_sound store.old
+fn violation<S: Store, C: Checks>(
+    alloc: Global,
+    store: &mut S,
+    name: &Text,
+    checks: &C,
+) -> Result<Option<Text>, Refusal>
+    ensures found { IfOk result (λ found. (reading : CheckReading) → S.is_sound store.old → Decided (C.decides checks.now reading) (database_of (S.shows store.old).working) name.now
         → MatchOption found (Holds reading (database_of (S.shows store.old).working) name.now)
         (λ constraint. (table : TableOf) × (get (database_of (S.shows store.old).working) name.now ≡ Some table) × Contains (violated_by reading name.now table) constraint)) }
     ensures shows { S.shows store.new ≡ S.shows store.old }
@@ -79,13 +92,18 @@ fn violation<S: Store>(alloc: Global, store: &mut S, name: &Text) -> Result<Opti
     }
     match table_named(store.schema(), name) {
         None => Ok(None),
-        Some(table) => violation_in(alloc, table, found.rows.as_slice()),
+        Some(table) => violation_in(alloc, table, found.rows.as_slice(), checks),
     }
 }
 
 /// The name of a constraint that a table with these rows violates.
-fn violation_in(alloc: Global, table: &Table, rows: &[Row]) -> Result<Option<Text>, Refusal>
-    ensures found { IfOk result (λ found. (reading : CheckReading) (name : Name)
+fn violation_in<C: Checks>(
+    alloc: Global,
+    table: &Table,
+    rows: &[Row],
+    checks: &C,
+) -> Result<Option<Text>, Refusal>
+    ensures found { IfOk result (λ found. (reading : CheckReading) (name : Name) → C.decides checks.now reading name table.now.columns table.now.constraints
         → MatchOption found (violated_by reading name (table_of table.now rows.now) ≡ []) (λ constraint. Contains (violated_by reading name (table_of table.now rows.now)) constraint)) }
     ensures refused { IfErr result (λ refusal. refusal ≡ Memory) }
 {
@@ -94,11 +112,6 @@ fn violation_in(alloc: Global, table: &Table, rows: &[Row]) -> Result<Option<Tex
             Ok(name) => Ok(Some(name)),
             Err(_) => Err(Refusal::Memory),
         },
-        None => {
-            if has_check(table.constraints.as_slice()) {
-                return Err(Refusal::Memory);
-            }
-            Ok(None)
-        }
+        None => checks.violated(alloc, table, rows),
     }
 }

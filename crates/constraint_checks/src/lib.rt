@@ -1,12 +1,14 @@
 //! What stands round a change of tables: the mark before it, the lengths of rows and keys, and the constraints of the table after it.
 #![tactic(auto)]
 
+mod checks;
 mod constraints;
 mod frame;
 mod lengths;
 mod refusal;
 mod tables;
 
+pub use checks::{Checks, NoChecks};
 pub use constraints::{has_check, violated_constraint};
 pub use frame::{begin, settle};
 pub use lengths::{admit, fits_key, rows_fit_key};

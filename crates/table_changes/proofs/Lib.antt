@@ -1,3 +1,5 @@
 pub mod Made
 pub mod Born
 pub mod Dropped
+pub mod Listed
+pub mod Inserted

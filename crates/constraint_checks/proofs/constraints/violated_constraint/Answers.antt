@@ -1,6 +1,6 @@
 use Rattle.std.proofs.Common.{◌≡◌, false, [], Option, Some, None, IfSome, IfNone, Contains}
 use Rattle.denote.specs.Database.{Name, CheckReading, table_of, violated_by}
-use Rattle.constraint_checks.specs.Rules.{broken, has_checks}
+use Rattle.constraint_checks.specs.Rules.{broken, broken_checks}
 use Rattle.constraint_checks.proofs.Broken.{is_broken_too, none_violated}
 use Rattle.constraint_checks.proofs.constraints.violated_constraint.Goals as goal
 
@@ -22,6 +22,6 @@ returns-clause-found c = some_weaker c.broken_constraint.result
 pub returns-clause-none : goal.returns-clause-none
 returns-clause-none c = none_weaker c.broken_constraint.result
     (broken c.args.table.now.constraints c.args.rows.now ≡ [])
-    ((reading : CheckReading) (name : Name) → has_checks c.args.table.now.constraints ≡ false → violated_by reading name (table_of c.args.table.now c.args.rows.now) ≡ [])
+    ((reading : CheckReading) (name : Name) → broken_checks reading name (table_of c.args.table.now c.args.rows.now) ≡ [] → violated_by reading name (table_of c.args.table.now c.args.rows.now) ≡ [])
     (λ e reading name checks. none_violated reading name (table_of c.args.table.now c.args.rows.now) checks e)
     c.broken_constraint.ensures.none

@@ -1,9 +1,24 @@
-use Rattle.std.proofs.Common.{◌∙◌, sym, ap}
-use Rattle.constraint_checks.specs.Rules.{has_checks}
+use Rattle.std.proofs.Common.{◌≡◌, [], Option, Some, None, Contains}
+use Rattle.std.proofs.lemmas.Result.{IfOk-weaker}
+use Rattle.std.specs.Prelude.{MatchOption}
+use Rattle.sqlval.specs.declared.schema.Column.{Column}
+use Rattle.denote.specs.Database.{Name, CheckReading, table_of, violated_by}
+use Rattle.constraint_checks.specs.Rules.{broken_checks}
+use Rattle.constraint_checks.proofs.Broken.{is_check_broken_too}
+use Rattle.constraint_checks.proofs.Violations.{match_weaker}
 use Rattle.constraint_checks.proofs.frame.violation_in.Goals as goal
 
 pub returns-in-Ok-clause-found : goal.returns-in-Ok-clause-found
-returns-in-Ok-clause-found c = rw c.in-Ok.ensures.copied (λ reading name. c.in-Some.ensures.found reading name)
+returns-in-Ok-clause-found g c = rw c.in-Ok.ensures.copied (λ reading name decided. c.in-Some.ensures.found reading name)
 
-pub returns-else-has_check-clause-found : goal.returns-else-has_check-clause-found
-returns-else-has_check-clause-found c = λ reading name. c.in-None.ensures.none reading name (ap has_checks (sym c.as_slice.ensures) ∙ sym c.if-has_check.ensures)
+pub returns-in-None-clause-found : goal.returns-in-None-clause-found
+returns-in-None-clause-found g c = IfOk-weaker c.violated.result _
+    (λ found. (reading : CheckReading) (name : Name) → g.C.Checks.decides c.args.checks.now reading name c.args.table.now.columns c.args.table.now.constraints
+    → MatchOption found (violated_by reading name (table_of c.args.table.now c.args.rows.now) ≡ []) (λ constraint. Contains (violated_by reading name (table_of c.args.table.now c.args.rows.now)) constraint))
+    (λ found h reading name decided. match_weaker found
+    (broken_checks reading name (table_of c.args.table.now c.args.rows.now) ≡ []) (violated_by reading name (table_of c.args.table.now c.args.rows.now) ≡ [])
+    (λ constraint. Contains (broken_checks reading name (table_of c.args.table.now c.args.rows.now)) constraint) (λ constraint. Contains (violated_by reading name (table_of c.args.table.now c.args.rows.now)) constraint)
+    (λ none. c.in-None.ensures.none reading name none)
+    (λ constraint one. is_check_broken_too reading name (table_of c.args.table.now c.args.rows.now) constraint one)
+    (h reading name decided))
+    c.violated.ensures.found
