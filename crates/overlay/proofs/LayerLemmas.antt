@@ -189,3 +189,23 @@ pub size_either : (k : ℕ) (page : List ℕ) (set next : List (ℕ × List ℕ)
     → IsSome (over (pages_in set) s k) → count ≡ size_of (over (pages_in set) s) → count ≡ size_of (over (pages_in next) s)
 size_either k page set next s count (inl put) there is = size_put_again k page (pages_in set) s (pages_in next) count put there is
 size_either k page set next s count (inr same) there is = is ∙ sym (ap (λ (es : List (ℕ × List ℕ)). size_of (over (pages_in es) s)) same)
+
+-- a set to which pages were copied that it did not have
+pub over_none : (p none : PageMap) → none ≡ (λ n. None) → over p none ≡ p
+over_none p none e = λ i n. (ap (λ (o : Option (List ℕ)). pick (p n) o) (λ j. e j n) ∙ pick_none (p n)) i
+  where
+    pick_none : (o : Option (List ℕ)) → pick o None ≡ o
+    pick_none None = refl
+    pick_none (Some page) = refl
+
+-- ---- the fresh pages become those over the older ones
+
+pub listed_moved : (set moved : List (ℕ × List ℕ)) (numbers moved_numbers : List ℕ) → moved ≡ set → moved_numbers ≡ numbers → AreListed (pages_in set) numbers → AreListed (pages_in moved) moved_numbers
+listed_moved set moved numbers moved_numbers a b listed =
+    subst (λ (xs : List ℕ). AreListed (pages_in moved) xs) (sym b) (subst (λ (s : List (ℕ × List ℕ)). AreListed (pages_in s) numbers) (sym a) listed)
+
+pub settled_pages : (fresh settled moved older : PageMap) → moved ≡ fresh → older ≡ settled → over moved older ≡ over fresh settled
+settled_pages fresh settled moved older a b = λ i. over (a i) (b i)
+
+pub settled_now : (fresh settled moved older : PageMap) (count : ℕ) → moved ≡ fresh → older ≡ settled → count ≡ size_of (over fresh settled) → count ≡ size_of (over moved older)
+settled_now fresh settled moved older count a b is = is ∙ sym (ap size_of (settled_pages fresh settled moved older a b))

@@ -13,7 +13,7 @@ use Rattle.overlay.specs.Whole.{IsIn, HasFreeList, IsWhole, IsWritable}
 use Rattle.overlay.specs.Puts.{PutsBoth, PutsAtMost, with_first_free}
 use Rattle.overlay.proofs.LayerLemmas.{put_here, put_apart, over_twice}
 use Rattle.overlay.proofs.InUseLemmas.{in_use-apart, in_use-others, in_use-freed, none_outside}
-use Rattle.overlay.proofs.WholeLemmas.{list_same, in_list, same_header, writable_below, writable_apart}
+use Rattle.overlay.proofs.WholeLemmas.{list_same, in_list, still_there, same_header, writable_below, writable_apart}
 
 -- both were put
 pub puts_both : {E : Type 0} (result : Result (Unit {0}) E) (page : ℕ) (bytes first : List ℕ) (header : FileHeader) (old mid new : PageMap) → IsHeader first header
@@ -89,6 +89,7 @@ whole_freed p page bytes first h some can free head says bounds (g, was) = (
     );
     apart = (writable_apart p h page w can, w.apart);
     within = λ n i. inside n i;
+    all = λ n less. still_there (only 0 first) (over (only page bytes) p) n (still_there (only page bytes) p n (w.all n less));
     ends = λ n behind. other n (above n (positive n h.page_count bounds.some behind)) (behind_apart n page h.page_count behind (writable_below p h page w can)) ∙ w.ends n behind;
   },
 )

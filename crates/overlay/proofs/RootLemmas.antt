@@ -10,7 +10,7 @@ use Rattle.overlay.specs.Whole.{HasFreeList, IsWhole, HasRoot}
 use Rattle.overlay.specs.Puts.{Rooted, PutsHeader, with_root}
 use Rattle.overlay.proofs.LayerLemmas.{put_here, put_apart, over_twice}
 use Rattle.overlay.proofs.InUseLemmas.{in_use-read, none_outside}
-use Rattle.overlay.proofs.WholeLemmas.{list_same, in_list, same_header}
+use Rattle.overlay.proofs.WholeLemmas.{list_same, in_list, still_there, same_header}
 use Rattle.overlay.proofs.PutLemmas.{recounted}
 
 apart_from_0 : (n : ℕ) → 0 < n → n ≢ 0
@@ -67,6 +67,7 @@ put_whole p first h root below bounds head w = (
     listed = list_same p (over (only 0 first) p) h.first_free w.free (λ n i. put_apart 0 n first p (apart_from_0 n (in_list p h.first_free w.free w.listed n i).0)) w.listed;
     apart = w.apart;
     within = w.within;
+    all = λ n less. still_there (only 0 first) p n (w.all n less);
     ends = λ n behind. let least = bounds.some in put_apart 0 n first p (omega (arith, least, behind)) ∙ w.ends n behind;
   },
 )

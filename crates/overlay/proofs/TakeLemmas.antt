@@ -3,6 +3,7 @@ use Rattle.std.proofs.Common.{◌≡◌, ◌≢◌, ℕ, ◌+◌, ◌<◌, ◌�
 use Rattle.std.specs.Prelude.{slice_index, nat_lt}
 use Rattle.std.specs.Option.{is_some}
 use borrow.Author.Tests.{ltb-true, ltb-false}
+use Rattle.std.proofs.lemmas.Bool.{cases_lt}
 use Rattle.pagefile.specs.declared.header.FileHeader.{FileHeader}
 use Rattle.pagefile.specs.Header.{IsHeader, IsInBounds}
 use Rattle.pagefile.specs.Free.{IsFree}
@@ -14,7 +15,7 @@ use Rattle.overlay.specs.Whole.{IsIn, AreApart, IsFreeList, HasFreeList, IsWhole
 use Rattle.overlay.specs.Puts.{PutsBoth, PutsLeaf, PutsLeafAtMost, Takes, TakesFirst, TakesNew, Took, TookAtMost}
 use Rattle.overlay.proofs.LayerLemmas.{put_here, put_apart, over_twice}
 use Rattle.overlay.proofs.InUseLemmas.{in_use-here, in_use-others, none_free, none_behind}
-use Rattle.overlay.proofs.WholeLemmas.{kind_of_free, list_same, in_list, same_header}
+use Rattle.overlay.proofs.WholeLemmas.{kind_of_free, list_same, in_list, still_there, same_header}
 use Rattle.overlay.proofs.PutLemmas.{others_both}
 
 above : (k : ℕ) → 0 < k → k ≢ 0
@@ -162,6 +163,7 @@ whole_first p page bytes first h new w some bounds head takes (x ∷ xs) listed 
         (subst (λ (k : ℕ). IsFreeList p k xs) next_is listed.2.1);
     apart = apart.1;
     within = λ n i. subst (λ (k : ℕ). n < k) (sym takes.count) (within n (inr i));
+    all = λ n less. still_there (only 0 first) (over (only page bytes) p) n (still_there (only page bytes) p n (w.all n (subst (λ (k : ℕ). n < k) takes.count less)));
     ends = λ n behind. let more : h.page_count ≤ n = subst (λ (k : ℕ). k ≤ n) takes.count behind in
         other n (positive n h.page_count w.bounds.some more) (λ e. let less : page < h.page_count = subst (λ (k : ℕ). k < h.page_count) (sym is) (within x (inl refl)) in omega (arith, more, less, e)) ∙ w.ends n more;
   },
@@ -195,6 +197,7 @@ whole_grown p page bytes first h new w some bounds head takes = (
         (subst (λ (k : ℕ). IsFreeList p k w.free) (takes.none ∙ sym takes.first) w.listed);
     apart = w.apart;
     within = λ n i. let less = w.within n i in let more = takes.count in omega (arith, less, more);
+    all = λ n less. still_there (only 0 first) (over (only page bytes) p) n (below n less (cases_lt n h.page_count));
     ends = λ n behind. let more = takes.count in let is = takes.behind in
         other n (omega (arith, behind, more)) (omega (arith, behind, more, is)) ∙ w.ends n (omega (arith, behind, more));
   },
@@ -202,6 +205,13 @@ whole_grown p page bytes first h new w some bounds head takes = (
   where
     other : (n : ℕ) → n ≢ 0 → n ≢ page → over (only 0 first) (over (only page bytes) p) n ≡ p n
     other n a b = put_apart 0 n first (over (only page bytes) p) a ∙ put_apart page n bytes p b
+
+    last : (n : ℕ) → n < new.page_count → h.page_count ≤ n → n ≡ page
+    last n less behind = let more = takes.count in let is = takes.behind in omega (arith, less, more, behind, is)
+
+    below : (n : ℕ) → n < new.page_count → (n < h.page_count) ⊎ (h.page_count ≤ n) → IsSome (over (only page bytes) p n)
+    below n less (inl within) = still_there (only page bytes) p n (w.all n within)
+    below n less (inr behind) = ap (λ (o : Option (List ℕ)). is_some o) (ap (over (only page bytes) p) (last n less behind) ∙ put_here page bytes p)
 
 whole_taken : (version written : PageMap) (page : ℕ) (bytes first : List ℕ) (h new : FileHeader) → ((f : List ℕ) → over written version 0 ≡ Some f → IsHeader f h) → IsInBounds h → IsHeader first new
     → Takes version written h page new → IsWhole (over written version) → IsWhole (over (only 0 first) (over (only page bytes) (over written version)))

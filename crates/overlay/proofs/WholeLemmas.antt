@@ -46,6 +46,14 @@ list_there p first [] h n i = absurd i
 list_there p first (x ∷ xs) h n (inl e) = (h.2.0.bytes, ap p e ∙ h.2.0.there)
 list_there p first (x ∷ xs) h n (inr i) = list_there p h.2.0.next xs h.2.1 n i
 
+-- a page that is there is there under others
+pub still_there : (top p : PageMap) (n : ℕ) → IsSome (p n) → IsSome (over top p n)
+still_there top p n there = by (top n) (p n) there
+  where
+    by : (a b : Option (List ℕ)) → IsSome b → IsSome (pick a b)
+    by (Some page) b there = refl
+    by None b there = there
+
 -- the header that was read is that of the list
 pub same_header : (p : PageMap) (g h : FileHeader) → ((first : List ℕ) → p 0 ≡ Some first → IsHeader first h) → IsInBounds h → HasFreeList p g → HasFreeList p h
 same_header p g h says bounds w =
@@ -60,6 +68,7 @@ same_header p g h says bounds w =
       listed = subst (λ (n : ℕ). IsFreeList p n w.free) (sym w.says.first_free ∙ is.first_free) w.listed;
       apart = w.apart;
       within = λ n i. subst (λ (k : ℕ). n < k) count (w.within n i);
+      all = λ n less. w.all n (subst (λ (k : ℕ). n < k) (sym count) less);
       ends = λ n behind. w.ends n (subst (λ (k : ℕ). k ≤ n) (sym count) behind);
     }
 
@@ -92,6 +101,7 @@ whole_written p page bytes some can (h, w) = (
         (λ n i. put_apart page n bytes p (λ e. writable_apart p h page w can (subst (λ (k : ℕ). IsIn k w.free) e i))) w.listed;
     apart = w.apart;
     within = w.within;
+    all = λ n less. still_there (only page bytes) p n (w.all n less);
     ends = λ n behind. put_apart page n bytes p (behind_apart n page h.page_count behind (writable_below p h page w can)) ∙ w.ends n behind;
   },
 )

@@ -8,7 +8,7 @@ fresh_of c = pages_in c.fresh
 
 -- the pages written before the mark
 abbrev pub settled_of : Changes → PageMap
-settled_of c = pages_in c.settled
+settled_of c = over (pages_in c.newer) (pages_in c.older)
 
 -- the pages written at all: the newer over the older
 abbrev pub private_of : Changes → PageMap

@@ -1,5 +1,5 @@
 -- Files whose list of free pages is one.
-use Rattle.std.specs.Prelude.{◌≡◌, ◌≢◌, Option, ℕ, ◌<◌, ◌≤◌, List, [], ◌∷◌, Some, None, ⊤, ◌⊎◌, slice_index}
+use Rattle.std.specs.Prelude.{◌≡◌, ◌≢◌, Option, ℕ, ◌<◌, ◌≤◌, List, [], ◌∷◌, Some, None, IsSome, ⊤, ◌⊎◌, slice_index}
 use Rattle.page_space.specs.declared.fault.Fault.{Fault}
 use Rattle.page_space.specs.declared.fault.Fault.TheVariants.{Memory, Disk, Damaged, Pages, Private}
 use Rattle.pagefile.specs.Number.{number_at}
@@ -30,7 +30,7 @@ abbrev pub IsFreeList : PageMap → ℕ → List ℕ → Type 0
 IsFreeList pages first [] = first ≡ 0
 IsFreeList pages first (p ∷ ps) = (first ≡ p) × (0 < p) × ((link : FreeAt pages p) × IsFreeList pages link.next ps)
 
--- page 0 is this header, the free pages are a list in which none stands twice, and nothing lies behind the page count
+-- Page 0 is this header, and the free pages are a list in which none stands twice. Each page below the page count is there, and none behind it.
 pub record HasFreeList (pages : PageMap) (header : FileHeader) : Type 0 where
   pub first : List ℕ
   pub there : pages 0 ≡ Some first
@@ -40,6 +40,7 @@ pub record HasFreeList (pages : PageMap) (header : FileHeader) : Type 0 where
   pub listed : IsFreeList pages header.first_free free
   pub apart : AreApart free
   pub within : (n : ℕ) → IsIn n free → n < header.page_count
+  pub all : (n : ℕ) → n < header.page_count → IsSome (pages n)
   pub ends : (n : ℕ) → header.page_count ≤ n → pages n ≡ None
 
 -- the list of free pages is one

@@ -1,33 +1,39 @@
-ghost use Rattle.std.specs.Prelude.{◌≡◌, ◌≤◌, ◌<◌, ◌+◌, ◌-◌, ◌^◌, ℕ, None, IsSome, false, OnOk, OnErr, IfOk, IfErr};
+ghost use Rattle.std.specs.Prelude.{◌≡◌, ◌≤◌, ◌<◌, ◌+◌, ℕ, None, IsSome, false, OnOk, OnErr, IfOk, IfErr};
 ghost use Rattle.std.specs.Option.{is_some, option_copied};
-ghost use Rattle.pool.specs.Pages.{over, only, known, pages_in};
-ghost use Rattle.pool.specs.Refused.{IsRefused};
-ghost use Rattle.pool.specs.Versions.{versions_of, device_of};
+ghost use Rattle.pool.specs.Pages.{over, only, pages_in};
 ghost use Rattle.overlay.specs.Layers.{size_of, AreListed, IsNotKept};
 
 use crate::PRIVATE_PAGES;
 use crate::layers::{list_number, settle_all};
-use disk::Disk;
 use items::Items;
 use page_space::Fault;
 use pagefile::Page;
-use pool::{PageSet, Pool, PoolError};
+use pool::PageSet;
 use std::alloc::{AllocError, Global};
 
 /// The pages that a transaction has written, in two layers: those settled before the mark, and over
 /// them those fresh since. There are 1,024 at most; page 0 counts as any other.
+///
+/// The settled pages are two sets: those that were fresh at the last mark lie over the older ones, and go
+/// among these at the next mark. So a mark that is refused changes nothing.
 #[derive(Drop)]
 pub struct Changes {
     alloc: Global,
-    settled: PageSet,
+    older: PageSet,
+    older_count: usize,
+    newer: PageSet,
+    /// The numbers of the newer pages; one too many does no harm.
+    newer_numbers: Items<u32>,
     settled_count: usize,
     fresh: PageSet,
     /// The numbers of the fresh pages; one too many does no harm.
     fresh_numbers: Items<u32>,
     private_count: usize,
     ghost listed: { AreListed (pages_in fresh) fresh_numbers },
-    ghost settled_counted: { settled_count ≡ size_of (pages_in settled) },
-    ghost private_counted: { private_count ≡ size_of (over (pages_in fresh) (pages_in settled)) },
+    ghost newer_listed: { AreListed (pages_in newer) newer_numbers },
+    ghost older_counted: { older_count ≡ size_of (pages_in older) },
+    ghost settled_counted: { settled_count ≡ size_of (over (pages_in newer) (pages_in older)) },
+    ghost private_counted: { private_count ≡ size_of (over (pages_in fresh) (over (pages_in newer) (pages_in older))) },
     ghost few: { private_count ≤ 1024 },
 }
 
@@ -41,7 +47,10 @@ impl Changes {
     {
         Changes {
             alloc,
-            settled: PageSet::new(alloc),
+            older: PageSet::new(alloc),
+            older_count: 0,
+            newer: PageSet::new(alloc),
+            newer_numbers: Items::new(alloc),
             settled_count: 0,
             fresh: PageSet::new(alloc),
             fresh_numbers: Items::new(alloc),
@@ -57,13 +66,23 @@ impl Changes {
         self.private_count
     }
 
+    /// The page of this number as it was written before the mark.
+    fn settled_page(&self, number: u32) -> Option<&Page>
+        ensures { option_copied result ≡ settled_of self.now number }
+    {
+        match self.newer.get(number) {
+            Some(page) => Some(page),
+            None => self.older.get(number),
+        }
+    }
+
     /// The page of this number as it was written last; `None` where it was not written.
     pub fn get(&self, number: u32) -> Option<&Page>
         ensures { option_copied result ≡ private_of self.now number }
     {
         match self.fresh.get(number) {
             Some(page) => Some(page),
-            None => self.settled.get(number),
+            None => self.settled_page(number),
         }
     }
 
@@ -129,42 +148,45 @@ impl Changes {
         self.private_count = self.settled_count;
     }
 
-    /// Sets the mark here: the fresh pages are settled. Refuses for memory alone; no page is other
-    /// then than it was, but some of the fresh pages may be settled.
+    /// Sets the mark here: the fresh pages are settled. Refuses for memory alone, and then the mark stays.
     pub fn mark(&mut self) -> Result<(), AllocError>
         ensures same { private_of self.new ≡ private_of self.old }
         ensures settled { OnOk result (settled_of self.new ≡ private_of self.old) }
         ensures fresh { OnOk result (fresh_of self.new ≡ (λ n. None)) }
+        ensures left { OnErr result (settled_of self.new ≡ settled_of self.old) }
     {
         settle_all(
-            &mut self.settled,
-            &mut self.settled_count,
-            &self.fresh,
-            self.fresh_numbers.as_slice(),
+            &mut self.older,
+            &mut self.older_count,
+            &self.newer,
+            self.newer_numbers.as_slice(),
         )?;
-        self.undo();
+        self.newer = std::mem::replace(&mut self.fresh, PageSet::new(self.alloc));
+        self.newer_numbers = std::mem::replace(&mut self.fresh_numbers, Items::new(self.alloc));
+        self.settled_count = self.private_count;
         Ok(())
     }
 
-    /// Commits the settled pages, where no page is fresh, and has no page then. Where the pool refuses,
-    /// all stays as it was.
-    pub(crate) fn hand_over<D: Disk>(&mut self, pool: &mut Pool<D>) -> Result<u64, PoolError>
-        requires { fresh_of self.old ≡ (λ n. None) }
-        ensures number { IfOk result (λ c. c ≡ (versions_of pool.new).last) }
-        ensures last { OnOk result ((versions_of pool.new).last ≡ (versions_of pool.old).last + 1) }
-        ensures written { OnOk result ((versions_of pool.new).pages (versions_of pool.new).last
-            ≡ known D.is_honest (over (settled_of self.old) ((versions_of pool.old).pages (versions_of pool.old).last))) }
-        ensures kept { OnOk result ((c : ℕ) → 0 < (versions_of pool.old).pins c → (versions_of pool.new).pages c ≡ (versions_of pool.old).pages c) }
-        ensures emptied { OnOk result (private_of self.new ≡ (λ n. None)) }
-        ensures pins { (versions_of pool.new).pins ≡ (versions_of pool.old).pins }
-        ensures refused { OnErr result (versions_of pool.new ≡ versions_of pool.old) }
-        ensures left { OnErr result (private_of self.new ≡ private_of self.old) }
-        ensures refusal { IfErr result (IsRefused ((versions_of pool.old).last ≡ 2 ^ 64 - 1) ⊥ (D.refused (device_of pool.old)) (D.refused (device_of pool.new))) }
-        ensures rising { D.refused (device_of pool.old) ≤ D.refused (device_of pool.new) }
+    /// All written pages, as a set of their own. Refuses for memory alone.
+    pub(crate) fn all_pages(&self) -> Result<PageSet, AllocError>
+        ensures { IfOk result (λ set. pages_in set ≡ private_of self.now) }
     {
-        let number = pool.commit(&mut self.settled)?;
-        self.settled_count = 0;
-        self.private_count = 0;
-        Ok(number)
+        let older_numbers = self.older.numbers(self.alloc)?;
+        let mut set = PageSet::new(self.alloc);
+        let mut count = 0;
+        settle_all(&mut set, &mut count, &self.older, older_numbers.as_slice())?;
+        settle_all(
+            &mut set,
+            &mut count,
+            &self.newer,
+            self.newer_numbers.as_slice(),
+        )?;
+        settle_all(
+            &mut set,
+            &mut count,
+            &self.fresh,
+            self.fresh_numbers.as_slice(),
+        )?;
+        Ok(set)
     }
 }

@@ -1,30 +1,28 @@
 //! A transaction's pages as a version of their own.
-ghost use Rattle.std.specs.Prelude.{◌≡◌, ◌+◌, ◌-◌, ◌<◌, ◌≤◌, ◌^◌, ℕ, None, OnOk, OnErr, IfOk, IfErr};
+ghost use Rattle.std.specs.Prelude.{◌≡◌, ◌+◌, ◌-◌, ◌<◌, ◌≤◌, ◌^◌, ℕ, OnOk, OnErr, IfOk, IfErr};
 ghost use Rattle.pool.specs.Pages.{over, known};
 ghost use Rattle.pool.specs.Refused.{IsRefused};
 ghost use Rattle.pool.specs.Versions.{versions_of, device_of};
-ghost use Rattle.overlay.specs.Changes.{settled_of, private_of};
+ghost use Rattle.overlay.specs.Changes.{private_of};
 
 use crate::changes::Changes;
 use disk::Disk;
 use pool::{Pool, PoolError};
 
 /// Makes one commit more, of the pages that a transaction has written laid over the last, and answers
-/// its number; then no page is written. Refused as the pool's `commit` is. All versions then stay, and
-/// so do the pages that the transaction has written, but all may be settled.
-pub fn commit<D: Disk>(pool: &mut Pool<D>, changes: &mut Changes) -> Result<u64, PoolError>
+/// its number. Refused as the pool's `commit` is, and then all versions stay. What the transaction has written
+/// is left to the caller, who drops it where the commit was made.
+pub fn commit<D: Disk>(pool: &mut Pool<D>, changes: &Changes) -> Result<u64, PoolError>
     ensures number { IfOk result (λ c. c ≡ (versions_of pool.new).last) }
     ensures last { OnOk result ((versions_of pool.new).last ≡ (versions_of pool.old).last + 1) }
     ensures written { OnOk result ((versions_of pool.new).pages (versions_of pool.new).last
-        ≡ known D.is_honest (over (private_of changes.old) ((versions_of pool.old).pages (versions_of pool.old).last))) }
+        ≡ known D.is_honest (over (private_of changes.now) ((versions_of pool.old).pages (versions_of pool.old).last))) }
     ensures kept { OnOk result ((c : ℕ) → 0 < (versions_of pool.old).pins c → (versions_of pool.new).pages c ≡ (versions_of pool.old).pages c) }
-    ensures emptied { OnOk result (private_of changes.new ≡ (λ n. None)) }
     ensures pins { (versions_of pool.new).pins ≡ (versions_of pool.old).pins }
     ensures refused { OnErr result (versions_of pool.new ≡ versions_of pool.old) }
-    ensures left { OnErr result (private_of changes.new ≡ private_of changes.old) }
     ensures refusal { IfErr result (IsRefused ((versions_of pool.old).last ≡ 2 ^ 64 - 1) ⊥ (D.refused (device_of pool.old)) (D.refused (device_of pool.new))) }
     ensures rising { D.refused (device_of pool.old) ≤ D.refused (device_of pool.new) }
 {
-    changes.mark()?;
-    changes.hand_over(pool)
+    let mut set = changes.all_pages()?;
+    pool.commit(&mut set)
 }

@@ -1,6 +1,7 @@
 //! The pages that a transaction has written, over a version of a pool.
 #![tactic(auto)]
 
+mod changed;
 mod changes;
 mod commits;
 mod first_page;
@@ -14,6 +15,7 @@ mod uses;
 mod version;
 mod writes;
 
+pub use changed::Changed;
 pub use changes::Changes;
 pub use commits::commit;
 pub use first_page::read_header;

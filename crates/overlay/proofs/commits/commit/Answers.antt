@@ -5,5 +5,5 @@ use Rattle.overlay.proofs.commits.commit.Goals as goal
 
 pub returns-clause-written : goal.returns-clause-written
 returns-clause-written g c =
-    subst (λ (p : PageMap). OnOk c.hand_over.result ((versions_of c.hand_over.new.pool).pages (versions_of c.hand_over.new.pool).last
-    ≡ known g.D.Disk.is_honest (over p ((versions_of c.args.pool.now).pages (versions_of c.args.pool.now).last)))) c.in_ok-mark.ensures.settled c.hand_over.ensures.written
+    subst (λ (p : PageMap). OnOk c.commit.result ((versions_of c.commit.new.self).pages (versions_of c.commit.new.self).last
+    ≡ known g.D.Disk.is_honest (over p ((versions_of c.args.pool.now).pages (versions_of c.args.pool.now).last)))) c.in_ok-set.ensures c.commit.ensures.written
