@@ -33,7 +33,7 @@ good_event : (rules : Rules) (old : World) (event : Event) (new : World) → IsG
 good_event rules old event new good happens = good_run rules old new (record { before = old; event = event } ∷ []) good (refl, happens)
 
 -- a session that stands sees a good database
-good_seen : (reading : CheckReading) (st : Stored) (writer : Option ℕ) (slots : Slots) (s : ℕ) → IsOrderly st writer → is_live (shown st writer slots) s ≡ true
+pub good_seen : (reading : CheckReading) (st : Stored) (writer : Option ℕ) (slots : Slots) (s : ℕ) → IsOrderly st writer → is_live (shown st writer slots) s ≡ true
     → IsGoodWorld reading (shown st writer slots) → IsGood reading (seen_in st writer s)
 good_seen reading st writer slots s order live good = at_slot (slot_at slots s) refl (sym (live_is st writer slots s) ∙ live)
   where
@@ -45,6 +45,10 @@ good_seen reading st writer slots s order live good = at_slot (slot_at slots s) 
     at_slot None is some = absurd (cc some)
     at_slot (Some mode) is some =
         subst (λ (db : Database). IsGood reading db) (sym (sees st writer s mode order)) (working mode is (session_of st writer s mode).transaction refl)
+
+pub same_world : {S L D : Type 0} (shows : S → Stored) (old new : Core S L D) → (new.slots.modes ≡ old.slots.modes) × (new.writer ≡ old.writer) × (shows new.store ≡ shows old.store)
+    → world_of shows new ≡ world_of shows old
+same_world shows old new (modes, writer, store) = λ i. shown (store i) (writer i) (modes i)
 
 module _ {S L D : Type 0} (is_sound : S → Type 0) (shows : S → Stored) (rules : Rules) where
   -- ---- at the beginning and at the end

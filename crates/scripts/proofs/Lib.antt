@@ -1,2 +1,5 @@
 pub mod Placed
 pub mod Keeping
+pub mod Standing
+pub mod Pieces
+pub mod Carried

@@ -1,1 +1,3 @@
 pub mod Settled
+pub mod Played
+pub mod Playing

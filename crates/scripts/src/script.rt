@@ -1,13 +1,23 @@
 //! A script: the pieces of an input, carried out in order.
-ghost use Rattle.std.specs.Prelude.{◌≡◌, ◌≤◌, length, IfOk};
+ghost use Rattle.std.specs.Prelude.{◌≡◌, ◌≤◌, ◌<◌, ◌-◌, ◌++◌, ℕ, List, length, is_ok, Option, IfOk, IfErr, MatchResult};
+ghost use Rattle.std.specs.Io.KnownBytes.{Consumes, Keeps, ReadConsumes};
+ghost use Rattle.replies.specs.Writes.{IsNoInterruption};
+ghost use Rattle.script_pieces.specs.PieceMeaning.{Asks};
+ghost use Rattle.script_pieces.specs.Pieces.{AreEnded};
+ghost use Rattle.script_pieces.specs.Cutter.{asked, call_text};
 ghost use Rattle.session_definitions.specs.Rules.{Rules, AreRules};
+ghost use Rattle.session_definitions.specs.Script.{EndsSessions, Performs, Plays, RepliesToFlush};
+ghost use Rattle.session_definitions.specs.World.{World};
+ghost use Rattle.sessions.specs.OfCore.{IsSound, world_of};
 ghost use Rattle.scripts.specs.Settled.{IsCommitted, IsKept, IsSettled, Places, store_of};
+ghost use Rattle.scripts.specs.Played.{between, EndsEarly, IsNotInterrupted, IsWhole};
+ghost use Rattle.scripts.specs.Playing.{AfterTurn, AreLive, FindsNone, FindsSession, HasEnded, HasFailed, HasFinished, HasStopped, IsCarriedOut, IsPlaying, IsReading, IsReady, numbers_of, scene_of};
 
 use refusals::{Reason, Refusal};
 use replies::{Reply, print_reply};
 use script_pieces::{Cutter, Request};
 use sessions::{Changes, Core, Language, SessionId};
-use std::alloc::{AllocError, Global};
+use std::alloc::Global;
 use std::io;
 use std::io::{ErrorKind, Read, Write};
 use store::Store;
@@ -33,12 +43,6 @@ pub enum ScriptFault {
     Writer(io::Error),
 }
 
-impl From<AllocError> for ScriptFault {
-    fn from(_refused: AllocError) -> ScriptFault {
-        ScriptFault::Memory
-    }
-}
-
 /// The sessions of a script, the one that is chosen, and whether a reply was a refusal.
 #[derive(Drop)]
 struct Sessions {
@@ -51,7 +55,8 @@ struct Sessions {
 /// Reads a script, makes the calls of its pieces in order and prints each reply; then ends its sessions.
 ///
 /// The answer tells whether a reply was a refusal. After a fault of the reader only the pieces that ended
-/// before it were carried out, and after one of the writer no later piece. However it ends, what is not committed
+/// before it were carried out, and after one of the writer no later piece; of the text of the replies a beginning
+/// was then written. A read or a write that was interrupted is tried again. However it ends, what is not committed
 /// is rolled back: where no session stood before, none stands after it.
 pub fn run<S: Store, L: Language + Changes<S>, R: Read, W: Write>(
     alloc: Global,
@@ -59,11 +64,19 @@ pub fn run<S: Store, L: Language + Changes<S>, R: Read, W: Write>(
     reader: &mut R,
     writer: &mut W,
 ) -> Result<bool, ScriptFault>
+    ensures plays { (rules : Rules) → AreRules rules → IsSettled S.is_sound S.shows rules.check core.old
+        → IfOk result (λ refused. IsWhole rules (between (R.remaining reader.old) (R.remaining reader.new) (W.contents writer.old) (W.contents writer.new)) (world_of S.shows core.old) refused (world_of S.shows core.new)) }
+    ensures stopped { (rules : Rules) → AreRules rules → IsSettled S.is_sound S.shows rules.check core.old
+        → IfErr result (λ fault. EndsEarly rules (between (R.remaining reader.old) (R.remaining reader.new) (W.contents writer.old) (W.contents writer.new)) (world_of S.shows core.old) fault (world_of S.shows core.new)) }
+    ensures tried_again { IfErr result IsNotInterrupted }
     ensures settled { (rules : Rules) → AreRules rules → IsSettled S.is_sound S.shows rules.check core.old → IsSettled S.is_sound S.shows rules.check core.new }
     ensures committed { (rules : Rules) → AreRules rules → IsSettled S.is_sound S.shows rules.check core.old → IsCommitted S.shows core.new }
     ensures counts { S.refused (store_of core.old) ≤ S.refused (store_of core.new) }
 {
-    let mut cutter = Cutter::new(alloc)?;
+    let mut cutter = match Cutter::new(alloc) {
+        Ok(cutter) => cutter,
+        Err(_) => return Err(ScriptFault::Memory),
+    };
     let mut sessions = Sessions {
         standing: [None; SESSIONS],
         chosen: 0,
@@ -71,8 +84,10 @@ pub fn run<S: Store, L: Language + Changes<S>, R: Read, W: Write>(
     };
     let outcome = play(core, &mut cutter, &mut sessions, reader, writer);
     sessions.end(core);
-    outcome?;
-    Ok(sessions.refused)
+    match outcome {
+        Ok(()) => Ok(sessions.refused),
+        Err(fault) => Err(fault),
+    }
 }
 
 /// Carries out all the pieces that the reader gives.
@@ -83,19 +98,55 @@ fn play<S: Store, L: Language + Changes<S>, R: Read, W: Write>(
     reader: &mut R,
     writer: &mut W,
 ) -> Result<(), ScriptFault>
+    ensures plays { (rules : Rules) (start : World) (given held : Option (List ℕ)) → AreRules rules → IsKept S.is_sound S.shows rules.check sessions.old.standing core.old
+        → IsReading rules (between given (R.remaining reader.old) held (W.contents writer.old)) start (world_of S.shows core.old) cutter.old sessions.old
+        → MatchResult result (λ _. HasEnded rules (between given (R.remaining reader.new) held (W.contents writer.new)) start (world_of S.shows core.new) sessions.new)
+        (λ fault. HasFailed rules (between given (R.remaining reader.new) held (W.contents writer.new)) start fault (world_of S.shows core.new) sessions.new) }
+    ensures tried_again { IfErr result IsNotInterrupted }
     ensures kept { (rules : Rules) → AreRules rules → IsKept S.is_sound S.shows rules.check sessions.old.standing core.old → IsKept S.is_sound S.shows rules.check sessions.new.standing core.new }
     ensures counts { S.refused (store_of core.old) ≤ S.refused (store_of core.new) }
 {
     let mut chunk = [0u8; CHUNK];
     for _ in 0..u64::MAX {
-        let count = read_some(reader, &mut chunk).map_err(ScriptFault::Reader)?;
-        if count == 0 {
-            return play_last(core, cutter, sessions, writer).map_err(ScriptFault::Writer);
+        match turn(core, cutter, sessions, reader, writer, &mut chunk) {
+            Ok(true) => {}
+            Ok(false) => return Ok(()),
+            Err(fault) => return Err(fault),
         }
-        play_bytes(core, cutter, sessions, &chunk[..count], writer).map_err(ScriptFault::Writer)?;
-        writer.flush().map_err(ScriptFault::Writer)?;
     }
     Err(ScriptFault::Reader(io::Error::from(ErrorKind::TimedOut)))
+}
+
+/// Reads once, and carries out the pieces that end in what was read. The answer is whether the input may go on.
+fn turn<S: Store, L: Language + Changes<S>, R: Read, W: Write>(
+    core: &mut Core<S, L>,
+    cutter: &mut Cutter,
+    sessions: &mut Sessions,
+    reader: &mut R,
+    writer: &mut W,
+    chunk: &mut [u8],
+) -> Result<bool, ScriptFault>
+    requires { 0 < length chunk.old }
+    ensures plays { (rules : Rules) (start : World) (given held : Option (List ℕ)) → AreRules rules → IsKept S.is_sound S.shows rules.check sessions.old.standing core.old
+        → IsReading rules (between given (R.remaining reader.old) held (W.contents writer.old)) start (world_of S.shows core.old) cutter.old sessions.old
+        → MatchResult result (λ goes_on. AfterTurn goes_on rules (between given (R.remaining reader.new) held (W.contents writer.new)) start (world_of S.shows core.new) cutter.new sessions.new)
+        (λ fault. HasFailed rules (between given (R.remaining reader.new) held (W.contents writer.new)) start fault (world_of S.shows core.new) sessions.new) }
+    ensures tried_again { IfErr result IsNotInterrupted }
+    ensures room { length chunk.new ≡ length chunk.old }
+    ensures kept { (rules : Rules) → AreRules rules → IsKept S.is_sound S.shows rules.check sessions.old.standing core.old → IsKept S.is_sound S.shows rules.check sessions.new.standing core.new }
+    ensures counts { S.refused (store_of core.old) ≤ S.refused (store_of core.new) }
+{
+    match read_some(reader, chunk) {
+        Err(error) => Err(ScriptFault::Reader(error)),
+        Ok(0) => match play_last(core, cutter, sessions, writer) {
+            Ok(()) => Ok(false),
+            Err(error) => Err(ScriptFault::Writer(error)),
+        },
+        Ok(count) => match play_bytes(core, cutter, sessions, &chunk[..count], writer) {
+            Ok(()) => Ok(true),
+            Err(error) => Err(ScriptFault::Writer(error)),
+        },
+    }
 }
 
 /// Carries out the last piece, which may lack its semicolon.
@@ -105,22 +156,53 @@ fn play_last<S: Store, L: Language + Changes<S>, W: Write>(
     sessions: &mut Sessions,
     writer: &mut W,
 ) -> io::Result<()>
+    ensures plays { (rules : Rules) (start : World) (held : Option (List ℕ)) (input : List ℕ) → AreRules rules → IsKept S.is_sound S.shows rules.check sessions.old.standing core.old
+        → IsPlaying rules start held input (world_of S.shows core.old) cutter.old sessions.old (W.contents writer.old)
+        → HasFinished rules start held input (is_ok result) (world_of S.shows core.new) sessions.new (W.contents writer.new) }
+    ensures tried_again { IfErr result IsNoInterruption }
     ensures kept { (rules : Rules) → AreRules rules → IsKept S.is_sound S.shows rules.check sessions.old.standing core.old → IsKept S.is_sound S.shows rules.check sessions.new.standing core.new }
     ensures counts { S.refused (store_of core.old) ≤ S.refused (store_of core.new) }
 {
     let last = cutter.finish();
-    carry_out_piece(core, cutter, sessions, last, writer)?;
-    writer.flush()
+    match carry_out_piece(core, cutter, sessions, last, writer) {
+        Ok(()) => pass_on(writer),
+        Err(error) => Err(error),
+    }
 }
 
 /// Reads at least one byte, or none at the end.
 fn read_some<R: Read>(reader: &mut R, chunk: &mut [u8]) -> io::Result<usize>
-    ensures { IfOk result (λ count. count ≤ length chunk.new) }
+    ensures count { IfOk result (λ count. count ≤ length chunk.new) }
+    ensures bytes { ReadConsumes (R.remaining reader.old) (R.remaining reader.new) result chunk.new }
+    ensures tried_again { IfErr result IsNoInterruption }
+    ensures room { length chunk.new ≡ length chunk.old }
 {
     for _ in 0..u64::MAX {
         match reader.read(chunk) {
-            Err(error) if error.kind() == ErrorKind::Interrupted => {}
-            answer => return answer,
+            Ok(count) => return Ok(count),
+            Err(error) => {
+                if error.kind() != ErrorKind::Interrupted {
+                    return Err(error);
+                }
+            }
+        }
+    }
+    Err(io::Error::from(ErrorKind::TimedOut))
+}
+
+/// Has the writer pass on what it took.
+fn pass_on<W: Write>(writer: &mut W) -> io::Result<()>
+    ensures bytes { Keeps (W.contents writer.old) (W.contents writer.new) }
+    ensures tried_again { IfErr result IsNoInterruption }
+{
+    for _ in 0..u64::MAX {
+        match writer.flush() {
+            Ok(()) => return Ok(()),
+            Err(error) => {
+                if error.kind() != ErrorKind::Interrupted {
+                    return Err(error);
+                }
+            }
         }
     }
     Err(io::Error::from(ErrorKind::TimedOut))
@@ -134,16 +216,23 @@ fn play_bytes<S: Store, L: Language + Changes<S>, W: Write>(
     bytes: &[u8],
     writer: &mut W,
 ) -> io::Result<()>
+    ensures plays { (rules : Rules) (start : World) (held : Option (List ℕ)) (input : List ℕ) → AreRules rules → IsKept S.is_sound S.shows rules.check sessions.old.standing core.old
+        → IsPlaying rules start held input (world_of S.shows core.old) cutter.old sessions.old (W.contents writer.old)
+        → MatchResult result (λ _. IsPlaying rules start held (input ++ bytes.now) (world_of S.shows core.new) cutter.new sessions.new (W.contents writer.new))
+        (λ _. HasStopped rules start held (AreEnded (input ++ bytes.now)) (world_of S.shows core.new) sessions.new (W.contents writer.new)) }
+    ensures tried_again { IfErr result IsNoInterruption }
     ensures kept { (rules : Rules) → AreRules rules → IsKept S.is_sound S.shows rules.check sessions.old.standing core.old → IsKept S.is_sound S.shows rules.check sessions.new.standing core.new }
     ensures counts { S.refused (store_of core.old) ≤ S.refused (store_of core.new) }
 {
     for byte in bytes {
         if let Some(request) = cutter.take(*byte) {
-            carry_out_piece(core, cutter, sessions, request, writer)?;
-            cutter.clear();
+            match carry_out_piece(core, cutter, sessions, request, writer) {
+                Ok(()) => cutter.clear(),
+                Err(error) => return Err(error),
+            }
         }
     }
-    Ok(())
+    pass_on(writer)
 }
 
 /// Carries out what a piece asks for, and prints the reply where there is one.
@@ -154,13 +243,17 @@ fn carry_out_piece<S: Store, L: Language + Changes<S>, W: Write>(
     request: Request,
     writer: &mut W,
 ) -> io::Result<()>
+    ensures carries_out { (rules : Rules) (piece : List ℕ) → AreRules rules → IsKept S.is_sound S.shows rules.check sessions.old.standing core.old
+        → IsReady (world_of S.shows core.old) sessions.old → Asks piece (asked request (call_text cutter.now))
+        → IsCarriedOut rules piece (world_of S.shows core.old) sessions.old (world_of S.shows core.new) sessions.new (W.contents writer.old) (W.contents writer.new) (is_ok result) }
+    ensures tried_again { IfErr result IsNoInterruption }
     ensures kept { (rules : Rules) → AreRules rules → IsKept S.is_sound S.shows rules.check sessions.old.standing core.old → IsKept S.is_sound S.shows rules.check sessions.new.standing core.new }
     ensures counts { S.refused (store_of core.old) ≤ S.refused (store_of core.new) }
 {
     match reply_to(core, cutter, sessions, request) {
         None => Ok(()),
         Some(reply) => {
-            sessions.refused = sessions.refused || reply.is_refused();
+            sessions.note(&reply);
             print_reply(&reply, writer)
         }
     }
@@ -173,6 +266,11 @@ fn reply_to<S: Store, L: Language + Changes<S>>(
     sessions: &mut Sessions,
     request: Request,
 ) -> Option<Reply>
+    ensures performs { (rules : Rules) (piece : List ℕ) → AreRules rules → IsKept S.is_sound S.shows rules.check sessions.old.standing core.old
+        → IsReady (world_of S.shows core.old) sessions.old → Asks piece (asked request (call_text cutter.now))
+        → Performs rules (scene_of (world_of S.shows core.old) sessions.old) (asked request (call_text cutter.now)) result (scene_of (world_of S.shows core.new) sessions.new)
+        × IsReady (world_of S.shows core.new) sessions.new }
+    ensures refused { sessions.new.refused ≡ sessions.old.refused }
     ensures kept { (rules : Rules) → AreRules rules → IsKept S.is_sound S.shows rules.check sessions.old.standing core.old → IsKept S.is_sound S.shows rules.check sessions.new.standing core.new }
     ensures counts { S.refused (store_of core.old) ≤ S.refused (store_of core.new) }
 {
@@ -192,15 +290,21 @@ fn reply_to<S: Store, L: Language + Changes<S>>(
     }
 }
 
-/// Flushes until no page is left.
+/// Flushes until no page is left, or until a flush is refused.
 fn flush_all<S: Store, L: Language + Changes<S>>(core: &mut Core<S, L>) -> Reply
+    ensures replies { RepliesToFlush result }
+    ensures flushed { result ≡ Reply.Done → S.unwritten (store_of core.new) ≡ 0 }
+    ensures same { world_of S.shows core.new ≡ world_of S.shows core.old }
     ensures kept { (rules : Rules) (places : Places) → IsKept S.is_sound S.shows rules.check places core.old → IsKept S.is_sound S.shows rules.check places core.new }
     ensures counts { S.refused (store_of core.old) ≤ S.refused (store_of core.new) }
 {
-    for _ in 0..u64::MAX {
+    let mut left = match core.flush() {
+        Ok(left) => left,
+        Err(refusal) => return Reply::Refused(refusal),
+    };
+    while left > 0 {
         match core.flush() {
-            Ok(0) => return Reply::Done,
-            Ok(_) => {}
+            Ok(now) => left = now,
             Err(refusal) => return Reply::Refused(refusal),
         }
     }
@@ -208,11 +312,21 @@ fn flush_all<S: Store, L: Language + Changes<S>>(core: &mut Core<S, L>) -> Reply
 }
 
 impl Sessions {
+    ghost use Rattle.std.specs.Prelude.{◌||◌, zero};
+    ghost use Rattle.replies.specs.Refused.{is_refusal};
+
     /// Chooses the session of this number, from 1 to 64.
     fn choose(&mut self, session: usize)
-        ensures { self.new.standing ≡ self.old.standing }
+        ensures { self.new ≡ record self.old { chosen = session - 1 } }
     {
         self.chosen = session.saturating_sub(1);
+    }
+
+    /// Keeps whether a reply was a refusal.
+    fn note(&mut self, reply: &Reply)
+        ensures { self.new ≡ record self.old { refused = self.old.refused || is_refusal reply.now } }
+    {
+        self.refused = self.refused || reply.is_refused();
     }
 
     /// Calls the chosen session, which is made where it does not stand; where that is refused, the refusal
@@ -222,6 +336,9 @@ impl Sessions {
         core: &mut Core<S, L>,
         text: &[u8],
     ) -> Reply
+        ensures plays { (rules : Rules) → AreRules rules → IsKept S.is_sound S.shows rules.check self.old.standing core.old → IsReady (world_of S.shows core.old) self.old
+            → Plays rules (scene_of (world_of S.shows core.old) self.old) text.now result (scene_of (world_of S.shows core.new) self.new) × IsReady (world_of S.shows core.new) self.new }
+        ensures refused { self.new.refused ≡ self.old.refused }
         ensures kept { (rules : Rules) → AreRules rules → IsKept S.is_sound S.shows rules.check self.old.standing core.old → IsKept S.is_sound S.shows rules.check self.new.standing core.new }
         ensures counts { S.refused (store_of core.old) ≤ S.refused (store_of core.new) }
     {
@@ -236,6 +353,10 @@ impl Sessions {
         &mut self,
         core: &mut Core<S, L>,
     ) -> Result<SessionId, Refusal>
+        ensures finds { IsSound S.is_sound S.shows core.old → self.old.chosen < 64
+            → MatchResult result (λ session. FindsSession (world_of S.shows core.old) self.old session (world_of S.shows core.new) self.new)
+            (λ refusal. FindsNone (world_of S.shows core.old) self.old refusal (world_of S.shows core.new) self.new) }
+        ensures refused { self.new.refused ≡ self.old.refused }
         ensures kept { (rules : Rules) → AreRules rules → IsKept S.is_sound S.shows rules.check self.old.standing core.old → IsKept S.is_sound S.shows rules.check self.new.standing core.new }
         ensures counts { S.refused (store_of core.old) ≤ S.refused (store_of core.new) }
     {
@@ -245,13 +366,19 @@ impl Sessions {
         if let Some(session) = self.standing[self.chosen] {
             return Ok(session);
         }
-        let session = core.new_session()?;
-        self.standing[self.chosen] = Some(session);
-        Ok(session)
+        match core.new_session() {
+            Ok(session) => {
+                self.standing[self.chosen] = Some(session);
+                Ok(session)
+            }
+            Err(refusal) => Err(refusal),
+        }
     }
 
     /// Ends all sessions.
     fn end<S: Store, L: Language + Changes<S>>(&self, core: &mut Core<S, L>)
+        ensures ends { AreLive (world_of S.shows core.old) (numbers_of self.now.standing)
+            → EndsSessions (world_of S.shows core.old) (numbers_of self.now.standing) (world_of S.shows core.new) }
         ensures settled { (rules : Rules) → AreRules rules → IsKept S.is_sound S.shows rules.check self.now.standing core.old → IsSettled S.is_sound S.shows rules.check core.new }
         ensures counts { S.refused (store_of core.old) ≤ S.refused (store_of core.new) }
     {

@@ -1,7 +1,28 @@
+use Rattle.std.proofs.Common.{rules, ◌≡◌, sym, subst, Some, None}
+use Rattle.script_pieces.specs.declared.request.Request.TheVariants as found
+use Rattle.sessions.specs.OfCore.{world_of}
+use Rattle.scripts.specs.Settled.{IsKept}
+use Rattle.scripts.specs.declared.script.Sessions.{Sessions}
+use Rattle.scripts.proofs.Carried.{performs_calls, performs_chosen_call}
 use Rattle.scripts.proofs.script.reply_to.Goals as goal
 
+pub returns-in-Calls-None-clause-performs : goal.returns-in-Calls-None-clause-performs
+returns-in-Calls-None-clause-performs g c = λ r piece are h ready asks.
+    let is : c.args.request ≡ found.Calls None = search rules in
+    performs_calls r piece (world_of g.S.Store.shows c.args.core.now) (world_of g.S.Store.shows c.call.new.core) c.args.sessions.now c.args.sessions.now c.call.new.self
+    c.args.request _ c.text.result.now c.call.result is c.text.ensures (c.call.ensures.plays r are h ready)
+
+pub returns-in-Calls-Some-clause-performs : goal.returns-in-Calls-Some-clause-performs
+returns-in-Calls-Some-clause-performs g c = λ r piece are h ready asks.
+    let is : c.args.request ≡ found.Calls (Some c.in-Calls-Some.session) = search rules in
+    let kept = subst (λ (s : Sessions). IsKept g.S.Store.is_sound g.S.Store.shows r.check s.standing c.args.core.now) (sym c.choose-in-Calls-Some.ensures) h in
+    performs_chosen_call r piece (world_of g.S.Store.shows c.args.core.now) (world_of g.S.Store.shows c.call-in-Calls-Some.new.core) c.args.sessions.now c.choose-in-Calls-Some.new.self c.call-in-Calls-Some.new.self
+    c.args.request c.in-Calls-Some.session _ c.text-in-Calls-Some.result.now c.call-in-Calls-Some.result is asks c.choose-in-Calls-Some.ensures c.text-in-Calls-Some.ensures ready
+    (λ ready_then. c.call-in-Calls-Some.ensures.plays r are kept ready_then)
+
 pub returns-in-Calls-Some-clause-kept : goal.returns-in-Calls-Some-clause-kept
-returns-in-Calls-Some-clause-kept g c = λ r are h. c.call-in-Calls-Some.ensures.kept r are (rw c.choose-in-Calls-Some.ensures h)
+returns-in-Calls-Some-clause-kept g c = λ r are h.
+    c.call-in-Calls-Some.ensures.kept r are (subst (λ (s : Sessions). IsKept g.S.Store.is_sound g.S.Store.shows r.check s.standing c.args.core.now) (sym c.choose-in-Calls-Some.ensures) h)
 
 pub returns-in-Flushes-clause-kept : goal.returns-in-Flushes-clause-kept
 returns-in-Flushes-clause-kept g c = λ r are h. c.flush_all.ensures.kept r c.args.sessions.now.standing h

@@ -1,5 +1,30 @@
-use Rattle.scripts.proofs.Keeping.{kept_step}
+use Rattle.sessions.specs.OfCore.{world_of}
+use Rattle.scripts.proofs.Keeping.{kept_step, good_seen}
+use Rattle.scripts.proofs.Carried.{plays_found, ready_found, live_found, ready_alike, plays_not_made, ready_not_made}
 use Rattle.scripts.proofs.script.Sessions.call.Goals as goal
+
+pub returns-in-Ok-clause-plays : goal.returns-in-Ok-clause-plays
+returns-in-Ok-clause-plays g c = λ r are h ready.
+    let shows = g.S.Store.shows in
+    let old = world_of shows c.args.core.now in
+    let mid = world_of shows c.session.new.core in
+    let new = world_of shows c.step.new.self in
+    let found = c.in-Ok.ensures.finds h.sound ready.within in
+    let kept = c.session.ensures.kept r are h in
+    let live = live_found r old mid new c.args.self.now c.session.new.self c.in-Ok.session found ready in
+    let good = good_seen r.check (shows c.session.new.core.store) c.session.new.core.writer c.session.new.core.slots.modes c.in-Ok.session.number kept.sound.order live kept.good in (
+      plays_found r old mid new c.args.self.now c.session.new.self c.in-Ok.session c.args.text.now c.step.result found (c.step.ensures.step r are kept.sound live good),
+      ready_alike mid new c.session.new.self c.step.ensures.live (ready_found r old mid new c.args.self.now c.session.new.self c.in-Ok.session found ready),
+    )
+
+pub returns-in-Err-clause-plays : goal.returns-in-Err-clause-plays
+returns-in-Err-clause-plays g c = λ r are h ready.
+    let old = world_of g.S.Store.shows c.args.core.now in
+    let new = world_of g.S.Store.shows c.session.new.core in
+    let none = c.in-Err.ensures.finds h.sound ready.within in (
+      plays_not_made r old new c.args.self.now c.session.new.self c.in-Err.refusal c.args.text.now none.empty none.refused none.same,
+      ready_not_made old new c.args.self.now c.session.new.self c.in-Err.refusal none ready,
+    )
 
 pub returns-in-Ok-clause-kept : goal.returns-in-Ok-clause-kept
 returns-in-Ok-clause-kept g c = λ r are h.

@@ -2,7 +2,7 @@ use Rattle.std.proofs.Common.{rules}
 use Rattle.scripts.proofs.Keeping.{kept_made}
 use Rattle.scripts.proofs.script.Sessions.session.Goals as goal
 
-pub returns-clause-kept : goal.returns-clause-kept
-returns-clause-kept g c = λ r are h.
-    kept_made g.S.Store.is_sound g.S.Store.shows r c.args.self.now.standing c.args.self.now.chosen c.in_ok-session.session c.args.core.now c.new_session.new.self (search rules)
-    c.in_default.is c.in_ok-session.ensures.makes c.new_session.ensures.sound h
+pub returns-in-Ok-clause-kept : goal.returns-in-Ok-clause-kept
+returns-in-Ok-clause-kept g c = λ r are h.
+    kept_made g.S.Store.is_sound g.S.Store.shows r c.args.self.now.standing c.args.self.now.chosen c.in-Ok.session c.args.core.now c.new_session.new.self (search rules)
+    c.in_default.is c.in-Ok.ensures.makes c.new_session.ensures.sound h
