@@ -1,5 +1,4 @@
-use Rattle.std.proofs.Common.{◌≡◌, ap, ◌∙◌}
-use Rattle.session_definitions.specs.World.{World}
+use Rattle.std.proofs.Common.{◌≡◌}
 use Rattle.sessions.specs.OfCore.{world_of}
 use Rattle.transactions.specs.Shown.{shown}
 use Rattle.shared.proofs.Desks.{desk_same}
