@@ -101,9 +101,11 @@ module _ (reading : CheckReading) (db : Database) (name : Name) (table : Table) 
       subst (λ (m : Database). Holds reading m name) is holds (record table { rows = table.rows ++ rows }) put_there in
       let made_so : with_rows reading db name table (table.rows ++ meant) count ≡ Makes (insert db name (record table { rows = table.rows ++ meant })) (Some count) =
       ap (λ names. unless_violated names (insert db name (record table { rows = table.rows ++ meant })) count) (same_violated ∙ none) in
-      subst (λ (c : Changed). IsAccepted c made (Some count)) (sym made_so)
-      (subst (λ (m : Database). IsSameDatabase (insert db name (record table { rows = table.rows ++ meant })) m) (sym is)
-      (put-same db name (record table { rows = table.rows ++ meant }) (record table { rows = table.rows ++ rows }) same_table), refl)
+      subst (λ (c : Changed). IsAccepted c made (Some count)) (sym made_so) (
+        subst (λ (m : Database). IsSameDatabase (insert db name (record table { rows = table.rows ++ meant })) m) (sym is)
+            (put-same db name (record table { rows = table.rows ++ meant }) (record table { rows = table.rows ++ rows }) same_table),
+        refl,
+      )
 
   -- and where they violate a constraint, so do the rows as they are meant
   pub names_it : (made : Database) → made ≡ insert db name (record table { rows = table.rows ++ rows }) → (t : Table) (constraint : Name) → get made name ≡ Some t
