@@ -19,8 +19,7 @@ pub trait Checks {
     ghost decides: { Self → CheckReading → Name → List Column → List Declared → Type 0 };
 
     /// The name of a CHECK of a table that is false at one of these rows. It is refused for want of memory alone.
-    fn violated(&self, alloc: Global, table: &Table, rows: &[Row])
-    -> Result<Option<Text>, Refusal>
+    fn violated(&self, alloc: Global, table: &Table, rows: &[Row]) -> Result<Option<Text>, Refusal>
         ensures found { IfOk result (λ found. (reading : CheckReading) (name : Name) → decides self.now reading name table.now.columns table.now.constraints
             → MatchOption found (broken_checks reading name (table_of table.now rows.now) ≡ []) (λ constraint. Contains (broken_checks reading name (table_of table.now rows.now)) constraint)) }
         ensures refused { IfErr result (λ refusal. refusal ≡ Memory) };

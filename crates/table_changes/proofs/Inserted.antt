@@ -1,8 +1,12 @@
 -- What an INSERT of rows that are given leaves of a store.
-use Rattle.std.proofs.Common.{◌≡◌, ◌∙◌, refl, sym, ap, subst, ℕ, List, [], ◌∷◌, ◌++◌, map, length, Option, Some, None, Ok, Err}
+use Rattle.std.proofs.Common.{◌≡◌, ◌∙◌, refl, sym, ap, subst, ℕ, Bool, true, false, cond, List, [], ◌∷◌, ◌++◌, map, length, Option, Some, None, Ok, Err, arith}
+use Rattle.std.proofs.lemmas.Cmp.{nat_list_cmp_total, tied_itself}
 use Rattle.std.specs.Prelude.{Contains}
+use Rattle.std.specs.Ordering.{is_eq}
 use Rattle.std.specs.FinMap.{get, insert}
 use Rattle.refusals.specs.declared.refusal.Refusal.{Refusal}
+use Rattle.sqlval.specs.declared.schema.Column.{Column}
+use Rattle.sqlval.specs.declared.schema.Constraint.{Constraint}
 use Rattle.sqlval.specs.declared.value.Value.{Value}
 use Rattle.sqlval.specs.Value.{Row}
 use Rattle.typing.specs.declared.statement.Change.TheVariants as does
@@ -12,8 +16,10 @@ use Rattle.typing.specs.declared.statement.InsertSource.TheVariants as from
 use Rattle.typing.specs.declared.typed.Condition.{Condition}
 use Rattle.typing.specs.declared.typed.Expression.{Expression}
 use Rattle.denote.specs.declared.fault.Fault.{Fault}
-use Rattle.denote.specs.Change.{changed, on_table, insert_into, inserted_rows, unless_raised, with_rows}
-use Rattle.denote.specs.Database.{Table, Database, CheckReading, checks_of, rows_in}
+use Rattle.denote.specs.Bag.{Permutes}
+use Rattle.denote.specs.Change.{Changed, changed, on_table, insert_into, inserted_rows, unless_raised, unless_violated, with_rows, IsAccepted, IsNamed}
+use Rattle.denote.specs.Change.Changed.{Makes}
+use Rattle.denote.specs.Database.{Name, Table, Database, CheckReading, checks_of, rows_in, violated_by, IsSameTable, AreSame, IsSameDatabase}
 use Rattle.denote.specs.Evaluation.{Evaluation, adding, together}
 use Rattle.denote.specs.Meaning.{Tables, value_of, query_outcome}
 use Rattle.denote.specs.StoredRow.{inserted_row, row_with}
@@ -27,13 +33,17 @@ use Rattle.store.specs.Errors.{MayFail, StoringReaches, HasLongKey, indexes_of}
 use Rattle.store.specs.Stored.{Stored, marked_now, working_on}
 use Rattle.transactions.specs.Refused.{refused_by}
 use Rattle.transactions.proofs.Tests.{reserved}
-use Rattle.constraint_checks.specs.Changed.{HasChanged, RefusesChange}
-use Rattle.constraint_checks.specs.Settled.{Holds, Breaks}
+use Rattle.operator_laws.proofs.Orders.{length-permutes}
+use Rattle.operator_laws.proofs.Permuting.{Permutes-refl, Permutes-append, HasSame-permutes}
+use Rattle.laws.proofs.Maps.{is_name, found-insert}
+use Rattle.laws.proofs.Tables.{violated_by-same}
+use Rattle.constraint_checks.specs.Changed.{RefusesChange}
+use Rattle.constraint_checks.specs.Settled.{Decided, Holds, Breaks}
 use Rattle.constraint_checks.proofs.Held.{held_as}
-use Rattle.constraint_checks.proofs.Settling.{makes, refuses}
+use Rattle.constraint_checks.proofs.Violations.{same_some}
 use Rattle.constraint_checks.proofs.Short.{Fits, given_each, admitted_fits, no_long_row, no_long_key}
-use Rattle.table_changes.specs.Given.{AreGiven}
-use Rattle.table_changes.proofs.Made.{appended-database}
+use Rattle.table_changes.specs.Given.{AreGiven, HasAccepted}
+use Rattle.table_changes.proofs.Made.{appended-database, decided_still}
 
 -- ---- the rows are short enough
 
@@ -52,10 +62,64 @@ each_fits checks tables table places (from.Query query) rows e row one =
     given_each (λ (row : Row). inserted_row checks table places (map (λ (x : Value). Ok x) row)) (Fits table)
     (λ x r given. admitted_fits checks table (row_with table.columns places (map (λ (x : Value). Ok x) x) []) r given) o.rows rows all one.0 row row one.1 one.2
 
+-- ---- rows in another order
+
+still_name : (name : Name) → is_name name name ≡ true
+still_name name = ap is_eq (tied_itself nat_list_cmp_total name)
+
+itself : (o : Option Table) → AreSame o o
+itself None = tt
+itself (Some t) = record { columns = refl; constraints = refl; indexes = refl; rows = Permutes-refl t.rows }
+
+-- a table in place of another with the same rows in another order
+put-same : (db : Database) (name : Name) (x y : Table) → IsSameTable x y → IsSameDatabase (insert db name x) (insert db name y)
+put-same db name x y h = λ other. rw (found-insert db name x other, found-insert db name y other) (at (is_name other name) (get db other))
+  where
+    at : (b : Bool) (o : Option Table) → AreSame (cond b (Some x) o) (cond b (Some y) o)
+    at true o = h
+    at false o = itself o
+
+is_named : (names : List Name) (db : Database) (count : ℕ) (name : Name) → Contains names name → IsNamed (unless_violated names db count) name
+is_named [] db count name one = absurd (let below = one.1 in omega (arith, below))
+is_named (n ∷ names) db count name one = one
+
+module _ (reading : CheckReading) (db : Database) (name : Name) (table : Table) (meant rows : List Row) (count : ℕ) (order : Permutes meant rows) where
+  same_table : IsSameTable (record table { rows = table.rows ++ meant }) (record table { rows = table.rows ++ rows })
+  same_table = record { columns = refl; constraints = refl; indexes = refl; rows = Permutes-append table.rows table.rows meant rows (Permutes-refl table.rows) order }
+
+  same_violated : violated_by reading name (record table { rows = table.rows ++ meant }) ≡ violated_by reading name (record table { rows = table.rows ++ rows })
+  same_violated = violated_by-same reading name (record table { rows = table.rows ++ meant }) (record table { rows = table.rows ++ rows }) refl refl same_table.rows
+
+  put_there : get (insert db name (record table { rows = table.rows ++ rows })) name ≡ Some (record table { rows = table.rows ++ rows })
+  put_there = found-insert db name (record table { rows = table.rows ++ rows }) name ∙ ap (λ b. cond b (Some (record table { rows = table.rows ++ rows })) (get db name)) (still_name name)
+
+  -- where the stored rows violate nothing, the change is accepted with them
+  pub accepts : (made : Database) → made ≡ insert db name (record table { rows = table.rows ++ rows }) → Holds reading made name
+      → IsAccepted (with_rows reading db name table (table.rows ++ meant) count) made (Some count)
+  accepts made is holds =
+      let none : violated_by reading name (record table { rows = table.rows ++ rows }) ≡ [] =
+      subst (λ (m : Database). Holds reading m name) is holds (record table { rows = table.rows ++ rows }) put_there in
+      let made_so : with_rows reading db name table (table.rows ++ meant) count ≡ Makes (insert db name (record table { rows = table.rows ++ meant })) (Some count) =
+      ap (λ names. unless_violated names (insert db name (record table { rows = table.rows ++ meant })) count) (same_violated ∙ none) in
+      subst (λ (c : Changed). IsAccepted c made (Some count)) (sym made_so) (
+        subst (λ (m : Database). IsSameDatabase (insert db name (record table { rows = table.rows ++ meant })) m) (sym is)
+            (put-same db name (record table { rows = table.rows ++ meant }) (record table { rows = table.rows ++ rows }) same_table),
+        refl,
+      )
+
+  -- and where they violate a constraint, so do the rows as they are meant
+  pub names_it : (made : Database) → made ≡ insert db name (record table { rows = table.rows ++ rows }) → (t : Table) (constraint : Name) → get made name ≡ Some t
+      → Contains (violated_by reading name t) constraint → IsNamed (with_rows reading db name table (table.rows ++ meant) count) constraint
+  names_it made is t constraint found one =
+      let same : t ≡ record table { rows = table.rows ++ rows } =
+      same_some t (record table { rows = table.rows ++ rows }) (sym found ∙ ap (λ (m : Database). get m name) is ∙ put_there) in
+      is_named (violated_by reading name (record table { rows = table.rows ++ meant })) (insert db name (record table { rows = table.rows ++ meant })) count constraint
+      (subst (λ (names : List Name). Contains names constraint) (ap (violated_by reading name) same ∙ sym same_violated) one)
+
 -- ---- the change
 
 module _ (reading : CheckReading) (old mid : Stored) (i : Insert) (rows : List Row) (m : mid ≡ marked_now old) (g : AreGiven reading (database_of old.working) i rows) where
-  changed_is : changed reading (database_of old.working) (does.Insert i) ≡ with_rows reading (database_of old.working) i.table g.table (g.table.rows ++ rows) (length rows)
+  changed_is : changed reading (database_of old.working) (does.Insert i) ≡ with_rows reading (database_of old.working) i.table g.table (g.table.rows ++ g.meant) (length g.meant)
   changed_is =
       ap (λ o. on_table (database_of old.working) o (insert_into reading (database_of old.working) i)) g.there
       ∙ ap (λ e. unless_raised e (λ rows. with_rows reading (database_of old.working) i.table g.table (g.table.rows ++ rows) (length rows))) g.given
@@ -66,27 +130,37 @@ module _ (reading : CheckReading) (old mid : Stored) (i : Insert) (rows : List R
       ap (λ (s : Stored). database_of s.working) (e ∙ ap (λ (s : Stored). working_on s (appended s.working i.table rows)) m)
       ∙ appended-database old.working i.table g.table rows g.there
 
+  -- what decides the CHECKs of the table still does
+  pub decided_made : (decides : Name → List Column → List Constraint → Type 0) (made : Stored) → made ≡ working_on mid (appended mid.working i.table rows)
+      → Decided decides (database_of old.working) i.table → Decided decides (database_of made.working) i.table
+  decided_made decides made e = decided_still decides (database_of old.working) (database_of made.working) i.table g.table (g.table.rows ++ rows) (would_be made e) g.there
+
   -- the rows are stored
   pub inserted : (made new : Stored) (n : ℕ) (reply : Reply) → made ≡ working_on mid (appended mid.working i.table rows) → new ≡ made → Holds reading (database_of made.working) i.table
-      → n ≡ length rows → reply ≡ counted (Some n) → HasChanged reading old (does.Insert i) reply new
+      → n ≡ length rows → reply ≡ counted (Some n) → HasAccepted reading old (does.Insert i) reply new
   inserted made new n reply e kept holds count says_so =
       let left : made ≡ record old { working = appended old.working i.table rows; marked = old.working } = e ∙ ap (λ (s : Stored). working_on s (appended s.working i.table rows)) m in
+      let as_many : n ≡ length g.meant = count ∙ sym (length-permutes g.meant rows g.order) in
       record {
         contents = appended old.working i.table rows;
         marked = old.working;
-        count = Some (length rows);
-        makes =
-            changed_is ∙ makes reading (database_of old.working) (database_of (appended old.working i.table rows)) i.table g.table (g.table.rows ++ rows) (length rows)
-            (appended-database old.working i.table g.table rows g.there) (subst (λ (s : Stored). Holds reading (database_of s.working) i.table) left holds);
-        says_so = says_so ∙ ap (λ (n : ℕ). counted (Some n)) count;
+        count = Some (length g.meant);
+        accepted =
+            subst (λ (c : Changed). IsAccepted c (database_of (appended old.working i.table rows)) (Some (length g.meant))) (sym changed_is)
+            (accepts reading (database_of old.working) i.table g.table g.meant rows (length g.meant) g.order (database_of (appended old.working i.table rows))
+            (appended-database old.working i.table g.table rows g.there) (subst (λ (s : Stored). Holds reading (database_of s.working) i.table) left holds));
+        says_so = says_so ∙ ap (λ (n : ℕ). counted (Some n)) as_many;
         leaves = kept ∙ left;
       }
 
   -- or a constraint is violated
   pub broken : (made : Stored) (refusal : Refusal) → made ≡ working_on mid (appended mid.working i.table rows) → Breaks reading (database_of made.working) i.table refusal
       → RefusesChange reading (database_of old.working) (does.Insert i) refusal
-  broken made refusal e h =
-      refuses reading (database_of old.working) (database_of made.working) i.table g.table (g.table.rows ++ rows) (length rows) (would_be made e) (does.Insert i) refusal changed_is h
+  broken made refusal e (Breaks.withheld reserved) = RefusesChange.withheld reserved
+  broken made refusal e (Breaks.violates t constraint found says_so one) =
+      RefusesChange.violates constraint says_so
+      (subst (λ (c : Changed). IsNamed c constraint) (sym changed_is)
+      (names_it reading (database_of old.working) i.table g.table g.meant rows (length g.meant) g.order (database_of made.working) (would_be made e) t constraint found one))
 
   keys_in : indexes_of (get mid.working i.table) ≡ g.table.indexes
   keys_in =
@@ -97,6 +171,7 @@ module _ (reading : CheckReading) (old mid : Stored) (i : Insert) (rows : List R
   pub withheld : (sound : Type 0) (k l : ℕ) (limited : StoreLimit → Type 0) (error : StoreError) → MayFail sound k l (StoringReaches limited (get mid.working i.table) rows) error → sound
       → IsReserved (refused_by error)
   withheld sound k l limited error h is =
-      let fits = each_fits _ (rows_in (database_of old.working)) g.table i.columns i.source rows g.given in
+      let all = each_fits (checks_of reading i.table g.table) (rows_in (database_of old.working)) g.table i.columns i.source g.meant g.given in
+      let fits = λ (row : Row) (one : Contains rows row). all row ((HasSame-permutes g.meant rows g.order row).1 one) in
       reserved sound k l (StoringReaches limited (get mid.working i.table) rows) error h is (no_long_row g.table rows fits)
       (λ long. no_long_key g.table rows fits (subst (λ x. HasLongKey x rows) keys_in long))

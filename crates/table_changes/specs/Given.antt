@@ -1,13 +1,30 @@
--- The rows that evaluation gives for an INSERT (ISO/IEC 9075:1992, 13.8).
-use Rattle.std.specs.Prelude.{◌≡◌, List, Some, Ok}
+-- The rows that evaluation gives for an INSERT (ISO/IEC 9075:1992, 13.8), and what is left of a store up to the order of rows.
+use Rattle.std.specs.Prelude.{◌≡◌, ℕ, List, Option, Some, Ok}
 use Rattle.std.specs.FinMap.{get}
 use Rattle.sqlval.specs.Value.{Row}
+use Rattle.typing.specs.declared.statement.Change.{Change}
 use Rattle.typing.specs.declared.statement.Insert.{Insert}
-use Rattle.denote.specs.Change.{inserted_rows}
+use Rattle.denote.specs.Bag.{Permutes}
+use Rattle.denote.specs.Change.{changed, inserted_rows, IsAccepted}
 use Rattle.denote.specs.Database.{Table, Database, CheckReading, checks_of, rows_in}
+use Rattle.replies.specs.declared.reply.Reply.{Reply}
+use Rattle.session_definitions.specs.Statements.{counted}
+use Rattle.store.specs.Contents.{Contents, database_of}
+use Rattle.store.specs.Stored.{Stored}
 
--- its table is there, and these are the rows that it stores, none of which faults
+-- its table is there, and these are the rows that it stores, in any order, none of which faults
 pub record AreGiven (reading : CheckReading) (db : Database) (i : Insert) (rows : List Row) : Type 0 where
   pub table : Table
   pub there : get db i.table ≡ Some table
-  pub given : inserted_rows (checks_of reading i.table table) (rows_in db) table i.columns i.source ≡ Ok rows
+  pub meant : List Row
+  pub given : inserted_rows (checks_of reading i.table table) (rows_in db) table i.columns i.source ≡ Ok meant
+  pub order : Permutes meant rows
+
+-- the newest version holds what the change makes of it, up to the order of rows; nothing else is changed, but the mark
+pub record HasAccepted (reading : CheckReading) (old : Stored) (change : Change) (reply : Reply) (new : Stored) : Type 0 where
+  pub contents : Contents
+  pub marked : Contents
+  pub count : Option ℕ
+  pub accepted : IsAccepted (changed reading (database_of old.working) change) (database_of contents) count
+  pub says_so : reply ≡ counted count
+  pub leaves : new ≡ record old { working = contents; marked = marked }

@@ -6,11 +6,12 @@ ghost use Rattle.denote.specs.Database.{CheckReading};
 ghost use Rattle.store.specs.Contents.{database_of};
 ghost use Rattle.store.specs.Errors.{HasRisen};
 ghost use Rattle.store.specs.Stored.{SameButMark};
-ghost use Rattle.constraint_checks.specs.Changed.{HasChanged, RefusesChange};
-ghost use Rattle.table_changes.specs.Given.{AreGiven};
+ghost use Rattle.constraint_checks.specs.Changed.{RefusesChange};
+ghost use Rattle.constraint_checks.specs.Settled.{Decided};
+ghost use Rattle.table_changes.specs.Given.{AreGiven, HasAccepted};
 
 use crate::reply::reply_for;
-use constraint_checks::{begin, settle};
+use constraint_checks::{Checks, begin, settle};
 use denote::Rows;
 use refusals::Refusal;
 use replies::Reply;
@@ -20,17 +21,18 @@ use transactions::refusal_of;
 use typing::Insert;
 
 /// INSERT, where evaluation gave these rows: they come to the end of the table, or it is refused: by a constraint that the table would violate (23000), for want of memory, by the device or
-/// by a limit of the store. It sets the mark. Where a sound store refuses it, all is as it was, but for the mark.
-pub fn insert_rows<S: Store>(
+/// by a limit of the store. CHECKs are decided by what is given for them. It sets the mark. Where a sound store refuses it, all is as it was, but for the mark.
+pub fn insert_rows<S: Store, C: Checks>(
     alloc: Global,
     store: &mut S,
     insert: &Insert,
     rows: Rows,
+    checks: &C,
 ) -> Result<Reply, Refusal>
-    ensures changes { IfOk result (λ reply. (reading : CheckReading) → S.is_sound store.old → AreGiven reading (database_of (S.shows store.old).working) insert.now rows
-        → HasChanged reading (S.shows store.old) (does.Insert insert.now) reply (S.shows store.new)) }
-    ensures refused { IfErr result (λ refusal. (reading : CheckReading) → S.is_sound store.old → AreGiven reading (database_of (S.shows store.old).working) insert.now rows
-        → RefusesChange reading (database_of (S.shows store.old).working) (does.Insert insert.now) refusal) }
+    ensures changes { IfOk result (λ reply. (reading : CheckReading) → S.is_sound store.old → Decided (C.decides checks.now reading) (database_of (S.shows store.old).working) insert.now.table
+        → AreGiven reading (database_of (S.shows store.old).working) insert.now rows → HasAccepted reading (S.shows store.old) (does.Insert insert.now) reply (S.shows store.new)) }
+    ensures refused { IfErr result (λ refusal. (reading : CheckReading) → S.is_sound store.old → Decided (C.decides checks.now reading) (database_of (S.shows store.old).working) insert.now.table
+        → AreGiven reading (database_of (S.shows store.old).working) insert.now rows → RefusesChange reading (database_of (S.shows store.old).working) (does.Insert insert.now) refusal) }
     ensures device { IfErr result (λ refusal. refusal ≡ Disk → HasRisen (S.refused store.old) (S.refused store.new)) }
     ensures same { S.is_sound store.old → OnErr result (SameButMark (S.shows store.old) (S.shows store.new)) }
     ensures sound { S.is_sound store.old → S.is_sound store.new }
@@ -43,7 +45,7 @@ pub fn insert_rows<S: Store>(
     if let Err(error) = store.append(&insert.table, rows) {
         return Err(refusal_of(error));
     }
-    match settle(alloc, store, &insert.table) {
+    match settle(alloc, store, &insert.table, checks) {
         Ok(()) => Ok(reply_for(count)),
         Err(refusal) => Err(refusal),
     }

@@ -1,2 +1,0 @@
-pub mod RowChanges
-pub mod Shown
