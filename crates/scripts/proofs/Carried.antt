@@ -1,9 +1,9 @@
 -- What was carried out, one piece after another, and what was written of it.
-use Rattle.std.proofs.Common.{◌≡◌, ◌≢◌, ◌⊎◌, refl, ap, sym, subst, ◌∙◌, ℕ, suc, ◌<◌, ◌≤◌, ◌+◌, ◌-◌, ◌||◌, Bool, true, false, List, [], ◌∷◌, ◌++◌, append_assoc, append-nil, add-one, take, take-append-drop, drop, drop-cons, replicate, get_or, length, Option, Some, None, Ok, Err, inl, inr, arith}
-use Rattle.std.specs.Prelude.{slice_set, Result, MatchResult}
+use Rattle.std.proofs.Common.{◌≡◌, refl, ap, sym, subst, ◌∙◌, ℕ, suc, ◌<◌, ◌≤◌, ◌+◌, ◌-◌, ◌||◌, Bool, true, false, List, [], ◌∷◌, ◌++◌, append_assoc, append-nil, add-one, take, take-append-drop, drop, drop-cons, replicate, get_or, length, Option, Some, None, Ok, Err, inl, inr, arith}
+use Rattle.std.specs.Prelude.{Result, MatchResult}
 use Rattle.std.specs.Option.{option_map}
-use Rattle.std.specs.FinMap.{get, insert, values}
-use Rattle.std.specs.Io.KnownBytes.{Appends, Consumes, IsAtEnd, Keeps}
+use Rattle.std.specs.FinMap.{get, insert}
+use Rattle.std.specs.Io.KnownBytes.{Consumes, IsAtEnd, Keeps}
 use Rattle.std.proofs.KnownBytes.{Appends-trans, Appends-nil, Appends-kept, Consumes-nil, Consumes-trans, Consumes-kept}
 use Rattle.std.proofs.Math.Bool.{or-false}
 use Rattle.std.proofs.lemmas.List.{drop_all, drop_more, take_more}
@@ -18,9 +18,9 @@ use Rattle.replies.specs.Writes.{Writes}
 use Rattle.script_pieces.specs.declared.cutter.Cutter.{Cutter}
 use Rattle.script_pieces.specs.declared.request.Request as found
 use Rattle.script_pieces.specs.declared.request.Request.TheVariants as found_variants
-use Rattle.script_pieces.specs.PieceMeaning.{Request, Asks, IsBlank, here}
+use Rattle.script_pieces.specs.PieceMeaning.{Request, Asks, here}
 use Rattle.script_pieces.specs.Pieces.{ArePieces, AreEnded}
-use Rattle.script_pieces.specs.Cutter.{HasRead, GoesOn, EndsAt, EndsWithout, asked, call_text}
+use Rattle.script_pieces.specs.Cutter.{HasRead, GoesOn, EndsAt, asked}
 use Rattle.script_pieces.proofs.OneRequest.{one_request}
 use Rattle.session_definitions.specs.Rules.{Rules}
 use Rattle.session_definitions.specs.Run.{MakesSession, DropsSession}
@@ -35,9 +35,9 @@ use Rattle.scripts.specs.declared.script.ScriptFault.TheVariants.{Memory, Reader
 use Rattle.scripts.specs.declared.script.Sessions.{Sessions}
 use Rattle.scripts.specs.Settled.{Places}
 use Rattle.scripts.specs.Played.{Streams, between, ArePiecesSoFar, IsPrinted, IsWhole, IsCutShort, EndsEarly}
-use Rattle.scripts.specs.Playing.{scene_of, numbers_of, standing_from, AreLive, IsReady, FindsSession, IsCarriedOut, HasCut, HasPlayed, IsPlaying, HasStopped, HasPrinted, HasBroken, HasFinished, HasFailed, HasEnded, IsReading, FindsNone}
+use Rattle.scripts.specs.Playing.{scene_of, numbers_of, standing_from, AreLive, IsReady, FindsSession, IsCarriedOut, HasPlayed, IsPlaying, HasStopped, HasPrinted, HasBroken, HasFinished, HasFailed, HasEnded, IsReading, FindsNone}
 use Rattle.scripts.proofs.Standing.{none_standing, none_numbered, get_standing, set_standing, values_standing, live_alike, live_dropped, live_made, live_at}
-use Rattle.scripts.proofs.Pieces.{HasLater, cut_nothing, cut_on, cut_at, cut_ended, cut_later, cut_last, cut_none, asks_at}
+use Rattle.scripts.proofs.Pieces.{cut_nothing, cut_on, cut_at, cut_ended, cut_later, cut_last, cut_none}
 
 -- ---- a call
 

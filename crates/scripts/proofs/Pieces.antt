@@ -1,5 +1,5 @@
 -- The pieces of what was read, and what is left of it.
-use Rattle.std.proofs.Common.{◌≡◌, ◌≢◌, ◌⊎◌, refl, ap, sym, subst, ◌∙◌, ℕ, Bool, true, false, List, [], ◌∷◌, ◌++◌, append_assoc, append-nil, inl, inr, ◌==◌}
+use Rattle.std.proofs.Common.{◌≡◌, ◌≢◌, refl, ap, sym, subst, ◌∙◌, ℕ, Bool, true, false, List, [], ◌∷◌, ◌++◌, append_assoc, append-nil, inl, inr, ◌==◌}
 use Rattle.std.proofs.lemmas.Bool.{eqb-true, eqb-false, true≢false}
 use Rattle.script_pieces.specs.declared.cutter.Cutter.{Cutter}
 use Rattle.script_pieces.specs.declared.place.Place.{Place}
@@ -8,7 +8,7 @@ use Rattle.script_pieces.specs.declared.request.Request as found
 use Rattle.script_pieces.specs.PieceMeaning.{Asks}
 use Rattle.script_pieces.specs.Pieces.{semicolon, IsUnended, IsFirstPiece, ArePieces, StandBefore, AreEnded}
 use Rattle.script_pieces.specs.Place.{place_after, is_outside, LeadsTo}
-use Rattle.script_pieces.specs.Cutter.{HasRead, GoesOn, EndsAt, EndsWithout, asked, call_text}
+use Rattle.script_pieces.specs.Cutter.{HasRead, GoesOn, EndsAt, asked, call_text}
 use Rattle.script_pieces.proofs.Places.{ends_piece, leads_on, leads_from_nothing, unended}
 use Rattle.scripts.specs.Playing.{IsEndedPiece, AreEndedPieces, joined, HasCut}
 

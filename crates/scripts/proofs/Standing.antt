@@ -1,5 +1,5 @@
 -- The sessions that a script has made, by their numbers, and that each of them stands.
-use Rattle.std.proofs.Common.{◌≡◌, ◌≢◌, ◌⊎◌, refl, ap, sym, subst, ◌∙◌, ℕ, suc, zero, ◌<◌, ◌+◌, Bool, true, false, cond, List, [], ◌∷◌, map, replicate, get_or, length, Option, Some, None, Ok, inl, inr, arith}
+use Rattle.std.proofs.Common.{◌≡◌, ◌≢◌, ◌⊎◌, refl, ap, sym, ◌∙◌, ℕ, suc, zero, ◌<◌, ◌+◌, true, false, List, [], ◌∷◌, map, replicate, get_or, length, Some, None, Ok, inl, inr, arith}
 use Rattle.std.specs.Prelude.{slice_set, is_some}
 use Rattle.std.specs.Option.{option_map}
 use Rattle.std.specs.Ordering.{nat_cmp}

@@ -1,7 +1,6 @@
 -- What a script does, from the bytes that it reads to those that it writes. All of this is our own choice.
 use Rattle.std.specs.Prelude.{◌≡◌, ◌⊎◌, ℕ, Bool, List, Option}
 use Rattle.std.specs.Io.KnownBytes.{Appends, Consumes, IsAtEnd, Keeps}
-use Rattle.std.specs.declared.io.Error.{Error}
 use Rattle.replies.specs.Writes.{IsNoInterruption}
 use Rattle.script_pieces.specs.Pieces.{ArePieces, AreEnded}
 use Rattle.session_definitions.specs.Rules.{Rules}

@@ -1,5 +1,5 @@
 //! A script: the pieces of an input, carried out in order.
-ghost use Rattle.std.specs.Prelude.{◌≡◌, ◌≤◌, ◌<◌, ◌-◌, ◌++◌, ℕ, List, length, is_ok, Option, IfOk, IfErr, MatchResult};
+ghost use Rattle.std.specs.Prelude.{◌≡◌, ◌≤◌, ◌<◌, ◌-◌, ◌++◌, ℕ, false, List, length, is_ok, Option, IfOk, IfErr, MatchResult};
 ghost use Rattle.std.specs.Io.KnownBytes.{Consumes, Keeps, ReadConsumes};
 ghost use Rattle.replies.specs.Writes.{IsNoInterruption};
 ghost use Rattle.script_pieces.specs.PieceMeaning.{Asks};
@@ -82,7 +82,8 @@ pub fn run<S: Store, L: Language + Changes<S>, R: Read, W: Write>(
         chosen: 0,
         refused: false,
     };
-    let outcome = play(core, &mut cutter, &mut sessions, reader, writer);
+    let mut waits = false;
+    let outcome = play(core, &mut cutter, &mut sessions, reader, writer, &mut waits);
     sessions.end(core);
     match outcome {
         Ok(()) => Ok(sessions.refused),
@@ -90,14 +91,18 @@ pub fn run<S: Store, L: Language + Changes<S>, R: Read, W: Write>(
     }
 }
 
-/// Carries out all the pieces that the reader gives.
+/// Carries out all the pieces that the reader gives. `waits` is whether the writer may hold text that it has not passed on: never where
+/// the reader is asked for more, nor at the end.
 fn play<S: Store, L: Language + Changes<S>, R: Read, W: Write>(
     core: &mut Core<S, L>,
     cutter: &mut Cutter,
     sessions: &mut Sessions,
     reader: &mut R,
     writer: &mut W,
+    waits: &mut bool,
 ) -> Result<(), ScriptFault>
+    requires { waits.old ≡ false }
+    ensures flushed { IfOk result (λ _. waits.new ≡ false) }
     ensures plays { (rules : Rules) (start : World) (given held : Option (List ℕ)) → AreRules rules → IsKept S.is_sound S.shows rules.check sessions.old.standing core.old
         → IsReading rules (between given (R.remaining reader.old) held (W.contents writer.old)) start (world_of S.shows core.old) cutter.old sessions.old
         → MatchResult result (λ _. HasEnded rules (between given (R.remaining reader.new) held (W.contents writer.new)) start (world_of S.shows core.new) sessions.new)
@@ -108,7 +113,7 @@ fn play<S: Store, L: Language + Changes<S>, R: Read, W: Write>(
 {
     let mut chunk = [0u8; CHUNK];
     for _ in 0..u64::MAX {
-        match turn(core, cutter, sessions, reader, writer, &mut chunk) {
+        match turn(core, cutter, sessions, reader, writer, waits, &mut chunk) {
             Ok(true) => {}
             Ok(false) => return Ok(()),
             Err(fault) => return Err(fault),
@@ -124,9 +129,11 @@ fn turn<S: Store, L: Language + Changes<S>, R: Read, W: Write>(
     sessions: &mut Sessions,
     reader: &mut R,
     writer: &mut W,
+    waits: &mut bool,
     chunk: &mut [u8],
 ) -> Result<bool, ScriptFault>
-    requires { 0 < length chunk.old }
+    requires { (0 < length chunk.old) × (waits.old ≡ false) }
+    ensures flushed { IfOk result (λ _. waits.new ≡ false) }
     ensures plays { (rules : Rules) (start : World) (given held : Option (List ℕ)) → AreRules rules → IsKept S.is_sound S.shows rules.check sessions.old.standing core.old
         → IsReading rules (between given (R.remaining reader.old) held (W.contents writer.old)) start (world_of S.shows core.old) cutter.old sessions.old
         → MatchResult result (λ goes_on. AfterTurn goes_on rules (between given (R.remaining reader.new) held (W.contents writer.new)) start (world_of S.shows core.new) cutter.new sessions.new)
@@ -138,11 +145,11 @@ fn turn<S: Store, L: Language + Changes<S>, R: Read, W: Write>(
 {
     match read_some(reader, chunk) {
         Err(error) => Err(ScriptFault::Reader(error)),
-        Ok(0) => match play_last(core, cutter, sessions, writer) {
+        Ok(0) => match play_last(core, cutter, sessions, writer, waits) {
             Ok(()) => Ok(false),
             Err(error) => Err(ScriptFault::Writer(error)),
         },
-        Ok(count) => match play_bytes(core, cutter, sessions, &chunk[..count], writer) {
+        Ok(count) => match play_bytes(core, cutter, sessions, &chunk[..count], writer, waits) {
             Ok(()) => Ok(true),
             Err(error) => Err(ScriptFault::Writer(error)),
         },
@@ -155,7 +162,9 @@ fn play_last<S: Store, L: Language + Changes<S>, W: Write>(
     cutter: &mut Cutter,
     sessions: &mut Sessions,
     writer: &mut W,
+    waits: &mut bool,
 ) -> io::Result<()>
+    ensures flushed { IfOk result (λ _. waits.new ≡ false) }
     ensures plays { (rules : Rules) (start : World) (held : Option (List ℕ)) (input : List ℕ) → AreRules rules → IsKept S.is_sound S.shows rules.check sessions.old.standing core.old
         → IsPlaying rules start held input (world_of S.shows core.old) cutter.old sessions.old (W.contents writer.old)
         → HasFinished rules start held input (is_ok result) (world_of S.shows core.new) sessions.new (W.contents writer.new) }
@@ -164,8 +173,8 @@ fn play_last<S: Store, L: Language + Changes<S>, W: Write>(
     ensures counts { S.refused (store_of core.old) ≤ S.refused (store_of core.new) }
 {
     let last = cutter.finish();
-    match carry_out_piece(core, cutter, sessions, last, writer) {
-        Ok(()) => pass_on(writer),
+    match carry_out_piece(core, cutter, sessions, last, writer, waits) {
+        Ok(()) => pass_on(writer, waits),
         Err(error) => Err(error),
     }
 }
@@ -191,13 +200,17 @@ fn read_some<R: Read>(reader: &mut R, chunk: &mut [u8]) -> io::Result<usize>
 }
 
 /// Has the writer pass on what it took.
-fn pass_on<W: Write>(writer: &mut W) -> io::Result<()>
+fn pass_on<W: Write>(writer: &mut W, waits: &mut bool) -> io::Result<()>
+    ensures flushed { IfOk result (λ _. waits.new ≡ false) }
     ensures bytes { Keeps (W.contents writer.old) (W.contents writer.new) }
     ensures tried_again { IfErr result IsNoInterruption }
 {
     for _ in 0..u64::MAX {
         match writer.flush() {
-            Ok(()) => return Ok(()),
+            Ok(()) => {
+                *waits = false;
+                return Ok(());
+            }
             Err(error) => {
                 if error.kind() != ErrorKind::Interrupted {
                     return Err(error);
@@ -215,7 +228,9 @@ fn play_bytes<S: Store, L: Language + Changes<S>, W: Write>(
     sessions: &mut Sessions,
     bytes: &[u8],
     writer: &mut W,
+    waits: &mut bool,
 ) -> io::Result<()>
+    ensures flushed { IfOk result (λ _. waits.new ≡ false) }
     ensures plays { (rules : Rules) (start : World) (held : Option (List ℕ)) (input : List ℕ) → AreRules rules → IsKept S.is_sound S.shows rules.check sessions.old.standing core.old
         → IsPlaying rules start held input (world_of S.shows core.old) cutter.old sessions.old (W.contents writer.old)
         → MatchResult result (λ _. IsPlaying rules start held (input ++ bytes.now) (world_of S.shows core.new) cutter.new sessions.new (W.contents writer.new))
@@ -226,13 +241,13 @@ fn play_bytes<S: Store, L: Language + Changes<S>, W: Write>(
 {
     for byte in bytes {
         if let Some(request) = cutter.take(*byte) {
-            match carry_out_piece(core, cutter, sessions, request, writer) {
+            match carry_out_piece(core, cutter, sessions, request, writer, waits) {
                 Ok(()) => cutter.clear(),
                 Err(error) => return Err(error),
             }
         }
     }
-    pass_on(writer)
+    pass_on(writer, waits)
 }
 
 /// Carries out what a piece asks for, and prints the reply where there is one.
@@ -242,7 +257,9 @@ fn carry_out_piece<S: Store, L: Language + Changes<S>, W: Write>(
     sessions: &mut Sessions,
     request: Request,
     writer: &mut W,
+    waits: &mut bool,
 ) -> io::Result<()>
+    ensures told { waits.new ≡ false → writer.new ≡ writer.old }
     ensures carries_out { (rules : Rules) (piece : List ℕ) → AreRules rules → IsKept S.is_sound S.shows rules.check sessions.old.standing core.old
         → IsReady (world_of S.shows core.old) sessions.old → Asks piece (asked request (call_text cutter.now))
         → IsCarriedOut rules piece (world_of S.shows core.old) sessions.old (world_of S.shows core.new) sessions.new (W.contents writer.old) (W.contents writer.new) (is_ok result) }
@@ -254,6 +271,7 @@ fn carry_out_piece<S: Store, L: Language + Changes<S>, W: Write>(
         None => Ok(()),
         Some(reply) => {
             sessions.note(&reply);
+            *waits = true;
             print_reply(&reply, writer)
         }
     }

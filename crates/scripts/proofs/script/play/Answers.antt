@@ -30,6 +30,7 @@ loop-preserved g c = record {
       (c.in-Ok-true.ensures.plays r start given held are (c.loop.invariant.kept r are h) (c.loop.invariant.plays r start given held are h reading));
   kept = λ r are h. c.turn.ensures.kept r are (c.loop.invariant.kept r are h);
   counts = le_trans c.loop.invariant.counts c.turn.ensures.counts;
+  passed = c.in-Ok-true.ensures.flushed;
   room = c.turn.ensures.room ∙ c.loop.invariant.room;
 }
 

@@ -1,4 +1,4 @@
-use Rattle.std.specs.Prelude.{◌≡◌, ◌≤◌, ℕ, List, length, Option}
+use Rattle.std.specs.Prelude.{◌≡◌, ◌≤◌, ℕ, List, length, Option, false}
 use Rattle.session_definitions.specs.Rules.{Rules, AreRules}
 use Rattle.session_definitions.specs.World.{World}
 use Rattle.sessions.specs.OfCore.{world_of}
@@ -16,5 +16,6 @@ invariant-loop g l = record {
   kept : (rules : Rules) → AreRules rules → IsKept g.S.Store.is_sound g.S.Store.shows rules.check l.fn.sessions.standing l.fn.core
       → IsKept g.S.Store.is_sound g.S.Store.shows rules.check l.sessions.standing l.core;
   counts : g.S.Store.refused (store_of l.fn.core) ≤ g.S.Store.refused (store_of l.core);
+  passed : l.waits ≡ false;
   room : length l.chunk ≡ 4096;
 }
