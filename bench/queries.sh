@@ -75,7 +75,7 @@ timed() {
     seconds "$1" "$script" >> "$work/with"
     seconds "$1" "$work/empty" >> "$work/without"
   done
-  awk -v a="$(median "$work/with")" -v b="$(median "$work/without")" 'BEGIN { d = a - b; printf "%.4f\n", d > 0.0005 ? d : 0.0005 }'
+  awk -v a="$(median "$work/with")" -v b="$(median "$work/without")" 'BEGIN { d = a - b; printf "%.4f\n", (d > 0.0005 ? d : 0.0005) }'
 }
 
 for rows in 3000 10000 100000; do tables "$rows" > "$work/tables.$rows"; done

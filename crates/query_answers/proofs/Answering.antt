@@ -15,6 +15,8 @@ use Rattle.denote.specs.Outcome.{Outcome, OrderedOutcome}
 use Rattle.denote.specs.Query.{denotes}
 use Rattle.session_definitions.specs.Refusals.{IsReserved}
 use Rattle.store.specs.Contents.{Contents, database_of}
+use Rattle.executor.specs.declared.listed.Listed.{Listed}
+use Rattle.executor.specs.Reply.{outcome_of}
 use Rattle.query_answers.specs.Refused.{MayRefuse}
 use Rattle.tree_tables.specs.TablesRead.{Agree, tables_in_tree}
 use Rattle.query_answers.specs.Answered.{rows_found, IsTreeOf, RefusesAs}
@@ -27,11 +29,10 @@ ListingsAnswer = (described : List ℕ → StoredTable) → ((name : List ℕ) �
 abbrev pub ListingsRead : Type 0
 ListingsRead = (tables others : Tables) (tree : Tree) → Agree tables others (tables_in_tree tree) → tree_listing tables tree ≡ tree_listing others tree
 
-pub listed_answers : ListingsAnswer → ListingsRead → (c : Contents) (lent : Tables) (tree : Tree) → Agree lent (rows_found c) (tables_in_tree tree) → (listed : Outcome) → listed ≡ tree_listing lent tree []
+pub listed_answers : ListingsAnswer → (c : Contents) (tree : Tree) (listed : Outcome) → listed ≡ tree_listing (rows_found c) tree []
     → (ordered : OrderedQuery) → IsTreeOf ordered tree → Answers (reply_of listed) (denotes (database_of c) ordered)
-listed_answers answer read c lent tree agree listed is ordered t =
-    let same : listed ≡ tree_listing (rows_found c) (tree_of_ordered t.described ordered) [] =
-    is ∙ ap (λ (m : _). m []) (read lent (rows_found c) tree agree) ∙ ap (λ (x : Tree). tree_listing (rows_found c) x []) t.is in
+listed_answers answer c tree listed is ordered t =
+    let same : listed ≡ tree_listing (rows_found c) (tree_of_ordered t.described ordered) [] = is ∙ ap (λ (x : Tree). tree_listing (rows_found c) x []) t.is in
     subst (λ (o : Outcome). Answers (reply_of o) (denotes (database_of c) ordered)) (sym same) (answer t.described t.names (database_of c) ordered)
 
 -- rows, and a fault
@@ -44,15 +45,21 @@ fault_answers reply refusal o (inr raised) answers = inr (raised.0, raised.1, su
 
 -- ---- as clauses of a call
 
-module _ (answer : ListingsAnswer) (read : ListingsRead) (c : Contents) (lent : Tables) (tree : Tree) (Sound : Type 0) (agree : Sound → Agree lent (rows_found c) (tables_in_tree tree)) where
-  pub rows_given : (result : Result (List Row) Refusal) → IfOk result (λ rows. reply_of (tree_listing lent tree []) ≡ Ok rows)
+-- over the tables that were lent, and so over those of the reading
+pub run_listed : ListingsRead → (c : Contents) (lent : Tables) (tree : Tree) (Sound : Type 0) → (Sound → Agree lent (rows_found c) (tables_in_tree tree)) → (result : Result Listed Refusal)
+    → IfOk result (λ listed. outcome_of listed ≡ tree_listing lent tree []) → Sound → IfOk result (λ listed. outcome_of listed ≡ tree_listing (rows_found c) tree [])
+run_listed read c lent tree Sound agree (Ok listed) is sound = is ∙ ap (λ (m : _). m []) (read lent (rows_found c) tree (agree sound))
+run_listed read c lent tree Sound agree (Err refusal) is sound = tt
+
+module _ (answer : ListingsAnswer) (c : Contents) (tree : Tree) (Sound : Type 0) (listed : Outcome) (is : Sound → listed ≡ tree_listing (rows_found c) tree []) where
+  pub rows_given : (result : Result (List Row) Refusal) → IfOk result (λ rows. reply_of listed ≡ Ok rows)
       → IfOk result (λ rows. Sound → (ordered : OrderedQuery) → IsTreeOf ordered tree → Answers (Ok rows) (denotes (database_of c) ordered))
   rows_given (Ok rows) shown = λ sound ordered t.
-      rows_answer (reply_of (tree_listing lent tree [])) rows (denotes (database_of c) ordered) shown (listed_answers answer read c lent tree (agree sound) (tree_listing lent tree []) refl ordered t)
+      rows_answer (reply_of listed) rows (denotes (database_of c) ordered) shown (listed_answers answer c tree listed (is sound) ordered t)
   rows_given (Err refusal) shown = tt
 
-  pub refusal_given : (result : Result (List Row) Refusal) → IfErr result (RefusesAs (reply_of (tree_listing lent tree [])))
+  pub refusal_given : (result : Result (List Row) Refusal) → IfErr result (RefusesAs (reply_of listed))
       → IfErr result (λ refusal. Sound → (ordered : OrderedQuery) → IsTreeOf ordered tree → MayRefuse (denotes (database_of c) ordered).unordered.faults refusal)
   refusal_given (Ok rows) shown = tt
   refusal_given (Err refusal) shown = λ sound ordered t.
-      fault_answers (reply_of (tree_listing lent tree [])) refusal (denotes (database_of c) ordered) shown (listed_answers answer read c lent tree (agree sound) (tree_listing lent tree []) refl ordered t)
+      fault_answers (reply_of listed) refusal (denotes (database_of c) ordered) shown (listed_answers answer c tree listed (is sound) ordered t)

@@ -1,20 +1,27 @@
 -- Tables that are lent one after another, each with the rows under its name.
-use Rattle.std.proofs.Common.{◌≡◌, refl, sym, ap, subst, ◌∙◌, ℕ, Bool, true, false, ◌||◌, cond, List, [], ◌∷◌, ◌++◌, Option, Some, None, inl, inr, ◌⊎◌, Contains, arith}
+use Rattle.std.proofs.Common.{◌≡◌, refl, sym, ap, subst, ◌∙◌, ℕ, Bool, true, false, ◌||◌, cond, if◌then◌else◌, suc, min, ◌^◌, ◌-◌, List, [], ◌∷◌, ◌++◌, length, take, get_or, map, filter, not, ◌+◌, ◌<◌, ◌≤◌, Option, Some, None, inl, inr, ◌⊎◌, Contains, arith}
 use Rattle.std.specs.FinMap.{get}
+use Rattle.std.specs.List.{list_any, sum_by}
 use Rattle.std.specs.Option.{option_map}
 use Rattle.std.specs.Cmp.Lexicographic.{bytes_decides}
 use Rattle.std.proofs.lemmas.List.Elements.{Contains-push_cases}
+use Rattle.std.proofs.lemmas.List.Sums.{sum_by-append}
+use Rattle.std.proofs.Math.Nat.{min-le_left}
+use Rattle.std.proofs.Math.Numerals.{add-one}
+use Rattle.std.proofs.Math.Seq.{take-suc}
 use Rattle.sqlval.specs.Schema.{same_name}
 use Rattle.sqlval.specs.Value.{Row}
 use Rattle.denote.specs.Database.{rows_of as rows_of_table}
+use Rattle.denote.specs.Bag.{distinct_by}
 use Rattle.denote.specs.Meaning.{Tables}
+use Rattle.store.specs.View.{counted_on}
 use Rattle.store.specs.Contents.{Contents, StoredTable, table_of, rows_of}
 use Rattle.store.specs.Indexes.{entries_of}
 use Rattle.store.proofs.Databases.{database-get}
 use Rattle.tree_tables.specs.TablesRead.{Agree}
 use Rattle.query_answers.specs.declared.lent.LentTable.{LentTable}
 use Rattle.query_answers.specs.Answered.{rows_found}
-use Rattle.query_answers.specs.Lent.{rows_lent, is_lent, IsLending}
+use Rattle.query_answers.specs.Lent.{rows_lent, is_lent, IsLending, once, rows_under, newly_read}
 
 -- what a scan finds are the rows under the name
 pub scanned : (c : Contents) (name : List ℕ) (rows : List Row) → rows ≡ rows_of (entries_of (get c name)) → rows ≡ rows_found c name
@@ -101,3 +108,92 @@ lent_newly tables rows names name t h absent named found =
 
 pub all_lent : (tables : List LentTable) (rows : Tables) (names : List (List ℕ)) → IsLending tables rows names → Agree (rows_lent tables) rows names
 all_lent tables rows names h = λ name among. h.right name (h.all name among)
+
+-- ---- how many rows are read
+
+-- a scan counts no more than the rows that it gives
+pub counted : (before now : ℕ) (rows found : List Row) → now ≡ counted_on before (length rows) → rows ≡ found → now ≤ before + length found
+counted before now rows found is same = rw (is, same) (min_first (before + length found) (2 ^ 64 - 1))
+  where
+    min_first : (a b : ℕ) → min a b ≤ a
+    min_first a b = min-le_left a b
+
+-- one more name: it is one of each alike already, or it comes last
+once_more : (names : List (List ℕ)) (name : List ℕ) → once (names ++ name ∷ []) ≡ (if list_any (λ n. same_name n name) names then once names else once names ++ name ∷ [])
+once_more [] name = refl
+once_more (n ∷ names) name =
+    ap (λ (ns : List (List ℕ)). n ∷ filter (λ m. not (same_name n m)) ns) (once_more names name) ∙ by (same_name n name) (list_any (λ m. same_name m name) names) refl
+  where
+    kept : (b : Bool) → same_name n name ≡ b → (ns : List (List ℕ)) → filter (λ m. not (same_name n m)) (ns ++ name ∷ []) ≡ (if b then filter (λ m. not (same_name n m)) ns else filter (λ m. not (same_name n m)) ns ++ name ∷ [])
+    kept true is [] = rw is refl
+    kept false is [] = rw is refl
+    kept b is (x ∷ ns) = step (not (same_name n x)) b (kept b is ns)
+      where
+        step : (k b : Bool) → filter (λ m. not (same_name n m)) (ns ++ name ∷ []) ≡ (if b then filter (λ m. not (same_name n m)) ns else filter (λ m. not (same_name n m)) ns ++ name ∷ [])
+            → (if k then x ∷ filter (λ m. not (same_name n m)) (ns ++ name ∷ []) else filter (λ m. not (same_name n m)) (ns ++ name ∷ []))
+            ≡ (if b then (if k then x ∷ filter (λ m. not (same_name n m)) ns else filter (λ m. not (same_name n m)) ns) else (if k then x ∷ filter (λ m. not (same_name n m)) ns else filter (λ m. not (same_name n m)) ns) ++ name ∷ [])
+        step true true e = ap (λ zs. x ∷ zs) e
+        step true false e = ap (λ zs. x ∷ zs) e
+        step false true e = e
+        step false false e = e
+
+    by : (a b : Bool) → same_name n name ≡ a
+        → n ∷ filter (λ m. not (same_name n m)) (if b then once names else once names ++ name ∷ [])
+        ≡ (if a || b then n ∷ filter (λ m. not (same_name n m)) (once names) else (n ∷ filter (λ m. not (same_name n m)) (once names)) ++ name ∷ [])
+    by true true is = refl
+    by false true is = refl
+    by true false is = ap (λ zs. n ∷ zs) (kept true is (once names))
+    by false false is = ap (λ zs. n ∷ zs) (kept false is (once names))
+
+-- a name that is alike to one of these is one of these
+among_them : (names : List (List ℕ)) (name : List ℕ) → list_any (λ n. same_name n name) names ≡ true → Contains names name
+among_them [] name h = absurd (cc h)
+among_them (n ∷ names) name h = by (same_name n name) refl (λ there. among_them names name there) h
+  where
+    first_of : (x : List ℕ) (xs : List (List ℕ)) → Contains (x ∷ xs) x
+    first_of x xs = (0, omega arith, refl)
+
+    later_of : (x : List ℕ) (xs : List (List ℕ)) (y : List ℕ) → Contains xs y → Contains (x ∷ xs) y
+    later_of x xs y h = (suc h.0, omega (arith, h.1), h.2)
+
+    by : (b : Bool) → same_name n name ≡ b → (list_any (λ m. same_name m name) names ≡ true → Contains names name) → (b || list_any (λ m. same_name m name) names) ≡ true
+        → Contains (n ∷ names) name
+    by true is later there = subst (Contains (n ∷ names)) ((bytes_decides n name).0 is) (first_of n names)
+    by false is later there = later_of n names name (later there)
+
+-- what is read of one more name
+pub read_more : (tables : List LentTable) (rows : Tables) (names : List (List ℕ)) (name : List ℕ) → IsLending tables rows names → (from before now : ℕ) → before ≤ from + rows_under rows names
+    → now ≤ before + newly_read tables rows name → now ≤ from + rows_under rows (names ++ name ∷ [])
+read_more tables rows names name h from before now some more = by (list_any (λ n. same_name n name) names) refl (is_lent tables name) refl
+  where
+    by : (b : Bool) → list_any (λ n. same_name n name) names ≡ b → (l : Bool) → is_lent tables name ≡ l → now ≤ from + rows_under rows (names ++ name ∷ [])
+    by true among true lent = rw (once_more names name, among) (omega (arith, some, rw lent at more))
+    by true among false lent = absurd (cc (sym lent ∙ h.all name (among_them names name among)))
+    by false among true lent = rw (once_more names name, among, sum_by-append (λ n. length (rows n)) (once names) (name ∷ [])) (omega (arith, some, rw lent at more))
+    by false among false lent = rw (once_more names name, among, sum_by-append (λ n. length (rows n)) (once names) (name ∷ [])) (omega (arith, some, rw lent at more))
+
+pub read_already : (tables : List LentTable) (rows : Tables) (name : List ℕ) (before : ℕ) → before ≤ before + newly_read tables rows name
+read_already tables rows name before = omega arith
+
+pub read_newly : (tables : List LentTable) (rows : Tables) (name : List ℕ) (before now : ℕ) → is_lent tables name ≡ false → now ≤ before + length (rows name) → now ≤ before + newly_read tables rows name
+read_newly tables rows name before now lent more = rw lent more
+
+-- ---- one turn of the loop over the names; the reading's tables are those from which it began
+
+next_names : (names : List (List ℕ)) (at : ℕ) (name : List ℕ) → at < length names → name ≡ get_or names at name → take at names ++ name ∷ [] ≡ take (at + 1) names
+next_names names at name below is = rw (add-one, take-suc names at name, ← is) refl
+
+pub lent_next : (c d : Contents) (tables new : List LentTable) (names : List (List ℕ)) (at : ℕ) (name : List ℕ) → d ≡ c → at < length names → name ≡ get_or names at name
+    → ((before : List (List ℕ)) → IsLending tables (rows_found d) before → IsLending new (rows_found d) (before ++ name ∷ []))
+    → IsLending tables (rows_found c) (take at names) → IsLending new (rows_found c) (take (at + 1) names)
+lent_next c d tables new names at name same below is more h =
+    let there : IsLending tables (rows_found d) (take at names) = subst (λ x. IsLending tables (rows_found x) (take at names)) (sym same) h in
+    let all : IsLending new (rows_found d) (take (at + 1) names) = subst (IsLending new (rows_found d)) (next_names names at name below is) (more (take at names) there) in
+    subst (λ x. IsLending new (rows_found x) (take (at + 1) names)) same all
+
+pub read_next : (c d : Contents) (tables : List LentTable) (names : List (List ℕ)) (at : ℕ) (name : List ℕ) → d ≡ c → at < length names → name ≡ get_or names at name
+    → IsLending tables (rows_found c) (take at names) → (from before now : ℕ) → before ≤ from + rows_under (rows_found c) (take at names)
+    → now ≤ before + newly_read tables (rows_found d) name → now ≤ from + rows_under (rows_found c) (take (at + 1) names)
+read_next c d tables names at name same below is h from before now some more =
+    let read : now ≤ before + newly_read tables (rows_found c) name = subst (λ x. now ≤ before + newly_read tables (rows_found x) name) same more in
+    subst (λ ns. now ≤ from + rows_under (rows_found c) ns) (next_names names at name below is) (read_more tables (rows_found c) (take at names) name h from before now some read)

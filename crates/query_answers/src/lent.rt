@@ -1,11 +1,11 @@
 //! The rows of stored tables, lent to a tree.
-ghost use Rattle.std.specs.Prelude.{◌≡◌, ℕ, List, [], ◌∷◌, ◌++◌, IfOk, IfErr, OnOk};
+ghost use Rattle.std.specs.Prelude.{◌≡◌, ◌≤◌, ◌+◌, ℕ, List, [], ◌∷◌, ◌++◌, length, IfOk, IfErr, OnOk};
 ghost use Rattle.refusals.specs.declared.refusal.Refusal.TheVariants.{Disk};
 ghost use Rattle.session_definitions.specs.Refusals.{IsReserved};
 ghost use Rattle.store.specs.Errors.{HasRisen};
 ghost use Rattle.tree_tables.specs.TablesRead.{Agree};
 ghost use Rattle.query_answers.specs.Answered.{rows_found};
-ghost use Rattle.query_answers.specs.Lent.{rows_lent, is_lent, IsLending};
+ghost use Rattle.query_answers.specs.Lent.{rows_lent, rows_under, is_lent, newly_read, IsLending};
 
 use denote::{Row, Rows, Tables};
 use items::{Items, Text};
@@ -67,6 +67,7 @@ fn is_lent(tables: &[LentTable], name: &Text) -> bool
 fn read_table<R: Reading>(alloc: Global, reading: &mut R, name: &Text) -> Result<LentTable, Refusal>
     ensures name { IfOk result (λ table. table.name ≡ name.now) }
     ensures rows { R.is_sound reading.old → IfOk result (λ table. table.rows ≡ rows_found (R.shows reading.old).contents name.now) }
+    ensures read { R.is_sound reading.old → IfOk result (λ _. (R.shows reading.new).read ≤ (R.shows reading.old).read + length (rows_found (R.shows reading.old).contents name.now)) }
     ensures refused { IfErr result (λ refusal. R.is_sound reading.old → IsReserved refusal) }
     ensures counts { IfErr result (λ refusal. refusal ≡ Disk → HasRisen (R.shows reading.old).refused (R.shows reading.new).refused) }
     ensures follows { R.follows reading.old reading.new }
@@ -90,6 +91,7 @@ fn lend<R: Reading>(
 ) -> Result<(), Refusal>
     ensures lent { R.is_sound reading.old → OnOk result ((names : List (List ℕ)) → IsLending tables.old (rows_found (R.shows reading.old).contents) names
         → IsLending tables.new (rows_found (R.shows reading.old).contents) (names ++ name.now ∷ [])) }
+    ensures read { R.is_sound reading.old → OnOk result ((R.shows reading.new).read ≤ (R.shows reading.old).read + newly_read tables.old (rows_found (R.shows reading.old).contents) name.now) }
     ensures refused { IfErr result (λ refusal. R.is_sound reading.old → IsReserved refusal) }
     ensures counts { IfErr result (λ refusal. refusal ≡ Disk → HasRisen (R.shows reading.old).refused (R.shows reading.new).refused) }
     ensures follows { R.follows reading.old reading.new }
@@ -104,13 +106,14 @@ fn lend<R: Reading>(
     }
 }
 
-/// The tables of these names, each read once. It is refused for what the store is refused for.
+/// The tables of these names, each read once: no more rows are read than these tables have. It is refused for what the store is refused for.
 pub fn lent_tables<R: Reading>(
     alloc: Global,
     reading: &mut R,
     names: &[Text],
 ) -> Result<LentTables, Refusal>
     ensures lent { R.is_sound reading.old → IfOk result (λ lent. Agree (rows_lent lent.tables) (rows_found (R.shows reading.old).contents) names.now) }
+    ensures read { R.is_sound reading.old → IfOk result (λ _. (R.shows reading.new).read ≤ (R.shows reading.old).read + rows_under (rows_found (R.shows reading.old).contents) names.now) }
     ensures refused { IfErr result (λ refusal. R.is_sound reading.old → IsReserved refusal) }
     ensures counts { IfErr result (λ refusal. refusal ≡ Disk → HasRisen (R.shows reading.old).refused (R.shows reading.new).refused) }
     ensures follows { R.follows reading.old reading.new }

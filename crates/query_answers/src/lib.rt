@@ -8,6 +8,6 @@ mod rows;
 mod sources;
 
 pub use lent::{LentTable, LentTables, lent_tables};
-pub use query::{answer, query_tree};
+pub use query::{answer, query_tree, run_all};
 pub use rows::rows_to_insert;
 pub use sources::{source_trees, tables_for_sources};

@@ -1,16 +1,19 @@
 //! The answer of a query.
-ghost use Rattle.std.specs.Prelude.{◌≡◌, ◌≢◌, Ok, IfOk, IfErr};
-ghost use Rattle.refusals.specs.declared.refusal.Refusal.TheVariants.{Disk};
+ghost use Rattle.std.specs.Prelude.{◌≡◌, ◌≢◌, ◌≤◌, ◌+◌, [], Ok, IfOk, IfErr};
+ghost use Rattle.refusals.specs.declared.refusal.Refusal.TheVariants.{Disk, Memory};
 ghost use Rattle.typing.specs.declared.typed.OrderedQuery.{OrderedQuery as Asked};
 ghost use Rattle.denote.specs.Answer.{Answers};
 ghost use Rattle.denote.specs.Query.{denotes};
 ghost use Rattle.store.specs.Contents.{database_of};
 ghost use Rattle.store.specs.Errors.{HasRisen};
 ghost use Rattle.query_answers.specs.Refused.{MayRefuse};
-ghost use Rattle.algebra.specs.Listing.{reply_of};
+ghost use Rattle.algebra.specs.Listing.{reply_of, tree_listing};
 ghost use Rattle.denote.specs.Outcome.{Outcome};
-ghost use Rattle.executor.specs.Reply.{Lists};
-ghost use Rattle.query_answers.specs.Answered.{IsTreeOf, RefusesAs};
+ghost use Rattle.executor.specs.Reply.{Lists, outcome_of};
+ghost use Rattle.session_definitions.specs.Refusals.{IsReserved};
+ghost use Rattle.tree_tables.specs.TablesRead.{tables_in_tree};
+ghost use Rattle.query_answers.specs.Lent.{rows_under};
+ghost use Rattle.query_answers.specs.Answered.{IsTreeOf, RefusesAs, rows_found};
 
 use crate::fault::refusal_of_fault;
 use crate::lent::lent_tables;
@@ -33,6 +36,38 @@ pub fn query_tree(alloc: Global, schema: &Schema, query: &OrderedQuery) -> Resul
     translate(alloc, schema, query)
 }
 
+/// Carries out a plan, which is a tree as it stands: what it lists, over the tables as the reading finds them. Each table that it names is read once, and no row besides.
+/// A fault of the plan is the end of its list and no refusal; it is refused for want of memory, and for what the store is refused for.
+pub fn run_all<R: Reading>(alloc: Global, reading: &mut R, plan: &Tree) -> Result<Listed, Refusal>
+    ensures lists { R.is_sound reading.old → IfOk result (λ listed. outcome_of listed ≡ tree_listing (rows_found (R.shows reading.old).contents) plan.now []) }
+    ensures read { R.is_sound reading.old → IfOk result (λ _. (R.shows reading.new).read ≤ (R.shows reading.old).read + rows_under (rows_found (R.shows reading.old).contents) (tables_in_tree plan.now)) }
+    ensures refused { IfErr result (λ refusal. R.is_sound reading.old → IsReserved refusal) }
+    ensures counts { IfErr result (λ refusal. refusal ≡ Disk → HasRisen (R.shows reading.old).refused (R.shows reading.new).refused) }
+    ensures follows { R.follows reading.old reading.new }
+{
+    listings_read_their_tables();
+    let names = match tables_in_tree(alloc, plan) {
+        Ok(names) => names,
+        Err(_) => return Err(Refusal::Memory),
+    };
+    let lent = match lent_tables(alloc, reading, names.as_slice()) {
+        Ok(lent) => lent,
+        Err(refusal) => return Err(refusal),
+    };
+    unstopped(tree_listed(alloc, &lent, &Env::Outermost, plan))
+}
+
+/// A list. What stops one is want of memory.
+fn unstopped(listed: Result<Listed, Stop>) -> Result<Listed, Refusal>
+    ensures lists { (meant : Outcome) → Lists listed meant → IfOk result (λ list. outcome_of list ≡ meant) }
+    ensures refused { IfErr result (λ refusal. refusal ≡ Memory) }
+{
+    match listed {
+        Ok(listed) => Ok(listed),
+        Err(_) => Err(Refusal::Memory),
+    }
+}
+
 /// The rows of a query by its tree. Each table that it names is read once. It is refused by one of the query's faults, and for what the store is refused for.
 pub fn answer<R: Reading>(alloc: Global, reading: &mut R, tree: &Tree) -> Result<Rows, Refusal>
     ensures answers { IfOk result (λ rows. R.is_sound reading.old → (ordered : Asked) → IsTreeOf ordered tree.now → Answers (Ok rows) (denotes (database_of (R.shows reading.old).contents) ordered)) }
@@ -41,29 +76,20 @@ pub fn answer<R: Reading>(alloc: Global, reading: &mut R, tree: &Tree) -> Result
     ensures follows { R.follows reading.old reading.new }
 {
     listings_answer_queries();
-    listings_read_their_tables();
-    let names = match tables_in_tree(alloc, tree) {
-        Ok(names) => names,
-        Err(_) => return Err(Refusal::Memory),
-    };
-    let lent = match lent_tables(alloc, reading, names.as_slice()) {
-        Ok(lent) => lent,
-        Err(refusal) => return Err(refusal),
-    };
-    shown(tree_listed(alloc, &lent, &Env::Outermost, tree))
+    match run_all(alloc, reading, tree) {
+        Ok(listed) => shown(listed),
+        Err(refusal) => Err(refusal),
+    }
 }
 
 /// What is shown of a listing: its rows, or the fault that ends it.
-fn shown(listed: Result<Listed, Stop>) -> Result<Rows, Refusal>
-    ensures rows { (meant : Outcome) → Lists listed meant → IfOk result (λ rows. reply_of meant ≡ Ok rows) }
-    ensures refused { (meant : Outcome) → Lists listed meant → IfErr result (RefusesAs (reply_of meant)) }
+fn shown(listed: Listed) -> Result<Rows, Refusal>
+    ensures rows { IfOk result (λ rows. reply_of (outcome_of listed) ≡ Ok rows) }
+    ensures refused { IfErr result (RefusesAs (reply_of (outcome_of listed))) }
     ensures stored { IfErr result (λ refusal. refusal ≢ Disk) }
 {
-    match listed {
-        Ok(listed) => match listed.fault {
-            None => Ok(listed.rows),
-            Some(fault) => Err(refusal_of_fault(fault)),
-        },
-        Err(_) => Err(Refusal::Memory),
+    match listed.fault {
+        None => Ok(listed.rows),
+        Some(fault) => Err(refusal_of_fault(fault)),
     }
 }
