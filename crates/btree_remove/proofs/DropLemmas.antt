@@ -78,7 +78,7 @@ drop_page old mid new page xs a e f = record {
 
 -- ---- what a page shows
 
-no_leaf : (pages : PageMap) (page : ℕ) (view : PageView) (t : Tree zero) (lo : Key) (hi : Option Key) → Sees pages page view → view.kind ≡ Inner → IsUnder pages page zero t lo hi → ⊥
+pub no_leaf : (pages : PageMap) (page : ℕ) (view : PageView) (t : Tree zero) (lo : Key) (hi : Option Key) → Sees pages page view → view.kind ≡ Inner → IsUnder pages page zero t lo hi → ⊥
 no_leaf pages page view t lo hi s k u =
     let e : InnerNode view.link (map branch_of view.cells) ≡ LeafNode t.next t.entries = sym (inner_shown pages page view k) ∙ sees_leaf pages page view t lo hi s u in cc
 
@@ -87,7 +87,7 @@ no_inner pages page view d t lo hi s k u =
     let e : LeafNode view.link (map entry_of view.cells) ≡ InnerNode (page_of d t.first) (map (branch_to d) t.rest) =
     sym (leaf_shown pages page view k) ∙ sees_inner pages page view d t lo hi s u in cc
 
-in_use : (pages : PageMap) (page : ℕ) (d : ℕ) (t : Tree d) (lo : Key) (hi : Option Key) → IsUnder pages page d t lo hi → IsSome (pages page)
+pub in_use : (pages : PageMap) (page : ℕ) (d : ℕ) (t : Tree d) (lo : Key) (hi : Option Key) → IsUnder pages page d t lo hi → IsSome (pages page)
 in_use pages page zero t lo hi u = subst (λ n. IsSome (pages n)) u.at (node_is_used pages t.page _ u.holds.0)
 in_use pages page (suc d) t lo hi u = subst (λ n. IsSome (pages n)) u.at (node_is_used pages t.page _ u.holds.0)
 

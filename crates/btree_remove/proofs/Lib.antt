@@ -1,1 +1,14 @@
 pub mod DropLemmas
+pub mod ExchangeLemmas
+pub mod RunLemmas
+pub mod TopLemmas
+pub mod LeafLemmas
+pub mod PairLemmas
+pub mod StepLemmas
+pub mod SettleLemmas
+pub mod PageSteps
+pub mod WithoutLemmas
+pub mod RootLemmas
+pub mod BelowLemmas
+pub mod PlacedLemmas
+pub mod LawLemmas
