@@ -1,36 +1,51 @@
 //! Command lines.
 
-ghost use Rattle.std.specs.Prelude.{◌≡◌, ℕ, Some, List, codes, map, IfOk, IfErr, MatchResult};
-ghost use Rattle.clap.specs.Words.{app_of, found_of, kind_of, one_text};
-ghost use Rattle.shell.specs.Words.{Asks, WritesFrames, sqlsh_app};
+ghost use Rattle.std.specs.Prelude.{◌≡◌, ℕ, map, IfOk, IsOkAnd};
+ghost use Rattle.shell.specs.Words.{Asks};
 
-use crate::options::{DEFAULT_FRAMES, Frames, GREATEST_FRAMES, LEAST_FRAMES, Settings};
+use crate::options::{GREATEST_FRAMES, LEAST_FRAMES, Settings};
+use crate::words::frames_asked;
 use clap::error::ErrorKind;
-use clap::{Arg, ArgMatches, Command, Error, value_parser};
+use clap::{Arg, Command, Error, value_parser};
 use std::alloc::Global;
 use std::convert::AsStr;
 
 /// Reads the words of a command line of `sqlsh`, the program's name first.
 ///
-/// The answer is an error for words that no command has, for a number of frames outside 16 to 4,096, for
-/// want of memory, and where the words ask for help, which the error's text then is.
+/// The answer is an error for all words but those that ask for a number of frames from 16 to 4,096: also where they ask for
+/// help, which the error's text then is. Words that ask for one are read without memory.
 pub fn settings<'a, S: AsStr>(alloc: Global, words: &'a [S]) -> Result<Settings, Error>
-    ensures asked { (count : ℕ) → Asks (map S.text words.entry.now) count
-        → MatchResult result (λ settings. settings.frames.count ≡ count) (λ e. kind_of e ≡ ErrorKind.OutOfMemory) }
+    ensures asked { (count : ℕ) → Asks (map S.text words.entry.now) count → IsOkAnd result (λ settings. settings.frames.count ≡ count) }
+    ensures refused { IfOk result (λ settings. Asks (map S.text words.entry.now) settings.frames.count) }
 {
-    let command: Command<'a> = command_line(alloc)?;
-    let matches = command.try_get_matches_from(words)?;
-    match matches.subcommand() {
-        Some((_, run)) => run_settings(alloc, run),
-        None => fault(alloc, "no command"),
+    match frames_asked(words) {
+        Some(frames) => Ok(Settings { frames }),
+        None => Err(told(alloc, words)),
     }
 }
 
-/// The commands of `sqlsh` and their options.
-fn command_line<'a>(alloc: Global) -> Result<Command<'a>, Error>
-    ensures app { IfOk result (λ command. app_of command ≡ sqlsh_app) }
-    ensures memory { IfErr result (λ e. kind_of e ≡ ErrorKind.OutOfMemory) }
-{
+/// What is said of words that ask for no settings: help, or what is wrong with them.
+fn told<'a, S: AsStr>(alloc: Global, words: &'a [S]) -> Error {
+    let command: Command<'a> = match command_line(alloc) {
+        Ok(command) => command,
+        Err(error) => return error,
+    };
+    match command.try_get_matches_from(words) {
+        Ok(_) => match surplus(alloc) {
+            Ok(error) => error,
+            Err(error) => error,
+        },
+        Err(error) => error,
+    }
+}
+
+/// What is said of words that `clap` would take, and `sqlsh` does not.
+fn surplus(alloc: Global) -> Result<Error, Error> {
+    Ok(command_line(alloc)?.error(ErrorKind::InvalidValue, "words behind the options")?)
+}
+
+/// The commands of `sqlsh` and their options, for their help and for what is said of wrong words.
+fn command_line<'a>(alloc: Global) -> Result<Command<'a>, Error> {
     let frames = Arg::new(alloc, "frames")
         .long("frames")
         .value_name("N")
@@ -48,21 +63,4 @@ fn command_line<'a>(alloc: Global) -> Result<Command<'a>, Error>
         .subcommand_required(true)
         .subcommand(run)?;
     Ok(sqlsh)
-}
-
-/// The settings of `sqlsh run`.
-fn run_settings(alloc: Global, run: &ArgMatches<'_>) -> Result<Settings, Error>
-    ensures { (text : List ℕ) (count : ℕ) → one_text (found_of run.now) (codes "frames") ≡ Some text → WritesFrames text count
-        → MatchResult result (λ settings. settings.frames.count ≡ count) (λ e. kind_of e ≡ ErrorKind.OutOfMemory) }
-{
-    let count = run.get_one::<u32>("frames").unwrap_or(DEFAULT_FRAMES);
-    match Frames::new(count) {
-        Some(frames) => Ok(Settings { frames }),
-        None => fault(alloc, "--frames takes a number from 16 to 4096"),
-    }
-}
-
-/// A command line fault with this text.
-fn fault(alloc: Global, text: &str) -> Result<Settings, Error> {
-    Err(command_line(alloc)?.error(ErrorKind::InvalidValue, text)?)
 }

@@ -5,6 +5,7 @@ mod command_line;
 mod options;
 mod program;
 mod run;
+mod words;
 
 pub use command_line::settings;
 pub use options::{DEFAULT_FRAMES, Frames, GREATEST_FRAMES, LEAST_FRAMES, Settings};
