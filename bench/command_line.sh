@@ -41,6 +41,16 @@ echo "COMMIT;" > "$work/in"
 check "a reply" 0 "^00000$" "" run
 echo "COMMIT; SELECT;" > "$work/in"
 check "a refusal" 1 "^ERROR 42000 syntax$" "" run
+# The deepest chain of set operators that 65,536 bytes and the limits allow: 50 parentheses round chains of 64 operands.
+awk 'BEGIN {
+  query = "SELECT*FROM T"; operator = " UNION "; others = ""; text = ""
+  for (turn = 1; turn < 64; turn++) others = others operator query
+  for (depth = 0; depth < 50; depth++) text = text "("
+  text = text query others
+  for (depth = 0; depth < 50; depth++) text = text ")" others
+  print "CREATE TABLE T (A INTEGER); INSERT INTO T VALUES (1);" text ";"
+}' > "$work/in"
+check "the deepest chain of set operators" 0 "^(1 rows)$" "" run
 rm "$work/in"; mkdir "$work/in"
 check "input that cannot be read" 3 "^ERROR X0002$" "" run
 exit "$failed"
