@@ -1,0 +1,2 @@
+pub mod BuiltSteps
+pub mod Answering

@@ -1,0 +1,5 @@
+use Rattle.table_types.proofs.constraints.typed_constraints.Goals as goal
+
+pub returns : goal.returns
+returns c =
+    rw (c.as_slice-elements.ensures, c.in_ok-frame.ensures, c.as_text.ensures.text, c.requires.defined) at (c.constraints_of.ensures _ (c.both.ensures _ _ c.names_in.ensures c.rules_in-rules.ensures))
