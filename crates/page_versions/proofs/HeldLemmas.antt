@@ -1,0 +1,81 @@
+-- When the pages of a version are a database.
+use Rattle.std.proofs.Common.{◌≡◌, ◌∙◌, ℕ, ◌<◌, zero, suc, List, [], ◌∷◌, Option, Some, None, Result, Ok, Err, OnOk, IfOk, IsSome, refl, sym, ap, subst, ◌⊎◌, inl, inr}
+use Rattle.std.specs.FinMap.{get}
+use Rattle.std.specs.Option.{is_some}
+use Rattle.denote.specs.Database.{Name}
+use Rattle.store.specs.Contents.{StoredTable, Contents, Rises}
+use Rattle.pagefile.specs.Number.{number_at}
+use Rattle.pagefile.specs.declared.header.FileHeader.{FileHeader}
+use Rattle.pagefile.specs.Header.{IsHeader}
+use Rattle.pool.specs.Pages.{PageMap, over}
+use Rattle.overlay.specs.Bounded.{in_use-bounded}
+use Rattle.overlay.specs.InUse.{in_use}
+use Rattle.overlay.specs.Whole.{IsWhole, HasRoot}
+use Rattle.btree_read.specs.declared.entry.Entry.{Entry}
+use Rattle.btree_read.specs.Nodes.{Node, HasNode}
+use Rattle.btree_read.specs.Tree.{Tree, page_of, nodes_of, Holds, IsTree, IsTreeOf}
+use Rattle.page_tables.specs.Held.{TableAt, HoldsTables, contents_of}
+use Rattle.page_tables.specs.Changed.{TablesWritten}
+use Rattle.page_contents.specs.Contents.{contents_at}
+use Rattle.page_versions.specs.Changed.{IsNow}
+use Rattle.page_versions.specs.Databases.{root_in, root_of, contents_in, IsDatabase}
+
+-- ---- what the laws of tables say
+
+abbrev pub TheyStay : Type 0
+TheyStay = (old new : PageMap) (root : ℕ) (tables : List TableAt) → ((n : ℕ) → IsSome (old n) → new n ≡ old n) → HoldsTables old root tables → HoldsTables new root tables
+
+abbrev pub TheyAreRead : Type 0
+TheyAreRead = (pages : PageMap) (root : ℕ) (tables : List TableAt) → ((n : ℕ) → IsSome (pages n) → (0 < n) × (n < 65536)) → HoldsTables pages root tables → contents_at pages root ≡ contents_of tables
+
+abbrev pub TheyRise : Type 0
+TheyRise = (pages : PageMap) (root : ℕ) (tables : List TableAt) (name : Name) (table : StoredTable) → HoldsTables pages root tables → get (contents_of tables) name ≡ Some table → Rises table.entries
+
+-- ---- the root
+
+some_same : (a b : List ℕ) → Some a ≡ Some b → a ≡ b
+some_same a b h = cc
+
+-- page 0 names the root that its header has
+pub root_is : (version written : PageMap) (h : FileHeader) → ((first : List ℕ) → over written version 0 ≡ Some first → IsHeader first h) → IsWhole (over written version) → root_of version written ≡ h.catalog_root
+root_is version written h says whole = ap root_in whole.1.there ∙ (says whole.1.first whole.1.there).catalog_root
+
+pub named_root : (o : Option (List ℕ)) (root : ℕ) (first : List ℕ) → o ≡ Some first → HasRoot o root → root_in o ≡ root
+named_root None root first there has = absurd (cc)
+named_root (Some page) root first there has = has
+
+-- a root at which tables are held is 0, or a page in use
+pub root_there : (pages : PageMap) (root : ℕ) (tables : List TableAt) → HoldsTables pages root tables → (root ≡ 0) ⊎ IsSome (pages root)
+root_there pages root tables h = by root h.owned _ h.schema.tree
+  where
+    node_there : (page : ℕ) (node : Node) → HasNode pages page node → IsSome (pages page)
+    node_there page node h = ap (λ (o : Option (List ℕ)). is_some o) h.there
+
+    first_there : (d : ℕ) (t : Tree d) → Holds pages (nodes_of d t) → IsSome (pages (page_of d t))
+    first_there zero t h = node_there t.page _ h.0
+    first_there (suc d) t h = node_there t.page _ h.0
+
+    by : (root : ℕ) (owned : List ℕ) (entries : List Entry) → IsTree pages root owned entries → (root ≡ 0) ⊎ IsSome (pages root)
+    by zero owned entries tree = inl refl
+    by (suc r) owned entries tree = inr (subst (λ (n : ℕ). IsSome (pages n)) tree.at (first_there tree.depth tree.tree tree.holds))
+
+-- ---- a database
+
+pub is_database : TheyAreRead → TheyRise → (version written : PageMap) (tables : List TableAt) → IsWhole (over written version) → HoldsTables (in_use version written) (root_of version written) tables
+    → IsDatabase version written
+is_database read rise version written tables whole holds = record {
+  whole = whole;
+  tables = tables;
+  holds = holds;
+  read = read (in_use version written) (root_of version written) tables (λ n there. in_use-bounded version written n there) holds;
+  rise = λ name table e. rise (in_use version written) (root_of version written) tables name table holds e;
+}
+
+pub becomes : TheyStay → TheyAreRead → TheyRise → (version written next : PageMap) (root : ℕ) (contents : Contents) → ((n : ℕ) → in_use version next n ≡ in_use version written n)
+    → HasRoot (over next version 0) root → IsWhole (over next version) → TablesWritten (in_use version written) contents root → IsNow version next contents
+becomes stay read rise version written next root contents same has whole put =
+    let is_root : root_of version next ≡ root = named_root (over next version 0) root whole.1.first whole.1.there has in
+    let holds : HoldsTables (in_use version next) (root_of version next) put.tables = subst (λ (r : ℕ). HoldsTables (in_use version next) r put.tables) (sym is_root)
+    (stay (in_use version written) (in_use version next) root put.tables (λ n there. same n) put.holds) in
+    let is : IsDatabase version next = is_database read rise version next put.tables whole holds in
+    record { is = is; shows = read (in_use version next) (root_of version next) put.tables (λ n there. in_use-bounded version next n there) holds ∙ put.shows }

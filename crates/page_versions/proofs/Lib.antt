@@ -1,0 +1,6 @@
+pub mod HeldLemmas
+pub mod RefusalLemmas
+pub mod ChangeLemmas
+pub mod OpenLemmas
+pub mod CloseLemmas
+pub mod StepLemmas

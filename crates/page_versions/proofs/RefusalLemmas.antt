@@ -1,0 +1,196 @@
+-- Refusals of a store, from those of what it stands on.
+use Rattle.std.proofs.Common.{◌≡◌, ◌∙◌, ℕ, ◌+◌, ◌^◌, ◌-◌, ◌<◌, ◌≤◌, List, length, Bool, true, false, IsTrue, Option, Some, None, Result, Ok, Err, IfErr, IsSome, refl, sym, ap, subst, arith, ◌⊎◌, inl, inr}
+use Rattle.std.specs.Prelude.{min, ⊤}
+use Rattle.std.proofs.lemmas.Bool.{cases_lt}
+use Rattle.std.specs.FinMap.{get}
+use Rattle.disk.specs.Refused as device
+use Rattle.denote.specs.Database.{Name}
+use Rattle.sqlval.specs.Value.{Row}
+use Rattle.store.specs.declared.error.StoreError.{StoreError}
+use Rattle.store.specs.declared.error.StoreError.TheVariants as refused
+use Rattle.store.specs.declared.error.StoreLimit.{StoreLimit}
+use Rattle.store.specs.declared.error.StoreLimit.TheVariants as limit
+use Rattle.store.specs.Contents.{next_number, Contents}
+use Rattle.store.specs.Errors.{HasRisen, MayFail, Never, StoringReaches, ChangingReaches, CommittingReaches}
+use Rattle.store.specs.Indexes.{entries_of}
+use Rattle.pagefile.specs.declared.header.FileHeader.{FileHeader}
+use Rattle.pagefile.specs.Header.{IsHeader}
+use Rattle.page_space.specs.Space.{ReadRefused, ChangeRefused}
+use Rattle.page_space.specs.declared.fault.Fault.{Fault}
+use Rattle.page_space.specs.declared.fault.Fault.TheVariants as fault
+use Rattle.pool.specs.Pages.{PageMap, over}
+use Rattle.pool.specs.Refused.{IsRefused, IsOfDevice}
+use Rattle.pool.specs.declared.error.PoolError.{PoolError}
+use Rattle.pool.specs.declared.error.PoolError.TheVariants as pool
+use Rattle.catalog.specs.declared.error.ChangeError.{ChangeError}
+use Rattle.catalog.specs.declared.error.ChangeError.TheVariants as change
+use Rattle.catalog.specs.Changed.{MayRefuse as MayRefuseTable}
+use Rattle.tablestore.specs.declared.error.AppendError.{AppendError}
+use Rattle.tablestore.specs.declared.error.AppendError.TheVariants as append
+use Rattle.tablestore.specs.Appended.{MayRefuse as MayRefuseRows, NumbersEnd}
+use Rattle.overlay.specs.InUse.{in_use}
+use Rattle.overlay.specs.Layers.{size_of}
+use Rattle.overlay.specs.Whole.{IsWhole, IsSaid, AtLimit}
+use Rattle.page_tables.specs.Held.{TableAt, HoldsTables, contents_of}
+use Rattle.page_tables.specs.Changed.{HoldsNoTablesIn}
+use Rattle.page_versions.specs.Databases.{root_of, contents_in, known_contents, IsDatabase}
+use Rattle.page_versions.specs.Refusals.{of_fault, of_pool, of_change, of_append, IsReached, IsCounted, RowsReach}
+use Rattle.page_versions.proofs.HeldLemmas.{root_is}
+
+risen_on : (top k m n : ℕ) → k ≤ m → min (m + 1) top ≤ n → min (k + 1) top ≤ n
+risen_on top k m n less more = omega (arith, less, more)
+
+pub has_risen : (k m n : ℕ) → k ≤ m → device.HasRisen m n → HasRisen k n
+has_risen k m n less h = risen_on (2 ^ 64 - 1) k m n less h.more
+
+pub read_fails : (sound harm : Type 0) (reached : StoreLimit → Type 0) (k m n : ℕ) (f : Fault) → k ≤ m → (sound → harm → ⊥) → ReadRefused harm m n f → MayFail sound k n reached (of_fault f)
+read_fails sound harm reached k m n fault.Memory less never h = tt
+read_fails sound harm reached k m n fault.Disk less never h = has_risen k m n less h
+read_fails sound harm reached k m n fault.Damaged less never h = λ s. never s h
+read_fails sound harm reached k m n fault.Pages less never h = absurd h
+read_fails sound harm reached k m n fault.Private less never h = absurd h
+
+-- page 0 of a database is a header
+pub header_fails : (version written : PageMap) (reached : StoreLimit → Type 0) (k n : ℕ) (f : Fault) → ReadRefused ((header : FileHeader) → IsSaid (over written version 0) header → ⊥) k n f
+    → MayFail (IsDatabase version written) k n reached (of_fault f)
+header_fails version written reached k n f h = read_fails (IsDatabase version written) ((header : FileHeader) → IsSaid (over written version 0) header → ⊥) reached k k n f (omega arith)
+    (λ d harm. harm d.whole.0 (said (over written version 0) d.whole.1.first d.whole.0 d.whole.1.there (d.whole.1.says, d.whole.1.bounds))) h
+  where
+    said : (o : Option (List ℕ)) (first : List ℕ) (header : FileHeader) → o ≡ Some first → IsSaid (Some first) header → IsSaid o header
+    said o first header there is = subst (λ (p : Option (List ℕ)). IsSaid p header) (sym there) is
+
+-- tables are held at the root that the header names
+pub held_at : (version written : PageMap) (header : FileHeader) → ((first : List ℕ) → over written version 0 ≡ Some first → IsHeader first header) → (d : IsDatabase version written)
+    → HoldsTables (in_use version written) header.catalog_root d.tables
+held_at version written header says d = subst (λ (r : ℕ). HoldsTables (in_use version written) r d.tables) (root_is version written header says d.whole) d.holds
+
+pub tables_fail : (version written : PageMap) (header : FileHeader) (reached : StoreLimit → Type 0) (k m n : ℕ) (f : Fault)
+    → ((first : List ℕ) → over written version 0 ≡ Some first → IsHeader first header) → k ≤ m
+    → ReadRefused ((tables : List TableAt) → HoldsTables (in_use version written) header.catalog_root tables → ⊥) m n f → MayFail (IsDatabase version written) k n reached (of_fault f)
+tables_fail version written header reached k m n f says less h =
+    read_fails (IsDatabase version written) ((tables : List TableAt) → HoldsTables (in_use version written) header.catalog_root tables → ⊥) reached k m n f less
+    (λ d harm. harm d.tables (held_at version written header says d)) h
+
+-- ---- changes
+
+pub rows_refused : (version written fresh settled : PageMap) (header : FileHeader) (k m n : ℕ) (name : Name) (rows : List Row) (error : AppendError)
+    → ((first : List ℕ) → over written version 0 ≡ Some first → IsHeader first header) → k ≤ m
+    → ((tables : List TableAt) → HoldsTables (in_use version written) header.catalog_root tables → NumbersEnd (entries_of (get (contents_of tables) name)) (length rows) error)
+    → MayRefuseRows (AtLimit (over (over fresh settled) version 0) (size_of (over fresh settled))) (HoldsNoTablesIn (in_use version written) header.catalog_root (IsWhole (over written version))) m n rows error
+    → MayFail (IsDatabase version written) k n (RowsReach (IsCounted (IsDatabase version written) version settled) (get (contents_in version written) name) rows) (of_append error)
+rows_refused version written fresh settled header k m n name rows (append.Space fault.Memory) says less numbers h = tt
+rows_refused version written fresh settled header k m n name rows (append.Space fault.Disk) says less numbers h = has_risen k m n less h
+rows_refused version written fresh settled header k m n name rows (append.Space fault.Damaged) says less numbers h = λ d. h d.tables (held_at version written header says d) d.whole
+rows_refused version written fresh settled header k m n name rows (append.Space fault.Pages) says less numbers h = inl (inr (fresh, h))
+rows_refused version written fresh settled header k m n name rows (append.Space fault.Private) says less numbers h = inr (fresh, h)
+rows_refused version written fresh settled header k m n name rows append.Record says less numbers h = h
+rows_refused version written fresh settled header k m n name rows append.Number says less numbers h =
+    by (next_number (entries_of (get (contents_in version written) name)) + length rows) (2 ^ 63)
+    (λ d. subst (λ (c : Contents). 2 ^ 63 < next_number (entries_of (get c name)) + length rows) (sym d.read) (numbers d.tables (held_at version written header says d)))
+  where
+    by : (all top : ℕ) → (IsDatabase version written → top < all) → ((IsDatabase version written → ⊥) ⊎ IsReached version settled fault.Pages) ⊎ (top < all)
+    by all top above = which (cases_lt top all)
+      where
+        which : (top < all) ⊎ (all ≤ top) → ((IsDatabase version written → ⊥) ⊎ IsReached version settled fault.Pages) ⊎ (top < all)
+        which (inl more) = inr more
+        which (inr most) = inl (inl (λ d. let more = above d in omega (arith, more, most)))
+
+pub table_refused : (version written fresh settled : PageMap) (header : FileHeader) (k m n : ℕ) (error : ChangeError)
+    → ((first : List ℕ) → over written version 0 ≡ Some first → IsHeader first header) → k ≤ m
+    → MayRefuseTable (AtLimit (over (over fresh settled) version 0) (size_of (over fresh settled))) (HoldsNoTablesIn (in_use version written) header.catalog_root (IsWhole (over written version))) m n error
+    → MayFail (IsDatabase version written) k n (ChangingReaches (IsCounted (IsDatabase version written) version settled)) (of_change error)
+table_refused version written fresh settled header k m n (change.Space fault.Memory) says less h = tt
+table_refused version written fresh settled header k m n (change.Space fault.Disk) says less h = has_risen k m n less h
+table_refused version written fresh settled header k m n (change.Space fault.Damaged) says less h = λ d. h d.tables (held_at version written header says d) d.whole
+table_refused version written fresh settled header k m n (change.Space fault.Pages) says less h = inr (fresh, h)
+table_refused version written fresh settled header k m n (change.Space fault.Private) says less h = inr (fresh, h)
+table_refused version written fresh settled header k m n change.Record says less h = tt
+table_refused version written fresh settled header k m n change.Key says less h = tt
+
+-- a refusal of the last step, where the step before it was carried out
+pub root_refused : (version written fresh settled : PageMap) (harm : Type 0) (sound : Type 0) (reached : StoreLimit → Type 0) (k m n : ℕ) (f : Fault) → k ≤ m → (sound → harm → ⊥)
+    → (IsReached version settled fault.Pages → reached limit.Pages) → (IsReached version settled fault.Private → reached limit.Private)
+    → ChangeRefused (AtLimit (over (over fresh settled) version 0) (size_of (over fresh settled))) harm m n f → MayFail sound k n reached (of_fault f)
+root_refused version written fresh settled harm sound reached k m n fault.Memory less never pages private h = tt
+root_refused version written fresh settled harm sound reached k m n fault.Disk less never pages private h = has_risen k m n less h
+root_refused version written fresh settled harm sound reached k m n fault.Damaged less never pages private h = λ s. never s h
+root_refused version written fresh settled harm sound reached k m n fault.Pages less never pages private h = pages (fresh, h)
+root_refused version written fresh settled harm sound reached k m n fault.Private less never pages private h = private (fresh, h)
+
+-- ---- weaker
+
+pub change_weaker : (A B : Fault → Type 0) (H J : Type 0) (k n : ℕ) (f : Fault) → ((g : Fault) → A g → B g) → (H → J) → ChangeRefused A H k n f → ChangeRefused B J k n f
+change_weaker A B H J k n fault.Memory at harm h = tt
+change_weaker A B H J k n fault.Disk at harm h = h
+change_weaker A B H J k n fault.Damaged at harm h = harm h
+change_weaker A B H J k n fault.Pages at harm h = at fault.Pages h
+change_weaker A B H J k n fault.Private at harm h = at fault.Private h
+
+pub fail_weaker : (sound other : Type 0) (k n : ℕ) (reached more : StoreLimit → Type 0) (error : StoreError) → (other → sound) → ((l : StoreLimit) → reached l → more l) → MayFail sound k n reached error → MayFail other k n more error
+fail_weaker sound other k n reached more refused.Memory f g h = tt
+fail_weaker sound other k n reached more refused.Device f g h = h
+fail_weaker sound other k n reached more refused.Damaged f g h = λ s. h (f s)
+fail_weaker sound other k n reached more (refused.Exceeded l) f g h = g l h
+
+pub counted_weaker : (sound other : Type 0) (version settled : PageMap) (l : StoreLimit) → (other → sound) → IsCounted sound version settled l → IsCounted other version settled l
+counted_weaker sound other version settled limit.Pages f (inl never) = inl (λ s. never (f s))
+counted_weaker sound other version settled limit.Pages f (inr there) = inr there
+counted_weaker sound other version settled limit.Private f (inl never) = inl (λ s. never (f s))
+counted_weaker sound other version settled limit.Private f (inr there) = inr there
+counted_weaker sound other version settled limit.Kept f h = h
+counted_weaker sound other version settled limit.Record f h = h
+counted_weaker sound other version settled limit.Key f h = h
+
+-- ---- the pool's
+
+pub commit_fails : (sound : Type 0) (counted : StoreLimit → Type 0) (last k n : ℕ) (error : PoolError) → IsRefused (last ≡ 2 ^ 64 - 1) ⊥ k n error → MayFail sound k n (CommittingReaches counted last) (of_pool error)
+commit_fails sound counted last k n pool.Memory h = tt
+commit_fails sound counted last k n (pool.Device cause) h = has_risen k k n (omega arith) h
+commit_fails sound counted last k n pool.Pages h = inr (top last (2 ^ 64) (omega arith) h)
+  where
+    top : (last most : ℕ) → 0 < most → last ≡ most - 1 → most ≤ last + 1
+    top last most some e = omega (arith, some, e)
+commit_fails sound counted last k n pool.Kept h = absurd h
+
+pub device_fails : (sound : Type 0) (reached : StoreLimit → Type 0) (k n : ℕ) (error : PoolError) → IsOfDevice k n error → MayFail sound k n reached (of_pool error)
+device_fails sound reached k n pool.Memory h = absurd h
+device_fails sound reached k n (pool.Device cause) h = has_risen k k n (omega arith) h
+device_fails sound reached k n pool.Pages h = absurd h
+device_fails sound reached k n pool.Kept h = absurd h
+
+pub of_device : (k n : ℕ) (error : PoolError) → IsOfDevice k n error → (of_pool error ≡ refused.Device) × HasRisen k n
+of_device k n pool.Memory h = absurd h
+of_device k n (pool.Device cause) h = (refl, has_risen k k n (omega arith) h)
+of_device k n pool.Pages h = absurd h
+of_device k n pool.Kept h = absurd h
+
+-- ---- of a store
+
+pub refused_weaker : {A : Type 0} (result : Result A StoreError) (sound other : Type 0) (k n : ℕ) (reached more : StoreLimit → Type 0) → (other → sound) → ((l : StoreLimit) → reached l → more l)
+    → IfErr result (MayFail sound k n reached) → IfErr result (MayFail other k n more)
+refused_weaker (Ok a) sound other k n reached more f g h = h
+refused_weaker (Err e) sound other k n reached more f g h = fail_weaker sound other k n reached more e f g h
+
+pub rows_reach : (honest : Bool) (version written settled : PageMap) (sound other : Type 0) → (other → sound) → (other → IsTrue honest) → (name : Name) (rows : List Row) (l : StoreLimit)
+    → RowsReach (IsCounted sound version settled) (get (contents_in version written) name) rows l
+    → StoringReaches (IsCounted other version settled) (get (known_contents honest version written) name) rows l
+rows_reach honest version written settled sound other f device name rows limit.Record h = h
+rows_reach honest version written settled sound other f device name rows limit.Key h = absurd h
+rows_reach true version written settled sound other f device name rows limit.Pages (inl h) = inl (counted_weaker sound other version settled limit.Pages f h)
+rows_reach true version written settled sound other f device name rows limit.Pages (inr h) = inr h
+rows_reach false version written settled sound other f device name rows limit.Pages h = inl (inl (λ s. never (device s)))
+  where
+    never : IsTrue false → ⊥
+    never e = let bad : false ≡ true = e in cc
+rows_reach honest version written settled sound other f device name rows limit.Private h = counted_weaker sound other version settled limit.Private f h
+rows_reach honest version written settled sound other f device name rows limit.Kept h = absurd h
+
+pub table_reach : (version settled : PageMap) (sound other : Type 0) → (other → sound) → (l : StoreLimit) → ChangingReaches (IsCounted sound version settled) l → ChangingReaches (IsCounted other version settled) l
+table_reach version settled sound other f limit.Record h = absurd h
+table_reach version settled sound other f limit.Key h = absurd h
+table_reach version settled sound other f limit.Pages h = counted_weaker sound other version settled limit.Pages f h
+table_reach version settled sound other f limit.Private h = counted_weaker sound other version settled limit.Private f h
+table_reach version settled sound other f limit.Kept h = absurd h
+
+pub risen_later : (k m n : ℕ) → k ≤ m → HasRisen m n → HasRisen k n
+risen_later k m n less h = risen_on (2 ^ 64 - 1) k m n less h

@@ -1,0 +1,19 @@
+use Rattle.std.proofs.Common.{ap, sym, refl, ◌∙◌, length}
+use Rattle.pagefile.specs.File.{disk_of}
+use Rattle.pool.specs.Versions.{versions_of}
+use Rattle.page_versions.proofs.OpenLemmas.{old_begins, open_refused}
+use Rattle.page_versions.proofs.opening.old_pool.Goals as goal
+
+pub new-requires-clause-size : goal.new-requires-clause-size
+new-requires-clause-size g c = λ honest. ap length (c.in-Ok.ensures.same honest) ∙ (c.in-Ok.ensures.whole honest).fits.size
+
+pub returns-in-Ok-clause-begins : goal.returns-in-Ok-clause-begins
+returns-in-Ok-clause-begins g c =
+    let e = c.in-Ok.ensures in
+    let n = c.new.ensures in
+    old_begins g.D.Disk.is_honest (g.D.Disk.bytes c.args.device) (g.D.Disk.bytes (disk_of c.in-Ok.file)) c.in-Ok.header (versions_of c.new.result) c.requires.some e.same e.whole n.last n.pages n.pins
+
+pub returns-in-Err-clause-refused : goal.returns-in-Err-clause-refused
+returns-in-Err-clause-refused g c =
+    let e = c.in-Err.ensures in
+    rw c.of_open.ensures (open_refused g.D.Disk.is_honest (g.D.Disk.bytes c.args.device) (g.D.Disk.refused c.args.device) (g.D.Disk.refused c.in-Err.refused.disk) c.in-Err.refused.cause c.requires.some e.count e.damaged)

@@ -1,0 +1,5 @@
+pub mod Databases
+pub mod Refusals
+pub mod Changed
+pub mod Opened
+pub mod Saved

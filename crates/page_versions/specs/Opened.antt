@@ -1,0 +1,15 @@
+-- What opening a device gives. Our own choice.
+use Rattle.std.specs.Prelude.{◌≡◌, ℕ, Bool, IsTrue, IsSome, List}
+use Rattle.denote.specs.Database.{Database}
+use Rattle.store.specs.Contents.{database_of}
+use Rattle.pool.specs.Versions.{Versions}
+use Rattle.page_versions.specs.Databases.{nothing, contents_in, IsDatabase}
+use Rattle.page_versions.specs.Saved.{IsSaved}
+
+-- no commit yet and no pin; page 0 is there; and the version is the database that was saved
+pub record Begins (honest : Bool) (bytes : List ℕ) (v : Versions) : Type 0 where
+  pub last : v.last ≡ 0
+  pub pins : v.pins ≡ (λ c. 0)
+  pub first : IsTrue honest → IsSome (v.pages 0 0)
+  pub is : (db : Database) → IsSaved honest bytes db → IsDatabase (v.pages 0) nothing
+  pub shows : (db : Database) → IsSaved honest bytes db → database_of (contents_in (v.pages 0) nothing) ≡ db

@@ -1,0 +1,71 @@
+-- Why a paged store refuses a call, by the refusals of what it stands on. Our own choice.
+use Rattle.std.specs.Prelude.{◌⊎◌, ℕ, ◌+◌, ◌^◌, ◌<◌, List, length, Option}
+use Rattle.sqlval.specs.Value.{Row}
+use Rattle.store.specs.Contents.{StoredTable, next_number}
+use Rattle.store.specs.Errors.{HasLongRow}
+use Rattle.store.specs.Indexes.{entries_of}
+use Rattle.store.specs.declared.error.StoreError.{StoreError}
+use Rattle.store.specs.declared.error.StoreError.TheVariants as refused
+use Rattle.store.specs.declared.error.StoreLimit.{StoreLimit}
+use Rattle.store.specs.declared.error.StoreLimit.TheVariants as limit
+use Rattle.page_space.specs.declared.fault.Fault.{Fault}
+use Rattle.page_space.specs.declared.fault.Fault.TheVariants as fault
+use Rattle.pool.specs.Pages.{PageMap, over}
+use Rattle.pagefile.specs.declared.error.OpenError.{OpenError}
+use Rattle.pagefile.specs.declared.error.OpenError.TheVariants as opening
+use Rattle.pool.specs.declared.error.PoolError.{PoolError}
+use Rattle.pool.specs.declared.error.PoolError.TheVariants as pool
+use Rattle.catalog.specs.declared.error.ChangeError.{ChangeError}
+use Rattle.catalog.specs.declared.error.ChangeError.TheVariants as change
+use Rattle.tablestore.specs.declared.error.AppendError.{AppendError}
+use Rattle.tablestore.specs.declared.error.AppendError.TheVariants as append
+use Rattle.overlay.specs.Layers.{size_of}
+use Rattle.overlay.specs.Whole.{AtLimit}
+
+abbrev pub of_fault : Fault → StoreError
+of_fault fault.Memory = refused.Memory
+of_fault fault.Disk = refused.Device
+of_fault fault.Damaged = refused.Damaged
+of_fault fault.Pages = refused.Exceeded limit.Pages
+of_fault fault.Private = refused.Exceeded limit.Private
+
+abbrev pub of_pool : PoolError → StoreError
+of_pool pool.Memory = refused.Memory
+of_pool (pool.Device cause) = refused.Device
+of_pool pool.Pages = refused.Exceeded limit.Pages
+of_pool pool.Kept = refused.Exceeded limit.Kept
+
+abbrev pub of_open : OpenError → StoreError
+of_open (opening.Device cause) = refused.Device
+of_open opening.Damaged = refused.Damaged
+
+-- a record of a schema that is too long counts as want of memory
+abbrev pub of_change : ChangeError → StoreError
+of_change (change.Space f) = of_fault f
+of_change change.Record = refused.Memory
+of_change change.Key = refused.Memory
+
+abbrev pub of_append : AppendError → StoreError
+of_append (append.Space f) = of_fault f
+of_append append.Record = refused.Exceeded limit.Record
+of_append append.Number = refused.Exceeded limit.Pages
+
+-- with some pages written since the mark, the pages are at the limit that a fault names
+abbrev pub IsReached : PageMap → PageMap → Fault → Type 0
+IsReached version settled f = (fresh : PageMap) × AtLimit (over (over fresh settled) version 0) (size_of (over fresh settled)) f
+
+-- A limit of the pages is reached by some change behind the mark. Of a store that is not sound nothing is said.
+abbrev pub IsCounted : Type 0 → PageMap → PageMap → StoreLimit → Type 0
+IsCounted sound version settled limit.Pages = (sound → ⊥) ⊎ IsReached version settled fault.Pages
+IsCounted sound version settled limit.Private = (sound → ⊥) ⊎ IsReached version settled fault.Private
+IsCounted sound version settled limit.Kept = ⊥
+IsCounted sound version settled limit.Record = ⊥
+IsCounted sound version settled limit.Key = ⊥
+
+-- rows put behind those of a table without trees of its indexes reach a limit
+abbrev pub RowsReach : (StoreLimit → Type 0) → Option StoredTable → List Row → StoreLimit → Type 0
+RowsReach counted table rows limit.Record = HasLongRow rows
+RowsReach counted table rows limit.Key = ⊥
+RowsReach counted table rows limit.Pages = counted limit.Pages ⊎ (2 ^ 63 < next_number (entries_of table) + length rows)
+RowsReach counted table rows limit.Private = counted limit.Private
+RowsReach counted table rows limit.Kept = ⊥

@@ -1,0 +1,25 @@
+//! The last version, put on the device.
+ghost use Rattle.std.specs.Prelude.{◌≡◌, IsTrue, IfOk, IfErr};
+ghost use Rattle.store.specs.Contents.{database_of};
+ghost use Rattle.pool.specs.Refused.{IsOfDevice};
+ghost use Rattle.pool.specs.Versions.{versions_of, device_of};
+ghost use Rattle.page_versions.specs.Databases.{nothing, contents_in, IsDatabase};
+ghost use Rattle.page_versions.specs.Saved.{HoldsDatabase};
+
+use disk::Disk;
+use page_contents::contents_are_read;
+use page_tables::{numbers_rise, tables_stay};
+use pool::{CloseRefused, Pool};
+
+/// Writes all that is committed, and hands the device back. A refusal is that of the device, and hands the pool back with all versions as they were.
+pub fn close_pool<D: Disk>(pool: Pool<D>) -> Result<D, CloseRefused<D>>
+    ensures saved { IfOk result (λ device. IsTrue D.is_honest → IsDatabase ((versions_of pool).pages (versions_of pool).last) nothing
+        → HoldsDatabase (D.bytes device) (database_of (contents_in ((versions_of pool).pages (versions_of pool).last) nothing))) }
+    ensures versions { IfErr result (λ r. versions_of r.pool ≡ versions_of pool) }
+    ensures refusal { IfErr result (λ r. IsOfDevice (D.refused (device_of pool)) (D.refused (device_of r.pool)) r.cause) }
+{
+    tables_stay();
+    contents_are_read();
+    numbers_rise();
+    pool.close()
+}
