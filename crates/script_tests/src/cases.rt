@@ -8,6 +8,7 @@ mod limits;
 mod memory;
 mod overlapping;
 mod pieces;
+mod query_depth;
 mod query_faults;
 mod query_table;
 mod refused;
