@@ -1,0 +1,83 @@
+//! Scripts in pieces.
+ghost use Rattle.std.specs.Prelude.{◌≡◌, ◌++◌, IfOk, OnOk};
+ghost use Rattle.script_pieces.specs.Cutter.{asked};
+ghost use Rattle.many_scripts.specs.Cut.{IsCut, parts_of, texts_in, texts_of};
+
+use crate::part::Part;
+use script_pieces::{Cutter, Request};
+use std::alloc::{AllocError, Global};
+
+/// A script: the texts of its calls, and what its pieces are, but for those that ask for nothing.
+#[derive(Drop)]
+pub(crate) struct CutScript {
+    pub(crate) texts: Vec<Vec<u8>>,
+    pub(crate) parts: Vec<Part>,
+}
+
+/// Scripts as they are run: of each the texts of its calls, and what its pieces are.
+#[derive(Drop)]
+pub struct CutScripts {
+    pub texts: Vec<Vec<Vec<u8>>>,
+    pub parts: Vec<Vec<Part>>,
+}
+
+impl CutScripts {
+    /// No script.
+    pub fn new(alloc: Global) -> CutScripts {
+        CutScripts {
+            texts: Vec::new(alloc),
+            parts: Vec::new(alloc),
+        }
+    }
+
+    /// One script more, of these bytes. Refuses for want of memory alone.
+    pub fn push(&mut self, alloc: Global, bytes: &[u8]) -> Result<(), AllocError> {
+        let CutScript { texts, parts } = cut(alloc, bytes)?;
+        self.texts.push(texts)?;
+        self.parts.push(parts)?;
+        Ok(())
+    }
+}
+
+impl CutScript {
+    /// Puts a piece behind the others, with the text of its call where it is one.
+    fn put(&mut self, alloc: Global, request: Request, text: &[u8]) -> Result<(), AllocError>
+        ensures parts { OnOk result (self.new.parts.items ≡ self.old.parts.items ++ parts_of (asked request text.now)) }
+        ensures texts { OnOk result (texts_in self.new.texts.items ≡ texts_in self.old.texts.items ++ texts_of (asked request text.now)) }
+    {
+        match request {
+            Request::Nothing => Ok(()),
+            Request::Calls(None) => {
+                let mut kept = Vec::new(alloc);
+                kept.extend_from_slice(text)?;
+                self.texts.push(kept)?;
+                self.parts.push(Part::Calls)?;
+                Ok(())
+            }
+            _ => {
+                self.parts.push(Part::Wrong)?;
+                Ok(())
+            }
+        }
+    }
+}
+
+/// The script of these bytes. Refuses for want of memory alone.
+pub(crate) fn cut(alloc: Global, bytes: &[u8]) -> Result<CutScript, AllocError>
+    ensures { IfOk result (λ script. IsCut bytes.now (texts_in script.texts.items) script.parts.items) }
+{
+    let mut cutter = Cutter::new(alloc)?;
+    let mut script = CutScript {
+        texts: Vec::new(alloc),
+        parts: Vec::new(alloc),
+    };
+    for byte in bytes {
+        if let Some(request) = cutter.take(*byte) {
+            script.put(alloc, request, cutter.text())?;
+            cutter.clear();
+        }
+    }
+    let last = cutter.finish();
+    script.put(alloc, last, cutter.text())?;
+    Ok(script)
+}

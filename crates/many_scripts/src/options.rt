@@ -1,0 +1,12 @@
+//! What a command line asks for.
+
+use shell::Frames;
+
+/// What a command line of `sqlmany` asks for.
+#[derive(Drop)]
+pub struct Settings<'a> {
+    /// The frames of the pool.
+    pub frames: Frames,
+    /// The names of the scripts' files, at least one.
+    pub scripts: Vec<&'a str>,
+}
