@@ -1,0 +1,4 @@
+pub mod Entries
+pub mod Short
+pub mod ConditionsRead
+pub mod Meant

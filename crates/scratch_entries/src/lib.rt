@@ -1,0 +1,6 @@
+//! Scratch.
+#![tactic(auto)]
+
+mod change;
+
+pub use change::{RowChange, RowUpdate, stays};
