@@ -1,11 +1,12 @@
 -- The first rows of each alike ones: by marks, as DISTINCT and as UNION have them.
 use Rattle.std.proofs.Common.{◌≡◌, refl, ap, sym, ◌∙◌, ℕ, ◌+◌, ◌<◌, ◌≤◌, Bool, true, false, cond, not, ◌&&◌, if◌then◌else◌, List, [], ◌∷◌, ◌++◌, arith}
-use Rattle.std.specs.Prelude.{filter, nat_lt, min}
+use Rattle.std.specs.Prelude.{◌==◌, filter, nat_lt, min}
 use Rattle.std.proofs.lemmas.Bool.Decides.{nat_tests}
 use Rattle.sqlval.specs.Value.{Row}
-use Rattle.typing.specs.declared.typed.SetOperator.TheVariants.{Union}
+use Rattle.typing.specs.declared.typed.SetOperator.TheVariants.{Union, Except, Intersect}
 use Rattle.algebra.specs.Listing.{firsts, combined_in_order}
 use Rattle.denote.specs.Bag.{are_alike, times, distinct}
+use Rattle.denote.specs.SetOperator.{multiplicity}
 use Rattle.kernels.specs.Marks.{marked, first_marks}
 use Rattle.kernels.proofs.Alike.{alike, times-cons, times-append}
 
@@ -106,3 +107,30 @@ pub union-distinct : (left right : List Row) → combined_in_order (record { ope
 union-distinct left right =
     firsts-same (λ row. min 1 (times row left + times row right)) (λ _. 1) [] (left ++ right) (λ row some. omega (arith, some, times-append row left right))
     ∙ sym (distinct-firsts (left ++ right))
+
+-- ---- EXCEPT and INTERSECT without ALL
+
+marks-same : (allowed other : Row → ℕ) (before rows : List Row) → ((row : Row) → 0 < times row rows → allowed row ≡ other row) → first_marks allowed before rows ≡ first_marks other before rows
+marks-same allowed other before [] h = refl
+marks-same allowed other before (x ∷ rows) h =
+    ap (λ n. nat_lt (times x before) n ∷ first_marks allowed (x ∷ before) rows) (h x (omega (arith, has-itself x rows)))
+    ∙ ap (λ zs. nat_lt (times x before) (other x) ∷ zs) (marks-same allowed other (x ∷ before) rows (λ row some. h row (omega (arith, some, times-cons row x rows))))
+
+-- a row that comes on the left may as well come there once
+pub except-beside : (left right : List Row)
+    → first_marks (λ row. multiplicity Except false 1 (times row right)) [] left ≡ first_marks (λ row. multiplicity Except false (times row left) (times row right)) [] left
+except-beside left right =
+    marks-same (λ row. multiplicity Except false 1 (times row right)) (λ row. multiplicity Except false (times row left) (times row right)) [] left
+    (λ row some. one (times row left) (times row right) some)
+  where
+    one : (m n : ℕ) → 0 < m → multiplicity Except false 1 n ≡ multiplicity Except false m n
+    one m n h = let e : min 1 1 ≡ min 1 m = omega (arith, h) in ap (λ k. if n == 0 then k else 0) e
+
+pub intersect-beside : (left right : List Row)
+    → first_marks (λ row. multiplicity Intersect false 1 (times row right)) [] left ≡ first_marks (λ row. multiplicity Intersect false (times row left) (times row right)) [] left
+intersect-beside left right =
+    marks-same (λ row. multiplicity Intersect false 1 (times row right)) (λ row. multiplicity Intersect false (times row left) (times row right)) [] left
+    (λ row some. one (times row left) (times row right) some)
+  where
+    one : (m n : ℕ) → 0 < m → multiplicity Intersect false 1 n ≡ multiplicity Intersect false m n
+    one m n h = omega (arith, h)

@@ -1,6 +1,6 @@
 //! DISTINCT and set operators.
 
-ghost use Rattle.std.specs.Prelude.{◌≡◌, [], ◌∷◌, IfOk};
+ghost use Rattle.std.specs.Prelude.{◌≡◌, false, [], ◌∷◌, IfOk};
 ghost use Rattle.algebra.specs.Listing.{combined_in_order};
 ghost use Rattle.denote.specs.Bag.{distinct, times};
 ghost use Rattle.denote.specs.SetOperator.{multiplicity};
@@ -68,7 +68,8 @@ fn intersect_count(all: bool, left: usize, right: usize) -> usize
     if all { least } else { least.min(1) }
 }
 
-fn except_marks(
+/// The marks of the left rows by how often each comes on both sides.
+fn counted_except_marks(
     alloc: Global,
     all: bool,
     left: &[Row],
@@ -89,7 +90,8 @@ fn except_marks(
     Ok(marks)
 }
 
-fn intersect_marks(
+/// The marks of the left rows by how often each comes on both sides.
+fn counted_intersect_marks(
     alloc: Global,
     all: bool,
     left: &[Row],
@@ -108,6 +110,74 @@ fn intersect_marks(
         marks.push(before < allowed)?;
     }
     Ok(marks)
+}
+
+/// How many of alike rows an operator without ALL keeps that come on the left, of so many on the right.
+fn distinct_count(operator: SetOperator, right: usize) -> usize
+    ensures { result ≡ multiplicity operator false 1 right }
+{
+    match operator {
+        SetOperator::Union => 1,
+        SetOperator::Except => {
+            if right == 0 {
+                1
+            } else {
+                0
+            }
+        }
+        SetOperator::Intersect => right.min(1),
+    }
+}
+
+/// The marks of the left rows, where no more than one of alike rows is kept: how often a row comes on the left is then of no account.
+fn distinct_marks_beside(
+    alloc: Global,
+    operator: SetOperator,
+    left: &[Row],
+    right: &[Row],
+) -> Result<Items<bool>, AllocError>
+    ensures { IfOk result (λ marks. marks ≡ first_marks (λ row. multiplicity operator false 1 (times row right.now)) [] left.now) }
+{
+    let on_right = counts_of(alloc, right)?;
+    let mut counts = BTreeMap::new(alloc);
+    let mut marks = Items::with_capacity(alloc, left.len())?;
+    for row in left {
+        let values = row.as_slice();
+        let allowed = distinct_count(operator, count_of(&on_right, values));
+        let before = count_row(&mut counts, values)?;
+        marks.push(before < allowed)?;
+    }
+    Ok(marks)
+}
+
+fn except_marks(
+    alloc: Global,
+    all: bool,
+    left: &[Row],
+    right: &[Row],
+) -> Result<Items<bool>, AllocError>
+    ensures { IfOk result (λ marks. marks ≡ first_marks (λ row. multiplicity SetOperator.Except all (times row left.now) (times row right.now)) [] left.now) }
+{
+    if all {
+        counted_except_marks(alloc, all, left, right)
+    } else {
+        distinct_marks_beside(alloc, SetOperator::Except, left, right)
+    }
+}
+
+fn intersect_marks(
+    alloc: Global,
+    all: bool,
+    left: &[Row],
+    right: &[Row],
+) -> Result<Items<bool>, AllocError>
+    ensures { IfOk result (λ marks. marks ≡ first_marks (λ row. multiplicity SetOperator.Intersect all (times row left.now) (times row right.now)) [] left.now) }
+{
+    if all {
+        counted_intersect_marks(alloc, all, left, right)
+    } else {
+        distinct_marks_beside(alloc, SetOperator::Intersect, left, right)
+    }
 }
 
 /// The rows of a set operator: the left rows, and for UNION then the right ones; of alike rows the first, as many as the operator says.

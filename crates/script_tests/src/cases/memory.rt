@@ -66,3 +66,38 @@ fn an_insert_can_be_given_again(rt: HostRuntime) -> Result<(), Fail> {
         ],
     )
 }
+
+#[test]
+fn a_query_of_every_operator_can_be_given_again(rt: HostRuntime) -> Result<(), Fail> {
+    check_again(
+        &rt,
+        &[
+            ("CREATE TABLE T (A INTEGER, B VARCHAR(5))", "00000\n"),
+            (
+                "INSERT INTO T VALUES (1, 'x'), (2, 'y'), (3, 'x')",
+                "00000 3\n",
+            ),
+            ("COMMIT", "00000\n"),
+            (
+                "SELECT B, COUNT(*), SUM(A) FROM T GROUP BY B ORDER BY B DESC",
+                "'y'|1|2\n'x'|2|4\n(2 rows)\n",
+            ),
+            (
+                "SELECT DISTINCT B FROM T ORDER BY B",
+                "'x'\n'y'\n(2 rows)\n",
+            ),
+            (
+                "SELECT A FROM T EXCEPT SELECT A FROM T WHERE A = 2 ORDER BY 1 DESC",
+                "3\n1\n(2 rows)\n",
+            ),
+            (
+                "SELECT B FROM T INTERSECT ALL SELECT B FROM T WHERE A < 3 ORDER BY B",
+                "'x'\n'y'\n(2 rows)\n",
+            ),
+            (
+                "SELECT A FROM T X WHERE EXISTS (SELECT 1 FROM T Y WHERE Y.B = X.B AND Y.A > X.A) OR A = (SELECT MAX(A) FROM T Z WHERE Z.B = X.B AND X.A > 2) ORDER BY A",
+                "1\n3\n(2 rows)\n",
+            ),
+        ],
+    )
+}

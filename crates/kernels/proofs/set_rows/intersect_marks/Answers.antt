@@ -1,17 +1,16 @@
-use Rattle.std.proofs.Common.{◌∙◌, ◌+◌, ◌<◌, ◌^◌, length, take, arith, length-take}
+use Rattle.std.proofs.Common.{◌≡◌, sym, ◌∙◌, ap, false, []}
+use Rattle.std.proofs.lemmas.Result.{IfOk-weaker}
 use Rattle.typing.specs.declared.typed.SetOperator.TheVariants.{Intersect}
 use Rattle.denote.specs.Bag.{times}
 use Rattle.denote.specs.SetOperator.{multiplicity}
-use Rattle.kernels.proofs.Marking.{Marked-more}
+use Rattle.kernels.specs.Marks.{first_marks}
+use Rattle.kernels.proofs.Firsts.{intersect-beside}
 use Rattle.kernels.proofs.set_rows.intersect_marks.Goals as goal
 
-pub loop-row-preserved : goal.loop-row-preserved
-loop-row-preserved c =
-    let rows = c.args.left.now in
-    let i = c.loop-row.row-index in
-    let short : length (take i rows) + 1 < 2 ^ 64 = omega (arith, length-take i rows) in
-    let on_left = c.count_of.ensures c.args.left.now c.in_ok-on_left.ensures in
-    let on_right = c.count_of-in-loop-row.ensures c.args.right.now c.in_ok-on_right.ensures in
-    Marked-more c.count_row.new.counts c.loop-row.marks c.push.new.self (λ row. multiplicity Intersect c.args.all (times row c.args.left.now) (times row c.args.right.now)) rows i c.as_slice-values.result.now c.row-item.result c.in_ok-before.before c.intersect_count-allowed.result
-    c.loop-row.invariant.are c.loop-row-test.true c.as_slice-values.ensures c.row-item.is (c.in_ok-before.ensures.before (take i rows) c.loop-row.invariant.counted) (c.intersect_count-allowed.ensures ∙ (λ i. multiplicity Intersect c.args.all (on_left i) (on_right i)))
-    (c.in_ok-before.ensures.counted (take i rows) c.loop-row.invariant.counted short) c.in_ok-push.ensures.ok
+pub returns-else-all : goal.returns-else-all
+returns-else-all c =
+    let left = c.args.left.now in
+    let right = c.args.right.now in
+    IfOk-weaker c.distinct_marks_beside.result (λ marks. marks ≡ first_marks (λ row. multiplicity Intersect false 1 (times row right)) [] left)
+    (λ marks. marks ≡ first_marks (λ row. multiplicity Intersect c.args.all (times row left) (times row right)) [] left)
+    (λ marks e. e ∙ intersect-beside left right ∙ ap (λ all. first_marks (λ row. multiplicity Intersect all (times row left) (times row right)) [] left) (sym c.if-all.false)) c.distinct_marks_beside.ensures

@@ -3,7 +3,7 @@ use Rattle.typing.specs.declared.typed.SetOperator.TheVariants.{Except}
 use Rattle.denote.specs.Bag.{times}
 use Rattle.denote.specs.SetOperator.{multiplicity}
 use Rattle.kernels.proofs.Marking.{Marked}
-use Rattle.kernels.proofs.set_rows.except_marks.Given as goal
+use Rattle.kernels.proofs.set_rows.counted_except_marks.Given as goal
 
 abbrev pub invariant-loop-row : goal.invariant-loop-row
 invariant-loop-row l = Marked l.counts l.marks (λ row. multiplicity Except l.all (times row l.left) (times row l.right)) (take l.row-index l.left)
