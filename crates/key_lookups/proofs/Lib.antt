@@ -1,0 +1,5 @@
+mod Opened
+mod Truths
+mod Keys
+mod Rows
+mod Put
