@@ -13,7 +13,9 @@ use Rattle.btree_read.specs.Tree.{IsTree}
 use Rattle.btree_read.proofs.ListLemmas.{each_left, each_right, each_append}
 use Rattle.btree_read.proofs.NodeLemmas.{not_fresh}
 use Rattle.btree.specs.Overfull.{IsNoTreeIn}
+use Rattle.btree.specs.Grow.{AreKept}
 use Rattle.btree.specs.Written.{IsWritten, put_all}
+use Rattle.btree.proofs.KeptLemmas.{one_owned, kept_none, kept_on}
 use Rattle.btree.proofs.GrowLemmas.{has_or_not}
 use Rattle.btree.proofs.RootLemmas.{still_fresh}
 
@@ -67,6 +69,19 @@ pub stays_end : (old new : PageMap) (root i now : ℕ) (more : List Entry) → i
     → (owned : List ℕ) (entries : List Entry) → IsTree old root owned entries → IsWritten old new owned (put_all more entries) now
 stays_end old new root i now more e f owned entries w =
     subst (λ xs. IsWritten old new owned (put_all xs entries) now) (ap (λ n. take n more) e ∙ take-length more) (f owned entries w)
+
+-- no page is lost on the way
+abbrev pub StaysKept : PageMap → PageMap → ℕ → ℕ → Type 0
+StaysKept old mid root top =
+    (owned : List ℕ) (entries : List Entry) → IsTree old root owned entries → (now_owned : List ℕ) (after : List Entry) → IsTree mid top now_owned after → AreKept old mid owned now_owned
+
+pub kept_begin : (pages : PageMap) (root : ℕ) → StaysKept pages pages root root
+kept_begin pages root owned entries w now_owned after t = subst (AreKept pages pages owned) (one_owned pages root owned now_owned entries after w t) (kept_none pages owned)
+
+pub kept_further : (old mid new : PageMap) (root i top now : ℕ) (more : List Entry) → StaysWritten old mid root more i top → StaysKept old mid root top → StaysKept mid new top now → StaysKept old new root now
+kept_further old mid new root i top now more f h g owned entries w now_owned after t =
+    let x = f owned entries w in
+    kept_on old mid new owned x.now_owned now_owned (h owned entries w x.now_owned (put_all (take i more) entries) x.stored) (g x.now_owned (put_all (take i more) entries) x.stored now_owned after t)
 
 pub small_at : (more : List Entry) (i : ℕ) (d : Entry) → i < length more → AllByRecursion IsSmall more → IsSmall (slice_index_or more i d)
 small_at [] i d l h = absurd (omega arith)

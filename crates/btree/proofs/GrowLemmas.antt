@@ -16,8 +16,9 @@ use Rattle.btree_read.proofs.ListLemmas.{each_append, each_left, each_right, has
 use Rattle.btree_read.proofs.ChainLemmas.{chain_at, chain_put, chain_cut}
 use Rattle.btree_read.proofs.NodeLemmas.{node_kept, node_is_used, not_fresh}
 use Rattle.btree_read.proofs.PageLemmas.{holds_used, holds_kept, around, flat_cut, first_page, rest_branches, pages_append, exchange, IsExchanged}
-use Rattle.btree.specs.Grow.{flat_nodes, flat_leaves, IsGrown, SamePages, IsInnerCut}
+use Rattle.btree.specs.Grow.{flat_nodes, flat_leaves, IsGrown, SamePages, IsInnerCut, AreKept}
 use Rattle.btree.proofs.LeafLemmas.{used_not_fresh}
+use Rattle.btree.proofs.KeptLemmas.{has_around, has_there, kept_middle}
 
 pub inner_moved : (pages : PageMap) (p q a b : ℕ) (bs cs : List Branch) → p ≡ q → a ≡ b → bs ≡ cs → HasNode pages p (InnerNode a bs) → HasNode pages q (InnerNode b cs)
 inner_moved pages p q a b bs cs e f g h =
@@ -71,6 +72,7 @@ pub record IsSpliced (old mid : PageMap) (d : ℕ) (t : Tree (suc d)) (Fits : Ke
   pub same : page_of d first ≡ page_of d t.first
   pub told : map (branch_to d) rest ≡ branches
   pub nodes : IsExchanged old mid (flat_nodes d t.first t.rest) (flat_nodes d first rest)
+  pub kept : AreKept old mid (pages_in (flat_nodes d t.first t.rest)) (pages_in (flat_nodes d first rest))
   pub order : (lo : Key) (hi : Option Key) → Chain (Ordered d) lo hi t.first t.rest → Fits lo hi → Chain (Ordered d) lo hi first rest
   pub links : (from to : ℕ) → Leads from (flat_leaves d t.first t.rest) to → Leads from (flat_leaves d first rest) to
   pub entries : flat_map (entries_of d) (kids first rest) ≡ now
@@ -93,6 +95,7 @@ module _ (old mid : PageMap) (page : ℕ) (d : ℕ) (t : Tree (suc d)) (lo : Key
         same = first_page d t.first t.rest at g.tree g.same;
         told = rest_branches d t.first t.rest at g.tree g.more g.same ∙ ap (λ bs. take at (map (branch_to d) t.rest) ++ (bs ++ drop at (map (branch_to d) t.rest))) g.told;
         nodes = rw (w.old, w.new g.tree g.more) x;
+        kept = rw (w.old, w.new g.tree g.more) (kept_middle old mid w.before (nodes_of d (kid_at t.first t.rest at)) w.after (flat_nodes d g.tree g.more) g.kept);
         order = λ a b o f. chain_put (Ordered d) a b t.first t.rest at g.tree g.more o (g.order _ _ (chain_at (Ordered d) a b t.first t.rest at o) (down a b f));
         links = λ from to h. subst (λ ls. Leads from ls to) (sym (v.new g.tree g.more)) (leads_middle from v.before _ _ v.after to g.links (subst (λ ls. Leads from ls to) v.old h));
         entries = up g.tree g.more g.entries;
@@ -124,11 +127,22 @@ module _ (old mid : PageMap) (page : ℕ) (d : ℕ) (t : Tree (suc d)) (lo : Key
         apart = rw (append_nil F) (own_page u branches s, s.nodes.apart);
         own = λ n h. own_by n (subst (λ ns. (n ≡ t.page) ⊎ Has n (pages_in ns)) (append_nil F) h);
         others = λ n h g. same n (λ e. h (inl (e ∙ sym u.at))) ∙ s.nodes.others n (λ w. h (inr w)) g;
+        kept = record {
+          still = λ n h. subst (λ ns. (n ≡ t.page) ⊎ Has n (pages_in ns)) (sym (append_nil F)) (still_by n h);
+          rest = λ n h. rest_by n (λ g. h (subst (λ ns. (n ≡ t.page) ⊎ Has n (pages_in ns)) (sym (append_nil F)) g));
+        };
         order = s.order;
         links = λ from to h. subst (λ ls. Leads from ls to) (sym (append_nil (flat_leaves d s.first s.rest))) (s.links from to h);
         entries = append_nil (flat_map (entries_of d) (kids s.first s.rest)) ∙ s.entries;
       }
     where
+      still_by : (n : ℕ) → (n ≡ t.page) ⊎ Has n (pages_in (flat_nodes d t.first t.rest)) → (n ≡ t.page) ⊎ Has n (pages_in (flat_nodes d s.first s.rest))
+      still_by n (inl e) = inl e
+      still_by n (inr g) = inr (s.kept.still n g)
+
+      rest_by : (n : ℕ) → ((n ≡ t.page) ⊎ Has n (pages_in (flat_nodes d s.first s.rest)) → ⊥) → new n ≡ old n
+      rest_by n h = same n (λ e. h (inl (e ∙ sym u.at))) ∙ s.kept.rest n (λ g. h (inr g))
+
       own_by : (n : ℕ) → (n ≡ t.page) ⊎ Has n (pages_in (flat_nodes d s.first s.rest)) → ((n ≡ t.page) ⊎ Has n (pages_in (flat_nodes d t.first t.rest))) ⊎ (old n ≡ None)
       own_by n (inl e) = inl (inl e)
       own_by n (inr g) = own_in n (s.nodes.own n g)
@@ -192,6 +206,10 @@ module _ (old mid : PageMap) (page : ℕ) (d : ℕ) (t : Tree (suc d)) (lo : Key
         );
         own = λ n h. own_by n P1 P2 pages (subst (Has n) numbers h);
         others = λ n h g. w.others n (λ e. other_by n h g e) ∙ s.nodes.others n (λ x. h (inr x)) g;
+        kept = record {
+          still = λ n h. subst (Has n) (sym numbers) (still_by n P1 P2 pages h);
+          rest = λ n h. rest_by n P1 P2 pages (λ g. h (subst (Has n) (sym numbers) g));
+        };
         order = λ a z o i.
             let cut = chain_cut (Ordered d) a z s.first c.left c.mid.0 c.mid.1 c.right (subst (Chain (Ordered d) a z s.first) c.parts (s.order a z o i)) in
             (cut.divides, cut.left, cut.right);
@@ -217,6 +235,17 @@ module _ (old mid : PageMap) (page : ℕ) (d : ℕ) (t : Tree (suc d)) (lo : Key
       own_in : (n : ℕ) → Has n (pages_in (flat_nodes d t.first t.rest)) ⊎ (old n ≡ None) → ((n ≡ t.page) ⊎ Has n (pages_in (flat_nodes d t.first t.rest))) ⊎ (old n ≡ None)
       own_in n (inl g) = inl (inr g)
       own_in n (inr e) = inr e
+
+      still_by : (n : ℕ) (P1 P2 : List ℕ) → pages_in (flat_nodes d s.first s.rest) ≡ P1 ++ P2 → (n ≡ t.page) ⊎ Has n (pages_in (flat_nodes d t.first t.rest)) → (n ≡ t.page) ⊎ Has n (P1 ++ b.child ∷ P2)
+      still_by n P1 P2 e (inl h) = inl h
+      still_by n P1 P2 e (inr h) = inr (has_around n b.child P1 P2 (subst (Has n) e (s.kept.still n h)))
+
+      rest_by : (n : ℕ) (P1 P2 : List ℕ) → pages_in (flat_nodes d s.first s.rest) ≡ P1 ++ P2 → ((n ≡ t.page) ⊎ Has n (P1 ++ b.child ∷ P2) → ⊥) → new n ≡ old n
+      rest_by n P1 P2 e h = w.others n (λ g. neither g) ∙ s.kept.rest n (λ g. h (inr (has_around n b.child P1 P2 (subst (Has n) e g))))
+        where
+          neither : (n ≡ page) ⊎ (n ≡ b.child) → ⊥
+          neither (inl g) = h (inl (g ∙ sym u.at))
+          neither (inr g) = h (inr (has_there n b.child P1 P2 g))
 
       own_by : (n : ℕ) (P1 P2 : List ℕ) → pages_in (flat_nodes d s.first s.rest) ≡ P1 ++ P2 → (n ≡ t.page) ⊎ Has n (P1 ++ b.child ∷ P2)
           → ((n ≡ t.page) ⊎ Has n (pages_in (flat_nodes d t.first t.rest))) ⊎ (old n ≡ None)

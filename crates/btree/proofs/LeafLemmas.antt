@@ -108,6 +108,7 @@ module _ (old new : PageMap) (page : ℕ) (t : LeafAt) (lo : Key) (hi : Option K
     apart = one_apart t.page;
     own = λ n h. inl h;
     others = λ n h g. w.1 n (λ e. h (inl (e ∙ sym u.at)));
+    kept = record { still = λ n h. h; rest = λ n h. w.1 n (λ e. h (inl (e ∙ sym u.at))) };
     order = λ a b o f. rises a b o f;
     links = λ from to h. h;
     entries = append_nil now;
@@ -121,6 +122,7 @@ module _ (old new : PageMap) (page : ℕ) (t : LeafAt) (lo : Key) (hi : Option K
     apart = two_apart t.page b.child (used_not_fresh old t.page b.child (holds_used old (nodes_of zero t) u.holds t.page (inl refl)) w.fresh);
     own = λ n h. own_by n h;
     others = λ n h g. w.others n (λ e. other_by n h g e);
+    kept = record { still = λ n h. still_by n h; rest = λ n h. w.others n (λ e. h (two_by n e)) };
     order = λ a z o f. rising_chain a z w.x w.xs w.y w.ys t.page b.child b.child t.next (subst (IsRising a z) w.parts (rises a z o f));
     links = λ from to h. (h.0, (refl, h.1));
     entries = ap (λ es. (w.x ∷ w.xs) ++ es) (append_nil (w.y ∷ w.ys)) ∙ sym w.parts;
@@ -130,6 +132,14 @@ module _ (old new : PageMap) (page : ℕ) (t : LeafAt) (lo : Key) (hi : Option K
       own_by n (inl e) = inl (inl e)
       own_by n (inr (inl e)) = inr (ap old e ∙ w.fresh)
       own_by n (inr (inr g)) = absurd g
+
+      still_by : (n : ℕ) → (n ≡ t.page) ⊎ ⊥ → (n ≡ t.page) ⊎ ((n ≡ b.child) ⊎ ⊥)
+      still_by n (inl e) = inl e
+      still_by n (inr g) = absurd g
+
+      two_by : (n : ℕ) → (n ≡ page) ⊎ (n ≡ b.child) → (n ≡ t.page) ⊎ ((n ≡ b.child) ⊎ ⊥)
+      two_by n (inl e) = inl (e ∙ sym u.at)
+      two_by n (inr e) = inr (inl e)
 
       other_by : (n : ℕ) → (Has n (t.page ∷ []) → ⊥) → IsSome (old n) → (n ≡ page) ⊎ (n ≡ b.child) → ⊥
       other_by n h g (inl e) = h (inl (e ∙ sym u.at))

@@ -1,3 +1,4 @@
+pub mod KeptLemmas
 pub mod LeafLemmas
 pub mod GrowLemmas
 pub mod CellLemmas

@@ -13,9 +13,10 @@ use Rattle.btree_read.proofs.OrderLemmas.{empty_lowest}
 use Rattle.btree_read.proofs.NodeLemmas.{not_fresh}
 use Rattle.btree_read.proofs.PageLemmas.{holds_used, holds_kept}
 use Rattle.btree_read.proofs.SearchLemmas.{under_root}
-use Rattle.btree.specs.Grow.{flat_nodes, flat_leaves, SamePages, GrowsBelow}
+use Rattle.btree.specs.Grow.{flat_nodes, flat_leaves, SamePages, GrowsBelow, AreKept}
 use Rattle.btree.specs.Written.{IsWritten}
 use Rattle.btree.proofs.GrowLemmas.{has_or_not}
+use Rattle.btree.proofs.KeptLemmas.{one_owned}
 
 as_tree : (pages : PageMap) (root : ℕ) (owned : List ℕ) (entries : List Entry) → (root ≡ 0 → ⊥) → IsTreeOf pages root owned entries → IsTree pages root owned entries
 as_tree pages zero owned entries nz w = absurd (nz refl)
@@ -133,3 +134,72 @@ root_new old mid new zero r k v cell e fresh keeps write same is small owned ent
     alone : (n : ℕ) → (n ≡ r) ⊎ ⊥ → old n ≡ None
     alone n (inl e) = ap old e ∙ fresh.free
     alone n (inr h) = absurd h
+
+-- ---- no page is lost
+
+-- what is so of the pages that a change left is so of those of any tree at its root
+pub keeps_all : (old new : PageMap) (owned : List ℕ) (entries : List Entry) (root : ℕ) (w : IsWritten old new owned entries root) → AreKept old new owned w.now_owned
+    → (now_owned : List ℕ) (after : List Entry) → IsTree new root now_owned after → AreKept old new owned now_owned
+keeps_all old new owned entries root w k now_owned after t = subst (AreKept old new owned) (one_owned new root w.now_owned now_owned entries after w.stored t) k
+
+kept_root : (old new : PageMap) (root : ℕ) (k : Key) (v : List ℕ) (nz : root ≡ 0 → ⊥) (g : GrowsBelow old new root k v (Ok None))
+    → (owned : List ℕ) (entries : List Entry) (w : IsTree old root owned entries) → AreKept old new owned (root_kept old new root k v nz g owned entries w).now_owned
+unfolding root_kept
+kept_root old new zero k v nz g owned entries w = absurd (nz refl)
+kept_root old new (suc r) k v nz g owned entries w =
+    let x = g w.depth w.tree [] None (under_root old (suc r) owned entries w) in
+    let only : x.more ≡ [] = none_more w.depth x.more x.told in
+    let alone : flat_nodes w.depth x.tree x.more ≡ nodes_of w.depth x.tree = ap (flat_nodes w.depth x.tree) only ∙ append_nil (nodes_of w.depth x.tree) in
+    let k : AreKept old new owned (pages_in (flat_nodes w.depth x.tree x.more)) = subst (λ ps. AreKept old new ps (pages_in (flat_nodes w.depth x.tree x.more))) w.owns x.kept in
+    subst (λ ns. AreKept old new owned (pages_in ns)) alone k
+
+pub root_kept_keeps : (old new : PageMap) (root : ℕ) (k : Key) (v : List ℕ) → (root ≡ 0 → ⊥) → GrowsBelow old new root k v (Ok None)
+    → (owned : List ℕ) (entries : List Entry) → IsTree old root owned entries
+    → (now_owned : List ℕ) (after : List Entry) → IsTree new root now_owned after → AreKept old new owned now_owned
+root_kept_keeps old new root k v nz g owned entries w = keeps_all old new owned (put k v entries) root (root_kept old new root k v nz g owned entries w) (kept_root old new root k v nz g owned entries w)
+
+-- a new root's page beside those of the trees under it
+beside_root : (old mid low new : PageMap) (r : ℕ) (owned F : List ℕ) → AreKept old mid owned F → SamePages mid low (λ n. n ≡ r) → SamePages low new (λ n. n ≡ r) → AreKept old new owned (r ∷ F)
+beside_root old mid low new r owned F k keeps same = record {
+  still = λ n h. inr (k.still n h);
+  rest = λ n h. let ne : n ≡ r → ⊥ = λ e. h (inl e) in same n ne ∙ keeps n ne ∙ k.rest n (λ g. h (inr g));
+}
+
+kept_up : (old mid low new : PageMap) (root r : ℕ) (b : Branch) (cell : List ℕ) (k : Key) (v : List ℕ) (nz : root ≡ 0 → ⊥) (g : GrowsBelow old mid root k v (Ok (Some b)))
+    (fresh : IsFresh mid low r) (keeps : SamePages mid low (λ n. n ≡ r))
+    (write : IsSome (low r) → IsStocked (InnerNode root (branch_of cell ∷ [])) → HasNode new r (InnerNode root (branch_of cell ∷ []))) (same : SamePages low new (λ n. n ≡ r))
+    (is : branch_of cell ≡ b) (small : IsSmallBranch b)
+    (owned : List ℕ) (entries : List Entry) (w : IsTree old root owned entries) → AreKept old new owned (root_up old mid low new root r b cell k v nz g fresh keeps write same is small owned entries w).now_owned
+unfolding root_up
+kept_up old mid low new zero r b cell k v nz g fresh keeps write same is small owned entries w = absurd (nz refl)
+kept_up old mid low new (suc q) r b cell k v nz g fresh keeps write same is small owned entries w =
+    let x = g w.depth w.tree [] None (under_root old (suc q) owned entries w) in
+    beside_root old mid low new r owned (pages_in (flat_nodes w.depth x.tree x.more)) (subst (λ ps. AreKept old mid ps (pages_in (flat_nodes w.depth x.tree x.more))) w.owns x.kept) keeps same
+
+pub root_up_keeps : (old mid low new : PageMap) (root r : ℕ) (b : Branch) (cell : List ℕ) (k : Key) (v : List ℕ) → (root ≡ 0 → ⊥) → GrowsBelow old mid root k v (Ok (Some b))
+    → IsFresh mid low r → SamePages mid low (λ n. n ≡ r)
+    → (IsSome (low r) → IsStocked (InnerNode root (branch_of cell ∷ [])) → HasNode new r (InnerNode root (branch_of cell ∷ []))) → SamePages low new (λ n. n ≡ r)
+    → branch_of cell ≡ b → IsSmallBranch b
+    → (owned : List ℕ) (entries : List Entry) → IsTree old root owned entries
+    → (now_owned : List ℕ) (after : List Entry) → IsTree new r now_owned after → AreKept old new owned now_owned
+root_up_keeps old mid low new root r b cell k v nz g fresh keeps write same is small owned entries w =
+    keeps_all old new owned (put k v entries) r (root_up old mid low new root r b cell k v nz g fresh keeps write same is small owned entries w)
+    (kept_up old mid low new root r b cell k v nz g fresh keeps write same is small owned entries w)
+
+kept_new : (old mid new : PageMap) (root r : ℕ) (k : Key) (v : List ℕ) (cell : List ℕ) (e : root ≡ 0) (fresh : IsFresh old mid r) (keeps : SamePages old mid (λ n. n ≡ r))
+    (write : IsSome (mid r) → IsStocked (LeafNode 0 (entry_of cell ∷ [])) → HasNode new r (LeafNode 0 (entry_of cell ∷ []))) (same : SamePages mid new (λ n. n ≡ r))
+    (is : entry_of cell ≡ record { key = k; value = v }) (small : IsSmall (record { key = k; value = v }))
+    (owned : List ℕ) (entries : List Entry) (w : IsTree old root owned entries) → AreKept old new owned (root_new old mid new root r k v cell e fresh keeps write same is small owned entries w).now_owned
+unfolding root_new
+kept_new old mid new (suc q) r k v cell e fresh keeps write same is small owned entries w = absurd (omega arith)
+kept_new old mid new zero r k v cell e fresh keeps write same is small owned entries w =
+    beside_root old old mid new r owned [] (record { still = λ n h. subst (Has n) w.0 h; rest = λ n h. refl }) keeps same
+
+pub root_new_keeps : (old mid new : PageMap) (root r : ℕ) (k : Key) (v : List ℕ) (cell : List ℕ) → root ≡ 0 → IsFresh old mid r → SamePages old mid (λ n. n ≡ r)
+    → (IsSome (mid r) → IsStocked (LeafNode 0 (entry_of cell ∷ [])) → HasNode new r (LeafNode 0 (entry_of cell ∷ []))) → SamePages mid new (λ n. n ≡ r)
+    → entry_of cell ≡ record { key = k; value = v } → IsSmall (record { key = k; value = v })
+    → (owned : List ℕ) (entries : List Entry) → IsTree old root owned entries
+    → (now_owned : List ℕ) (after : List Entry) → IsTree new r now_owned after → AreKept old new owned now_owned
+root_new_keeps old mid new root r k v cell e fresh keeps write same is small owned entries w =
+    keeps_all old new owned (put k v entries) r (root_new old mid new root r k v cell e fresh keeps write same is small owned entries w)
+    (kept_new old mid new root r k v cell e fresh keeps write same is small owned entries w)

@@ -54,6 +54,11 @@ InnerWritten old new page first bs (Some b) = IsInnerCut old new page first bs b
 
 -- ---- the tree under a page
 
+-- pages that were owned are owned still, and a page that is not owned now is as it was: none is lost
+pub record AreKept (old new : PageMap) (owned now_owned : List ℕ) : Type 0 where
+  pub still : (n : ℕ) → Has n owned → Has n now_owned
+  pub rest : (n : ℕ) → (Has n now_owned → ⊥) → new n ≡ old n
+
 abbrev pub flat_nodes : (d : ℕ) → Tree d → List (Key × Tree d) → List (ℕ × Node)
 flat_nodes d first rest = flat_map (nodes_of d) (kids first rest)
 
@@ -71,6 +76,7 @@ pub record IsGrown (old new : PageMap) (d : ℕ) (t : Tree d) (Fits : Key → Op
   pub apart : Apart (pages_in (flat_nodes d tree more))
   pub own : (n : ℕ) → Has n (pages_in (flat_nodes d tree more)) → Has n (pages_in (nodes_of d t)) ⊎ (old n ≡ None)
   pub others : (n : ℕ) → (Has n (pages_in (nodes_of d t)) → ⊥) → IsSome (old n) → new n ≡ old n
+  pub kept : AreKept old new (pages_in (nodes_of d t)) (pages_in (flat_nodes d tree more))
   pub order : (lo : Key) (hi : Option Key) → Ordered d lo hi t → Fits lo hi → Chain (Ordered d) lo hi tree more
   pub links : (from to : ℕ) → Leads from (leaves_of d t) to → Leads from (flat_leaves d tree more) to
   pub entries : flat_map (entries_of d) (kids tree more) ≡ now

@@ -5,7 +5,7 @@ ghost use Rattle.std.specs.List.{AllByRecursion};
 ghost use Rattle.page_space.specs.Space.{ChangeRefused};
 ghost use Rattle.btree_read.specs.Nodes.{IsSmall};
 ghost use Rattle.btree.specs.Overfull.{IsNoTreeIn};
-ghost use Rattle.btree.specs.Written.{InsertsAll, Appends};
+ghost use Rattle.btree.specs.Written.{InsertsAll, Appends, KeepsPages};
 
 use crate::insertion::insert;
 use btree_read::Entry;
@@ -24,6 +24,7 @@ pub fn insert_all<S: PageSpace>(
     requires { AllByRecursion IsSmall entries.now }
     ensures inserts { InsertsAll (S.pages space.old) (S.pages space.new) root entries.now result }
     ensures appends { Appends (S.pages space.old) (S.pages space.new) root entries.now result }
+    ensures keeps { KeepsPages (S.pages space.old) (S.pages space.new) root result }
     ensures whole { OnOk result (S.is_whole space.old → S.is_whole space.new) }
     ensures refusal { IfErr result (ChangeRefused (S.at_limit space.new) (IsNoTreeIn (S.pages space.old) root (S.is_whole space.old)) (S.refused space.old) (S.refused space.new)) }
     ensures rising { S.refused space.old ≤ S.refused space.new }

@@ -5,7 +5,7 @@ ghost use Rattle.page_space.specs.Space.{ChangeRefused};
 ghost use Rattle.btree_read.specs.Nodes.{IsSmall, IsSmallBranch};
 ghost use Rattle.btree.specs.Grow.{GrowsBelow};
 ghost use Rattle.btree.specs.Overfull.{HasNoTreeFor, IsNoTreeIn};
-ghost use Rattle.btree.specs.Written.{Inserts};
+ghost use Rattle.btree.specs.Written.{Inserts, KeepsPages};
 
 use crate::inner::put_in_inner;
 use crate::leaf::put_in_leaf;
@@ -69,6 +69,7 @@ pub fn insert<S: PageSpace>(
 ) -> Result<u32, Fault>
     requires { IsSmall (record { key = key.now; value = value.now }) }
     ensures inserts { Inserts (S.pages space.old) (S.pages space.new) root key.now value.now result }
+    ensures keeps { KeepsPages (S.pages space.old) (S.pages space.new) root result }
     ensures whole { OnOk result (S.is_whole space.old → S.is_whole space.new) }
     ensures refusal { IfErr result (ChangeRefused (S.at_limit space.new) (IsNoTreeIn (S.pages space.old) root (S.is_whole space.old)) (S.refused space.old) (S.refused space.new)) }
     ensures rising { S.refused space.old ≤ S.refused space.new }

@@ -13,5 +13,5 @@ pub use append::insert_all;
 pub use cells::cells_with;
 pub use inner::write_inner;
 pub use insertion::insert;
-pub use laws::other_trees_stay;
+pub use laws::{insertions_lose_no_page, other_trees_stay};
 pub use page::write_page;

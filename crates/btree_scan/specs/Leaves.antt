@@ -1,39 +1,41 @@
--- The leaves of a tree in order, each naming the next one. Our own choice.
-use Rattle.std.specs.Prelude.{◌≡◌, ℕ, ◌≤◌, zero, suc, List, [], ◌∷◌, ◌++◌, map, length, Option, Result, OnOk, ⊤}
-use Rattle.std.specs.List.{flat_map}
+-- What a walk over the leaves of a tree sees. Our own choice.
+use Rattle.std.specs.Prelude.{◌≡◌, ℕ, ◌≤◌, List, [], ◌∷◌, ◌++◌, Option, Some, None, Result, OnOk, IfOk, ⊤}
 use Rattle.page_space.specs.declared.fault.Fault.{Fault}
 use Rattle.page_space.specs.Space.{PageMap}
 use Rattle.btree_read.specs.declared.entry.Entry.{Entry}
-use Rattle.btree_read.specs.Nodes.{Key, LeafNode, HasNode}
-use Rattle.btree_read.specs.Tree.{Tree, LeafAt}
+use Rattle.btree_read.specs.Lists.{Leads}
+use Rattle.btree_read.specs.Nodes.{Key}
+use Rattle.btree_read.specs.Tree.{Tree, entries_of, leaves_of}
 use Rattle.btree_read.specs.Search.{IsUnder}
+use Rattle.btree_scan.specs.declared.leaf.Walk.{Walk}
 
--- the leaf that stands first
-abbrev pub first_leaf : (d : ℕ) → Tree d → LeafAt
-first_leaf zero t = t
-first_leaf (suc d) t = first_leaf d t.first
+-- the leaf before, if there is one, names this page
+abbrev pub Names : Option ℕ → ℕ → Type 0
+Names None page = ⊤
+Names (Some before) page = before ≡ page
 
--- the others in order
-abbrev pub later_leaves : (d : ℕ) → Tree d → List LeafAt
-later_leaves zero t = []
-later_leaves (suc d) t = later_leaves d t.first ++ flat_map (λ c. first_leaf d c ∷ later_leaves d c) (map (λ c. c.1) t.rest)
+-- of these leaves, each a page with the page that it names, each is named by the one before it; `to` is what the last one names
+abbrev pub LeadsOn : List (ℕ × ℕ) → Option ℕ → Option ℕ → Type 0
+LeadsOn [] from to = from ≡ to
+LeadsOn (leaf ∷ leaves) from to = Names from leaf.0 × LeadsOn leaves (Some leaf.1) to
 
--- these leaves lie in their pages; the first is at `from`, each names the page of the next one, and the last one names 0
-abbrev pub LeavesFrom : PageMap → ℕ → List LeafAt → Type 0
-LeavesFrom pages from [] = from ≡ 0
-LeavesFrom pages from (leaf ∷ leaves) = (from ≡ leaf.page) × HasNode pages leaf.page (LeafNode leaf.next leaf.entries) × LeavesFrom pages leaf.next leaves
+-- whatever tree is under the page, its entries are behind those that were there, and each of its leaves was named by the one before it
+abbrev pub SeesBelow : PageMap → ℕ → Walk → Walk → Result ⊤ Fault → Type 0
+SeesBelow pages page was now result =
+    (d : ℕ) (t : Tree d) (lo : Key) (hi : Option Key) → IsUnder pages page d t lo hi
+    → OnOk result ((now.entries ≡ was.entries ++ entries_of d t) × LeadsOn (leaves_of d t) was.named now.named)
 
-abbrev pub entries_in : List LeafAt → List Entry
-entries_in leaves = flat_map (λ leaf. leaf.entries) leaves
+-- no tree of at most so many levels is under the page whose leaves are each named by the one before it
+abbrev pub HasNoLinkedTree : PageMap → ℕ → ℕ → Walk → Type 0
+HasNoLinkedTree pages page levels was =
+    (d : ℕ) (t : Tree d) (lo : Key) (hi : Option Key) (to : Option ℕ) → d ≤ levels → IsUnder pages page d t lo hi → LeadsOn (leaves_of d t) was.named to → ⊥
 
--- whatever tree is under the page, and whatever leaves its first leaf leads to, the entries are those of all of them
-abbrev pub ScansFrom : PageMap → ℕ → List Entry → List Entry → Result ⊤ Fault → Type 0
-ScansFrom pages page before now result =
-    (d : ℕ) (t : Tree d) (lo : Key) (hi : Option Key) (later : List LeafAt) → IsUnder pages page d t lo hi → LeavesFrom pages (first_leaf d t).next later
-    → OnOk result (now ≡ before ++ entries_in (first_leaf d t ∷ later))
+-- each leaf of a tree names the next one, and the last one names 0
+pub record AreLinked (d : ℕ) (t : Tree d) : Type 0 where
+  pub leftmost : ℕ
+  pub links : Leads leftmost (leaves_of d t) 0
 
--- no tree of at most so many levels is under the page, or its first leaf leads to no such leaves
-abbrev pub HasNoLeaves : PageMap → ℕ → ℕ → Type 0
-HasNoLeaves pages page levels =
-    (d : ℕ) (t : Tree d) (lo : Key) (hi : Option Key) (later : List LeafAt) → d ≤ levels → IsUnder pages page d t lo hi → LeavesFrom pages (first_leaf d t).next later
-    → length later ≤ 65535 → ⊥
+-- whatever tree is at the root, its links right or wrong: where its entries are given, the links were seen to be right
+abbrev pub SeesLinks : PageMap → ℕ → Result (List Entry) Fault → Type 0
+SeesLinks pages root result =
+    (d : ℕ) (t : Tree d) → IsUnder pages root d t [] None → IfOk result (λ entries. (entries ≡ entries_of d t) × AreLinked d t)

@@ -1,21 +1,24 @@
-//! The entries of one leaf, and of the leaves behind it.
+//! One leaf: its entries, and the page that it names.
 
-ghost use Rattle.std.specs.Prelude.{◌≡◌, ◌<◌, ◌≤◌, ◌++◌, [], ℕ, List, map, length, slice_index_or, IfOk, IfErr, OnOk};
+ghost use Rattle.std.specs.Prelude.{◌≡◌, ◌<◌, ◌++◌, [], Some, true, false, map, length, slice_index_or, IfOk, IfErr, OnOk};
 ghost use Rattle.page_space.specs.Space.{ReadRefused};
-ghost use Rattle.sqlrecord.specs.declared.kind.PageKind.TheVariants.{Leaf};
-ghost use Rattle.btree_read.specs.declared.entry.Entry.{Entry as entry};
-ghost use Rattle.btree_read.specs.Nodes.{entry_of, LeafNode, HasNode};
-ghost use Rattle.btree_read.specs.Tree.{LeafAt};
-ghost use Rattle.btree_scan.specs.Leaves.{LeavesFrom, entries_in};
+ghost use Rattle.btree_read.specs.Nodes.{entry_of};
+ghost use Rattle.btree_scan.specs.Leaves.{Names};
 
-use btree_read::{Entry, read_node};
+use btree_read::Entry;
 use items::Items;
-use page_space::{Fault, Page, PageReader};
-use sqlrecord::{PageKind, SlotPage};
+use page_space::Fault;
+use sqlrecord::SlotPage;
 use std::alloc::{AllocError, Global};
 
-/// The most leaves behind another one: each has a page of its own.
-const MAXIMUM_LEAVES: u32 = 65535;
+/// What a walk over the leaves of a tree has seen.
+#[derive(Drop)]
+pub(crate) struct Walk {
+    /// The entries of the leaves, in order.
+    pub(crate) entries: Items<Entry>,
+    /// The page that the last leaf names as the next one; none before the first leaf.
+    pub(crate) named: Option<u32>,
+}
 
 /// The entry of a leaf at a place.
 fn entry_at(alloc: Global, leaf: &SlotPage<'_>, i: usize) -> Result<Entry, AllocError>
@@ -28,12 +31,12 @@ fn entry_at(alloc: Global, leaf: &SlotPage<'_>, i: usize) -> Result<Entry, Alloc
 }
 
 /// Puts the entries of a leaf behind others.
-pub(crate) fn take_entries(
+fn take_entries(
     alloc: Global,
     leaf: &SlotPage<'_>,
-    entries: &mut Vec<Entry>,
+    entries: &mut Items<Entry>,
 ) -> Result<(), AllocError>
-    ensures { OnOk result (entries.new.items ≡ entries.old.items ++ map entry_of leaf.now.cells) }
+    ensures { OnOk result (entries.new ≡ entries.old ++ map entry_of leaf.now.cells) }
 {
     for i in 0..leaf.len() {
         entries.push(entry_at(alloc, leaf, i)?)?;
@@ -41,55 +44,34 @@ pub(crate) fn take_entries(
     Ok(())
 }
 
-/// Reads a leaf, puts its entries behind others, and gives the page of the next leaf.
-fn read_leaf<R: PageReader>(
-    space: &mut R,
-    alloc: Global,
-    page: u32,
-    entries: &mut Vec<Entry>,
-    buffer: &mut Page,
-) -> Result<u32, Fault>
-    ensures taken { (next : ℕ) (es : List entry) → HasNode (R.pages space.old) page (LeafNode next es) → IfOk result (λ link. (link ≡ next) × (entries.new.items ≡ entries.old.items ++ es)) }
-    ensures same { R.pages space.new ≡ R.pages space.old }
-    ensures whole { R.is_whole space.old → R.is_whole space.new }
-    ensures refusal { IfErr result (ReadRefused ((next : ℕ) (es : List entry) → HasNode (R.pages space.old) page (LeafNode next es) → ⊥) (R.refused space.old) (R.refused space.new)) }
-    ensures rising { R.refused space.old ≤ R.refused space.new }
-    ensures follows { R.follows space.old space.new }
+/// Whether the leaf before, if there is one, names a page.
+fn is_named(named: Option<u32>, page: u32) -> bool
+    ensures yes { result ≡ true → Names named page }
+    ensures other { result ≡ false → Names named page → ⊥ }
 {
-    let node = read_node(space, page, buffer)?;
-    match node.kind() {
-        PageKind::Leaf => {
-            take_entries(alloc, &node, entries)?;
-            Ok(node.link())
-        }
-        PageKind::Inner => Err(Fault::Damaged),
+    match named {
+        Some(before) => before == page,
+        None => true,
     }
 }
 
-/// Puts the entries of a leaf, and of all that follow it, behind others; page 0 is no leaf. Ends on
-/// any pages: more leaves than there are pages are damage.
-pub(crate) fn read_leaves<R: PageReader>(
-    space: &mut R,
+/// Puts the entries of a leaf behind those of the leaves before it. Refused for memory, and as damaged
+/// where the leaf before names another page.
+pub(crate) fn see_leaf(
     alloc: Global,
-    first: u32,
-    entries: &mut Vec<Entry>,
-    buffer: &mut Page,
+    page: u32,
+    leaf: &SlotPage<'_>,
+    walk: &mut Walk,
 ) -> Result<(), Fault>
-    ensures taken { (leaves : List LeafAt) → LeavesFrom (R.pages space.old) first leaves → OnOk result (entries.new.items ≡ entries.old.items ++ entries_in leaves) }
-    ensures same { R.pages space.new ≡ R.pages space.old }
-    ensures whole { R.is_whole space.old → R.is_whole space.new }
-    ensures refusal { IfErr result (ReadRefused ((leaves : List LeafAt) → length leaves ≤ 65535 → LeavesFrom (R.pages space.old) first leaves → ⊥) (R.refused space.old) (R.refused space.new)) }
-    ensures rising { R.refused space.old ≤ R.refused space.new }
-    ensures follows { R.follows space.old space.new }
+    ensures entries { OnOk result (walk.new.entries ≡ walk.old.entries ++ map entry_of leaf.now.cells) }
+    ensures named { OnOk result (Names walk.old.named page) }
+    ensures next { OnOk result (walk.new.named ≡ Some leaf.now.link) }
+    ensures refusal { IfErr result (ReadRefused (Names walk.old.named page → ⊥) 0 0) }
 {
-    let mut page = first;
-    let mut left = MAXIMUM_LEAVES;
-    'walked: while page != 0 {
-        if left == 0 {
-            return Err(Fault::Damaged);
-        }
-        left -= 1;
-        page = read_leaf(space, alloc, page, entries, buffer)?;
+    if !is_named(walk.named, page) {
+        return Err(Fault::Damaged);
     }
+    take_entries(alloc, leaf, &mut walk.entries)?;
+    walk.named = Some(leaf.link());
     Ok(())
 }
