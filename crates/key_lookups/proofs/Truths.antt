@@ -96,9 +96,10 @@ module _ (tables : Tables) where
     where
       at : (b : Bool) → is_column place (out-Expression one) ≡ b → (if b then literal_of (out-Expression other) else None) ≡ Some x
           → (tree_value tables one (row ∷ outer) ≡ Ok (cell row place)) × (tree_value tables other (row ∷ outer) ≡ Ok x)
-      at true is e =
-          (ap (λ f. f (row ∷ outer)) (value_is one) ∙ column_here place (out-Expression one) row outer is
-          , ap (λ f. f (row ∷ outer)) (value_is other) ∙ literal_there (out-Expression other) x (row ∷ outer) e)
+      at true is e = (
+        ap (λ f. f (row ∷ outer)) (value_is one) ∙ column_here place (out-Expression one) row outer is,
+        ap (λ f. f (row ∷ outer)) (value_is other) ∙ literal_there (out-Expression other) x (row ∷ outer) e,
+      )
       at false is e = absurd (cc)
 
   -- ---- conjuncts

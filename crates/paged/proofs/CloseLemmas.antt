@@ -28,10 +28,12 @@ pub closed_saved : (honest : Bool) (file : List ℕ) (v w : Versions) (numbers n
     → (IsTrue honest → IsDatabase (w.pages w.last) nothing → HoldsDatabase file (database_of (contents_in (w.pages w.last) nothing))) → KeepsFound now v w
     → IsSound honest v numbers written settled → IsSaved honest file (database_of (known_contents honest (v.pages v.last) nothing))
 closed_saved honest file v w numbers now written settled held kept sound =
-    let newest : w.pages w.last ≡ v.pages v.last = newest_kept v w kept.last kept.newest in
-    (sound.device, inr (subst (λ (db : Database). HoldsDatabase file db)
-    (ap database_of (ap (λ (p : PageMap). contents_in p nothing) newest ∙ sym (known_is honest (v.pages v.last) nothing sound.device)))
-    (held sound.device (subst (λ (p : PageMap). IsDatabase p nothing) (sym newest) sound.last))))
+    let newest : w.pages w.last ≡ v.pages v.last = newest_kept v w kept.last kept.newest in (
+      sound.device,
+      inr (subst (λ (db : Database). HoldsDatabase file db)
+          (ap database_of (ap (λ (p : PageMap). contents_in p nothing) newest ∙ sym (known_is honest (v.pages v.last) nothing sound.device)))
+          (held sound.device (subst (λ (p : PageMap). IsDatabase p nothing) (sym newest) sound.last))),
+    )
 
 module _ (honest : Bool) (v w x : Versions) (numbers now : FinMap nat_cmp ℕ) (written settled fresh_now settled_now : PageMap) (none : now ≡ empty) (kept : KeepsFound now v w) (same : x ≡ w)
     (a : fresh_now ≡ nothing) (b : settled_now ≡ nothing) where

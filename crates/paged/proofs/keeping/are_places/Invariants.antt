@@ -1,6 +1,5 @@
 use Rattle.std.proofs.Common.{ℕ, ◌<◌, ◌^◌, drop}
 use Rattle.std.specs.List.{AllByRecursion}
-
 use Rattle.paged.proofs.keeping.are_places.Given as goal
 
 abbrev pub invariant-loop-place : goal.invariant-loop-place
