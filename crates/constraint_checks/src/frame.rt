@@ -107,11 +107,12 @@ fn violation_in<C: Checks>(
         → MatchOption found (violated_by reading name (table_of table.now rows.now) ≡ []) (λ constraint. Contains (violated_by reading name (table_of table.now rows.now)) constraint)) }
     ensures refused { IfErr result (λ refusal. refusal ≡ Memory) }
 {
-    match violated_constraint(table, rows) {
-        Some(name) => match name.copy(alloc) {
+    match violated_constraint(alloc, table, rows) {
+        Ok(Some(name)) => match name.copy(alloc) {
             Ok(name) => Ok(Some(name)),
             Err(_) => Err(Refusal::Memory),
         },
-        None => checks.violated(alloc, table, rows),
+        Ok(None) => checks.violated(alloc, table, rows),
+        Err(_) => Err(Refusal::Memory),
     }
 }

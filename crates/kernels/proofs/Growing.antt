@@ -8,9 +8,10 @@ use Rattle.sqlval.specs.Value.{Row}
 use Rattle.denote.specs.Bag.{are_alike}
 use Rattle.kernels.specs.declared.groups.Group.{Group}
 use Rattle.kernels.specs.declared.row_key.RowKey.{RowKey}
-use Rattle.kernels.specs.Counts.{key_order}
+use Rattle.kernels.specs.Counts.{key_order, IsKey}
 use Rattle.kernels.specs.Adding.{new_group, with_place, put_at, add_place, add_places, number_of, Numbers}
-use Rattle.kernels.proofs.Alike.{alike, are_alike-ties, are_alike-Decides}
+use Rattle.kernels.proofs.Alike.{alike, are_alike-Decides}
+use Rattle.kernels.proofs.Keys.{key_ties}
 
 -- ---- numbers of groups
 
@@ -75,16 +76,16 @@ number-stays key group [] e = ap (λ b. if b then Some 0 else None) e
 number-stays key group (g ∷ groups) e = ap (λ o. if are_alike key g.key then Some 0 else option_map (λ n. suc n) o) (number-stays key group groups e)
 
 pub Numbers-put : (numbers : BTreeMap RowKey ℕ) (at place : ℕ) (groups : List Group) → Numbers numbers groups → Numbers numbers (put_at at place groups)
-Numbers-put numbers at place groups h = record { numbers = λ key. h.numbers key ∙ sym (number-put key.values.now at place groups) }
+Numbers-put numbers at place groups h = record { numbers = λ key k. h.numbers key k ∙ sym (number-put key.values.now at place groups) }
 
-pub Numbers-push : (old new : BTreeMap RowKey ℕ) (key : RowKey) (group : Group) (groups : List Group) (number : ℕ) → Numbers old groups → group.key ≡ key.values.now → number ≡ length groups
+pub Numbers-push : (old new : BTreeMap RowKey ℕ) (key : RowKey) (group : Group) (groups : List Group) (number : ℕ) → IsKey key → Numbers old groups → group.key ≡ key.values.now → number ≡ length groups
     → number_of key.values.now groups ≡ None → Updates key_order old new key (Some number) → Numbers new (groups ++ group ∷ [])
-Numbers-push old new key group groups number h same count none updates = record { numbers = one }
+Numbers-push old new key group groups number k h same count none updates = record { numbers = one }
   where
-    one : (other : RowKey) → get key_order new other ≡ number_of other.values.now (groups ++ group ∷ [])
-    one other =
+    one : (other : RowKey) → IsKey other → get key_order new other ≡ number_of other.values.now (groups ++ group ∷ [])
+    one other o =
         updates.0 other
-        ∙ ap (λ b. cond b (Some number) (get key_order old other)) (sym (are_alike-ties key.values.now other.values.now))
+        ∙ ap (λ b. cond b (Some number) (get key_order old other)) (sym (key_ties key other k o))
         ∙ at (are_alike key.values.now other.values.now) refl
       where
         turned : are_alike other.values.now group.key ≡ are_alike key.values.now other.values.now
@@ -95,7 +96,7 @@ Numbers-push old new key group groups number h same count none updates = record 
             let is : key.values.now ≡ other.values.now = (are_alike-Decides key.values.now other.values.now).0 e in
             ap Some count
             ∙ sym (number-push other.values.now group groups (ap (λ (k : Row). number_of k groups) (sym is) ∙ none) ∙ ap (λ b. if b then Some (length groups) else None) (turned ∙ e))
-        at false e = h.numbers other ∙ sym (number-stays other.values.now group groups (turned ∙ e))
+        at false e = h.numbers other o ∙ sym (number-stays other.values.now group groups (turned ∙ e))
 
 -- ---- all rows
 

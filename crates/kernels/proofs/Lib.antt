@@ -1,5 +1,6 @@
 pub mod StableOrder
 pub mod Alike
+pub mod Keys
 pub mod Firsts
 pub mod Counting
 pub mod Marking

@@ -6,7 +6,7 @@ use Rattle.sqlval.specs.Value.{Row}
 use Rattle.denote.specs.Bag.{are_alike}
 use Rattle.kernels.specs.declared.groups.Group.{Group}
 use Rattle.kernels.specs.declared.row_key.RowKey.{RowKey}
-use Rattle.kernels.specs.Counts.{key_order}
+use Rattle.kernels.specs.Counts.{key_order, IsKey}
 
 -- a group of one row
 abbrev pub new_group : Row → ℕ → Group
@@ -39,4 +39,4 @@ number_of key (group ∷ groups) = if are_alike key group.key then Some 0 else o
 
 -- a map has the numbers of these groups
 pub record Numbers (map : BTreeMap RowKey ℕ) (groups : List Group) : Type 0 where
-  pub numbers : (key : RowKey) → get key_order map key ≡ number_of key.values.now groups
+  pub numbers : (key : RowKey) → IsKey key → get key_order map key ≡ number_of key.values.now groups

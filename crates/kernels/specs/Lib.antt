@@ -1,4 +1,5 @@
 pub mod KeyOrder
+pub mod Digest
 pub mod Marks
 pub mod Counts
 pub mod Groups

@@ -7,6 +7,7 @@ ghost use Rattle.std.specs.BTreeMap.{get};
 ghost use Rattle.std.specs.Option.{unwrap_or};
 ghost use Rattle.kernels.specs.Counts.{Counts, key_order};
 
+use crate::digest::row_digest;
 use crate::row_key::RowKey;
 use denote::Row;
 use sqlval::Value;
@@ -24,7 +25,10 @@ fn number_at<'a>(counts: &BTreeMap<RowKey<'a>, usize>, key: &RowKey<'a>) -> usiz
 pub fn count_of<'a>(counts: &BTreeMap<RowKey<'a>, usize>, row: &'a [Value]) -> usize
     ensures { (rows : List Values) → Counts counts.now rows → result ≡ times row.now rows }
 {
-    let key = RowKey { values: row };
+    let key = RowKey {
+        digest: row_digest(row),
+        values: row,
+    };
     number_at(counts, &key)
 }
 
@@ -36,7 +40,10 @@ pub fn count_row<'a>(
     ensures before { (rows : List Values) → Counts counts.old rows → IfOk result (λ before. before ≡ times row.now rows) }
     ensures counted { (rows : List Values) → Counts counts.old rows → length rows + 1 < 2 ^ 64 → OnOk result (Counts counts.new (rows ++ row.now ∷ [])) }
 {
-    let key = RowKey { values: row };
+    let key = RowKey {
+        digest: row_digest(row),
+        values: row,
+    };
     match counts.insert(key, 1)? {
         None => Ok(0),
         Some(before) => {

@@ -6,6 +6,7 @@ ghost use Rattle.kernels.specs.Adding.{Numbers, add_place, put_at};
 ghost use Rattle.kernels.specs.Counts.{key_order};
 ghost use Rattle.kernels.specs.Groups.{groups_by_key};
 
+use crate::digest::row_digest;
 use crate::groups::Group;
 use crate::row_key::RowKey;
 use crate::rows::copied_row;
@@ -43,7 +44,10 @@ fn add_row<'a>(
     ensures added { Numbers numbers.old groups.old → OnOk result (groups.new ≡ add_place key.now place groups.old) }
     ensures numbered { Numbers numbers.old groups.old → OnOk result (Numbers numbers.new groups.new) }
 {
-    let lent = RowKey { values: key };
+    let lent = RowKey {
+        digest: row_digest(key),
+        values: key,
+    };
     match number_at(numbers, &lent) {
         Some(number) => put_place(groups, number, place),
         None => {

@@ -3,6 +3,7 @@
 
 mod aggregate;
 mod counts;
+mod digest;
 mod functions;
 mod grouped;
 mod grouping;

@@ -2,3 +2,4 @@ pub mod Creates
 pub mod Inserts
 pub mod Lengths
 pub mod GivenRows
+pub mod Replied

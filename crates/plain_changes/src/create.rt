@@ -1,10 +1,13 @@
 //! CREATE TABLE.
 ghost use Rattle.std.specs.Prelude.{◌≡◌, ◌≤◌, IfOk, IfErr, OnErr};
+ghost use Rattle.refusals.specs.declared.refusal.Refusal.TheVariants.{Disk};
 ghost use Rattle.denote.specs.SchemaOf.{IsSchemaOf};
 ghost use Rattle.session_definitions.specs.Rules.{Rules};
 ghost use Rattle.store.specs.Contents.{database_of};
+ghost use Rattle.store.specs.Errors.{HasRisen};
 ghost use Rattle.store.specs.Stored.{SameButMark};
 ghost use Rattle.typing.specs.declared.statement.Change.TheVariants as does;
+ghost use Rattle.transactions.specs.Refused.{IfRefused};
 ghost use Rattle.sessions.specs.Changed.{HasChanged, RefusesChange};
 
 use crate::declared::{is_declared, is_plain};
@@ -27,6 +30,8 @@ pub(crate) fn create_table<S: Store>(
         → HasChanged rules (S.shows store.old) (does.CreateTable table) reply (S.shows store.new)) }
     ensures refused { IfErr result (λ refusal. (rules : Rules) → S.is_sound store.old
         → RefusesChange rules (database_of (S.shows store.old).working) (does.CreateTable table) refusal) }
+    ensures accepted { IfOk result (λ reply. IfRefused reply (λ refusal. ⊥)) }
+    ensures device { IfErr result (λ refusal. refusal ≡ Disk → HasRisen (S.refused store.old) (S.refused store.new)) }
     ensures same { OnErr result (SameButMark (S.shows store.old) (S.shows store.new)) }
     ensures sound { S.is_sound store.old → S.is_sound store.new }
     ensures counts { S.refused store.old ≤ S.refused store.new }

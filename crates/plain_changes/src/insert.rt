@@ -1,11 +1,13 @@
 //! INSERT of VALUES.
-ghost use Rattle.std.specs.Prelude.{◌≡◌, ◌≤◌, true, List, IfOk, IfErr, OnErr};
+ghost use Rattle.std.specs.Prelude.{◌≡◌, ◌≢◌, ◌≤◌, true, List, IfOk, IfErr, OnErr};
+ghost use Rattle.refusals.specs.declared.refusal.Refusal.TheVariants.{Disk};
 ghost use Rattle.denote.specs.Database.{Database, IsGood, rows_in};
 ghost use Rattle.denote.specs.SchemaOf.{IsSchemaOf};
 ghost use Rattle.session_definitions.specs.Refusals.{IsReserved};
 ghost use Rattle.session_definitions.specs.Rules.{Rules};
 ghost use Rattle.session_definitions.specs.Statements.{counted as reply_counted};
 ghost use Rattle.store.specs.Contents.{database_of};
+ghost use Rattle.store.specs.Errors.{HasRisen};
 ghost use Rattle.store.specs.Stored.{SameButMark};
 ghost use Rattle.typing.specs.declared.statement.Change.TheVariants as does;
 ghost use Rattle.typing.specs.declared.statement.InsertSource.TheVariants as from;
@@ -14,6 +16,7 @@ ghost use Rattle.typing.specs.Evaluated.{insert_evaluated};
 ghost use Rattle.tree_tables.specs.TablesRead.{Agree};
 ghost use Rattle.query_answers.specs.Lent.{rows_lent};
 ghost use Rattle.query_answers.specs.Sources.{AreTreesOf, tables_in_rows};
+ghost use Rattle.transactions.specs.Refused.{IfRefused};
 ghost use Rattle.sessions.specs.Changed.{HasChanged, RefusesChange};
 ghost use Rattle.plain_changes.specs.Inserted.{GivesNew, RefusesNew};
 
@@ -42,6 +45,8 @@ pub(crate) fn insert<S: Store>(
         → IsGood rules.check (database_of (S.shows store.old).working) → HasChanged rules (S.shows store.old) (does.Insert insert.now) reply (S.shows store.new)) }
     ensures refused { IfErr result (λ refusal. (rules : Rules) → S.is_sound store.old → IsSchemaOf (S.prepared store.old) (database_of (S.shows store.old).working)
         → IsGood rules.check (database_of (S.shows store.old).working) → RefusesChange rules (database_of (S.shows store.old).working) (does.Insert insert.now) refusal) }
+    ensures accepted { IfOk result (λ reply. IfRefused reply (λ refusal. ⊥)) }
+    ensures device { IfErr result (λ refusal. refusal ≡ Disk → HasRisen (S.refused store.old) (S.refused store.new)) }
     ensures same { OnErr result (SameButMark (S.shows store.old) (S.shows store.new)) }
     ensures sound { S.is_sound store.old → S.is_sound store.new }
     ensures counts { S.refused store.old ≤ S.refused store.new }
@@ -77,6 +82,7 @@ fn new_rows<S: Store>(alloc: Global, store: &mut S, insert: &Insert) -> Result<R
         → GivesNew rules.check (database_of (S.shows store.old).working) insert.now rows) }
     ensures refused { IfErr result (λ refusal. (rules : Rules) → S.is_sound store.old → IsSchemaOf (S.prepared store.old) (database_of (S.shows store.old).working)
         → RefusesNew rules.check (database_of (S.shows store.old).working) insert.now refusal) }
+    ensures device { IfErr result (λ refusal. refusal ≡ Disk → HasRisen (S.refused store.old) (S.refused store.new)) }
     ensures shows { S.shows store.new ≡ S.shows store.old }
     ensures sound { S.is_sound store.old → S.is_sound store.new }
     ensures counts { S.refused store.old ≤ S.refused store.new }
@@ -102,6 +108,7 @@ fn tables_named<S: Store>(
 ) -> Result<LentTables, Refusal>
     ensures lent { S.is_sound store.old → IfOk result (λ lent. Agree (rows_lent lent.tables) (rows_in (database_of (S.shows store.old).working)) (tables_in_rows trees.now)) }
     ensures refused { IfErr result (λ refusal. S.is_sound store.old → IsReserved refusal) }
+    ensures device { IfErr result (λ refusal. refusal ≡ Disk → HasRisen (S.refused store.old) (S.refused store.new)) }
     ensures prepared { S.prepared store.new ≡ S.prepared store.old }
     ensures shows { S.shows store.new ≡ S.shows store.old }
     ensures sound { S.is_sound store.old → S.is_sound store.new }
@@ -126,6 +133,7 @@ fn given_rows(
         → Agree (rows_lent lent.now.tables) (rows_in db) (tables_in_rows trees.now) → GivesNew rules.check db insert.now rows) }
     ensures refused { IfErr result (λ refusal. (rules : Rules) (db : Database) (values : List (List Typed)) → IsSchemaOf schema.now db → insert.now.source ≡ from.Values values → AreTreesOf values trees.now
         → Agree (rows_lent lent.now.tables) (rows_in db) (tables_in_rows trees.now) → RefusesNew rules.check db insert.now refusal) }
+    ensures device { IfErr result (λ refusal. (values : List (List Typed)) → AreTreesOf values trees.now → refusal ≢ Disk) }
 {
     let Some(table) = declared(schema, &insert.table) else {
         return Err(Refusal::Memory);

@@ -4,3 +4,4 @@ pub mod QuerySteps
 pub mod ChangeSteps
 pub mod Unread
 pub mod Cores
+pub mod Devices

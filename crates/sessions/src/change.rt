@@ -8,10 +8,13 @@ ghost use Rattle.session_definitions.specs.Rules.{Rules, AreRules, Means};
 ghost use Rattle.session_definitions.specs.Transactions as transactions;
 ghost use Rattle.statement_reading.specs.Reading.{IsRead};
 ghost use Rattle.statement_reading.specs.Rollback.{IsRollback};
+ghost use Rattle.refusals.specs.declared.refusal.Refusal.TheVariants.{Disk};
 ghost use Rattle.store.specs.Contents.{database_of};
+ghost use Rattle.store.specs.Errors.{HasRisen};
 ghost use Rattle.store.specs.Stored.{SameButMark};
 ghost use Rattle.transactions.specs.Moves.{Moves};
 ghost use Rattle.transactions.specs.Orderly.{IsOrderly};
+ghost use Rattle.transactions.specs.Refused.{Counts, IfRefused};
 ghost use Rattle.typing.specs.declared.statement.Change.{Change as Typing};
 ghost use Rattle.typing.specs.declared.statement.Typed.TheVariants as does;
 ghost use Rattle.typing.specs.Evaluated.{change_evaluated};
@@ -20,7 +23,7 @@ ghost use Rattle.sessions.specs.Kinds.{is_change};
 ghost use Rattle.sessions.specs.Seen.{seen_in};
 
 use crate::changes::Changes;
-use crate::language::Language;
+use crate::language::{Language, typed_by};
 use ast::{AccessMode, Statement};
 use refusals::Refusal;
 use replies::Reply;
@@ -43,6 +46,7 @@ pub(crate) fn change<S: Store, L: Language + Changes<S>>(
     ensures moves { (rules : Rules) (text : Bytes) → AreRules rules → is_change statement.now ≡ true → IsRead text statement.now → (IsRollback text → ⊥)
         → S.is_sound store.old → IsOrderly (S.shows store.old) writer.old → IsGood rules.check (seen_in (S.shows store.old) writer.old session)
         → Moves rules session text result (S.shows store.old) writer.old mode (S.shows store.new) writer.new mode }
+    ensures device { Counts result (S.refused store.old) (S.refused store.new) }
     ensures sound { S.is_sound store.old → S.is_sound store.new }
     ensures counts { S.refused store.old ≤ S.refused store.new }
 {
@@ -90,6 +94,8 @@ fn make<S: Store, L: Language + Changes<S>>(
         → MakesChange rules (S.shows store.old) statement.now reply (S.shows store.new)) }
     ensures refused { IfErr result (λ refusal. (rules : Rules) → AreRules rules → is_change statement.now ≡ true → S.is_sound store.old → IsGood rules.check (database_of (S.shows store.old).working)
         → RefusesStatement rules (database_of (S.shows store.old).working) statement.now refusal) }
+    ensures accepted { IfOk result (λ reply. IfRefused reply (λ refusal. ⊥)) }
+    ensures device { IfErr result (λ refusal. refusal ≡ Disk → HasRisen (S.refused store.old) (S.refused store.new)) }
     ensures same { S.is_sound store.old → OnErr result (SameButMark (S.shows store.old) (S.shows store.new)) }
     ensures sound { S.is_sound store.old → S.is_sound store.new }
     ensures counts { S.refused store.old ≤ S.refused store.new }
@@ -97,7 +103,7 @@ fn make<S: Store, L: Language + Changes<S>>(
     if let Err(error) = store.prepare(View::Working) {
         return Err(refusal_of(error));
     }
-    match language.typed(alloc, statement, store.schema()) {
+    match typed_by(alloc, language, statement, store.schema()) {
         Ok(typed) => make_typed(alloc, language, store, typed),
         Err(refusal) => Err(refusal),
     }
@@ -115,6 +121,8 @@ fn make_typed<S: Store, L: Language + Changes<S>>(
         → IsGood rules.check (database_of (S.shows store.old).working) → Means rules (database_of (S.shows store.old).working) x (does.Change change) → HasChanged rules (S.shows store.old) change reply (S.shows store.new)) }
     ensures refused { IfErr result (λ refusal. (rules : Rules) (x : Tree) (change : Typing) → AreRules rules → typed ≡ does.Change change → S.is_sound store.old → IsSchemaOf (S.prepared store.old) (database_of (S.shows store.old).working)
         → IsGood rules.check (database_of (S.shows store.old).working) → Means rules (database_of (S.shows store.old).working) x (does.Change change) → RefusesChange rules (database_of (S.shows store.old).working) change refusal) }
+    ensures accepted { IfOk result (λ reply. IfRefused reply (λ refusal. ⊥)) }
+    ensures device { IfErr result (λ refusal. refusal ≡ Disk → HasRisen (S.refused store.old) (S.refused store.new)) }
     ensures same { S.is_sound store.old → OnErr result (SameButMark (S.shows store.old) (S.shows store.new)) }
     ensures sound { S.is_sound store.old → S.is_sound store.new }
     ensures counts { S.refused store.old ≤ S.refused store.new }

@@ -1,11 +1,14 @@
 //! How changes of tables are carried out, which sessions take as it is.
 ghost use Rattle.std.specs.Prelude.{◌≡◌, ◌≤◌, true, IfOk, IfErr, OnErr};
 ghost use Rattle.ast.specs.declared.statement.Statement.{Statement as Tree};
+ghost use Rattle.refusals.specs.declared.refusal.Refusal.TheVariants.{Disk};
 ghost use Rattle.denote.specs.Database.{IsGood};
 ghost use Rattle.denote.specs.SchemaOf.{IsSchemaOf};
 ghost use Rattle.session_definitions.specs.Rules.{Rules, AreRules, Means};
 ghost use Rattle.store.specs.Contents.{database_of};
+ghost use Rattle.store.specs.Errors.{HasRisen};
 ghost use Rattle.store.specs.Stored.{SameButMark};
+ghost use Rattle.transactions.specs.Refused.{IfRefused};
 ghost use Rattle.typing.specs.declared.statement.Typed.TheVariants as does;
 ghost use Rattle.typing.specs.Evaluated.{change_evaluated};
 ghost use Rattle.sessions.specs.Changed.{HasChanged, RefusesChange};
@@ -18,7 +21,8 @@ use typing::Change;
 
 /// What carries out changes of the tables of a store.
 pub trait Changes<S: Store>: Drop {
-    /// Carries out a change that was typed over the newest version with its changes, whose schema is the one that is ready. A refusal leaves all as it was, but for the mark.
+    /// Carries out a change that was typed over the newest version with its changes, whose schema is the one that is ready. What is answered is no refusal. A refusal leaves all as it was, but for the mark; it is
+    /// that of the device only where a call of the device was refused.
     fn make(&self, alloc: Global, store: &mut S, change: Change) -> Result<Reply, Refusal>
         requires { change_evaluated change ≡ true }
         ensures changes { IfOk result (λ reply. (rules : Rules) (x : Tree) → AreRules rules → S.is_sound store.old → IsSchemaOf (S.prepared store.old) (database_of (S.shows store.old).working)
@@ -27,6 +31,8 @@ pub trait Changes<S: Store>: Drop {
         ensures refused { IfErr result (λ refusal. (rules : Rules) (x : Tree) → AreRules rules → S.is_sound store.old → IsSchemaOf (S.prepared store.old) (database_of (S.shows store.old).working)
             → IsGood rules.check (database_of (S.shows store.old).working) → Means rules (database_of (S.shows store.old).working) x (does.Change change)
             → RefusesChange rules (database_of (S.shows store.old).working) change refusal) }
+        ensures accepted { IfOk result (λ reply. IfRefused reply (λ refusal. ⊥)) }
+        ensures device { IfErr result (λ refusal. refusal ≡ Disk → HasRisen (S.refused store.old) (S.refused store.new)) }
         ensures same { S.is_sound store.old → OnErr result (SameButMark (S.shows store.old) (S.shows store.new)) }
         ensures sound { S.is_sound store.old → S.is_sound store.new }
         ensures counts { S.refused store.old ≤ S.refused store.new };

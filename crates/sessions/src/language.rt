@@ -1,6 +1,6 @@
 //! How the texts of statements are read and typed, which sessions take as it is.
 ghost use Rattle.std.specs.Prelude.{◌≡◌, ◌≢◌, ◌↔◌, IsTrue, IfOk, IfErr};
-ghost use Rattle.refusals.specs.declared.refusal.Refusal.TheVariants.{Memory};
+ghost use Rattle.refusals.specs.declared.refusal.Refusal.TheVariants.{Disk, Memory};
 ghost use Rattle.statement_reading.specs.Reading.{IsRead, IsUnread};
 ghost use Rattle.statement_reading.specs.Rollback.{IsRollback};
 ghost use Rattle.typing.specs.Finds.{Finds};
@@ -10,6 +10,7 @@ use ast::Statement;
 use refusals::Refusal;
 use sqlval::Schema;
 use std::alloc::Global;
+use type_laws::refusals_have_reasons;
 use typing::Typed;
 
 /// What reads and types statements.
@@ -26,4 +27,18 @@ pub trait Language: Drop {
     /// What a statement stands for over a schema: by the rules of names and types, or a reason of theirs against it; any may be refused for want of memory.
     fn typed(&self, alloc: Global, statement: &Statement, schema: &Schema) -> Result<Typed, Refusal>
         ensures finds { Finds result (answered_found statement.now schema.now) };
+}
+
+/// What a statement stands for, as a language finds it. No reason against a statement is a refusal of the device: a law of the rules of names and types.
+pub(crate) fn typed_by<L: Language>(
+    alloc: Global,
+    language: &L,
+    statement: &Statement,
+    schema: &Schema,
+) -> Result<Typed, Refusal>
+    ensures finds { Finds result (answered_found statement.now schema.now) }
+    ensures device { IfErr result (λ refusal. refusal ≢ Disk) }
+{
+    refusals_have_reasons();
+    language.typed(alloc, statement, schema)
 }

@@ -12,13 +12,16 @@ ghost use Rattle.query_answers.specs.Refused.{MayRefuse};
 ghost use Rattle.session_definitions.specs.Rules.{Rules, AreRules};
 ghost use Rattle.statement_reading.specs.Reading.{IsRead};
 ghost use Rattle.statement_reading.specs.Rollback.{IsRollback};
+ghost use Rattle.refusals.specs.declared.refusal.Refusal.TheVariants.{Disk};
 ghost use Rattle.store.specs.Contents.{database_of};
+ghost use Rattle.store.specs.Errors.{HasRisen};
 ghost use Rattle.store.specs.View.{seen_by};
 ghost use Rattle.transactions.specs.Moves.{Moves};
 ghost use Rattle.transactions.specs.Orderly.{IsOrderly};
+ghost use Rattle.transactions.specs.Refused.{Counts};
 ghost use Rattle.sessions.specs.Answered.{GivesRows, RefusesQuery};
 
-use crate::language::Language;
+use crate::language::{Language, typed_by};
 use ast::Statement;
 use denote::Rows;
 use query_answers::{answer, query_tree};
@@ -41,6 +44,7 @@ pub(crate) fn query<S: Store, L: Language>(
     ensures moves { (rules : Rules) (text : Bytes) (x : OrderedQuery) (mode : Mode) → AreRules rules → statement.now ≡ asks.Query x → IsRead text (asks.Query x) → (IsRollback text → ⊥)
         → S.is_sound store.old → IsOrderly (S.shows store.old) writer
         → Moves rules session text result (S.shows store.old) writer mode (S.shows store.new) writer mode }
+    ensures device { Counts result (S.refused store.old) (S.refused store.new) }
     ensures sound { S.is_sound store.old → S.is_sound store.new }
     ensures counts { S.refused store.old ≤ S.refused store.new }
 {
@@ -69,6 +73,7 @@ fn rows_seen<S: Store, L: Language>(
         → GivesRows rules (database_of (seen_by (S.shows store.old) view)) x rows) }
     ensures refused { IfErr result (λ refusal. (rules : Rules) (x : OrderedQuery) → AreRules rules → statement.now ≡ asks.Query x → S.is_sound store.old
         → RefusesQuery rules (database_of (seen_by (S.shows store.old) view)) x refusal) }
+    ensures device { IfErr result (λ refusal. refusal ≡ Disk → HasRisen (S.refused store.old) (S.refused store.new)) }
     ensures shows { S.shows store.new ≡ S.shows store.old }
     ensures sound { S.is_sound store.old → S.is_sound store.new }
     ensures counts { S.refused store.old ≤ S.refused store.new }
@@ -76,7 +81,7 @@ fn rows_seen<S: Store, L: Language>(
     if let Err(error) = store.prepare(view) {
         return Err(refusal_of(error));
     }
-    match language.typed(alloc, statement, store.schema()) {
+    match typed_by(alloc, language, statement, store.schema()) {
         Ok(typed) => evaluate(alloc, store, view, &typed),
         Err(refusal) => Err(refusal),
     }
@@ -91,6 +96,7 @@ fn evaluate<S: Store>(
 ) -> Result<Rows, Refusal>
     ensures answers { IfOk result (λ rows. (query : Query) → typed.now ≡ does.Query query → S.is_sound store.old → Answers (Ok rows) (denotes (database_of (seen_by (S.shows store.old) view)) query)) }
     ensures refused { IfErr result (λ refusal. (query : Query) → typed.now ≡ does.Query query → S.is_sound store.old → MayRefuse (denotes (database_of (seen_by (S.shows store.old) view)) query).unordered.faults refusal) }
+    ensures device { IfErr result (λ refusal. refusal ≡ Disk → HasRisen (S.refused store.old) (S.refused store.new)) }
     ensures shows { S.shows store.new ≡ S.shows store.old }
     ensures sound { S.is_sound store.old → S.is_sound store.new }
     ensures counts { S.refused store.old ≤ S.refused store.new }

@@ -3,3 +3,4 @@ pub mod Born
 pub mod Dropped
 pub mod Listed
 pub mod Inserted
+pub mod Replied

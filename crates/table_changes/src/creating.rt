@@ -11,10 +11,11 @@ ghost use Rattle.denote.specs.SchemaOf.{IsSchemaOf, index_of};
 ghost use Rattle.store.specs.Contents.{database_of};
 ghost use Rattle.store.specs.Errors.{HasRisen};
 ghost use Rattle.store.specs.Stored.{SameButMark};
+ghost use Rattle.transactions.specs.Refused.{IfRefused};
 ghost use Rattle.constraint_checks.specs.Changed.{HasChanged};
 ghost use Rattle.table_changes.specs.Indexes.{key_index};
 
-use constraint_checks::{begin, has_check, table_named};
+use constraint_checks::{begin, table_named};
 use items::Items;
 use refusals::Refusal;
 use replies::Reply;
@@ -25,7 +26,7 @@ use transactions::refusal_of;
 use typing::CreateTable;
 
 /// CREATE TABLE: the table without rows, with an index for each PRIMARY KEY and each UNIQUE. It sets the mark. It is refused for want of memory, by the device or by a limit of the store;
-/// all is then as it was, but for the mark. A name that a table has, which the rules of names exclude, is refused as for want of memory; so is a CHECK, which is not evaluated yet.
+/// all is then as it was, but for the mark. A name that a table has, which the rules of names exclude, is refused as for want of memory. A table without rows violates no CHECK.
 pub fn create_table<S: Store>(
     alloc: Global,
     store: &mut S,
@@ -34,15 +35,13 @@ pub fn create_table<S: Store>(
     ensures changes { IfOk result (λ reply. (reading : CheckReading) → S.is_sound store.old → IsSchemaOf (S.prepared store.old) (database_of (S.shows store.old).working)
         → HasChanged reading (S.shows store.old) (does.CreateTable table) reply (S.shows store.new)) }
     ensures refused { IfErr result (λ refusal. S.is_sound store.old → IsReserved refusal) }
+    ensures accepted { IfOk result (λ reply. IfRefused reply (λ refusal. ⊥)) }
     ensures device { IfErr result (λ refusal. refusal ≡ Disk → HasRisen (S.refused store.old) (S.refused store.new)) }
     ensures same { OnErr result (SameButMark (S.shows store.old) (S.shows store.new)) }
     ensures sound { S.is_sound store.old → S.is_sound store.new }
     ensures counts { S.refused store.old ≤ S.refused store.new }
 {
     if let Some(_) = table_named(store.schema(), &table.name) {
-        return Err(Refusal::Memory);
-    }
-    if has_check(table.constraints.as_slice()) {
         return Err(Refusal::Memory);
     }
     let declared = declared_table(alloc, table)?;

@@ -6,6 +6,7 @@ ghost use Rattle.typing.specs.declared.statement.Change.TheVariants as does;
 ghost use Rattle.denote.specs.Database.{CheckReading};
 ghost use Rattle.store.specs.Errors.{HasRisen};
 ghost use Rattle.store.specs.Stored.{SameButMark};
+ghost use Rattle.transactions.specs.Refused.{IfRefused};
 ghost use Rattle.constraint_checks.specs.Changed.{HasChanged};
 
 use constraint_checks::begin;
@@ -20,6 +21,7 @@ use transactions::refusal_of;
 pub fn drop_table<S: Store>(store: &mut S, name: &Text) -> Result<Reply, Refusal>
     ensures changes { IfOk result (λ reply. (reading : CheckReading) → S.is_sound store.old → HasChanged reading (S.shows store.old) (does.DropTable name.now) reply (S.shows store.new)) }
     ensures refused { IfErr result (λ refusal. S.is_sound store.old → IsReserved refusal) }
+    ensures accepted { IfOk result (λ reply. IfRefused reply (λ refusal. ⊥)) }
     ensures device { IfErr result (λ refusal. refusal ≡ Disk → HasRisen (S.refused store.old) (S.refused store.new)) }
     ensures same { OnErr result (SameButMark (S.shows store.old) (S.shows store.new)) }
     ensures sound { S.is_sound store.old → S.is_sound store.new }
@@ -38,6 +40,7 @@ pub fn drop_table<S: Store>(store: &mut S, name: &Text) -> Result<Reply, Refusal
 pub fn drop_index<S: Store>(store: &mut S, name: &Text) -> Result<Reply, Refusal>
     ensures changes { IfOk result (λ reply. (reading : CheckReading) → S.is_sound store.old → HasChanged reading (S.shows store.old) (does.DropIndex name.now) reply (S.shows store.new)) }
     ensures refused { IfErr result (λ refusal. S.is_sound store.old → IsReserved refusal) }
+    ensures accepted { IfOk result (λ reply. IfRefused reply (λ refusal. ⊥)) }
     ensures device { IfErr result (λ refusal. refusal ≡ Disk → HasRisen (S.refused store.old) (S.refused store.new)) }
     ensures same { OnErr result (SameButMark (S.shows store.old) (S.shows store.new)) }
     ensures sound { S.is_sound store.old → S.is_sound store.new }

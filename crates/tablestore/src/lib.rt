@@ -11,4 +11,5 @@ mod reading;
 pub use appending::append;
 pub use error::AppendError;
 pub use laws::{rows_are_one, rows_stay};
+pub use number::next_number;
 pub use reading::{next, scan};

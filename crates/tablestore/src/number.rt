@@ -38,8 +38,11 @@ fn ends_before<R: PageReader>(
     Ok(is_absent(&found))
 }
 
-/// 0 where there are no rows, else one more than the greatest number: by halves, as a tree is read from its least key on.
-pub(crate) fn next_number<R: PageReader>(
+/// The number of the next row of the tree at a root: 0 where there are no rows, else one more than the greatest number. It is
+/// found by halves, as a tree is read from its least key on.
+///
+/// Refused as `scan` is.
+pub fn next_number<R: PageReader>(
     space: &mut R,
     alloc: Global,
     root: u32,

@@ -9,6 +9,7 @@ use Rattle.transactions.proofs.Tests.{reserved}
 use Rattle.sessions.specs.Changed.{RefusesChange}
 use Rattle.plain_changes.proofs.Inserts.{inserts, refuses_new}
 use Rattle.plain_changes.proofs.Lengths.{no_long_row, no_long_key}
+use Rattle.plain_changes.proofs.Replied.{no_refusal}
 use Rattle.plain_changes.proofs.insert.insert.Goals as goal
 
 pub returns-in-Err-clause-refused : goal.returns-in-Err-clause-refused
@@ -30,3 +31,6 @@ returns-in-Err-append-clause-refused g c = λ rules sound of good.
     (no_long_row rules.check (g.S.Store.shows c.args.store.now).working c.args.insert.now c.in-Ok.rows c.requires given)
     (λ long. no_long_key rules.check (g.S.Store.shows c.args.store.now).working c.args.insert.now c.in-Ok.rows c.requires given
     (subst (λ (st : Stored). HasLongKey (indexes_of (get st.working c.args.insert.now.table)) c.in-Ok.rows) marks long))))
+
+pub returns-in-Ok-append-clause-accepted : goal.returns-in-Ok-append-clause-accepted
+returns-in-Ok-append-clause-accepted g c = no_refusal _ c.counted.result c.counted.ensures

@@ -24,3 +24,8 @@ returns-in-Ok-tables_named-clause-refused g c = IfErr-weaker c.given_rows.result
     (rw c.as_slice-in-Ok-tables_named.ensures (rw c.as_slice.ensures at c.in-Ok.ensures.trees))
     (rw c.as_slice-in-Ok-tables_named.ensures (rw c.as_slice-2.ensures at c.in-Ok-tables_named.ensures.lent sound)))
     c.given_rows.ensures.refused
+
+pub returns-in-Ok-tables_named-clause-device : goal.returns-in-Ok-tables_named-clause-device
+returns-in-Ok-tables_named-clause-device g c = IfErr-weaker c.given_rows.result _ _
+    (λ refusal h is. absurd (h c.in-Values.values (rw c.as_slice-in-Ok-tables_named.ensures (rw c.as_slice.ensures at c.in-Ok.ensures.trees)) is))
+    c.given_rows.ensures.device

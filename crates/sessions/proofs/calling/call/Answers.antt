@@ -1,4 +1,5 @@
 use Rattle.std.proofs.Common.{◌≡◌, true, false, refl}
+use Rattle.sessions.proofs.Devices.{never_read}
 use Rattle.sessions.proofs.Unread.{refuses_text}
 use Rattle.sessions.proofs.calling.call.Goals as goal
 
@@ -16,3 +17,9 @@ pub returns-in-Err-clause-moves : goal.returns-in-Err-clause-moves
 returns-in-Err-clause-moves g c = λ rules are sound order good.
     refuses_text rules (g.S.Store.shows c.args.store.now) _ _ _ _ _
     (λ is. let bad : false ≡ true = (rw c.if-is_rollback.false at c.is_rollback.ensures).1 is in cc) c.in-Err.ensures.unread order
+
+pub returns-then-is_rollback-clause-device : goal.returns-then-is_rollback-clause-device
+returns-then-is_rollback-clause-device g c = rw c.roll_back.ensures.done tt
+
+pub returns-in-Err-clause-device : goal.returns-in-Err-clause-device
+returns-in-Err-clause-device g c = λ is. absurd (never_read c.args.text.now c.in-Err.refusal c.in-Err.ensures.unread is)

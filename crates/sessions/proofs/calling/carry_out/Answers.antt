@@ -1,5 +1,6 @@
 use Rattle.std.proofs.Common.{subst}
 use Rattle.statement_reading.specs.Reading.{IsRead}
+use Rattle.sessions.proofs.Devices.{counts_state}
 use Rattle.sessions.proofs.Words.{later_unread}
 use Rattle.sessions.proofs.calling.carry_out.Goals as goal
 
@@ -22,3 +23,9 @@ returns-in-SetTransaction-clause-moves g c = λ rules text are read other sound 
 
 pub returns-in-Later-clause-moves : goal.returns-in-Later-clause-moves
 returns-in-Later-clause-moves g c = λ rules text are read other sound order good. absurd (later_unread c.args.statement.now text c.in-Later.ensures read)
+
+pub returns-in-Rollback-clause-device : goal.returns-in-Rollback-clause-device
+returns-in-Rollback-clause-device g c = rw c.roll_back.ensures.done tt
+
+pub returns-in-SetTransaction-clause-device : goal.returns-in-SetTransaction-clause-device
+returns-in-SetTransaction-clause-device g c = counts_state c.set_mode.result _ _ c.set_mode.ensures.refused

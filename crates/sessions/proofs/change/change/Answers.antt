@@ -4,6 +4,7 @@ use Rattle.transactions.proofs.Orders.{same}
 use Rattle.transactions.proofs.Steps.{nothing_moves, withholds}
 use Rattle.transactions.proofs.Tests.{reserved, unbegun}
 use Rattle.sessions.proofs.ChangeSteps.{only_reads, comes_late, good_begun, makes, refuses}
+use Rattle.sessions.proofs.Devices.{risen_later, risen_still, counts_none}
 use Rattle.sessions.proofs.change.change.Goals as goal
 
 pub returns-then-is_read_only-clause-moves : goal.returns-then-is_read_only-clause-moves
@@ -37,3 +38,9 @@ returns-in-Err-make-clause-moves g c = λ rules text are is read other sound ord
     (good_begun rules _ _ _ _ text _ order is read (sym c.is_read_only.ensures ∙ c.if-is_read_only.false) (sym c.comes_too_late.ensures ∙ c.if-comes_too_late.false) _ begins good))
     (unbegun _ _ _ _ _ c.number.ensures c.is_none-idle.ensures _
     (subst (λ (y : Stored). SameButMark y (g.S.Store.shows c.make.new.store)) begins (c.in-Err-make.ensures.same (c.begin.ensures.sound sound))) c.take_back.ensures.shows)
+
+pub returns-in-Ok-clause-device : goal.returns-in-Ok-clause-device
+returns-in-Ok-clause-device g c = counts_none c.in-Ok.reply _ _ c.in-Ok.ensures.accepted
+
+pub returns-in-Err-make-clause-device : goal.returns-in-Err-make-clause-device
+returns-in-Err-make-clause-device g c = λ is. risen_still _ _ _ (risen_later _ _ _ c.begin.ensures.counts (c.in-Err-make.ensures.device is)) c.take_back.ensures.counts

@@ -4,6 +4,7 @@ use Rattle.transactions.proofs.Orders.{same}
 use Rattle.transactions.proofs.Steps.{nothing_moves, withholds}
 use Rattle.transactions.proofs.Tests.{reserved, unbegun}
 use Rattle.sessions.proofs.QuerySteps.{gives, refuses}
+use Rattle.sessions.proofs.Devices.{risen_later, risen_still}
 use Rattle.sessions.proofs.query.query.Goals as goal
 
 pub returns-in-Err-clause-moves : goal.returns-in-Err-clause-moves
@@ -24,3 +25,6 @@ returns-in-Err-rows_seen-clause-moves g c = λ rules text x mode are is read oth
     let begins : g.S.Store.shows c.begin.new.self ≡ begun (g.S.Store.shows c.args.store.now) c.args.session = rw c.in_default.is at c.begin.ensures.shows in
     refuses rules _ _ _ mode text x _ _ order read begins c.view_of.ensures _ _ other (c.in-Err-rows_seen.ensures.refused rules x are is (c.begin.ensures.sound sound))
     (unbegun _ _ _ _ _ c.number.ensures c.is_none-idle.ensures _ (same _ _ (c.rows_seen.ensures.shows ∙ begins)) c.take_back.ensures.shows)
+
+pub returns-in-Err-rows_seen-clause-device : goal.returns-in-Err-rows_seen-clause-device
+returns-in-Err-rows_seen-clause-device g c = λ is. risen_still _ _ _ (risen_later _ _ _ c.begin.ensures.counts (c.in-Err-rows_seen.ensures.device is)) c.take_back.ensures.counts

@@ -1,4 +1,5 @@
 use Rattle.std.proofs.lemmas.Result.{IfOk-weaker, IfErr-weaker}
+use Rattle.sessions.proofs.Devices.{risen_later}
 use Rattle.sessions.proofs.QuerySteps.{gives_typed, refuses_typed}
 use Rattle.sessions.proofs.query.rows_seen.Goals as goal
 
@@ -15,3 +16,6 @@ returns-in-Ok-clause-refused g c = IfErr-weaker c.evaluate.result _ _
     refuses_typed rules x c.args.statement.now _ _ c.in-Ok.typed _ _ c.args.view are is c.schema.ensures c.prepare.ensures.shows ((rw c.in_default.is at c.prepare.ensures.prepared) sound) c.in-Ok.ensures.finds.ok refusal
     (λ q e. h q e (c.prepare.ensures.sound sound)))
     c.evaluate.ensures.refused
+
+pub returns-in-Ok-clause-device : goal.returns-in-Ok-clause-device
+returns-in-Ok-clause-device g c = IfErr-weaker c.evaluate.result _ _ (λ refusal h is. risen_later _ _ _ c.prepare.ensures.counts (h is)) c.evaluate.ensures.device

@@ -2,6 +2,7 @@ use Rattle.std.proofs.Common.{◌≡◌, sym, subst}
 use Rattle.session_definitions.specs.Refusals.{IsReserved}
 use Rattle.store.specs.Contents.{database_of}
 use Rattle.constraint_checks.specs.Changed.{RefusesChange}
+use Rattle.table_changes.proofs.Replied.{no_refusal}
 use Rattle.table_changes.proofs.Inserted.{withheld, inserted, broken, decided_made}
 use Rattle.table_changes.proofs.inserting.insert_rows.Goals as goal
 
@@ -31,3 +32,6 @@ returns-in-Err-settle-clause-refused g c = λ reading sound decided given.
     let stored = c.in_default-append.ensures.shows (c.begin.ensures.sound sound) in
     broken reading old mid c.args.insert.now c.args.rows marks given made c.in-Err-settle.refusal stored
     (c.in-Err-settle.ensures.refused reading (c.append.ensures.sound (c.begin.ensures.sound sound)) (decided_made reading old mid c.args.insert.now c.args.rows marks given (g.C.Checks.decides c.args.checks.now reading) made stored decided))
+
+pub returns-in-Ok-clause-accepted : goal.returns-in-Ok-clause-accepted
+returns-in-Ok-clause-accepted g c = no_refusal c.len-count.result c.reply_for.result c.reply_for.ensures

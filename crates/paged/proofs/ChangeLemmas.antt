@@ -1,0 +1,61 @@
+-- What changes of the last commit leave, and why they are refused.
+use Rattle.std.proofs.Common.{◌≡◌, ◌∙◌, refl, sym, ap, subst, ℕ, Bool, List, IsTrue}
+use Rattle.std.specs.Ordering.{nat_cmp}
+use Rattle.std.specs.FinMap.{FinMap, get}
+use Rattle.denote.specs.Database.{Name}
+use Rattle.sqlval.specs.Value.{Row}
+use Rattle.store.specs.Contents.{Contents}
+use Rattle.store.specs.Errors.{MayFail, StoringReaches, ChangingReaches}
+use Rattle.store.specs.declared.error.StoreError.{StoreError}
+use Rattle.store.specs.declared.error.StoreError.TheVariants as refused
+use Rattle.store.specs.declared.error.StoreLimit.{StoreLimit}
+use Rattle.pool.specs.Pages.{PageMap}
+use Rattle.pool.specs.Versions.{Versions}
+use Rattle.pool.specs.declared.error.PoolError.{PoolError}
+use Rattle.pool.specs.declared.error.PoolError.TheVariants as pool
+use Rattle.page_versions.specs.Changed.{IsNow}
+use Rattle.page_versions.specs.Databases.{contents_in, known_contents, IsDatabase}
+use Rattle.page_versions.specs.Refusals.{of_pool, IsCounted, RowsReach}
+use Rattle.page_versions.proofs.RefusalLemmas.{fail_weaker, rows_reach, table_reach}
+use Rattle.paged.specs.SeenLemmas.{known_is}
+use Rattle.paged.specs.Shown.{stored}
+use Rattle.paged.specs.Sound.{IsSound}
+
+module _ (honest : Bool) (v : Versions) (numbers : FinMap nat_cmp ℕ) (written settled : PageMap) (commits : ℕ) (last : commits ≡ v.last) where
+  -- a change of the tables that lie there is one of the tables that are shown
+  pub changed_here : (change : Contents → Contents) (now : PageMap) → (IsDatabase (v.pages commits) written → IsNow (v.pages commits) now (change (contents_in (v.pages commits) written)))
+      → IsSound honest v numbers written settled → IsNow (v.pages v.last) now (change (known_contents honest (v.pages v.last) written))
+  changed_here change now made sound =
+      subst (λ (c : Contents). IsNow (v.pages v.last) now (change c)) (sym (known_is honest (v.pages v.last) written sound.device))
+      (subst (λ (n : ℕ). IsDatabase (v.pages n) written → IsNow (v.pages n) now (change (contents_in (v.pages n) written))) last made sound.working)
+
+  pub append_fails : (name : Name) (rows : List Row) (k n : ℕ) (error : StoreError)
+      → MayFail (IsDatabase (v.pages commits) written) k n (RowsReach (IsCounted (IsDatabase (v.pages commits) written) (v.pages commits) settled) (get (contents_in (v.pages commits) written) name) rows) error
+      → MayFail (IsSound honest v numbers written settled) k n
+      (StoringReaches (IsCounted (IsSound honest v numbers written settled) (v.pages v.last) settled) (get (known_contents honest (v.pages v.last) written) name) rows) error
+  append_fails name rows k n error h =
+      fail_weaker (IsDatabase (v.pages v.last) written) (IsSound honest v numbers written settled) k n
+      (RowsReach (IsCounted (IsDatabase (v.pages v.last) written) (v.pages v.last) settled) (get (contents_in (v.pages v.last) written) name) rows)
+      (StoringReaches (IsCounted (IsSound honest v numbers written settled) (v.pages v.last) settled) (get (known_contents honest (v.pages v.last) written) name) rows) error
+      (λ s. s.working)
+      (λ l reached. rows_reach honest (v.pages v.last) written settled (IsDatabase (v.pages v.last) written) (IsSound honest v numbers written settled) (λ s. s.working) (λ s. s.device) name rows l reached)
+      (subst (λ (m : ℕ). MayFail (IsDatabase (v.pages m) written) k n (RowsReach (IsCounted (IsDatabase (v.pages m) written) (v.pages m) settled) (get (contents_in (v.pages m) written) name) rows) error) last h)
+
+  pub create_fails : (k n : ℕ) (error : StoreError)
+      → MayFail (IsDatabase (v.pages commits) written) k n (ChangingReaches (IsCounted (IsDatabase (v.pages commits) written) (v.pages commits) settled)) error
+      → MayFail (IsSound honest v numbers written settled) k n (ChangingReaches (IsCounted (IsSound honest v numbers written settled) (v.pages v.last) settled)) error
+  create_fails k n error h =
+      fail_weaker (IsDatabase (v.pages v.last) written) (IsSound honest v numbers written settled) k n
+      (ChangingReaches (IsCounted (IsDatabase (v.pages v.last) written) (v.pages v.last) settled))
+      (ChangingReaches (IsCounted (IsSound honest v numbers written settled) (v.pages v.last) settled)) error
+      (λ s. s.working)
+      (λ l reached. table_reach (v.pages v.last) settled (IsDatabase (v.pages v.last) written) (IsSound honest v numbers written settled) (λ s. s.working) l reached)
+      (subst (λ (m : ℕ). MayFail (IsDatabase (v.pages m) written) k n (ChangingReaches (IsCounted (IsDatabase (v.pages m) written) (v.pages m) settled)) error) last h)
+
+-- want of memory
+pub memory_fails : (sound : Type 0) (k n : ℕ) (reached : StoreLimit → Type 0) (error : StoreError) (cause : PoolError) → error ≡ of_pool cause → cause ≡ pool.Memory → MayFail sound k n reached error
+memory_fails sound k n reached error cause is memory = subst (λ (e : StoreError). MayFail sound k n reached e) (sym (is ∙ ap of_pool memory)) tt
+
+-- an error that is told as this one
+pub told_fails : (sound : Type 0) (k n : ℕ) (reached : StoreLimit → Type 0) (error other : StoreError) → error ≡ other → MayFail sound k n reached other → MayFail sound k n reached error
+told_fails sound k n reached error other is h = subst (λ (e : StoreError). MayFail sound k n reached e) (sym is) h

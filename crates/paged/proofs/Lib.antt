@@ -1,0 +1,9 @@
+pub mod PageLemmas
+pub mod ShownLemmas
+pub mod SoundLemmas
+pub mod ReadLemmas
+pub mod OpenLemmas
+pub mod CloseLemmas
+pub mod OrderlyLemmas
+pub mod ChangeLemmas
+pub mod KeepingLemmas

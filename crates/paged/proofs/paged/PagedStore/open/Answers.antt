@@ -1,0 +1,20 @@
+use Rattle.std.proofs.Common.{◌≡◌, ◌∙◌, refl, sym, ap, inl, inr}
+use Rattle.pool.specs.Versions.{versions_of, device_of}
+use Rattle.overlay.specs.Changes.{fresh_of, settled_of, private_of}
+use Rattle.page_readers.specs.Pinned.{numbers_of}
+use Rattle.paged.proofs.PageLemmas.{none_private}
+use Rattle.paged.proofs.OpenLemmas.{opened_orderly, opened_sound, opened_shows, saved_again}
+use Rattle.paged.proofs.paged.PagedStore.open.Goals as goal
+
+pub invariant_of-result : goal.invariant_of-result
+invariant_of-result g c = record { ordered = opened_orderly g.D.Disk.is_honest (g.D.Disk.bytes c.args.device) (versions_of c.in-Ok.pool) c.new-in-Ok.result c.in-Ok.ensures.begins c.new-in-Ok.ensures.pinned }
+
+pub returns-in-Ok-clause-opened : goal.returns-in-Ok-clause-opened
+returns-in-Ok-clause-opened g c = λ db saved.
+    (opened_sound g.D.Disk.is_honest (g.D.Disk.bytes c.args.device) (versions_of c.in-Ok.pool) (numbers_of c.new-in-Ok.result) (private_of c.new.result) (settled_of c.new.result) db c.in-Ok.ensures.begins c.new-in-Ok.ensures.none
+    (none_private (fresh_of c.new.result) (settled_of c.new.result) c.new.ensures.fresh c.new.ensures.settled) c.new.ensures.settled saved,
+    opened_shows g.D.Disk.is_honest (g.D.Disk.bytes c.args.device) (versions_of c.in-Ok.pool) (numbers_of c.new-in-Ok.result) (private_of c.new.result) (settled_of c.new.result) db c.in-Ok.ensures.begins c.new-in-Ok.ensures.none
+    (none_private (fresh_of c.new.result) (settled_of c.new.result) c.new.ensures.fresh c.new.ensures.settled) c.new.ensures.settled saved)
+
+pub returns-in-Err-clause-left : goal.returns-in-Err-clause-left
+returns-in-Err-clause-left g c = λ db saved. saved_again g.D.Disk.is_honest (g.D.Disk.bytes c.args.device) (g.D.Disk.bytes c.in-Err.back.value) db c.in-Err.ensures.left saved

@@ -1,0 +1,5 @@
+pub mod Orderly
+pub mod Shown
+pub mod Sound
+pub mod Store
+pub mod SeenLemmas

@@ -1,0 +1,15 @@
+-- When a paged store is sound. Our own choice.
+use Rattle.std.specs.Prelude.{◌≡◌, ℕ, Bool, IsTrue, Some}
+use Rattle.std.specs.Ordering.{nat_cmp}
+use Rattle.std.specs.FinMap.{FinMap, get}
+use Rattle.pool.specs.Pages.{PageMap}
+use Rattle.pool.specs.Versions.{Versions}
+use Rattle.page_versions.specs.Databases.{nothing, IsDatabase}
+
+-- the device is honest, and every version is a database
+pub record IsSound (honest : Bool) (v : Versions) (numbers : FinMap nat_cmp ℕ) (written settled : PageMap) : Type 0 where
+  pub device : IsTrue honest
+  pub last : IsDatabase (v.pages v.last) nothing
+  pub readers : (reader number : ℕ) → get numbers reader ≡ Some number → IsDatabase (v.pages number) nothing
+  pub working : IsDatabase (v.pages v.last) written
+  pub marked : IsDatabase (v.pages v.last) settled

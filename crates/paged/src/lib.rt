@@ -1,0 +1,9 @@
+//! Tables kept in the pages of one file: a store in versions.
+#![tactic(auto)]
+
+mod keeping;
+mod paged;
+mod seen;
+mod writing;
+
+pub use paged::Paged;

@@ -1,0 +1,7 @@
+//! Tests of queries over a reading whose device refuses a call.
+#![tactic(auto)]
+
+#[cfg(test)]
+mod queries;
+#[cfg(test)]
+mod reading;
