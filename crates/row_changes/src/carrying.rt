@@ -12,13 +12,13 @@ ghost use Rattle.row_changes.specs.Plans.{IsMeant};
 
 use crate::making::{make_changes, touched};
 use crate::planned::Planned;
+use crate::reply::reply_for;
 use constraint_checks::{Checks, begin, settle};
 use items::Text;
 use refusals::Refusal;
 use replies::Reply;
 use std::alloc::Global;
 use store::Store;
-use crate::reply::reply_for;
 
 /// Makes of the rows of a table what is planned: all of it, where the table then violates no constraint; else nothing. It sets the mark. It is refused by a constraint that the table would
 /// violate (23000), for want of memory, by the device or by a limit of the store.

@@ -18,15 +18,15 @@ ghost use Rattle.row_changes.specs.Statements.{IsFilterOf, tables_in_filter};
 ghost use Rattle.row_changes.specs.Plans.{IsPlanned};
 
 use crate::carrying::carry_out;
+use crate::deleting::deletions;
 use crate::planned::Planned;
 use crate::reading::lent_to_delete;
+use crate::trees::filter_tree;
 use algebra::Condition;
 use constraint_checks::{Checks, refusal_of_stop, table_named};
 use query_answers::LentTables;
 use refusals::Refusal;
 use replies::Reply;
-use crate::deleting::deletions;
-use crate::trees::filter_tree;
 use sqlval::Schema;
 use std::alloc::Global;
 use store::{Numbered, Store, View};

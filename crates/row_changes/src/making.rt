@@ -9,9 +9,9 @@ ghost use Rattle.store.specs.Stored.{undone, working_on};
 ghost use Rattle.row_changes.specs.RowChanges.{is_change, IsShort};
 ghost use Rattle.row_changes.specs.Made.{made_one, all_made};
 
+use crate::change::RowChange;
 use items::{Items, Text};
 use refusals::Refusal;
-use crate::change::RowChange;
 use store::Store;
 use transactions::refusal_of;
 

@@ -1,7 +1,7 @@
 //! What is to be made of the rows of a table.
 
-use items::Items;
 use crate::change::RowChange;
+use items::Items;
 
 /// The rows of a table by their numbers, and at the same place in another list what becomes of each.
 #[derive(Drop)]

@@ -9,11 +9,11 @@ ghost use Rattle.tree_tables.specs.TablesRead.{Agree};
 ghost use Rattle.query_answers.specs.Lent.{rows_lent};
 ghost use Rattle.row_changes.specs.Statements.{tables_in_filter, tables_in_update};
 
+use crate::change::RowUpdate;
+use crate::trees::{tables_for_filter, tables_for_update};
 use algebra::Condition;
 use query_answers::LentTables;
 use refusals::Refusal;
-use crate::change::RowUpdate;
-use crate::trees::{tables_for_filter, tables_for_update};
 use std::alloc::Global;
 use store::{Seen, Store, View};
 
