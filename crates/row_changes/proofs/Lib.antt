@@ -1,0 +1,9 @@
+pub mod ConditionsRead
+pub mod Meant
+pub mod Steps
+pub mod Entries
+pub mod MadeTables
+pub mod Standing
+pub mod Carried
+pub mod Planning
+pub mod Made

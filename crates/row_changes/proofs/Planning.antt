@@ -1,0 +1,116 @@
+-- What is planned for the rows of a table is what the definitions make of it.
+use Rattle.std.proofs.Common.{◌≡◌, ◌∙◌, refl, sym, ap, subst, ℕ, Bool, false, not, List, [], map, filter, Option, Some, None, Result, Ok, Err, arith}
+use Rattle.std.specs.Prelude.{Contains, count_by}
+use Rattle.std.specs.List.{list_any}
+use Rattle.std.specs.FinMap.{get}
+use Rattle.refusals.specs.declared.refusal.Refusal.TheVariants.{Disk}
+use Rattle.sqlval.specs.declared.schema.Schema.{Schema}
+use Rattle.sqlval.specs.declared.schema.Table as declared
+use Rattle.sqlval.specs.Schema.{same_name}
+use Rattle.sqlval.specs.Value.{Row}
+use Rattle.typing.specs.declared.statement.Change.{Change}
+use Rattle.typing.specs.declared.statement.Change.TheVariants as does
+use Rattle.typing.specs.declared.statement.Delete.{Delete}
+use Rattle.typing.specs.declared.statement.Update.{Update}
+use Rattle.denote.specs.declared.fault.Fault.{Fault}
+use Rattle.denote.specs.declared.fault.Fault.TheVariants as fault
+use Rattle.denote.specs.declared.fault.Stop.{Stop}
+use Rattle.denote.specs.declared.fault.Stop.TheVariants as stop
+use Rattle.denote.specs.Change.{Changed, changed, on_table, update_in, delete_from, unless_raised, with_rows, updated_rows, deleted_rows, IsRaised}
+use Rattle.denote.specs.Change.Changed.{Makes}
+use Rattle.denote.specs.Database.{Name, Table, Database, CheckReading, checks_of, rows_in}
+use Rattle.denote.specs.Evaluation.{Evaluation, faults_in}
+use Rattle.denote.specs.SchemaOf.{IsSchemaOf}
+use Rattle.denote.specs.Stop.{IsFaultOf}
+use Rattle.session_definitions.specs.Refusals.{refusal_of}
+use Rattle.store.specs.Contents.{Contents, Entry, database_of}
+use Rattle.store.specs.Indexes.{entries_of}
+use Rattle.constraint_checks.specs.Changed.{RefusesChange}
+use Rattle.constraint_checks.specs.Stopped.{refused_by}
+use Rattle.constraint_checks.proofs.Declared.{no_table}
+use Rattle.row_changes.specs.declared.change.RowChange.{RowChange}
+use Rattle.row_changes.specs.RowChanges.{AreUpdates, AreDeletions}
+use Rattle.row_changes.specs.declared.planned.Planned.{Planned}
+use Rattle.row_changes.specs.Plans.{IsMeant}
+
+-- no table has the name
+pub no_update : (reading : CheckReading) (c : Contents) (schema : Schema) (u : Update) → IsSchemaOf schema (database_of c)
+    → list_any (λ (t : declared.Table). same_name t.name u.table) schema.tables ≡ false → changed reading (database_of c) (does.Update u) ≡ Makes (database_of c) (Some 0)
+no_update reading c schema u h none = ap (λ o. on_table (database_of c) o (update_in reading (database_of c) u)) (no_table schema (database_of c) u.table h none)
+
+pub no_deletion : (reading : CheckReading) (c : Contents) (schema : Schema) (d : Delete) → IsSchemaOf schema (database_of c)
+    → list_any (λ (t : declared.Table). same_name t.name d.table) schema.tables ≡ false → changed reading (database_of c) (does.Delete d) ≡ Makes (database_of c) (Some 0)
+no_deletion reading c schema d h none = ap (λ o. on_table (database_of c) o (delete_from reading (database_of c) d)) (no_table schema (database_of c) d.table h none)
+
+raised : {A : Type 0} (x : Evaluation A) (made : A → Changed) (one : Fault) → Contains (faults_in x) one → IsRaised (unless_raised x made) one
+raised (Ok y) made one h = absurd (let below = h.1 in omega (arith, below))
+raised (Err faults) made one h = h
+
+-- a stop is the refusal of the change
+stopped : {A : Type 0} (reading : CheckReading) (db : Database) (change : Change) (x : Evaluation A) (made : A → Changed) (s : Stop) → changed reading db change ≡ unless_raised x made
+    → IsFaultOf (faults_in x) s → RefusesChange reading db change (refused_by s)
+stopped reading db change x made stop.Memory e h = RefusesChange.withheld tt
+stopped reading db change x made (stop.Fault one) e h = RefusesChange.raises one refl (subst (λ (c : Changed). IsRaised c one) (sym e) (raised x made one h))
+
+pub is_no_device : (s : Stop) → refused_by s ≡ Disk → ⊥
+is_no_device stop.Memory e = cc e
+is_no_device (stop.Fault one) e = by one e
+  where
+    by : (raised : Fault) → refusal_of raised ≡ Disk → ⊥
+    by fault.ManyRows e = cc e
+    by fault.TextTooLong e = cc e
+    by fault.OutOfRange e = cc e
+    by fault.DivisionByZero e = cc e
+    by fault.Record e = cc e
+    by fault.Key e = cc e
+
+-- ---- UPDATE
+
+module _ (reading : CheckReading) (c : Contents) (u : Update) (table : Table) (there : get (database_of c) u.table ≡ Some table) where
+  abbrev updated : Evaluation (List (Bool × Row))
+  updated = updated_rows (checks_of reading u.table table) (rows_in (database_of c)) table u
+
+  update_is : changed reading (database_of c) (does.Update u)
+      ≡ unless_raised updated (λ rows. with_rows reading (database_of c) u.table table (map (λ r. r.1) rows) (count_by (λ r. r.0) rows))
+  update_is = ap (λ o. on_table (database_of c) o (update_in reading (database_of c) u)) there
+
+  pub update_meant : (planned : Planned) → planned.numbers ≡ map (λ (e : Entry). e.0) (entries_of (get c u.table)) → (found : List (Bool × Row)) → updated ≡ Ok found
+      → AreUpdates table planned.changes found → IsMeant reading c (does.Update u) u.table planned
+  update_meant planned numbered found e are = record {
+    table = table;
+    there = there;
+    numbered = numbered;
+    left = map (λ r. r.1) found;
+    count = count_by (λ r. r.0) found;
+    are = are;
+    means = update_is ∙ ap (λ x. unless_raised x (λ (rows : List (Bool × Row)). with_rows reading (database_of c) u.table table (map (λ r. r.1) rows) (count_by (λ r. r.0) rows))) e;
+  }
+
+  pub update_stopped : (s : Stop) → IsFaultOf (faults_in updated) s → RefusesChange reading (database_of c) (does.Update u) (refused_by s)
+  update_stopped s h = stopped reading (database_of c) (does.Update u) updated (λ rows. with_rows reading (database_of c) u.table table (map (λ r. r.1) rows) (count_by (λ r. r.0) rows)) s update_is h
+
+-- ---- DELETE
+
+module _ (reading : CheckReading) (c : Contents) (d : Delete) (table : Table) (there : get (database_of c) d.table ≡ Some table) where
+  abbrev deleted : Evaluation (List (Bool × Row))
+  deleted = deleted_rows (rows_in (database_of c)) table d
+
+  deletion_is : changed reading (database_of c) (does.Delete d)
+      ≡ unless_raised deleted (λ rows. with_rows reading (database_of c) d.table table (map (λ r. r.1) (filter (λ r. not r.0) rows)) (count_by (λ r. r.0) rows))
+  deletion_is = ap (λ o. on_table (database_of c) o (delete_from reading (database_of c) d)) there
+
+  pub deletion_meant : (planned : Planned) → planned.numbers ≡ map (λ (e : Entry). e.0) (entries_of (get c d.table)) → (found : List (Bool × Row)) → deleted ≡ Ok found
+      → AreDeletions table planned.changes found → IsMeant reading c (does.Delete d) d.table planned
+  deletion_meant planned numbered found e are = record {
+    table = table;
+    there = there;
+    numbered = numbered;
+    left = map (λ r. r.1) (filter (λ r. not r.0) found);
+    count = count_by (λ r. r.0) found;
+    are = are;
+    means = deletion_is ∙ ap (λ x. unless_raised x (λ (rows : List (Bool × Row)). with_rows reading (database_of c) d.table table (map (λ r. r.1) (filter (λ r. not r.0) rows)) (count_by (λ r. r.0) rows))) e;
+  }
+
+  pub deletion_stopped : (s : Stop) → IsFaultOf (faults_in deleted) s → RefusesChange reading (database_of c) (does.Delete d) (refused_by s)
+  deletion_stopped s h =
+      stopped reading (database_of c) (does.Delete d) deleted (λ rows. with_rows reading (database_of c) d.table table (map (λ r. r.1) (filter (λ r. not r.0) rows)) (count_by (λ r. r.0) rows)) s deletion_is h

@@ -1,0 +1,6 @@
+pub mod RowChanges
+pub mod Statements
+pub mod Given
+pub mod Made
+pub mod Checked
+pub mod Plans

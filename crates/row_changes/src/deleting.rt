@@ -1,0 +1,70 @@
+//! The rows that a DELETE touches go.
+ghost use Rattle.std.specs.Prelude.{◌≡◌, map};
+ghost use Rattle.typing.specs.declared.statement.Delete.{Delete};
+ghost use Rattle.denote.specs.Change.{deleted_rows};
+ghost use Rattle.denote.specs.Database.{Table};
+ghost use Rattle.denote.specs.Evaluation.{together};
+ghost use Rattle.denote.specs.Meaning.{Tables};
+ghost use Rattle.denote.specs.Stop.{Gives};
+ghost use Rattle.tree_tables.specs.TablesRead.{Agree};
+ghost use Rattle.query_answers.specs.Lent.{rows_lent};
+ghost use Rattle.row_changes.specs.Given.{deletion_given};
+ghost use Rattle.row_changes.specs.RowChanges.{AreDeletions, GivesChanges};
+ghost use Rattle.row_changes.specs.Statements.{IsFilterOf, tables_in_filter};
+
+use crate::change::RowChange;
+use crate::touched::is_touched;
+use algebra::Condition;
+use algebra_laws::evaluation_keeps_the_meaning;
+use denote::{Row, Stop};
+use items::Items;
+use query_answers::LentTables;
+use sqlval::Value;
+use std::alloc::Global;
+use tree_tables::{listings_read_their_tables, values_read_their_tables};
+
+/// What becomes of each row of a table by a DELETE, or one of the faults of its condition at all rows. `filter` is the tree of the condition, and `lent` the tables that it names.
+pub fn deletions(
+    alloc: Global,
+    lent: &LentTables,
+    filter: &Option<Condition>,
+    rows: &[Row],
+) -> Result<Items<RowChange>, Stop>
+    ensures gives { (tables : Tables) (table : Table) (d : Delete) → table.rows ≡ rows.now → Agree (rows_lent lent.now.tables) tables (tables_in_filter filter.now)
+        → IsFilterOf d.filter filter.now → GivesChanges (AreDeletions table) result (deleted_rows tables table d) }
+{
+    evaluation_keeps_the_meaning();
+    listings_read_their_tables();
+    values_read_their_tables();
+    all_deletions(alloc, lent, filter, rows)
+}
+
+fn all_deletions(
+    alloc: Global,
+    lent: &LentTables,
+    filter: &Option<Condition>,
+    rows: &[Row],
+) -> Result<Items<RowChange>, Stop>
+    ensures { Gives result (together (map (deletion_given (rows_lent lent.now.tables) filter.now) rows.now)) }
+{
+    let mut changes = Items::new(alloc);
+    for row in rows {
+        changes.push(deletion(alloc, lent, filter, row.as_slice())?)?;
+    }
+    Ok(changes)
+}
+
+fn deletion(
+    alloc: Global,
+    lent: &LentTables,
+    filter: &Option<Condition>,
+    row: &[Value],
+) -> Result<RowChange, Stop>
+    ensures { Gives result (deletion_given (rows_lent lent.now.tables) filter.now row.now) }
+{
+    match is_touched(alloc, lent, filter, row) {
+        Ok(true) => Ok(RowChange::Goes),
+        Ok(false) => Ok(RowChange::Stays),
+        Err(stop) => Err(stop),
+    }
+}

@@ -1,0 +1,16 @@
+//! The reply to a change of rows.
+ghost use Rattle.std.specs.Prelude.{◌≡◌, Some};
+ghost use Rattle.session_definitions.specs.Statements.{counted};
+
+use replies::Reply;
+
+/// The reply to a change that touched so many rows.
+pub fn reply_for(count: usize) -> Reply
+    ensures { result ≡ counted (Some count) }
+{
+    if count == 0 {
+        Reply::Unchanged
+    } else {
+        Reply::Changed(count)
+    }
+}
