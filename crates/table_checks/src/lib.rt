@@ -1,0 +1,8 @@
+//! The CHECKs of a table: read again from their kept texts, and decided at rows.
+#![tactic(auto)]
+
+mod decided;
+mod reading;
+
+pub use decided::TableChecks;
+pub use reading::table_checks;
