@@ -1,2 +1,4 @@
 pub mod Cutting
 pub mod Showing
+pub mod ScriptsShown
+pub mod Histories

@@ -1,5 +1,9 @@
 ghost use Rattle.std.specs.Prelude.{◌≡◌, ◌≢◌, ◌⊎◌};
 ghost use Rattle.clap.specs.Words.{kind_of};
+ghost use Rattle.session_definitions.specs.Rules.{Rules, AreRules};
+ghost use Rattle.session_definitions.specs.World.{new_world};
+ghost use Rattle.scripts.specs.Played.{between};
+ghost use Rattle.shell.specs.Runs.{Runs};
 ghost use Rattle.shell.specs.Status.{IsStatus};
 
 use crate::command_line::settings;
@@ -8,6 +12,7 @@ use crate::run::run_on;
 use clap::Error;
 use clap::error::ErrorKind;
 use list_store::{ListStore, Lists};
+use session_laws::databases_stay_good;
 use std::alloc::Global;
 use std::io::{BufWriter, Read, Write};
 use std::rt::Env;
@@ -42,8 +47,11 @@ pub fn run_over_lists<R: Read, W: Write>(
     reader: &mut R,
     writer: &mut W,
 ) -> u8
-    ensures { IsStatus result }
+    ensures status { IsStatus result }
+    ensures runs { (rules : Rules) → AreRules rules
+        → Runs rules new_world (between (R.remaining reader.old) (R.remaining reader.new) (W.contents writer.old) (W.contents writer.new)) result }
 {
+    databases_stay_good();
     run_on::<ListStore, R, W>(alloc, settings, Lists::new(alloc), reader, writer)
 }
 
