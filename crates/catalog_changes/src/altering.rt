@@ -13,8 +13,7 @@ use sqlval::Table;
 use std::alloc::Global;
 
 /// Exchanges a table, as `read_schema` gave it, for another of its name in the schema that the tree at
-/// a root holds, and answers the root: with an index more or without one, say, or with other roots. The
-/// trees of its rows and indexes stay as they are.
+/// a root holds, and answers the root: with an index more or without one, say, or with other roots.
 ///
 /// Refused as `add_table` of `catalog` is, and as damaged only where no schema with this table is held
 /// there or the list of free pages is none.

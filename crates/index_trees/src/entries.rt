@@ -92,7 +92,7 @@ pub fn add_row<S: PageSpace>(
 /// Takes the entry of a row out of the index at a root over these columns, and answers the root; 0
 /// where it was the only one.
 ///
-/// Refused as `add_row` is. A row that the index has is never too long.
+/// Refused as `add_row` is.
 pub fn remove_row<S: PageSpace>(
     space: &mut S,
     alloc: Global,
