@@ -42,11 +42,7 @@ fn ends_before<R: PageReader>(
 /// found by halves, as a tree is read from its least key on.
 ///
 /// Refused as `scan` is.
-pub fn next_number<R: PageReader>(
-    space: &mut R,
-    alloc: Global,
-    root: u32,
-) -> Result<u64, Fault>
+pub fn next_number<R: PageReader>(space: &mut R, alloc: Global, root: u32) -> Result<u64, Fault>
     ensures found { (owned : List ℕ) (rows : List stored.Entry) → HoldsRows (R.pages space.old) root owned rows → IfOk result (λ number. number ≡ stored.next_number rows) }
     ensures same { R.pages space.new ≡ R.pages space.old }
     ensures whole { R.is_whole space.old → R.is_whole space.new }
