@@ -1,1 +1,2 @@
 pub mod GoodDatabases
+pub mod ChangesMade

@@ -1,12 +1,12 @@
 //! The language of sessions.
 use ast::Statement;
-use plain_changes::make;
+use changes::make;
 use refusals::Refusal;
 use replies::Reply;
-use resolve::resolve;
 use sessions::{Changes, Language};
 use sqlval::Schema;
 use statement_texts::{is_rollback, read_statement};
+use statement_types::typed_statement;
 use std::alloc::Global;
 use store::Store;
 use typing::{Change, Typed};
@@ -33,7 +33,7 @@ impl Language for Sql {
         statement: &Statement,
         schema: &Schema,
     ) -> Result<Typed, Refusal> {
-        resolve(alloc, statement, schema)
+        typed_statement(alloc, statement, schema)
     }
 }
 

@@ -1,9 +1,12 @@
 //! Whole scripts over tables in memory, and command lines.
 
+mod change_table;
+mod changed_rows;
 mod command_lines;
 mod depth;
 mod ended_sessions;
 mod faults;
+mod key_limits;
 mod limits;
 mod memory;
 mod overlapping;

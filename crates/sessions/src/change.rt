@@ -17,7 +17,6 @@ ghost use Rattle.transactions.specs.Orderly.{IsOrderly};
 ghost use Rattle.transactions.specs.Refused.{Counts, IfRefused};
 ghost use Rattle.typing.specs.declared.statement.Change.{Change as Typing};
 ghost use Rattle.typing.specs.declared.statement.Typed.TheVariants as does;
-ghost use Rattle.typing.specs.Evaluated.{change_evaluated};
 ghost use Rattle.sessions.specs.Changed.{HasChanged, MakesChange, RefusesChange, RefusesStatement};
 ghost use Rattle.sessions.specs.Kinds.{is_change};
 ghost use Rattle.sessions.specs.Seen.{seen_in};
@@ -116,7 +115,6 @@ fn make_typed<S: Store, L: Language + Changes<S>>(
     store: &mut S,
     typed: Typed,
 ) -> Result<Reply, Refusal>
-    requires { (change : Typing) → typed ≡ does.Change change → change_evaluated change ≡ true }
     ensures changes { IfOk result (λ reply. (rules : Rules) (x : Tree) (change : Typing) → AreRules rules → typed ≡ does.Change change → S.is_sound store.old → IsSchemaOf (S.prepared store.old) (database_of (S.shows store.old).working)
         → IsGood rules.check (database_of (S.shows store.old).working) → Means rules (database_of (S.shows store.old).working) x (does.Change change) → HasChanged rules (S.shows store.old) change reply (S.shows store.new)) }
     ensures refused { IfErr result (λ refusal. (rules : Rules) (x : Tree) (change : Typing) → AreRules rules → typed ≡ does.Change change → S.is_sound store.old → IsSchemaOf (S.prepared store.old) (database_of (S.shows store.old).working)

@@ -10,7 +10,6 @@ ghost use Rattle.store.specs.Errors.{HasRisen};
 ghost use Rattle.store.specs.Stored.{SameButMark};
 ghost use Rattle.transactions.specs.Refused.{IfRefused};
 ghost use Rattle.typing.specs.declared.statement.Typed.TheVariants as does;
-ghost use Rattle.typing.specs.Evaluated.{change_evaluated};
 ghost use Rattle.sessions.specs.Changed.{HasChanged, RefusesChange};
 
 use refusals::Refusal;
@@ -24,7 +23,6 @@ pub trait Changes<S: Store>: Drop {
     /// Carries out a change that was typed over the newest version with its changes, whose schema is the one that is ready. What is answered is no refusal. A refusal leaves all as it was, but for the mark; it is
     /// that of the device only where a call of the device was refused.
     fn make(&self, alloc: Global, store: &mut S, change: Change) -> Result<Reply, Refusal>
-        requires { change_evaluated change ≡ true }
         ensures changes { IfOk result (λ reply. (rules : Rules) (x : Tree) → AreRules rules → S.is_sound store.old → IsSchemaOf (S.prepared store.old) (database_of (S.shows store.old).working)
             → IsGood rules.check (database_of (S.shows store.old).working) → Means rules (database_of (S.shows store.old).working) x (does.Change change)
             → HasChanged rules (S.shows store.old) change reply (S.shows store.new)) }

@@ -1,2 +1,1 @@
-pub mod BuiltSteps
 pub mod Answering

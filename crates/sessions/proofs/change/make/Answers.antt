@@ -5,7 +5,7 @@ use Rattle.denote.specs.SchemaOf.{IsSchemaOf}
 use Rattle.store.specs.Contents.{database_of}
 use Rattle.sessions.proofs.Devices.{risen_later}
 use Rattle.sessions.proofs.ChangeSteps.{makes_typed, refuses_typed, refuses_wrong}
-use Rattle.sessions.proofs.Typings.{against, typed_evaluated}
+use Rattle.sessions.proofs.Typings.{against}
 use Rattle.sessions.proofs.change.make.Goals as goal
 
 pub returns-in-Ok-clause-changes : goal.returns-in-Ok-clause-changes
@@ -27,9 +27,6 @@ returns-in-Err-typed_by-clause-refused g c = λ rules are is sound good.
     let of : IsSchemaOf c.schema.result.now (database_of (g.S.Store.shows c.args.store.now).working) =
     subst (λ (schema : Schema). IsSchemaOf schema (database_of (g.S.Store.shows c.args.store.now).working)) (sym c.schema.ensures) ((rw c.in_default.is at c.prepare.ensures.prepared) sound) in
     refuses_wrong rules _ c.args.statement.now _ (against rules _ c.schema.result.now c.args.statement.now _ are of c.in-Err-typed_by.ensures.finds.err)
-
-pub make_typed-requires : goal.make_typed-requires
-make_typed-requires g c = λ change is. typed_evaluated c.args.statement.now _ c.in-Ok.typed c.in-Ok.ensures.finds.ok change is
 
 pub returns-in-Ok-clause-device : goal.returns-in-Ok-clause-device
 returns-in-Ok-clause-device g c = IfErr-weaker c.make_typed.result _ _ (λ refusal h is. risen_later _ _ _ c.prepare.ensures.counts (h is)) c.make_typed.ensures.device

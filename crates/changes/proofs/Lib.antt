@@ -1,0 +1,4 @@
+pub mod Accepted
+pub mod Named
+pub mod Given
+pub mod Listed

@@ -1,0 +1,31 @@
+-- The table that a change names, in the schema and in the database.
+use Rattle.std.proofs.Common.{◌≡◌, ◌∙◌, sym, subst, List, Some, Contains}
+use Rattle.std.specs.FinMap.{get}
+use Rattle.sqlval.specs.declared.schema.Schema.{Schema}
+use Rattle.sqlval.specs.declared.schema.Table as declared
+use Rattle.typing.specs.declared.typed.Condition as typed
+use Rattle.algebra.specs.declared.tree.Condition.{Condition}
+use Rattle.denote.specs.Database.{Name, Table, Database, CheckReading, checks_of}
+use Rattle.denote.specs.SchemaOf.{Declares, IsSchemaOf}
+use Rattle.query_answers.specs.Sources.{AreChecksOf}
+use Rattle.constraint_checks.proofs.Declared.{table_there}
+use Rattle.constraint_checks.proofs.Violations.{same_some}
+use Rattle.row_changes.specs.Checked.{AreChecksFor}
+use Rattle.table_checks.specs.Conditions.{conditions_of}
+
+pub there : (schema : Schema) (db : Database) (name : Name) (d : declared.Table) → IsSchemaOf schema db → Contains schema.tables d → d.name ≡ name → (table : Table) × (get db name ≡ Some table)
+there schema db name d h inside e = let found = table_there schema db name d h inside e in (found.0, found.1)
+
+-- the table that is declared is the one of the database
+pub declares : (schema : Schema) (db : Database) (name : Name) (d : declared.Table) (table : Table) → IsSchemaOf schema db → Contains schema.tables d → d.name ≡ name → get db name ≡ Some table → Declares d table
+declares schema db name d table h inside e is =
+    let found = table_there schema db name d h inside e in
+    subst (λ (t : Table). Declares d t) (same_some found.0 table (sym found.1 ∙ is)) found.2
+
+-- trees of the CHECKs as they are declared are those of the table
+pub decided : (reading : CheckReading) (schema : Schema) (db : Database) (name : Name) (d : declared.Table) (trees : List Condition) → IsSchemaOf schema db → Contains schema.tables d → d.name ≡ name
+    → AreChecksOf (conditions_of reading d.name d.columns d.constraints) trees → AreChecksFor reading db name trees
+decided reading schema db name d trees h inside e are = λ table is.
+    let same = declares schema db name d table h inside e is in
+    let conditions : conditions_of reading d.name d.columns d.constraints ≡ checks_of reading name table = λ i. conditions_of reading (e i) (same.columns i) (same.constraints i) in
+    subst (λ (cs : List typed.Condition). AreChecksOf cs trees) conditions are

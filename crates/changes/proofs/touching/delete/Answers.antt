@@ -1,0 +1,23 @@
+use Rattle.std.proofs.Common.{◌≡◌, sym, subst}
+use Rattle.std.proofs.lemmas.Result.{IfOk-weaker, IfErr-weaker}
+use Rattle.sqlval.specs.declared.schema.Schema.{Schema}
+use Rattle.denote.specs.SchemaOf.{IsSchemaOf}
+use Rattle.store.specs.Contents.{database_of}
+use Rattle.changes.proofs.touching.delete.Goals as goal
+
+pub returns-in-Ok-clause-changes : goal.returns-in-Ok-clause-changes
+returns-in-Ok-clause-changes g c = IfOk-weaker c.delete_rows.result _ _
+    (λ reply h reading is_reading sound of.
+    let db = database_of (g.S.Store.shows c.args.store.now).working in
+    let schema : IsSchemaOf c.schema.result.now db = subst (λ (s : Schema). IsSchemaOf s db) (sym c.schema.ensures) of in
+    h reading sound of (c.in-Ok.ensures.decides reading db is_reading schema))
+    c.delete_rows.ensures.changes
+
+pub returns-in-Ok-clause-refused : goal.returns-in-Ok-clause-refused
+returns-in-Ok-clause-refused g c = IfErr-weaker c.delete_rows.result _ _
+    (λ refusal h reading is_reading sound of.
+    let db = database_of (g.S.Store.shows c.args.store.now).working in
+    let schema : IsSchemaOf c.schema.result.now db = subst (λ (s : Schema). IsSchemaOf s db) (sym c.schema.ensures) of in
+    h reading sound of (c.in-Ok.ensures.decides reading db is_reading schema))
+    c.delete_rows.ensures.refused
+
