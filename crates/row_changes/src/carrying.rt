@@ -3,6 +3,7 @@ ghost use Rattle.std.specs.Prelude.{◌≡◌, ◌≤◌, IfOk, IfErr, OnErr};
 ghost use Rattle.refusals.specs.declared.refusal.Refusal.TheVariants.{Disk};
 ghost use Rattle.typing.specs.declared.statement.Change.{Change};
 ghost use Rattle.denote.specs.Database.{CheckReading};
+ghost use Rattle.transactions.specs.Refused.{IfRefused};
 ghost use Rattle.store.specs.Contents.{database_of};
 ghost use Rattle.store.specs.Errors.{HasRisen};
 ghost use Rattle.store.specs.Stored.{SameButMark};
@@ -33,6 +34,7 @@ pub(crate) fn carry_out<S: Store, C: Checks>(
         → IsMeant reading (S.shows store.old).working change name.now planned → HasChanged reading (S.shows store.old) change reply (S.shows store.new)) }
     ensures refused { IfErr result (λ refusal. (reading : CheckReading) (change : Change) → S.is_sound store.old → Decided (C.decides checks.now reading) (database_of (S.shows store.old).working) name.now
         → IsMeant reading (S.shows store.old).working change name.now planned → RefusesChange reading (database_of (S.shows store.old).working) change refusal) }
+    ensures accepted { IfOk result (λ reply. IfRefused reply (λ refusal. ⊥)) }
     ensures device { IfErr result (λ refusal. refusal ≡ Disk → HasRisen (S.refused store.old) (S.refused store.new)) }
     ensures same { S.is_sound store.old → OnErr result (SameButMark (S.shows store.old) (S.shows store.new)) }
     ensures sound { S.is_sound store.old → S.is_sound store.new }

@@ -5,6 +5,7 @@ ghost use Rattle.refusals.specs.declared.refusal.Refusal.TheVariants.{Disk};
 ghost use Rattle.typing.specs.declared.statement.Change.TheVariants as does;
 ghost use Rattle.denote.specs.Database.{CheckReading, rows_in};
 ghost use Rattle.denote.specs.SchemaOf.{IsSchemaOf};
+ghost use Rattle.transactions.specs.Refused.{IfRefused};
 ghost use Rattle.store.specs.Contents.{Contents, database_of};
 ghost use Rattle.store.specs.Errors.{HasRisen};
 ghost use Rattle.store.specs.Indexes.{entries_of};
@@ -54,6 +55,7 @@ pub fn update_rows<S: Store, C: Checks>(
         → Decided (C.decides checks.now reading) (database_of (S.shows store.old).working) update.now.table
         → AreChecksFor reading (database_of (S.shows store.old).working) update.now.table trees.now
         → RefusesChange reading (database_of (S.shows store.old).working) (does.Update update.now) refusal) }
+    ensures accepted { IfOk result (λ reply. IfRefused reply (λ refusal. ⊥)) }
     ensures device { IfErr result (λ refusal. refusal ≡ Disk → HasRisen (S.refused store.old) (S.refused store.new)) }
     ensures same { S.is_sound store.old → OnErr result (SameButMark (S.shows store.old) (S.shows store.new)) }
     ensures sound { S.is_sound store.old → S.is_sound store.new }

@@ -23,5 +23,4 @@ pub mod Check
 pub mod Constraint
 pub mod CreateTable
 pub mod Built
-pub mod Evaluated
 pub mod Statement

@@ -34,7 +34,7 @@ returns-in-Ok-clause-changes g c = λ reading change sound decided meant.
     carried reading old mid change c.args.name.now c.args.planned marks meant made all rises (g.S.Store.shows c.settle.new.store) _ _ c.in-Ok.ensures.kept
     (c.in-Ok.ensures.holds reading (c.make_changes.ensures.sound (c.begin.ensures.sound sound))
     (decided_made reading old mid change c.args.name.now c.args.planned marks meant made all rises (g.C.Checks.decides c.args.checks.now reading) decided))
-    (c.touched-count.ensures ∙ ap (λ (cs : List RowChange). count_by is_change cs) c.as_slice.ensures ∙ meant.are.as_many) c.reply_for.ensures
+    (c.touched-count.ensures ∙ ap (λ (cs : List RowChange). count_by is_change cs) c.as_slice.ensures ∙ meant.are.as_many) c.reply_for.ensures.gives
 
 pub returns-clause-refused : goal.returns-clause-refused
 returns-clause-refused g c = λ reading change sound decided meant.

@@ -1,5 +1,0 @@
-pub mod Creates
-pub mod Inserts
-pub mod Lengths
-pub mod GivenRows
-pub mod Replied

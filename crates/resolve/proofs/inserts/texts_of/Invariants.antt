@@ -1,6 +1,0 @@
-use Rattle.std.proofs.Common.{◌≡◌, take}
-use Rattle.resolve.proofs.inserts.texts_of.Given as goal
-
--- the names so far
-abbrev pub invariant-loop-name : goal.invariant-loop-name
-invariant-loop-name l = l.texts ≡ take l.name-index l.names
