@@ -4,7 +4,7 @@ ghost use Rattle.pool.specs.Versions.{versions_of};
 ghost use Rattle.store.specs.View.{count_of};
 ghost use Rattle.paged.specs.Orderly.{IsOrderly};
 
-use crate::keeping::is_kept;
+use crate::keeping::{are_places, is_kept};
 use crate::seen::{next_seen, rows_seen, schema_seen};
 use crate::writing::write_some;
 use denote::{Row, Rows};
@@ -12,7 +12,10 @@ use disk::Disk;
 use items::{Items, Text};
 use overlay::Changes;
 use page_readers::{Readers, found_is_pinned};
-use page_versions::{append_rows, close_pool, create_table, of_pool, pool_over};
+use page_versions::{
+    append_rows, close_pool, create_index, create_table, delete_row, drop_table, of_pool, pool_over,
+    replace_row,
+};
 use pool::Pool;
 use sqlval::{Index, Schema, Table, Value};
 use std::alloc::Global;
@@ -22,7 +25,7 @@ use store::{Numbered, NumberedRow, Position, Returned, Store, StoreError, View};
 /// Tables in the pages of one file, in versions. Each reader sees the pages of the commit that it found; what the writer changes lies over the last one until it is
 /// committed.
 ///
-/// It does not drop, index, replace and delete yet, nor search by an index: it refuses these as for want of memory.
+/// It does not drop indexes yet, nor search by one: it refuses these as for want of memory. A key of an index that is too long counts as want of memory too.
 #[derive(Drop)]
 pub struct Paged<D: Disk> {
     alloc: Global,
@@ -241,11 +244,37 @@ impl<D: Disk + Drop> Store for Paged<D> {
     }
 
     fn drop_table(&mut self, name: &Text) -> Result<(), StoreError> {
-        self.refuse(StoreError::Memory)
+        match drop_table(
+            self.alloc,
+            &mut self.pool,
+            &mut self.changes,
+            self.commits,
+            name,
+        ) {
+            Ok(()) => Ok(()),
+            Err(error) => {
+                self.changes.undo();
+                Err(error)
+            }
+        }
     }
 
     fn create_index(&mut self, name: &Text, index: Index) -> Result<(), StoreError> {
-        self.refuse(StoreError::Memory)
+        are_places(index.columns.as_slice());
+        match create_index(
+            self.alloc,
+            &mut self.pool,
+            &mut self.changes,
+            self.commits,
+            name,
+            index,
+        ) {
+            Ok(()) => Ok(()),
+            Err(error) => {
+                self.changes.undo();
+                Err(error)
+            }
+        }
     }
 
     fn drop_index(&mut self, name: &Text) -> Result<(), StoreError> {
@@ -259,7 +288,7 @@ impl<D: Disk + Drop> Store for Paged<D> {
             &mut self.changes,
             self.commits,
             name,
-            rows.as_slice(),
+            rows,
         ) {
             Ok(()) => Ok(()),
             Err(error) => {
@@ -270,11 +299,38 @@ impl<D: Disk + Drop> Store for Paged<D> {
     }
 
     fn replace(&mut self, name: &Text, number: u64, row: Row) -> Result<(), StoreError> {
-        self.refuse(StoreError::Memory)
+        match replace_row(
+            self.alloc,
+            &mut self.pool,
+            &mut self.changes,
+            self.commits,
+            name,
+            number,
+            row,
+        ) {
+            Ok(()) => Ok(()),
+            Err(error) => {
+                self.changes.undo();
+                Err(error)
+            }
+        }
     }
 
     fn delete(&mut self, name: &Text, number: u64) -> Result<(), StoreError> {
-        self.refuse(StoreError::Memory)
+        match delete_row(
+            self.alloc,
+            &mut self.pool,
+            &mut self.changes,
+            self.commits,
+            name,
+            number,
+        ) {
+            Ok(()) => Ok(()),
+            Err(error) => {
+                self.changes.undo();
+                Err(error)
+            }
+        }
     }
 
     fn scan(&mut self, alloc: Global, view: View, name: &Text) -> Result<Numbered, StoreError> {

@@ -1,0 +1,25 @@
+use Rattle.std.proofs.Common.{arith, ◌≡◌, ◌<◌, List, length, subst}
+use Rattle.std.specs.Prelude.{slice_index_or}
+use Rattle.sqlval.specs.declared.schema.Index.{Index}
+use Rattle.page_database.specs.Dropped.{AreIndexes}
+use Rattle.page_database.proofs.DropLemmas.{gone_first, gone_next, gone_all, tree_here}
+use Rattle.page_database.proofs.dropping.drop_indexes.Goals as goal
+
+pub loop-index-init : goal.loop-index-init
+loop-index-init g c = record {
+  gone = gone_first (g.S.PageReader.pages c.args.space.now) c.args.indexes.now;
+  whole = λ h. h;
+  rising = omega arith;
+  follows = g.met.S.PageReader.follows_refl _;
+}
+
+pub loop-index-preserved : goal.loop-index-preserved
+loop-index-preserved g c =
+    let known = c.loop-index.invariant in
+    let done = c.in_ok-drop_tree.ensures in
+    record {
+      gone = gone_next (g.S.PageReader.pages c.args.space.now) (g.S.PageReader.pages c.loop-index.space) c.args.indexes.now c.loop-index.index-index c.index-item.result (subst (λ (xs : List Index). c.loop-index.index-index < length xs) c.as_slice-index-items.ensures c.loop-index-test.true) (subst (λ (xs : List Index). c.index-item.result ≡ slice_index_or xs c.loop-index.index-index c.index-item.result) c.as_slice-index-items.ensures c.index-item.is) (g.S.PageReader.pages c.drop_tree.new.space) known.gone done.dropped;
+      whole = λ h. done.whole (known.whole h);
+      rising = omega (arith, known.rising, done.rising);
+      follows = g.met.S.PageReader.follows_trans _ _ _ known.follows done.follows;
+    }
