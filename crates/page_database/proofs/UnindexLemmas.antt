@@ -107,13 +107,13 @@ MidwayBy old now name indexes i = (h : AreIndexes old indexes) → Midway now na
 pub midway_first : (old : PageMap) (name : Name) (indexes : List Index) → MidwayBy old old name indexes 0
 midway_first old name indexes h = record { trees = h.trees; given = λ n i. absurd i }
 
-record IsHere (its : List IndexAt) (i : ℕ) (x : Index) : Type 0 where
-  at : IndexAt
-  named : at.declared ≡ x
-  first : take (suc i) its ≡ take i its ++ at ∷ []
-  rest : drop i its ≡ at ∷ drop (suc i) its
+pub record IsHere (its : List IndexAt) (i : ℕ) (x : Index) : Type 0 where
+  pub at : IndexAt
+  pub named : at.declared ≡ x
+  pub first : take (suc i) its ≡ take i its ++ at ∷ []
+  pub rest : drop i its ≡ at ∷ drop (suc i) its
 
-is_here : (its : List IndexAt) (i : ℕ) (x : Index) → i < length (indexes_declared its) → x ≡ slice_index_or (indexes_declared its) i x → IsHere its i x
+pub is_here : (its : List IndexAt) (i : ℕ) (x : Index) → i < length (indexes_declared its) → x ≡ slice_index_or (indexes_declared its) i x → IsHere its i x
 is_here [] i x below is = absurd (omega (arith, below))
 is_here (f ∷ its) zero x below is = record { at = f; named = sym is; first = refl; rest = refl }
 is_here (f ∷ its) (suc i) x below is =
@@ -121,7 +121,7 @@ is_here (f ∷ its) (suc i) x below is =
     record { at = w.at; named = w.named; first = ap (λ fs. f ∷ fs) w.first; rest = w.rest }
 
 module _ (old mid : PageMap) (name : Name) (indexes : List Index) (i : ℕ) (x : Index) (below : i < length indexes) (is : x ≡ slice_index_or indexes i x) (known : MidwayBy old mid name indexes i) where
-  place : (h : AreIndexes old indexes) → IsHere h.its i x
+  pub place : (h : AreIndexes old indexes) → IsHere h.its i x
   place h = is_here h.its i x (subst (λ (ds : List Index). i < length ds) h.declared below) (is ∙ ap (λ (ds : List Index). slice_index_or ds i x) h.declared)
 
   around : (h : AreIndexes old indexes)
@@ -227,7 +227,7 @@ module _ (old : PageMap) (root : ℕ) (table : Table) (name : Name) (h : IsTable
     abbrev pub front_then : List TreeAt
     front_then = schema_tree top p.owned (declared_of h.before ++ table_without name table ∷ declared_of h.behind) ∷ (trees_of h.before ++ rows_tree h.at.root h.at.owned h.at.rows ∷ [])
 
-    split : (ts : List TreeAt) → front_then ++ ts ≡ schema_tree top p.owned (declared_of h.before ++ table_without name table ∷ declared_of h.behind) ∷ (trees_of h.before ++ (rows_tree h.at.root h.at.owned h.at.rows ∷ ts))
+    pub split : (ts : List TreeAt) → front_then ++ ts ≡ schema_tree top p.owned (declared_of h.before ++ table_without name table ∷ declared_of h.behind) ∷ (trees_of h.before ++ (rows_tree h.at.root h.at.owned h.at.rows ∷ ts))
     split ts = ap (λ us. schema_tree top p.owned (declared_of h.before ++ table_without name table ∷ declared_of h.behind) ∷ us) (append_assoc (trees_of h.before) (rows_tree h.at.root h.at.owned h.at.rows ∷ []) ts)
 
     abbrev pub to_drop : AreIndexes mid table.indexes
@@ -266,13 +266,13 @@ MidwayTables old now root name tables i top = (its : List TableAt) → HoldsData
 pub tables_first : (old : PageMap) (root : ℕ) (name : Name) (tables : List Table) → MidwayTables old old root name tables 0 root
 tables_first old root name tables its h e = h
 
-record IsNext (its : List TableAt) (i : ℕ) (x : Table) : Type 0 where
-  at : TableAt
-  named : declared_at at ≡ x
-  first : take (suc i) its ≡ take i its ++ at ∷ []
-  rest : drop i its ≡ at ∷ drop (suc i) its
+pub record IsNext (its : List TableAt) (i : ℕ) (x : Table) : Type 0 where
+  pub at : TableAt
+  pub named : declared_at at ≡ x
+  pub first : take (suc i) its ≡ take i its ++ at ∷ []
+  pub rest : drop i its ≡ at ∷ drop (suc i) its
 
-is_next : (its : List TableAt) (i : ℕ) (x : Table) → i < length (declared_of its) → x ≡ slice_index_or (declared_of its) i x → IsNext its i x
+pub is_next : (its : List TableAt) (i : ℕ) (x : Table) → i < length (declared_of its) → x ≡ slice_index_or (declared_of its) i x → IsNext its i x
 is_next [] i x below is = absurd (omega (arith, below))
 is_next (f ∷ its) zero x below is = record { at = f; named = sym is; first = refl; rest = refl }
 is_next (f ∷ its) (suc i) x below is =
@@ -280,7 +280,7 @@ is_next (f ∷ its) (suc i) x below is =
     record { at = w.at; named = w.named; first = ap (λ fs. f ∷ fs) w.first; rest = w.rest }
 
 module _ (old mid : PageMap) (root top : ℕ) (name : Name) (tables : List Table) (i : ℕ) (x : Table) (below : i < length tables) (is : x ≡ slice_index_or tables i x) (known : MidwayTables old mid root name tables i top) where
-  next_place : (its : List TableAt) → declared_of its ≡ tables → IsNext its i x
+  pub next_place : (its : List TableAt) → declared_of its ≡ tables → IsNext its i x
   next_place its e = is_next its i x (subst (λ (ds : List Table). i < length ds) (sym e) below) (is ∙ ap (λ (ds : List Table). slice_index_or ds i x) (sym e))
 
   abbrev pub next_table : (its : List TableAt) → HoldsDatabase old root its → declared_of its ≡ tables → IsTableOf mid top x

@@ -13,8 +13,8 @@ use items::{Items, Text};
 use overlay::Changes;
 use page_readers::{Readers, found_is_pinned};
 use page_versions::{
-    append_rows, close_pool, create_index, create_table, delete_row, drop_table, of_pool, pool_over,
-    replace_row,
+    append_rows, close_pool, create_index, create_table, delete_row, drop_index, drop_table,
+    of_pool, pool_over, replace_row,
 };
 use pool::Pool;
 use sqlval::{Index, Schema, Table, Value};
@@ -25,7 +25,7 @@ use store::{Numbered, NumberedRow, Position, Returned, Store, StoreError, View};
 /// Tables in the pages of one file, in versions. Each reader sees the pages of the commit that it found; what the writer changes lies over the last one until it is
 /// committed.
 ///
-/// It does not drop indexes yet, nor search by one: it refuses these as for want of memory. A key of an index that is too long counts as want of memory too.
+/// It does not search by an index yet: it refuses that as for want of memory. A key of an index that is too long counts as want of memory too.
 #[derive(Drop)]
 pub struct Paged<D: Disk> {
     alloc: Global,
@@ -278,7 +278,19 @@ impl<D: Disk + Drop> Store for Paged<D> {
     }
 
     fn drop_index(&mut self, name: &Text) -> Result<(), StoreError> {
-        self.refuse(StoreError::Memory)
+        match drop_index(
+            self.alloc,
+            &mut self.pool,
+            &mut self.changes,
+            self.commits,
+            name,
+        ) {
+            Ok(()) => Ok(()),
+            Err(error) => {
+                self.changes.undo();
+                Err(error)
+            }
+        }
     }
 
     fn append(&mut self, name: &Text, rows: Rows) -> Result<(), StoreError> {
