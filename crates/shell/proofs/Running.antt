@@ -1,0 +1,28 @@
+-- A script is carried out, and how it ended is said.
+use Rattle.std.proofs.Common.{◌≡◌, ℕ, Bool, List, Option, Result, Ok, Err, refl, sym, subst}
+use Rattle.std.specs.Prelude.{IfOk, IfErr}
+use Rattle.denote.specs.Database.{Database, CheckReading}
+use Rattle.session_definitions.specs.Rules.{Rules}
+use Rattle.session_definitions.specs.World.{World, opened}
+use Rattle.session_laws.specs.Sound.{IsGoodWorld}
+use Rattle.store.specs.Stored.{Stored}
+use Rattle.sessions.specs.declared.core_of.Core.{Core}
+use Rattle.sessions.specs.OfCore.{IsSound, world_of}
+use Rattle.scripts.specs.declared.script.ScriptFault.{ScriptFault}
+use Rattle.scripts.specs.Played.{between, IsWhole, EndsEarly}
+use Rattle.scripts.specs.Settled.{HasNoSession, IsSettled}
+use Rattle.shell.specs.Status.{status_of}
+use Rattle.shell.specs.Runs.{CarriesOut, Says}
+
+-- by what the script answered
+pub carries_out : (rules : Rules) (old new : World) (given left held mid holds : Option (List ℕ)) (outcome : Result Bool ScriptFault) (status : ℕ)
+    → IfOk outcome (λ refused. IsWhole rules (between given left held mid) old refused new) → IfErr outcome (λ fault. EndsEarly rules (between given left held mid) old fault new)
+    → Says outcome mid holds → status ≡ status_of outcome → CarriesOut rules (between given left held holds) old status new
+carries_out rules old new given left held mid holds (Ok refused) status whole early says is =
+    CarriesOut.whole refused (subst (λ (h : Option (List ℕ)). IsWhole rules (between given left held h) old refused new) (sym says) whole) is
+carries_out rules old new given left held mid holds (Err fault) status whole early says is = CarriesOut.early fault mid early says is
+
+-- a core that was opened
+pub is_settled : {S L D : Type 0} (is_sound : S → Type 0) (shows : S → Stored) (reading : CheckReading) (core : Core S L D) (db : Database)
+    → IsSound is_sound shows core → world_of shows core ≡ opened db → HasNoSession (world_of shows core) → IsGoodWorld reading (opened db) → IsSettled is_sound shows reading core
+is_settled is_sound shows reading core db sound is none good = record { sound = sound; good = subst (IsGoodWorld reading) (sym is) good; ended = none }
