@@ -1,5 +1,5 @@
 -- A script is carried out, and how it ended is said.
-use Rattle.std.proofs.Common.{◌≡◌, ℕ, Bool, List, Option, Result, Ok, Err, refl, sym, subst}
+use Rattle.std.proofs.Common.{◌≡◌, ℕ, Bool, List, Option, Result, Ok, Err, refl, sym, subst, tt}
 use Rattle.std.specs.Prelude.{IfOk, IfErr}
 use Rattle.denote.specs.Database.{Database, CheckReading}
 use Rattle.session_definitions.specs.Rules.{Rules}
@@ -9,10 +9,10 @@ use Rattle.store.specs.Stored.{Stored}
 use Rattle.sessions.specs.declared.core_of.Core.{Core}
 use Rattle.sessions.specs.OfCore.{IsSound, world_of}
 use Rattle.scripts.specs.declared.script.ScriptFault.{ScriptFault}
-use Rattle.scripts.specs.Played.{between, IsWhole, EndsEarly}
+use Rattle.scripts.specs.Played.{Streams, between, IsWhole, EndsEarly}
 use Rattle.scripts.specs.Settled.{HasNoSession, IsSettled}
 use Rattle.shell.specs.Status.{status_of}
-use Rattle.shell.specs.Runs.{CarriesOut, Says}
+use Rattle.shell.specs.Runs.{CarriesOut, Gone, Runs, Says}
 
 -- by what the script answered
 pub carries_out : (rules : Rules) (old new : World) (given left held mid holds : Option (List ℕ)) (outcome : Result Bool ScriptFault) (status : ℕ)
@@ -26,3 +26,9 @@ carries_out rules old new given left held mid holds (Err fault) status whole ear
 pub is_settled : {S L D : Type 0} (is_sound : S → Type 0) (shows : S → Stored) (reading : CheckReading) (core : Core S L D) (db : Database)
     → IsSound is_sound shows core → world_of shows core ≡ opened db → HasNoSession (world_of shows core) → IsGoodWorld reading (opened db) → IsSettled is_sound shows reading core
 is_settled is_sound shows reading core db sound is none good = record { sound = sound; good = subst (IsGoodWorld reading) (sym is) good; ended = none }
+
+-- what is left on the device is not told
+pub forgotten : {rules : Rules} {old : World} {streams : Streams} {status : ℕ} {left : Database → Type 0} → Runs rules old streams status left → Runs rules old streams status Gone
+forgotten (Runs.not_opened refusal reserved unread told is) = Runs.not_opened refusal reserved unread told is
+forgotten (Runs.closed end carried left) = Runs.closed end carried tt
+forgotten (Runs.not_closed before mid end carried told is) = Runs.not_closed before mid end carried told is

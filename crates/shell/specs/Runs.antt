@@ -1,7 +1,9 @@
--- What `sqlsh run` does, from the database on a device and the bytes of a reader to those of a writer and the exit status. All of this is our own choice.
-use Rattle.std.specs.Prelude.{◌≡◌, ℕ, Bool, List, Result, Ok, Err, Option}
+-- What `sqlsh run` does, from the database on a device and the bytes of a reader to those of a writer, the exit status, and the database on the device that is
+-- handed back. All of this is our own choice.
+use Rattle.std.specs.Prelude.{◌≡◌, ℕ, Bool, List, Result, Ok, Err, Option, None, Some}
 use Rattle.refusals.specs.declared.refusal.Refusal.{Refusal}
 use Rattle.refusals.specs.declared.refusal.Refusal.TheVariants.{Disk}
+use Rattle.denote.specs.Database.{Database}
 use Rattle.session_definitions.specs.Refusals.{IsReserved}
 use Rattle.session_definitions.specs.Rules.{Rules}
 use Rattle.session_definitions.specs.World.{World}
@@ -21,9 +23,19 @@ pub data CarriesOut (rules : Rules) (streams : Streams) (old : World) (status : 
   early : (fault : ScriptFault) (mid : Option (List ℕ)) → EndsEarly rules (between streams.given streams.left streams.held mid) old fault new
       → Tells (refusal_of fault) mid streams.holds → status ≡ status_of (Err fault) → CarriesOut rules streams old status new
 
--- The store was not opened, and nothing was read; or the script was carried out in the world of its database, and the store was closed, or could not be.
-pub data Runs (rules : Rules) (old : World) (streams : Streams) (status : ℕ) : Type 0 where
-  not_opened : (refusal : Refusal) → IsReserved refusal → streams.left ≡ streams.given → Tells refusal streams.held streams.holds → status ≡ 3 → Runs rules old streams status
-  closed : (end : World) → CarriesOut rules streams old status end → Runs rules old streams status
+-- a device that is handed back, on which this database was saved
+abbrev pub HandsBack : {D : Type 0} → (D → Database → Type 0) → Option D → Database → Type 0
+HandsBack saved None db = ⊥
+HandsBack saved (Some device) db = saved device db
+
+-- The store was not opened, and nothing was read; or the script was carried out in the world of its database, and the store was closed, so that what was committed
+-- last is what `left` says; or it could not be closed.
+pub data Runs (rules : Rules) (old : World) (streams : Streams) (status : ℕ) (left : Database → Type 0) : Type 0 where
+  not_opened : (refusal : Refusal) → IsReserved refusal → streams.left ≡ streams.given → Tells refusal streams.held streams.holds → status ≡ 3 → Runs rules old streams status left
+  closed : (end : World) → CarriesOut rules streams old status end → left end.last → Runs rules old streams status left
   not_closed : (before : ℕ) (mid : Option (List ℕ)) (end : World) → CarriesOut rules (between streams.given streams.left streams.held mid) old before end
-      → Tells Disk mid streams.holds → status ≡ 3 → Runs rules old streams status
+      → Tells Disk mid streams.holds → status ≡ 3 → Runs rules old streams status left
+
+-- where the device is not handed back
+abbrev pub Gone : Database → Type 0
+Gone db = Unit {0}

@@ -11,5 +11,5 @@ mod words;
 pub use command_line::settings;
 pub use options::{DEFAULT_FRAMES, Frames, GREATEST_FRAMES, LEAST_FRAMES, Settings};
 pub use program::{run_over_lists, run_over_pages, sqlsh};
-pub use run::{Ended, run_on, run_to_end};
+pub use run::{EndedRun, run_on, run_to_end};
 pub use telling::tell;

@@ -3,11 +3,10 @@ ghost use Rattle.std.specs.Prelude.{◌≡◌, ◌≢◌, ◌⊎◌, IfOk, OnErr
 ghost use Rattle.clap.specs.Words.{kind_of};
 ghost use Rattle.denote.specs.Database.{Database, IsGood};
 ghost use Rattle.page_versions.specs.Saved.{IsSaved};
-ghost use Rattle.refusals.specs.declared.refusal.Refusal.TheVariants.{Disk};
 ghost use Rattle.session_definitions.specs.Rules.{Rules, AreRules};
 ghost use Rattle.session_definitions.specs.World.{new_world, opened};
 ghost use Rattle.scripts.specs.Played.{between};
-ghost use Rattle.shell.specs.Runs.{Runs};
+ghost use Rattle.shell.specs.Runs.{Gone, Runs};
 ghost use Rattle.shell.specs.Status.{IsStatus};
 ghost use Rattle.shell.specs.Tells.{Tells};
 
@@ -81,8 +80,8 @@ pub fn run_over_pages<D: Disk + Drop, R: Read, W: Write>(
 ) -> u8
     ensures status { IsStatus result }
     ensures runs { IfOk device (λ device. (rules : Rules) (db : Database) → AreRules rules → IsSaved D.is_honest (D.bytes device) db → IsGood rules.check db
-        → Runs rules (opened db) (between (R.remaining reader.old) (R.remaining reader.new) (W.contents writer.old) (W.contents writer.new)) result) }
-    ensures not_opened { OnErr device ((R.remaining reader.new ≡ R.remaining reader.old) × Tells Disk (W.contents writer.old) (W.contents writer.new) × (result ≡ 3)) }
+        → Runs rules (opened db) (between (R.remaining reader.old) (R.remaining reader.new) (W.contents writer.old) (W.contents writer.new)) result Gone) }
+    ensures not_opened { OnErr device ((R.remaining reader.new ≡ R.remaining reader.old) × Tells Refusal.Disk (W.contents writer.old) (W.contents writer.new) × (result ≡ 3)) }
 {
     match device {
         Ok(device) => run_on::<Paged<D>, R, W>(alloc, settings, device, reader, writer),
@@ -99,7 +98,7 @@ pub fn run_over_lists<R: Read, W: Write>(
 ) -> u8
     ensures status { IsStatus result }
     ensures runs { (rules : Rules) → AreRules rules
-        → Runs rules new_world (between (R.remaining reader.old) (R.remaining reader.new) (W.contents writer.old) (W.contents writer.new)) result }
+        → Runs rules new_world (between (R.remaining reader.old) (R.remaining reader.new) (W.contents writer.old) (W.contents writer.new)) result Gone }
 {
     databases_stay_good();
     run_on::<ListStore, R, W>(alloc, settings, Lists::new(alloc), reader, writer)

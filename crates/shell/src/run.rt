@@ -8,7 +8,8 @@ ghost use Rattle.sessions.specs.OfCore.{IsSound, world_of};
 ghost use Rattle.scripts.specs.Played.{between};
 ghost use Rattle.scripts.specs.Settled.{HasNoSession, IsSettled, store_of};
 ghost use Rattle.shell.specs.Status.{refusal_of, status_of, IsStatus};
-ghost use Rattle.shell.specs.Runs.{CarriesOut, Runs, Says};
+ghost use Rattle.shell.specs.Runs.{CarriesOut, Gone, HandsBack, Runs, Says};
+ghost use Rattle.shell.specs.Tells.{Tells};
 
 use crate::options::Settings;
 use crate::telling::tell;
@@ -29,7 +30,7 @@ pub(crate) const FAILED: u8 = 3;
 
 /// How a run ended.
 #[derive(Drop)]
-pub struct Ended<D> {
+pub struct EndedRun<D> {
     /// The exit status.
     pub status: u8,
     /// The device, where the store was closed.
@@ -49,7 +50,7 @@ pub fn run_on<S: Store, R: Read, W: Write>(
 ) -> u8
     ensures status { IsStatus result }
     ensures runs { (rules : Rules) (db : Database) → AreRules rules → S.saved device db → IsGood rules.check db
-        → Runs rules (opened db) (between (R.remaining reader.old) (R.remaining reader.new) (W.contents writer.old) (W.contents writer.new)) result }
+        → Runs rules (opened db) (between (R.remaining reader.old) (R.remaining reader.new) (W.contents writer.old) (W.contents writer.new)) result Gone }
 {
     run_to_end::<S, R, W>(alloc, settings, device, reader, writer).status
 }
@@ -61,8 +62,11 @@ pub fn run_to_end<S: Store, R: Read, W: Write>(
     device: S::Device,
     reader: &mut R,
     writer: &mut W,
-) -> Ended<S::Device>
+) -> EndedRun<S::Device>
     ensures status { IsStatus result.status }
+    ensures runs { (rules : Rules) (db : Database) → AreRules rules → S.saved device db → IsGood rules.check db
+        → Runs rules (opened db) (between (R.remaining reader.old) (R.remaining reader.new) (W.contents writer.old) (W.contents writer.new)) result.status
+        (λ last. HandsBack S.saved result.device last × IsGood rules.check last) }
 {
     databases_stay_good();
     let mut core: Core<S> = match opened(alloc, settings, device) {
@@ -71,7 +75,7 @@ pub fn run_to_end<S: Store, R: Read, W: Write>(
     };
     let status = carry_out(alloc, &mut core, reader, writer);
     match core.close() {
-        Ok(device) => Ended {
+        Ok(device) => EndedRun {
             status,
             device: Some(device),
         },
@@ -80,8 +84,11 @@ pub fn run_to_end<S: Store, R: Read, W: Write>(
 }
 
 /// Says why a store was not opened or closed.
-fn failed<D, W: Write>(refusal: Refusal, writer: &mut W) -> Ended<D> {
-    Ended {
+fn failed<D, W: Write>(refusal: Refusal, writer: &mut W) -> EndedRun<D>
+    ensures status { result.status ≡ 3 }
+    ensures tells { Tells refusal (W.contents writer.old) (W.contents writer.new) }
+{
+    EndedRun {
         status: tell(refusal, FAILED, writer),
         device: None,
     }
@@ -120,6 +127,7 @@ fn carry_out<S: Store, R: Read, W: Write>(
     ensures status { IsStatus result }
     ensures carries_out { (rules : Rules) → AreRules rules → IsSettled S.is_sound S.shows rules.check core.old
         → CarriesOut rules (between (R.remaining reader.old) (R.remaining reader.new) (W.contents writer.old) (W.contents writer.new)) (world_of S.shows core.old) result (world_of S.shows core.new) }
+    ensures settled { (rules : Rules) → AreRules rules → IsSettled S.is_sound S.shows rules.check core.old → IsSettled S.is_sound S.shows rules.check core.new }
 {
     let outcome = run(alloc, core, reader, writer);
     ended(outcome, writer)

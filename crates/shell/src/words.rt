@@ -1,6 +1,6 @@
 //! The words of a command line of `sqlsh`.
 
-ghost use Rattle.std.specs.Prelude.{◌≡◌, ℕ, List, Option, codes, map, IfSome, IsSomeAnd};
+ghost use Rattle.std.specs.Prelude.{◌≡◌, ℕ, false, List, Option, Some, codes, map, IfSome, IsSomeAnd};
 ghost use Rattle.shell.specs.Words.{Asks, AsksBehind, AsksFile, AsksForNone, WritesFrames, is_option, name_of};
 
 use crate::options::{DEFAULT_FRAMES, Frames, Settings};
@@ -72,14 +72,26 @@ fn with_file<'a, S: AsStr>(frames: Frames, words: &'a [S]) -> Option<Settings<'a
     let Some((word, more)) = words.split_first() else {
         return Some(Settings { frames, file: None });
     };
-    let name = word.as_str();
-    if is_option(name) || !more.is_empty() {
-        return None;
+    match more.split_first() {
+        Some(_) => None,
+        None => with_name(frames, word.as_str()),
     }
-    Some(Settings {
-        frames,
-        file: Some(name),
-    })
+}
+
+/// These frames, and the file that a word names, if it is no option.
+fn with_name<'a>(frames: Frames, word: &'a str) -> Option<Settings<'a>>
+    ensures asked { is_option word.entry.now ≡ false
+        → IsSomeAnd result (λ settings. (settings.frames ≡ frames) × (name_of settings.file ≡ Some word.entry.now)) }
+    ensures found { IfSome result (λ settings. (settings.frames ≡ frames) × (is_option word.entry.now ≡ false) × (name_of settings.file ≡ Some word.entry.now)) }
+{
+    if is_option(word) {
+        None
+    } else {
+        Some(Settings {
+            frames,
+            file: Some(word),
+        })
+    }
 }
 
 /// Whether a word is an option, and no file.

@@ -8,7 +8,8 @@ use std::test::Fail;
 /// More calls of the device than the script makes.
 const CALLS: u64 = 100;
 
-const SCRIPT: &str = "CREATE TABLE T (A INTEGER); INSERT INTO T VALUES (1); COMMIT; SELECT A FROM T;";
+const SCRIPT: &str =
+    "CREATE TABLE T (A INTEGER); INSERT INTO T VALUES (1); COMMIT; SELECT A FROM T;";
 
 const PRINTED: &str = "00000\n00000 1\n00000\n1\n(1 rows)\n";
 

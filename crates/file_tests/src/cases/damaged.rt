@@ -2,17 +2,18 @@
 use super::{FRAMES, check};
 use disk::MemDisk;
 use shell::settings;
+use std::process::Abort;
 use std::test::Fail;
 
 /// Zeros, with these bytes in front of them.
-fn zeros(rt: &HostRuntime, front: &[u8], length: usize) -> Result<MemDisk, Fail> {
+fn zeros(rt: &(impl Abort + AllocGlobal), front: &[u8], length: usize) -> Result<MemDisk, Fail> {
     let mut bytes = front.to_vec(rt.alloc())?;
     bytes.resize(length, 0)?;
     Ok(MemDisk::from_bytes(bytes))
 }
 
 /// Whatever the script is, the device is refused as damaged, and no statement is carried out.
-fn is_damaged(rt: &HostRuntime, front: &[u8], length: usize) -> Result<(), Fail> {
+fn is_damaged(rt: &(impl Abort + AllocGlobal), front: &[u8], length: usize) -> Result<(), Fail> {
     for words in &FRAMES {
         let settings = settings(rt.alloc(), words)?;
         let device = Ok(zeros(rt, front, length)?);
@@ -46,7 +47,14 @@ fn the_first_page_alone_has_no_tables(rt: HostRuntime) -> Result<(), Fail> {
     for words in &FRAMES {
         let settings = settings(rt.alloc(), words)?;
         let device = Ok(zeros(&rt, b"RSQLPG01\0\0\0\x01", 4096)?);
-        check(&rt, &settings, device, "SELECT A FROM T;", "ERROR 42000 name\n", 1)?;
+        check(
+            &rt,
+            &settings,
+            device,
+            "SELECT A FROM T;",
+            "ERROR 42000 name\n",
+            1,
+        )?;
     }
     Ok(())
 }

@@ -5,6 +5,7 @@ use disk::MemDisk;
 use paged::Paged;
 use shell::{Settings, run_to_end, settings};
 use std::alloc::Global;
+use std::process::Abort;
 use std::test::Fail;
 
 /// The device after one more script, where that prints this and ends with status 0.
@@ -17,7 +18,13 @@ fn turn(
 ) -> Option<MemDisk> {
     let mut reader = script.as_bytes();
     let mut writer = Vec::new(alloc);
-    let ended = run_to_end::<Paged<MemDisk>, _, _>(alloc, settings, device, &mut reader, &mut writer);
+    let ended = run_to_end::<Paged<MemDisk>, _, _>(
+        alloc,
+        settings,
+        device,
+        &mut reader,
+        &mut writer,
+    );
     if ended.status == 0 && writer.as_slice() == printed.as_bytes() {
         ended.device
     } else {
@@ -34,7 +41,13 @@ fn two_turns(alloc: Global, settings: &Settings<'_>) -> Option<MemDisk> {
         "CREATE TABLE T (A INTEGER);\nINSERT INTO T VALUES (1);\nCOMMIT;\nINSERT INTO T VALUES (2)",
         "00000\n00000 1\n00000\n00000 1\n",
     )?;
-    turn(alloc, settings, first, "SELECT A FROM T;\n", "1\n(1 rows)\n")
+    turn(
+        alloc,
+        settings,
+        first,
+        "SELECT A FROM T;\n",
+        "1\n(1 rows)\n",
+    )
 }
 
 #[test]
@@ -47,7 +60,7 @@ fn what_is_committed_is_there_in_the_next_run(rt: HostRuntime) -> Result<(), Fai
 }
 
 /// Runs each script over an empty device.
-fn each_over_pages(rt: &HostRuntime, rows: &[(&str, &str)]) -> Result<(), Fail> {
+fn each_over_pages(rt: &(impl Abort + AllocGlobal), rows: &[(&str, &str)]) -> Result<(), Fail> {
     for words in &FRAMES {
         let settings = settings(rt.alloc(), words)?;
         for (script, printed) in rows {

@@ -1,31 +1,5 @@
-use Rattle.std.proofs.Common.{◌≡◌, refl, sym, subst}
-use Rattle.session_definitions.specs.World.{World}
-use Rattle.sessions.specs.OfCore.{world_of}
-use Rattle.scripts.specs.Played.{between}
-use Rattle.shell.specs.Runs.{CarriesOut, Runs}
-use Rattle.shell.specs.Tells.{Tells}
-use Rattle.shell.proofs.Running.{is_settled}
+use Rattle.shell.proofs.Running.{forgotten}
 use Rattle.shell.proofs.run.run_on.Goals as goal
 
-pub returns-in-Err-clause-runs : goal.returns-in-Err-clause-runs
-returns-in-Err-clause-runs g c = λ rules db are saved good.
-    Runs.not_opened c.in-Err.refused.refusal (c.in-Err.ensures.refused db saved) refl c.tell.ensures.tells c.tell.ensures.status
-
-pub returns-in-Ok-close-clause-runs : goal.returns-in-Ok-close-clause-runs
-returns-in-Ok-close-clause-runs g c = λ rules db are saved good.
-    let begins = c.in-Ok.ensures.opened db saved in
-    Runs.closed (world_of g.S.Store.shows c.carry_out-status.new.core)
-    (subst (λ (w : World). CarriesOut rules (between (g.R.Read.remaining c.args.reader.now) (g.R.Read.remaining c.carry_out-status.new.reader) (g.W.Write.contents c.args.writer.now) (g.W.Write.contents c.carry_out-status.new.writer)) w
-    c.carry_out-status.result (world_of g.S.Store.shows c.carry_out-status.new.core)) begins.1
-    (c.carry_out-status.ensures.carries_out rules are
-    (is_settled g.S.Store.is_sound g.S.Store.shows rules.check c.in-Ok.core db begins.0 begins.1 c.in-Ok.ensures.empty (c.databases_stay_good.ensures.opened rules.check db good))))
-
-pub returns-in-Err-close-clause-runs : goal.returns-in-Err-close-clause-runs
-returns-in-Err-close-clause-runs g c = λ rules db are saved good.
-    let begins = c.in-Ok.ensures.opened db saved in
-    Runs.not_closed c.carry_out-status.result (g.W.Write.contents c.carry_out-status.new.writer) (world_of g.S.Store.shows c.carry_out-status.new.core)
-    (subst (λ (w : World). CarriesOut rules (between (g.R.Read.remaining c.args.reader.now) (g.R.Read.remaining c.carry_out-status.new.reader) (g.W.Write.contents c.args.writer.now) (g.W.Write.contents c.carry_out-status.new.writer)) w
-    c.carry_out-status.result (world_of g.S.Store.shows c.carry_out-status.new.core)) begins.1
-    (c.carry_out-status.ensures.carries_out rules are
-    (is_settled g.S.Store.is_sound g.S.Store.shows rules.check c.in-Ok.core db begins.0 begins.1 c.in-Ok.ensures.empty (c.databases_stay_good.ensures.opened rules.check db good))))
-    (rw c.in-Err-close.ensures.fails.0 at c.tell-in-Err-close.ensures.tells) c.tell-in-Err-close.ensures.status
+pub returns-clause-runs : goal.returns-clause-runs
+returns-clause-runs g c = λ rules db are saved good. forgotten (c.run_to_end.ensures.runs rules db are saved good)
