@@ -1,2 +1,5 @@
 pub mod Cutting
 pub mod Showing
+pub mod ScriptsShown
+pub mod Histories
+pub mod Flushed

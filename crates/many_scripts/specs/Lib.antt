@@ -1,2 +1,4 @@
 pub mod Cut
 pub mod Shown
+pub mod Many
+pub mod Tells

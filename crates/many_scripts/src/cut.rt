@@ -1,7 +1,8 @@
 //! Scripts in pieces.
-ghost use Rattle.std.specs.Prelude.{◌≡◌, ◌++◌, IfOk, OnOk};
+ghost use Rattle.std.specs.Prelude.{◌≡◌, ◌++◌, [], IfOk, OnOk};
 ghost use Rattle.script_pieces.specs.Cutter.{asked};
 ghost use Rattle.many_scripts.specs.Cut.{IsCut, parts_of, texts_in, texts_of};
+ghost use Rattle.many_scripts.specs.Many.{HasPushed};
 
 use crate::part::Part;
 use script_pieces::{Cutter, Request};
@@ -23,7 +24,9 @@ pub struct CutScripts {
 
 impl CutScripts {
     /// No script.
-    pub fn new(alloc: Global) -> CutScripts {
+    pub fn new(alloc: Global) -> CutScripts
+        ensures { (result.texts.items ≡ []) × (result.parts.items ≡ []) }
+    {
         CutScripts {
             texts: Vec::new(alloc),
             parts: Vec::new(alloc),
@@ -31,7 +34,9 @@ impl CutScripts {
     }
 
     /// One script more, of these bytes. Refuses for want of memory alone.
-    pub fn push(&mut self, alloc: Global, bytes: &[u8]) -> Result<(), AllocError> {
+    pub fn push(&mut self, alloc: Global, bytes: &[u8]) -> Result<(), AllocError>
+        ensures { OnOk result (HasPushed bytes.now self.old.texts.items self.new.texts.items self.old.parts.items self.new.parts.items) }
+    {
         let CutScript { texts, parts } = cut(alloc, bytes)?;
         self.texts.push(texts)?;
         self.parts.push(parts)?;

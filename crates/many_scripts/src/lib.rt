@@ -10,6 +10,7 @@ mod part;
 mod program;
 mod put;
 mod show;
+mod telling;
 
 pub use command_line::settings;
 pub use cut::CutScripts;

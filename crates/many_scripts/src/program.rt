@@ -5,8 +5,9 @@ ghost use Rattle.shell.specs.Status.{IsStatus};
 
 use crate::command_line::settings;
 use crate::files::read_all;
-use crate::many::{many_on, told};
+use crate::many::many_on;
 use crate::options::Settings;
+use crate::telling::tell;
 use clap::Error;
 use clap::error::ErrorKind;
 use list_store::{ListStore, Lists};
@@ -56,7 +57,7 @@ fn run_files<R: Files + AllocGlobal + Threads + Wait + Sync, W: Write>(
 {
     let scripts = match read_all(rt, settings.scripts.as_slice()) {
         Ok(scripts) => scripts,
-        Err(_) => return told(Refusal::Disk, NOT_READ, writer),
+        Err(_) => return tell(Refusal::Disk, NOT_READ, writer),
     };
     let device = Lists::new(alloc);
     let status = many_on::<ListStore, NoGate, R, W>(
