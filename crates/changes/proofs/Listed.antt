@@ -1,6 +1,5 @@
 -- The rows that a query lists, as sources of VALUES.
 use Rattle.std.proofs.Common.{◌≡◌, ◌∙◌, refl, sym, ap, subst, append-nil, ℕ, List, [], ◌∷◌, ◌++◌, map, Option, Some, None, Result, Ok, Err, inl, inr, ◌⊎◌, Contains, arith}
-
 use Rattle.std.proofs.lemmas.List.Elements.{Contains-append_left}
 use Rattle.std.specs.Prelude.{IfOk, IfErr}
 use Rattle.std.specs.FinMap.{get}
@@ -174,9 +173,10 @@ module _ (reading : CheckReading) (db : Database) (i : Insert) (table : Table) (
       let o = query_outcome (rows_in db) query [] in
       let among = subst (λ (x : Evaluation (List Row)). Contains (faults_in x) h.0) (constants_stored (checks_of reading i.table table) (rows_in db) table i.columns rows) h.2 in
       refuses_as reading db i table there refusal (inr (
-          h.0, h.1,
-          subst (λ (x : Evaluation (List Row)). Contains (faults_in x) h.0) (sym (stored_is whole.0))
-          (by h.0 (together (map stores o.rows)) (together (map stores rows)) (together-rows stores stores o.rows rows (λ z. IsSameValue-refl (stores z)) whole.1) among),
+        h.0,
+        h.1,
+        subst (λ (x : Evaluation (List Row)). Contains (faults_in x) h.0) (sym (stored_is whole.0))
+            (by h.0 (together (map stores o.rows)) (together (map stores rows)) (together-rows stores stores o.rows rows (λ z. IsSameValue-refl (stores z)) whole.1) among),
       ))
     where
       by : (fault : Fault) (x y : Evaluation (List Row)) → IsSameBag x y → Contains (faults_in y) fault → Contains (faults_in x) fault

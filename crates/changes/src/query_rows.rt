@@ -64,7 +64,14 @@ pub(crate) fn query_rows<S: Store>(
             let nothing = LentTables {
                 tables: Items::new(alloc),
             };
-            stored_rows(alloc, store.schema(), insert, checks, &nothing, sources.as_slice())
+            stored_rows(
+                alloc,
+                store.schema(),
+                insert,
+                checks,
+                &nothing,
+                sources.as_slice(),
+            )
         }
         Err(refusal) => Err(refusal),
     }

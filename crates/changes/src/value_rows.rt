@@ -55,7 +55,14 @@ pub(crate) fn value_rows<S: Store>(
         Err(_) => return Err(Refusal::Memory),
     };
     match tables_named(alloc, store, trees.as_slice()) {
-        Ok(lent) => stored_rows(alloc, store.schema(), insert, checks, &lent, trees.as_slice()),
+        Ok(lent) => stored_rows(
+            alloc,
+            store.schema(),
+            insert,
+            checks,
+            &lent,
+            trees.as_slice(),
+        ),
         Err(refusal) => Err(refusal),
     }
 }

@@ -7,7 +7,8 @@ use std::process::Abort;
 use std::test::Fail;
 
 /// A table with a null in each column.
-const TABLE: &str = "CREATE TABLE T (A INTEGER, B VARCHAR(5)); INSERT INTO T VALUES (1, 'x'), (2, NULL), (3, 'y'), (NULL, 'x');";
+const TABLE: &str =
+    "CREATE TABLE T (A INTEGER, B VARCHAR(5)); INSERT INTO T VALUES (1, 'x'), (2, NULL), (3, 'y'), (NULL, 'x');";
 
 /// What making it prints.
 const MADE: &str = "00000\n00000 4\n";
@@ -298,13 +299,11 @@ fn tables_and_indexes_are_dropped(rt: HostRuntime) -> Result<(), Fail> {
 
 #[test]
 fn tables_and_indexes_are_dropped_over_no_tables(rt: HostRuntime) -> Result<(), Fail> {
-    let rows: [(&str, &str, u8); 1] = [
-        (
-            "DROP TABLE T; DROP INDEX I;",
-            "ERROR 42000 name\nERROR 42000 name\n",
-            1,
-        ),
-    ];
+    let rows: [(&str, &str, u8); 1] = [(
+        "DROP TABLE T; DROP INDEX I;",
+        "ERROR 42000 name\nERROR 42000 name\n",
+        1,
+    )];
     check_scripts(&rt, &rows)
 }
 
@@ -405,4 +404,3 @@ fn whole_scripts_print_what_they_must(rt: HostRuntime) -> Result<(), Fail> {
     ];
     check_scripts(&rt, &rows)
 }
-

@@ -17,31 +17,11 @@ fn rows_are_updated(rt: HostRuntime) -> Result<(), Fail> {
             "00000 2\nNULL|'x'\n1|'x'\n2|'q'\n3|'q'\n(4 rows)\n",
             0,
         ),
-        (
-            "UPDATE T SET A = B;",
-            "ERROR 42000 type\n",
-            1,
-        ),
-        (
-            "UPDATE T SET A = 1, A = 2;",
-            "ERROR 42000 duplicate\n",
-            1,
-        ),
-        (
-            "UPDATE T SET Z = 1;",
-            "ERROR 42000 name\n",
-            1,
-        ),
-        (
-            "UPDATE Z SET A = 1;",
-            "ERROR 42000 name\n",
-            1,
-        ),
-        (
-            "UPDATE T SET A = 10 / (A - 2);",
-            "ERROR 22012\n",
-            1,
-        ),
+        ("UPDATE T SET A = B;", "ERROR 42000 type\n", 1),
+        ("UPDATE T SET A = 1, A = 2;", "ERROR 42000 duplicate\n", 1),
+        ("UPDATE T SET Z = 1;", "ERROR 42000 name\n", 1),
+        ("UPDATE Z SET A = 1;", "ERROR 42000 name\n", 1),
+        ("UPDATE T SET A = 10 / (A - 2);", "ERROR 22012\n", 1),
         (
             "UPDATE T SET A = 10 / (A - 2) WHERE A <> 2; SELECT A, B FROM T ORDER BY A, B;",
             "00000 2\nNULL|'x'\n-10|'x'\n2|NULL\n10|'y'\n(4 rows)\n",
@@ -67,11 +47,7 @@ fn rows_are_updated(rt: HostRuntime) -> Result<(), Fail> {
             "00000 1\n1\n2\n3\n3\n(4 rows)\n",
             0,
         ),
-        (
-            "UPDATE T SET A = (SELECT A FROM T);",
-            "ERROR 21000\n",
-            1,
-        ),
+        ("UPDATE T SET A = (SELECT A FROM T);", "ERROR 21000\n", 1),
         (
             "UPDATE T SET A = (SELECT COUNT(*) FROM T X WHERE X.B = T.B); SELECT A, B FROM T ORDER BY A, B;",
             "00000 4\n0|NULL\n1|'y'\n2|'x'\n2|'x'\n(4 rows)\n",
@@ -102,24 +78,18 @@ fn rows_are_updated(rt: HostRuntime) -> Result<(), Fail> {
             "00000 4\nNULL|'x'\n1|'x'\n2|NULL\n3|'y'\n(4 rows)\n",
             0,
         ),
-        (
-            "UPDATE T SET A = COUNT(*);",
-            "ERROR 42000 grouping\n",
-            1,
-        ),
+        ("UPDATE T SET A = COUNT(*);", "ERROR 42000 grouping\n", 1),
     ];
     check_changes(&rt, &rows)
 }
 
 #[test]
 fn rows_are_updated_over_no_tables(rt: HostRuntime) -> Result<(), Fail> {
-    let rows: [(&str, &str, u8); 1] = [
-        (
-            "CREATE TABLE U (A INTEGER NOT NULL); UPDATE U SET A = NULL; INSERT INTO U VALUES (1); UPDATE U SET A = NULL WHERE A = 2; UPDATE U SET A = NULL;",
-            "00000\n02000 0\n00000 1\n02000 0\nERROR 23000 #1\n",
-            1,
-        ),
-    ];
+    let rows: [(&str, &str, u8); 1] = [(
+        "CREATE TABLE U (A INTEGER NOT NULL); UPDATE U SET A = NULL; INSERT INTO U VALUES (1); UPDATE U SET A = NULL WHERE A = 2; UPDATE U SET A = NULL;",
+        "00000\n02000 0\n00000 1\n02000 0\nERROR 23000 #1\n",
+        1,
+    )];
     check_scripts(&rt, &rows)
 }
 
@@ -193,16 +163,8 @@ fn queries_are_inserted(rt: HostRuntime) -> Result<(), Fail> {
             "00000 1\nNULL|'x'\nNULL|'x'\n1|'x'\n2|NULL\n3|'y'\n(5 rows)\n",
             0,
         ),
-        (
-            "INSERT INTO T SELECT B, A FROM T;",
-            "ERROR 42000 type\n",
-            1,
-        ),
-        (
-            "INSERT INTO T SELECT A FROM T;",
-            "ERROR 42000 columns\n",
-            1,
-        ),
+        ("INSERT INTO T SELECT B, A FROM T;", "ERROR 42000 type\n", 1),
+        ("INSERT INTO T SELECT A FROM T;", "ERROR 42000 columns\n", 1),
         (
             "INSERT INTO T SELECT X.A, Y.B FROM T X, T Y WHERE X.A = 1 AND Y.A = 3; SELECT A, B FROM T ORDER BY A, B;",
             "00000 1\nNULL|'x'\n1|'x'\n1|'y'\n2|NULL\n3|'y'\n(5 rows)\n",
@@ -254,13 +216,10 @@ fn queries_are_inserted(rt: HostRuntime) -> Result<(), Fail> {
 
 #[test]
 fn queries_are_inserted_over_no_tables(rt: HostRuntime) -> Result<(), Fail> {
-    let rows: [(&str, &str, u8); 1] = [
-        (
-            "CREATE TABLE U (A INTEGER CHECK (A < 3)); CREATE TABLE V (A INTEGER); INSERT INTO V VALUES (1), (2); INSERT INTO U SELECT A FROM V; INSERT INTO U SELECT A + 1 FROM V; SELECT A FROM U ORDER BY A;",
-            "00000\n00000\n00000 2\n00000 2\nERROR 23000 #1\n1\n2\n(2 rows)\n",
-            1,
-        ),
-    ];
+    let rows: [(&str, &str, u8); 1] = [(
+        "CREATE TABLE U (A INTEGER CHECK (A < 3)); CREATE TABLE V (A INTEGER); INSERT INTO V VALUES (1), (2); INSERT INTO U SELECT A FROM V; INSERT INTO U SELECT A + 1 FROM V; SELECT A FROM U ORDER BY A;",
+        "00000\n00000\n00000 2\n00000 2\nERROR 23000 #1\n1\n2\n(2 rows)\n",
+        1,
+    )];
     check_scripts(&rt, &rows)
 }
-

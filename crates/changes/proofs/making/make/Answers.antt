@@ -51,4 +51,3 @@ returns-in-Delete-clause-changes g c = rw c.in-Delete.is (IfOk-weaker c.delete.r
 
 pub returns-in-Delete-clause-refused : goal.returns-in-Delete-clause-refused
 returns-in-Delete-clause-refused g c = rw c.in-Delete.is c.delete.ensures.refused
-

@@ -20,4 +20,3 @@ returns-in-Ok-clause-refused g c = IfErr-weaker c.delete_rows.result _ _
     let schema : IsSchemaOf c.schema.result.now db = subst (λ (s : Schema). IsSchemaOf s db) (sym c.schema.ensures) of in
     h reading sound of (c.in-Ok.ensures.decides reading db is_reading schema))
     c.delete_rows.ensures.refused
-

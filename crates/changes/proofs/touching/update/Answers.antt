@@ -22,4 +22,3 @@ returns-in-Ok-clause-refused g c = IfErr-weaker c.update_rows.result _ _
     h reading sound of (c.in-Ok.ensures.decides reading db is_reading schema)
     (rw c.as_slice.ensures (c.in-Ok.ensures.decides reading db is_reading schema)))
     c.update_rows.ensures.refused
-
