@@ -11,6 +11,7 @@ mod program;
 mod put;
 mod show;
 mod telling;
+mod words;
 
 pub use command_line::settings;
 pub use cut::CutScripts;

@@ -14,6 +14,7 @@ use list_store::{ListStore, Lists};
 use refusals::Refusal;
 use shared::NoGate;
 use std::alloc::Global;
+use std::convert::AsStr;
 use std::fs::Files;
 use std::io::{BufWriter, Write};
 use std::rt::Env;
@@ -31,7 +32,9 @@ const NOT_READ: u8 = 3;
 /// `many_on`.
 pub fn sqlmany<R: Env + Files + Print + Eprint + AllocGlobal + Threads + Wait + Sync>(
     rt: &R,
-) -> u8 {
+) -> u8
+    ensures { (result ≡ 2) ⊎ IsStatus result }
+{
     let alloc = rt.alloc();
     let Ok(words) = words(rt, alloc) else {
         return WRONG_WORDS;
@@ -47,15 +50,15 @@ pub fn sqlmany<R: Env + Files + Print + Eprint + AllocGlobal + Threads + Wait + 
 }
 
 /// Reads the scripts and carries them out over tables in memory, of which nothing is left at the end.
-fn run_files<R: Files + AllocGlobal + Threads + Wait + Sync, W: Write>(
+fn run_files<R: Files + AllocGlobal + Threads + Wait + Sync, W: Write, S: AsStr>(
     rt: &R,
     alloc: Global,
-    settings: &Settings<'_>,
+    settings: &Settings<'_, S>,
     writer: &mut W,
 ) -> u8
     ensures { IsStatus result }
 {
-    let scripts = match read_all(rt, settings.scripts.as_slice()) {
+    let scripts = match read_all(rt, settings.scripts) {
         Ok(scripts) => scripts,
         Err(_) => return tell(Refusal::Disk, NOT_READ, writer),
     };
