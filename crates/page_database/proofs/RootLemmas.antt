@@ -63,6 +63,11 @@ pub has_more : (roots : List ℕ) (indexes : List Index) (i r : ℕ) (x : Index)
     → with_roots (take (i + 1) roots) indexes ≡ indexes
 has_more roots indexes i r x below is get same e = ap (λ k. with_roots (take k roots) indexes) (add-one i) ∙ has_more_by roots indexes i r x below is get same e
 
+pub index_any : (xs : List ℕ) (i d e : ℕ) → i < length xs → slice_index_or xs i d ≡ slice_index_or xs i e
+index_any [] i d e below = absurd (omega (arith, below))
+index_any (x ∷ xs) zero d e below = refl
+index_any (x ∷ xs) (suc i) d e below = index_any xs i d e (omega (arith, below))
+
 pub has_root_more : (roots : List ℕ) (indexes : List Index) (i r : ℕ) → i < length roots → r ≡ slice_index_or roots i r → option_map (λ (x : Index). x.root) (slice_get indexes i) ≡ Some r → with_roots (take i roots) indexes ≡ indexes
     → with_roots (take (i + 1) roots) indexes ≡ indexes
 has_root_more roots indexes i r below is rooted e = by (slice_get indexes i) refl rooted

@@ -1,5 +1,8 @@
 //! A table made.
-ghost use Rattle.std.specs.Prelude.{◌≡◌, ◌≤◌, List, IfOk, IfErr, OnOk};
+ghost use Rattle.std.specs.Prelude.{◌≡◌, ◌≤◌, ℕ, List, IfOk, IfErr, OnOk};
+ghost use Rattle.sqlval.specs.declared.schema.Table.{Table as AnyTable};
+ghost use Rattle.catalog.specs.Held.{HoldsSchema};
+ghost use Rattle.catalog.specs.Changed.{with_table, IsFree, SchemaWritten, HoldsNoSchemaIn};
 ghost use Rattle.std.specs.List.{AllByRecursion};
 ghost use Rattle.store.specs.Contents as stored;
 ghost use Rattle.catalog_read.specs.Keepable.{IsTable};
@@ -13,6 +16,27 @@ use catalog::add_table;
 use page_space::PageSpace;
 use sqlval::Table;
 use std::alloc::Global;
+
+/// Puts a table whose name is free into the schema, and answers its root.
+fn add_new<S: PageSpace>(
+    space: &mut S,
+    alloc: Global,
+    root: u32,
+    table: &Table,
+) -> Result<u32, DatabaseError>
+    ensures added { (owned : List ℕ) (tables : List AnyTable) → HoldsSchema (S.pages space.old) root owned tables → IsTable table.now → IsFree table.now.name tables
+        → IfOk result (SchemaWritten (S.pages space.old) (S.pages space.new) owned (with_table table.now tables)) }
+    ensures limits { IfErr result ReachesNone }
+    ensures whole { OnOk result (S.is_whole space.old → S.is_whole space.new) }
+    ensures refusal { IfErr result (SpaceRefused (S.at_limit space.new) (HoldsNoSchemaIn (S.pages space.old) root (S.is_whole space.old)) (S.refused space.old) (S.refused space.new)) }
+    ensures rising { S.refused space.old ≤ S.refused space.new }
+    ensures follows { S.follows space.old space.new }
+{
+    match add_table(space, alloc, root, table) {
+        Ok(top) => Ok(top),
+        Err(error) => Err(of_change(error)),
+    }
+}
 
 /// Puts a new table without rows, whose indexes have no entries, beside the others, and answers the root. Where a table has
 /// that name, all stays.
@@ -37,10 +61,7 @@ pub fn create_table<S: PageSpace>(
 {
     match find_table(space, alloc, root, &table.name) {
         Ok(Some(_)) => Ok(root),
-        Ok(None) => match add_table(space, alloc, root, table) {
-            Ok(top) => Ok(top),
-            Err(error) => Err(of_change(error)),
-        },
+        Ok(None) => add_new(space, alloc, root, table),
         Err(fault) => Err(DatabaseError::Space(fault)),
     }
 }

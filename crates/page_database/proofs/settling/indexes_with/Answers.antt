@@ -1,13 +1,10 @@
 use Rattle.std.proofs.Common.{arith, ◌≡◌, ◌<◌, ◌∙◌, ℕ, List, length, ap, subst}
 use Rattle.std.specs.Prelude.{slice_index_or}
-use Rattle.page_database.proofs.RootLemmas.{put_more, put_end}
+use Rattle.page_database.proofs.RootLemmas.{index_any, put_more, put_end}
 use Rattle.page_database.proofs.settling.indexes_with.Goals as goal
 
 pub loop-at-preserved : goal.loop-at-preserved
-loop-at-preserved c =
-    c.put_root.ensures
-    ∙ put_more c.args.roots.now c.args.indexes c.loop-at.changed c.loop-at.at c.root-item.result (subst (λ (rs : List ℕ). c.loop-at.at < length rs) c.as_slice-root-items.ensures c.loop-at-test.true)
-    (subst (λ (rs : List ℕ). c.root-item.result ≡ slice_index_or rs c.loop-at.at c.root-item.result) c.as_slice-root-items.ensures c.root-item.is) c.loop-at.invariant
+loop-at-preserved c = c.put_root.ensures ∙ put_more c.args.roots.now c.args.indexes c.loop-at.changed c.loop-at.at _ (subst (λ (rs : List ℕ). c.loop-at.at < length rs) c.as_slice-root-items.ensures c.loop-at-test.true) (ap (λ (rs : List ℕ). slice_index_or rs c.loop-at.at 0) c.as_slice-root-items.ensures ∙ index_any c.args.roots.now c.loop-at.at 0 _ (subst (λ (rs : List ℕ). c.loop-at.at < length rs) c.as_slice-root-items.ensures c.loop-at-test.true)) c.loop-at.invariant
 
 pub returns : goal.returns
 returns c =

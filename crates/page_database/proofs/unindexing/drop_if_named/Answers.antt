@@ -7,10 +7,10 @@ pub returns-then-is_named-clause-dropped : goal.returns-then-is_named-clause-dro
 returns-then-is_named-clause-dropped g c = λ named. c.drop_tree.ensures.dropped
 
 pub returns-then-is_named-clause-same : goal.returns-then-is_named-clause-same
-returns-then-is_named-clause-same g c = λ other. absurd (not_both _ (sym (c.is_named.ensures ∙ ap (λ (n : List ℕ). is_named n c.args.index.now.name) c.as_slice.ensures) ∙ c.if-is_named.true) other)
+returns-then-is_named-clause-same g c = λ other. absurd (not_both _ (sym (c.is_named.ensures ∙ ap (λ (n : List ℕ). is_named n c.args.index.now.name) c.as_slice.ensures.codes) ∙ c.if-is_named.true) other)
 
 pub returns-else-is_named-clause-dropped : goal.returns-else-is_named-clause-dropped
-returns-else-is_named-clause-dropped g c = λ named. absurd (not_both _ named (sym (c.is_named.ensures ∙ ap (λ (n : List ℕ). is_named n c.args.index.now.name) c.as_slice.ensures) ∙ c.if-is_named.false))
+returns-else-is_named-clause-dropped g c = λ named. absurd (not_both _ named (sym (c.is_named.ensures ∙ ap (λ (n : List ℕ). is_named n c.args.index.now.name) c.as_slice.ensures.codes) ∙ c.if-is_named.false))
 
 pub returns-else-is_named-clause-follows : goal.returns-else-is_named-clause-follows
 returns-else-is_named-clause-follows g c = g.met.S.PageReader.follows_refl _
