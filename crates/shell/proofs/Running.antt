@@ -1,5 +1,5 @@
 -- A script is carried out, and how it ended is said.
-use Rattle.std.proofs.Common.{◌≡◌, ℕ, Bool, List, Option, Result, Ok, Err, refl, sym, subst, tt}
+use Rattle.std.proofs.Common.{◌≡◌, ℕ, Bool, List, Option, Result, Ok, Err, refl, sym, subst}
 use Rattle.std.specs.Prelude.{IfOk, IfErr}
 use Rattle.denote.specs.Database.{Database, CheckReading}
 use Rattle.session_definitions.specs.Rules.{Rules}
