@@ -3,7 +3,7 @@ use Rattle.std.proofs.Common.{◌≡◌, Bool, true, List, Option, ℕ, ap, ◌�
 use Rattle.replies.specs.Writes.{Writes}
 use Rattle.session_definitions.specs.World.{World}
 use Rattle.shared.specs.Scripts.{OneHistory, Script}
-use Rattle.many_scripts.specs.Many.{Closes, Prints, Ran, status_for}
+use Rattle.many_scripts.specs.Many.{Closes, Prints, Ran, RunsMany, status_for}
 use Rattle.many_scripts.specs.Shown.{Answers, Parts, printed_scripts, some_refused}
 
 -- over a core that was sound
@@ -24,3 +24,8 @@ pub prints : (parts : List Parts) (answers : List Answers) (held mid holds : Opt
     → refused ≡ some_refused parts answers → before ≡ status_for refused → Closes before mid holds status → Prints parts answers held holds status
 prints parts answers held mid holds refused before status written found is closes =
     Prints.printed mid written (subst (λ (n : ℕ). Closes n mid holds status) (is ∙ ap status_for found) closes)
+
+-- in another name of the same world
+pub moved : (start begin : World) (scripts : List Script) (parts : List Parts) (held holds : Option (List ℕ)) (status : ℕ) → start ≡ begin → RunsMany start scripts parts held holds status
+    → RunsMany begin scripts parts held holds status
+moved start begin scripts parts held holds status same run = subst (λ (w : World). RunsMany w scripts parts held holds status) same run

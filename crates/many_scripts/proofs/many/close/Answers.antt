@@ -5,5 +5,5 @@ use Rattle.many_scripts.proofs.many.close.Goals as goal
 pub returns-in-Ok-clause-closes : goal.returns-in-Ok-clause-closes
 returns-in-Ok-clause-closes g c = Closes.closed refl refl
 
-pub returns-in-Err-clause-closes : goal.returns-in-Err-clause-closes
-returns-in-Err-clause-closes g c = Closes.not_closed (rw c.in-Err.ensures.fails.0 at c.tell.ensures.tells) c.tell.ensures.status
+pub returns-clause-closes : goal.returns-clause-closes
+returns-clause-closes g c = Closes.not_closed (rw c.in-Err.ensures.fails.0 at c.tell.ensures.tells) c.tell.ensures.status
