@@ -55,35 +55,38 @@ kept_condition-returns-in-Exists g t c = record { kept = rw (c.in-Exists.is, con
 
 -- ---- trees
 
-pub kept_tree-returns-in_ok-condition-in-Filter : goal.kept_tree-returns-in_ok-condition-in-Filter
-kept_tree-returns-in_ok-condition-in-Filter g t c = record { kept = rw (c.in-Filter.is, tree_filter, c.in_ok-condition-in-Filter.ensures.first _ c.boxed_condition-condition.ensures, c.in_ok-condition-in-Filter.ensures.second _ c.boxed_tree.ensures) refl }
+pub kept_tree-returns-in-Filter : goal.kept_tree-returns-in-Filter
+kept_tree-returns-in-Filter g t c = record { kept = rw (c.in-Filter.is, tree_filter) (c.filter_of.ensures _ _ c.boxed_condition.ensures c.boxed_tree.ensures) }
 
-pub kept_tree-returns-in_ok-left-in-Product : goal.kept_tree-returns-in_ok-left-in-Product
-kept_tree-returns-in_ok-left-in-Product g t c = record { kept = rw (c.in-Product.is, tree_product, c.in_ok-left-in-Product.ensures.first _ c.boxed_tree-left.ensures, c.in_ok-left-in-Product.ensures.second _ c.boxed_tree-in-Product.ensures) refl }
+pub kept_tree-returns-in-Product : goal.kept_tree-returns-in-Product
+kept_tree-returns-in-Product g t c = record { kept = rw (c.in-Product.is, tree_product) (c.product_of.ensures _ _ c.boxed_tree-left.ensures c.boxed_tree-in-Product.ensures) }
 
-pub kept_tree-returns-in_ok-on-in-Inner : goal.kept_tree-returns-in_ok-on-in-Inner
-kept_tree-returns-in_ok-on-in-Inner g t c = record { kept = rw (c.in-Inner.is, tree_inner, c.in_ok-on-in-Inner.ensures.first _ c.boxed_condition-on.ensures, c.in_ok-on-in-Inner.ensures.second _ c.boxed_tree-left-in-Inner.ensures, c.in_ok-on-in-Inner.ensures.third _ c.boxed_tree-in-Inner.ensures) refl }
+pub kept_tree-returns-in-Inner : goal.kept_tree-returns-in-Inner
+kept_tree-returns-in-Inner g t c = record { kept = rw (c.in-Inner.is, tree_inner) (c.inner_of.ensures _ _ _ (c.three.ensures.first _ c.boxed_condition-on.ensures) (c.three.ensures.second _ c.boxed_tree-left-in-Inner.ensures) (c.three.ensures.third _ c.boxed_tree-in-Inner.ensures)) }
 
-pub kept_tree-returns-in_ok-on-in-Left : goal.kept_tree-returns-in_ok-on-in-Left
-kept_tree-returns-in_ok-on-in-Left g t c = record { kept = rw (c.in-Left.is, tree_left, c.in_ok-on-in-Left.ensures.first _ c.boxed_condition-on-in-Left.ensures, c.in_ok-on-in-Left.ensures.second _ c.boxed_tree-left-in-Left.ensures, c.in_ok-on-in-Left.ensures.third _ c.boxed_tree-in-Left.ensures) refl }
+pub kept_tree-returns-in-Left : goal.kept_tree-returns-in-Left
+kept_tree-returns-in-Left g t c = record { kept = rw (c.in-Left.is, tree_left) (c.left_join_of.ensures _ _ _ (c.three-in-Left.ensures.first _ c.boxed_condition-on-in-Left.ensures) (c.three-in-Left.ensures.second _ c.boxed_tree-left-in-Left.ensures) (c.three-in-Left.ensures.third _ c.boxed_tree-in-Left.ensures)) }
 
-pub kept_tree-returns-in_ok-on-in-Half : goal.kept_tree-returns-in_ok-on-in-Half
-kept_tree-returns-in_ok-on-in-Half g t c = record { kept = rw (c.in-Half.is, tree_half, c.in_ok-on-in-Half.ensures.first _ c.boxed_condition-on-in-Half.ensures, c.in_ok-on-in-Half.ensures.second _ c.boxed_tree-left-in-Half.ensures, c.in_ok-on-in-Half.ensures.third _ c.boxed_tree-in-Half.ensures) refl }
+pub kept_tree-returns-in-Half : goal.kept_tree-returns-in-Half
+kept_tree-returns-in-Half g t c = record { kept = rw (c.in-Half.is, tree_half) (c.half_of.ensures _ _ _ (c.three-in-Half.ensures.first _ c.boxed_condition-on-in-Half.ensures) (c.three-in-Half.ensures.second _ c.boxed_tree-left-in-Half.ensures) (c.three-in-Half.ensures.third _ c.boxed_tree-in-Half.ensures)) }
 
-pub kept_tree-returns-in_ok-on-in-OppositeHalf : goal.kept_tree-returns-in_ok-on-in-OppositeHalf
-kept_tree-returns-in_ok-on-in-OppositeHalf g t c = record { kept = rw (c.in-OppositeHalf.is, tree_opposite, c.in_ok-on-in-OppositeHalf.ensures.first _ c.boxed_condition-on-in-OppositeHalf.ensures, c.in_ok-on-in-OppositeHalf.ensures.second _ c.boxed_tree-left-in-OppositeHalf.ensures, c.in_ok-on-in-OppositeHalf.ensures.third _ c.boxed_tree-in-OppositeHalf.ensures) refl }
+pub kept_tree-returns-in-OppositeHalf : goal.kept_tree-returns-in-OppositeHalf
+kept_tree-returns-in-OppositeHalf g t c = record { kept = rw (c.in-OppositeHalf.is, tree_opposite) (c.opposite_half_of.ensures _ _ _ (c.three-in-OppositeHalf.ensures.first _ c.boxed_condition-on-in-OppositeHalf.ensures) (c.three-in-OppositeHalf.ensures.second _ c.boxed_tree-left-in-OppositeHalf.ensures) (c.three-in-OppositeHalf.ensures.third _ c.boxed_tree-in-OppositeHalf.ensures)) }
 
-pub kept_tree-returns-in_ok-columns-in-Group : goal.kept_tree-returns-in_ok-columns-in-Group
-kept_tree-returns-in_ok-columns-in-Group g t c = record { kept = rw (c.in-Group.is, tree_group, c.in_ok-columns-in-Group.ensures.first _ c.copied_places-columns.ensures, c.in_ok-columns-in-Group.ensures.second _ c.functions-found.ensures, c.in_ok-columns-in-Group.ensures.third _ c.boxed_tree-in-Group.ensures) refl }
+pub kept_tree-returns-in-Group : goal.kept_tree-returns-in-Group
+kept_tree-returns-in-Group g t c = record { kept = rw (c.in-Group.is, tree_group) (c.group_of.ensures _ _ _ c.copied_places-columns.ensures c.functions-found.ensures c.boxed_tree-in-Group.ensures) }
 
-pub kept_tree-returns-in_ok-items-in-Project : goal.kept_tree-returns-in_ok-items-in-Project
-kept_tree-returns-in_ok-items-in-Project g t c = record { kept = rw (c.in-Project.is, tree_project, c.in_ok-items-in-Project.ensures.first _ c.expressions-items.ensures, c.in_ok-items-in-Project.ensures.second _ c.boxed_tree-in-Project.ensures) refl }
+pub kept_tree-returns-in-Project : goal.kept_tree-returns-in-Project
+kept_tree-returns-in-Project g t c = record { kept = rw (c.in-Project.is, tree_project) (c.project_of.ensures _ _ c.expressions-items.ensures c.boxed_tree-in-Project.ensures) }
 
-pub kept_tree-returns-in_ok-keys-in-Sort : goal.kept_tree-returns-in_ok-keys-in-Sort
-kept_tree-returns-in_ok-keys-in-Sort g t c = record { kept = rw (c.in-Sort.is, tree_sort, c.in_ok-keys-in-Sort.ensures.first _ c.copied_keys-keys.ensures, c.in_ok-keys-in-Sort.ensures.second _ c.boxed_tree-in-Sort.ensures) refl }
+pub kept_tree-returns-in-Distinct : goal.kept_tree-returns-in-Distinct
+kept_tree-returns-in-Distinct g t c = record { kept = rw (c.in-Distinct.is, tree_distinct) (c.distinct_of.ensures _ c.boxed_tree-in-Distinct.ensures) }
 
-pub kept_tree-returns-in_ok-operand-in-Member : goal.kept_tree-returns-in_ok-operand-in-Member
-kept_tree-returns-in_ok-operand-in-Member g t c = record { kept = rw (c.in-Member.is, tree_member, c.in_ok-operand-in-Member.ensures.first _ c.boxed_expression-operand.ensures, c.in_ok-operand-in-Member.ensures.second _ c.boxed_tree-members.ensures, c.in_ok-operand-in-Member.ensures.third _ c.boxed_tree-in-Member.ensures) refl }
+pub kept_tree-returns-in-Sort : goal.kept_tree-returns-in-Sort
+kept_tree-returns-in-Sort g t c = record { kept = rw (c.in-Sort.is, tree_sort) (c.sort_of.ensures _ _ c.copied_keys-keys.ensures c.boxed_tree-in-Sort.ensures) }
+
+pub kept_tree-returns-in-Member : goal.kept_tree-returns-in-Member
+kept_tree-returns-in-Member g t c = record { kept = rw (c.in-Member.is, tree_member) (c.member_of.ensures _ _ _ c.boxed_expression-operand.ensures c.boxed_tree-members.ensures c.boxed_tree-in-Member.ensures) }
 
 pub kept_tree-returns-in-Set : goal.kept_tree-returns-in-Set
 kept_tree-returns-in-Set g t c = record { kept = rw (c.in-Set.is, tree_set) (c.set_of.ensures _ _ (rw c.get.ensures at c.boxed_chain-left.ensures) c.boxed_tree-right.ensures) }
