@@ -1,0 +1,17 @@
+pub mod TreeLemmas
+pub mod SmallLemmas
+pub mod IndexLemmas
+pub mod RefusalLemmas
+pub mod EachLemmas
+pub mod RootLemmas
+pub mod NameLemmas
+pub mod SettleLemmas
+pub mod RowLemmas
+pub mod DatabaseLemmas
+pub mod ContentLemmas
+pub mod IndexingLemmas
+pub mod DropLemmas
+pub mod CreateLemmas
+pub mod NumberLemmas
+pub mod ChangeLemmas
+pub mod UnindexLemmas

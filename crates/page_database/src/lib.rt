@@ -1,0 +1,25 @@
+//! A database in a space of pages: a schema, of each table its rows, and its indexes.
+#![tactic(auto)]
+
+mod creating;
+mod dropping;
+mod error;
+mod exchange;
+mod indexes;
+mod indexing;
+mod laws;
+mod naming;
+mod numbering;
+mod replacing;
+mod rows;
+mod settling;
+mod unindexing;
+
+pub use creating::create_table;
+pub use dropping::drop_table;
+pub use error::DatabaseError;
+pub use indexing::create_index;
+pub use laws::{database_stays, no_database_at_first, reads_as_tables};
+pub use replacing::replace;
+pub use rows::{append, delete};
+pub use unindexing::drop_index;
