@@ -34,5 +34,5 @@ returns-in-Ok-None-clause-refusal g c =
     refused_later c.add_new.result (g.S.PageSpace.at_limit c.add_new.new.space) (HoldsNoSchemaIn (g.S.PageReader.pages c.find_table.new.space) c.args.root (g.S.PageReader.is_whole c.find_table.new.space)) (HoldsNoDatabaseIn (g.S.PageReader.pages c.args.space.now) c.args.root (g.S.PageReader.is_whole c.args.space.now)) (g.S.PageReader.refused c.args.space.now) (g.S.PageReader.refused c.find_table.new.space) (g.S.PageReader.refused c.add_new.new.space)
     (λ none tables h whole. let m = (subst (λ (p : PageMap). HoldsDatabase p c.args.root tables) (sym c.find_table.ensures.same) h) in none m.owned (declared_of tables) m.trees.each.0 (c.find_table.ensures.whole whole)) c.find_table.ensures.rising c.add_new.ensures.refusal
 
-pub returns-in-Err-clause-refusal : goal.returns-in-Err-clause-refusal
-returns-in-Err-clause-refusal g c = read_refused c.in-Err.fault (g.S.PageSpace.at_limit c.find_table.new.space) (HoldsNoSchema (g.S.PageReader.pages c.args.space.now) c.args.root) (HoldsNoDatabaseIn (g.S.PageReader.pages c.args.space.now) c.args.root (g.S.PageReader.is_whole c.args.space.now)) (g.S.PageReader.refused c.args.space.now) (g.S.PageReader.refused c.find_table.new.space) (λ none tables h whole. none h.owned (declared_of tables) h.trees.each.0) c.in-Err.ensures.refusal
+pub returns-clause-refusal : goal.returns-clause-refusal
+returns-clause-refusal g c = read_refused c.in-Err.fault (g.S.PageSpace.at_limit c.find_table.new.space) (HoldsNoSchema (g.S.PageReader.pages c.args.space.now) c.args.root) (HoldsNoDatabaseIn (g.S.PageReader.pages c.args.space.now) c.args.root (g.S.PageReader.is_whole c.args.space.now)) (g.S.PageReader.refused c.args.space.now) (g.S.PageReader.refused c.find_table.new.space) (λ none tables h whole. none h.owned (declared_of tables) h.trees.each.0) c.in-Err.ensures.refusal
