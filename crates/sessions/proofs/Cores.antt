@@ -10,8 +10,9 @@ use Rattle.ast.specs.declared.statement.AccessMode.{AccessMode}
 use Rattle.ast.specs.declared.statement.AccessMode.TheVariants.{ReadWrite}
 use Rattle.refusals.specs.declared.refusal.Refusal.{Refusal}
 use Rattle.refusals.specs.declared.refusal.Refusal.TheVariants.{Exceeded}
-use Rattle.session_definitions.specs.Refusals.{IsReserved}
+use Rattle.session_definitions.specs.Refusals.{IsReserved, StopsFlush}
 use Rattle.store.specs.declared.error.StoreError.{StoreError}
+use Rattle.store.specs.declared.error.StoreError.TheVariants as store
 use Rattle.store.specs.Errors.{MayFail, Never}
 use Rattle.transactions.specs.Refused.{refused_by}
 use Rattle.transactions.proofs.Tests.{reserved}
@@ -133,3 +134,13 @@ reserved_opening sound k m e h is = reserved sound k m Never e h is (λ bad. bad
 
 pub opening_refused : (sound : Type 0) (k m : ℕ) (e : StoreError) (r : Refusal) → r ≡ refused_by e → MayFail sound k m Never e → sound → IsReserved r
 opening_refused sound k m e r is h there = subst IsReserved (sym is) (reserved_opening sound k m e h there)
+
+-- for want of memory or by the device alone: opening reaches no limit
+stops_opening : (sound : Type 0) (k m : ℕ) (e : StoreError) → MayFail sound k m Never e → sound → StopsFlush (refused_by e)
+stops_opening sound k m store.Memory h there = tt
+stops_opening sound k m store.Device h there = tt
+stops_opening sound k m store.Damaged h there = absurd (h there)
+stops_opening sound k m (store.Exceeded which) h there = absurd h
+
+pub opening_stopped : (sound : Type 0) (k m : ℕ) (e : StoreError) (r : Refusal) → r ≡ refused_by e → MayFail sound k m Never e → sound → StopsFlush r
+opening_stopped sound k m e r is h there = subst StopsFlush (sym is) (stops_opening sound k m e h there)

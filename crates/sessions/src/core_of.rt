@@ -41,7 +41,7 @@ pub struct Core<S: Store, L: Language + Changes<S>> {
 
 impl<S: Store, L: Language + Changes<S>> Core<S, L> {
     ghost use Rattle.session_definitions.specs.Rules.{Rules, AreRules};
-    ghost use Rattle.session_definitions.specs.Refusals.{IsReserved};
+    ghost use Rattle.session_definitions.specs.Refusals.{IsReserved, StopsFlush};
     ghost use Rattle.session_definitions.specs.Run.{MakesSession, DropsSession, FlushesPages, without_sessions};
     ghost use Rattle.session_definitions.specs.Step.{Step};
     ghost use Rattle.session_definitions.specs.World.{is_live, opened};
@@ -168,7 +168,7 @@ impl<S: Store, L: Language + Changes<S>> Core<S, L> {
     }
 
     /// A core without sessions over the database that was saved on a device, with room for so many pages in memory. A refusal hands the device back, saved as it was; where a
-    /// database was saved on it, it is want of memory, the device or a limit of the store.
+    /// database was saved on it, it is want of memory or the device, as of a flush.
     pub fn open(
         alloc: Global,
         language: L,
@@ -181,6 +181,7 @@ impl<S: Store, L: Language + Changes<S>> Core<S, L> {
         ensures empty { IfOk result (λ core. (k : ℕ) → is_live (world_of S.shows core) k ≡ false) }
         ensures left { IfErr result (λ back. (db : Database) → S.saved device db → S.saved back.value db) }
         ensures refused { IfErr result (λ back. (db : Database) → S.saved device db → IsReserved back.refusal) }
+        ensures stops { IfErr result (λ back. (db : Database) → S.saved device db → StopsFlush back.refusal) }
         ensures device { IfErr result (λ back. back.refusal ≡ Disk → HasRisen (S.calls_refused device) (S.calls_refused back.value)) }
     {
         match S::open(alloc, device, frames) {

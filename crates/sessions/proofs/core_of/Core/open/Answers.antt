@@ -1,7 +1,7 @@
 use Rattle.std.proofs.Common.{◌≡◌, false, None, sym, subst}
 use Rattle.session_definitions.specs.World.{is_live, opened}
 use Rattle.transactions.specs.Shown.{Slots, shown}
-use Rattle.sessions.proofs.Cores.{nobody_stands, orderly_alone, none_read, opens, opening_refused}
+use Rattle.sessions.proofs.Cores.{nobody_stands, orderly_alone, none_read, opens, opening_refused, opening_stopped}
 use Rattle.sessions.proofs.core_of.Core.open.Goals as goal
 
 pub returns-in-Ok-clause-opened : goal.returns-in-Ok-clause-opened
@@ -21,3 +21,6 @@ returns-in-Ok-clause-empty g c = λ k.
 
 pub returns-in-Err-clause-refused : goal.returns-in-Err-clause-refused
 returns-in-Err-clause-refused g c = λ db saved. opening_refused _ _ _ c.in-Err.back.error c.refusal_of.result c.refusal_of.ensures c.in-Err.ensures.refused (db, saved)
+
+pub returns-in-Err-clause-stops : goal.returns-in-Err-clause-stops
+returns-in-Err-clause-stops g c = λ db saved. opening_stopped _ _ _ c.in-Err.back.error c.refusal_of.result c.refusal_of.ensures c.in-Err.ensures.refused (db, saved)
