@@ -94,7 +94,7 @@ impl<S: Store, L: Language + Changes<S>, J: Room> Desk<S, L, J> {
     pub(crate) fn newcomer(&mut self, cell: &Cell) -> Client<J>
         requires cell { cell.now.table.shared.table_id ≡ J.table }
         requires any { J.callers ≡ None }
-        ensures caller { (result.seen ≡ []) × (result.mine ≡ []) }
+        ensures caller { (result.seen ≡ []) × (result.mine ≡ []) × (result.at ≡ None) }
         ensures same { self.new ≡ self.old }
     {
         newcomer(cell, &mut self.keeper)
@@ -170,7 +170,7 @@ pub(crate) fn newcomer<J: Room>(cell: &Cell, keeper: &mut Token) -> Client<J>
     requires cell { (keeper.old.table_id ≡ cell.now.table.shared.table_id) × (cell.now.table.shared.table_id ≡ J.table) }
     requires view { (cell_view keeper.old).keeps ≡ true }
     ensures keeper { (keeper.new.table_id ≡ keeper.old.table_id) × (cell_view keeper.new ≡ one_more (cell_view keeper.old)) }
-    ensures caller { (result.who ≡ (cell_view keeper.old).names) × (result.seen ≡ []) × (result.mine ≡ []) }
+    ensures caller { (result.who ≡ (cell_view keeper.old).names) × (result.seen ≡ []) × (result.mine ≡ []) × (result.at ≡ None) }
 {
     let token = cell.split_pass::<Newcomer>(keeper);
     Client {

@@ -30,6 +30,7 @@ impl<S: Store, L: Language + Changes<S>, J: Room> Shared<S, L, J> {
         requires core { (world_of S.shows core ≡ J.start) × ((id : ℕ) → is_live (world_of S.shows core) id ≡ false) }
         requires sound { J.premise → IsSound S.is_sound S.shows core }
         requires any { J.callers ≡ None }
+        ensures { result.cell ≡ cell }
     {
         Shared {
             cell,
@@ -46,10 +47,10 @@ impl<S: Store, L: Language + Changes<S>, J: Room> Shared<S, L, J> {
         core
     }
 
-    /// One caller more, which has seen nothing yet.
+    /// One caller more, which has no session and has seen nothing yet.
     pub fn newcomer<R: Wait>(&self, rt: &R) -> Client<J>
         requires { J.callers ≡ None }
-        ensures { (result.seen ≡ []) × (result.mine ≡ []) }
+        ensures { (result.seen ≡ []) × (result.mine ≡ []) × (result.at ≡ None) }
     {
         self.desk.lock(rt).newcomer(&self.cell)
     }
