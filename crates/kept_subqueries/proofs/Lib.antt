@@ -1,0 +1,3 @@
+pub mod KeptNodes
+pub mod Taken
+pub mod Same
