@@ -20,6 +20,8 @@ pub use dropping::drop_table;
 pub use error::DatabaseError;
 pub use indexing::create_index;
 pub use laws::{database_stays, no_database_at_first, reads_as_tables};
+pub use naming::find_table;
+pub use numbering::row_of;
 pub use replacing::replace;
 pub use rows::{append, delete};
 pub use unindexing::drop_index;

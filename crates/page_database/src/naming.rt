@@ -34,7 +34,7 @@ fn taken_out(schema: Schema, name: &Text) -> Option<Table>
 }
 
 /// The table of a name in the schema that the tree at a root holds; `None` where none has it.
-pub(crate) fn find_table<R: PageReader>(
+pub fn find_table<R: PageReader>(
     space: &mut R,
     alloc: Global,
     root: u32,

@@ -66,7 +66,7 @@ fn if_numbered(number: u64, found: Option<NumberedRow>) -> Option<NumberedRow>
 }
 
 /// The row of a number in the tree at a root.
-pub(crate) fn row_of<R: PageReader>(
+pub fn row_of<R: PageReader>(
     space: &mut R,
     alloc: Global,
     root: u32,

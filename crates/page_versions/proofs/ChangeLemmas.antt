@@ -1,30 +1,21 @@
 -- What changes of a version leave.
 use Rattle.std.proofs.Common.{◌≡◌, ◌∙◌, ℕ, ◌<◌, ◌≤◌, List, Option, Some, None, Result, Ok, Err, OnOk, OnErr, IfOk, IfErr, IsSome, refl, sym, ap, subst, ◌⊎◌, inl, inr}
-use Rattle.std.specs.FinMap.{get}
-use Rattle.denote.specs.Database.{Name}
-use Rattle.sqlval.specs.Value.{Row}
-use Rattle.sqlval.specs.declared.schema.Table.{Table}
-use Rattle.store.specs.Contents.{Contents, appended, with_table}
-use Rattle.pagefile.specs.declared.header.FileHeader.{FileHeader}
-use Rattle.pagefile.specs.Header.{IsHeader}
+use Rattle.store.specs.Contents.{Contents}
 use Rattle.page_space.specs.Space.{ChangeRefused}
 use Rattle.page_space.specs.declared.fault.Fault.{Fault}
 use Rattle.pool.specs.Pages.{PageMap, over}
 use Rattle.overlay.specs.InUse.{in_use}
 use Rattle.overlay.specs.Layers.{size_of}
 use Rattle.overlay.specs.Whole.{IsWhole, HasRoot, AtLimit}
-use Rattle.catalog_read.specs.Keepable.{IsTable}
-use Rattle.page_tables.specs.Held.{TableAt, HoldsTables, contents_of}
-use Rattle.page_tables.specs.Changed.{TablesWritten}
+use Rattle.page_database.specs.Changed.{DatabaseWritten}
 use Rattle.page_versions.specs.Changed.{IsNow}
-use Rattle.page_versions.specs.Databases.{contents_in, IsDatabase}
 use Rattle.page_versions.proofs.HeldLemmas.{TheyStay, TheyAreRead, TheyRise, becomes, root_there}
-use Rattle.page_versions.proofs.RefusalLemmas.{change_weaker, held_at}
+use Rattle.page_versions.proofs.RefusalLemmas.{change_weaker}
 
 -- after page 0 was to name the root
 pub put_after : {E : Type 0} → TheyStay → TheyAreRead → TheyRise → (result : Result (Unit {0}) E) (version next_version written next : PageMap) (root : ℕ) (contents : Contents) → next_version ≡ version
     → OnOk result (HasRoot (over next next_version 0) root) → ((n : ℕ) → in_use next_version next n ≡ in_use version written n) → OnOk result (IsWhole (over written version) → IsWhole (over next next_version))
-    → IsWhole (over written version) → TablesWritten (in_use version written) contents root → OnOk result (IsNow version next contents)
+    → IsWhole (over written version) → DatabaseWritten (in_use version written) contents root → OnOk result (IsNow version next contents)
 put_after stay read rise (Ok done) version next_version written next root contents same has others whole was put =
     becomes stay read rise version written next root contents (λ n. ap (λ (v : PageMap). in_use v next n) (sym same) ∙ others n) (subst (λ (v : PageMap). HasRoot (over next v 0) root) same has)
     (subst (λ (v : PageMap). IsWhole (over next v)) same (whole was)) put
@@ -32,25 +23,10 @@ put_after stay read rise (Err e) version next_version written next root contents
 
 pub root_put_refused : (result : Result (Unit {0}) Fault) (version next_version written next : PageMap) (root : ℕ) (k n : ℕ) → next_version ≡ version
     → IfErr result (ChangeRefused (AtLimit (over next next_version 0) (size_of next)) (IsWhole (over written version) → (root ≡ 0) ⊎ IsSome (in_use version written root) → ⊥) k n)
-    → IfErr result (ChangeRefused (AtLimit (over next version 0) (size_of next)) ((contents : Contents) → IsWhole (over written version) → TablesWritten (in_use version written) contents root → ⊥) k n)
+    → IfErr result (ChangeRefused (AtLimit (over next version 0) (size_of next)) ((contents : Contents) → IsWhole (over written version) → DatabaseWritten (in_use version written) contents root → ⊥) k n)
 root_put_refused (Ok done) version next_version written next root k n same h = h
 root_put_refused (Err f) version next_version written next root k n same h =
     change_weaker (AtLimit (over next next_version 0) (size_of next)) (AtLimit (over next version 0) (size_of next)) (IsWhole (over written version) → (root ≡ 0) ⊎ IsSome (in_use version written root) → ⊥)
-    ((contents : Contents) → IsWhole (over written version) → TablesWritten (in_use version written) contents root → ⊥) k n f
+    ((contents : Contents) → IsWhole (over written version) → DatabaseWritten (in_use version written) contents root → ⊥) k n f
     (λ g at. subst (λ (v : PageMap). AtLimit (over next v 0) (size_of next) g) same at)
     (λ never contents whole put. never whole (root_there (in_use version written) root put.tables put.holds)) h
-
--- rows were put behind those of a table of a database, and then the root
-pub rows_put : (version written mid : PageMap) (header : FileHeader) (root : ℕ) (name : Name) (rows : List Row)
-    → ((first : List ℕ) → over written version 0 ≡ Some first → IsHeader first header) → (d : IsDatabase version written)
-    → ((tables : List TableAt) → HoldsTables (in_use version written) header.catalog_root tables → TablesWritten (in_use version mid) (appended (contents_of tables) name rows) root)
-    → TablesWritten (in_use version mid) (appended (contents_in version written) name rows) root
-rows_put version written mid header root name rows says d put =
-    subst (λ (c : Contents). TablesWritten (in_use version mid) (appended c name rows) root) (sym d.read) (put d.tables (held_at version written header says d))
-
-pub table_put : (version written mid : PageMap) (header : FileHeader) (root : ℕ) (table : Table)
-    → ((first : List ℕ) → over written version 0 ≡ Some first → IsHeader first header) → (d : IsDatabase version written)
-    → ((tables : List TableAt) → HoldsTables (in_use version written) header.catalog_root tables → TablesWritten (in_use version mid) (with_table (contents_of tables) table) root)
-    → TablesWritten (in_use version mid) (with_table (contents_in version written) table) root
-table_put version written mid header root table says d put =
-    subst (λ (c : Contents). TablesWritten (in_use version mid) (with_table c table) root) (sym d.read) (put d.tables (held_at version written header says d))

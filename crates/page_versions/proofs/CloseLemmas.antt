@@ -17,7 +17,8 @@ use Rattle.overlay.specs.InUse.{in_use, is_counted, not_free, unless_free}
 use Rattle.overlay.specs.Whole.{IsIn, IsFreeList, IsWhole, HasFreeList}
 use Rattle.overlay.proofs.InUseLemmas.{in_use-read}
 use Rattle.overlay.proofs.WholeLemmas.{list_same, list_there}
-use Rattle.page_tables.specs.Held.{TableAt, HoldsTables, contents_of}
+use Rattle.page_database.specs.Held as database
+use Rattle.page_database.proofs.DatabaseLemmas.{as_tables}
 use Rattle.page_versions.specs.Databases.{nothing, root_in, root_of, contents_in, IsDatabase}
 use Rattle.page_versions.specs.Saved.{HoldsDatabase}
 use Rattle.page_versions.proofs.HeldLemmas.{TheyStay, TheyAreRead, TheyRise, is_database}
@@ -76,15 +77,16 @@ module _ (p : PageMap) (f : List ℕ) (stored : (n : ℕ) (page : List ℕ) → 
   pub file_holds : TheyStay → TheyAreRead → TheyRise → HoldsDatabase f (database_of (contents_in p nothing))
   file_holds stay read rise =
       let first : page_of f 0 ≡ p 0 = stored 0 w.first w.there ∙ sym w.there in
-      let kept : HoldsTables (in_use (page_of f) nothing) (root_of p nothing) d.tables = stay (in_use p nothing) (in_use (page_of f) nothing) (root_of p nothing) d.tables
+      let kept : database.HoldsDatabase (in_use (page_of f) nothing) (root_of p nothing) d.tables = stay (in_use p nothing) (in_use (page_of f) nothing) (root_of p nothing) d.tables
       (λ n there. let page = some_is (in_use p nothing n) there in
       same_use p (page_of f) n first (same_page n (ap (λ (o : Option (List ℕ)). is_some o) (in_use-read p nothing n page.0 page.1)))) d.holds in
-      let holds : HoldsTables (in_use (page_of f) nothing) (root_of (page_of f) nothing) d.tables = subst (λ (r : ℕ). HoldsTables (in_use (page_of f) nothing) r d.tables) (sym (ap root_in first)) kept in
+      let holds : database.HoldsDatabase (in_use (page_of f) nothing) (root_of (page_of f) nothing) d.tables = subst (λ (r : ℕ). database.HoldsDatabase (in_use (page_of f) nothing) r d.tables) (sym (ap root_in first)) kept in
       record {
         header = header;
         whole = record { first = w.first; there = stored 0 w.first w.there; fits = record { header = w.says; bounds = w.bounds; size = fits } };
         is = is_database read rise (page_of f) nothing d.tables whole holds;
-        shows = ap database_of (read (in_use (page_of f) nothing) (root_of (page_of f) nothing) d.tables (λ n there. in_use-bounded (page_of f) nothing n there) holds ∙ sym d.read);
+        shows = ap database_of (read (in_use (page_of f) nothing) (root_of (page_of f) nothing) (database.rows_of_tables d.tables) (λ n there. in_use-bounded (page_of f) nothing n there)
+            (as_tables (in_use (page_of f) nothing) (root_of (page_of f) nothing) d.tables holds) ∙ sym d.read);
       }
 
 pub closed_holds : {A E : Type 0} → TheyStay → TheyAreRead → TheyRise → (result : Result A E) (honest : Bool) (bytes : A → List ℕ) (p : PageMap)

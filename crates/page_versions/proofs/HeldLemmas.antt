@@ -14,22 +14,24 @@ use Rattle.overlay.specs.Whole.{IsWhole, HasRoot}
 use Rattle.btree_read.specs.declared.entry.Entry.{Entry}
 use Rattle.btree_read.specs.Nodes.{Node, HasNode}
 use Rattle.btree_read.specs.Tree.{Tree, page_of, nodes_of, Holds, IsTree, IsTreeOf}
-use Rattle.page_tables.specs.Held.{TableAt, HoldsTables, contents_of}
-use Rattle.page_tables.specs.Changed.{TablesWritten}
+use Rattle.page_tables.specs.Held as plain
+use Rattle.page_database.specs.Held.{TableAt, rows_of_tables, HoldsDatabase, contents_of}
+use Rattle.page_database.specs.Changed.{DatabaseWritten}
+use Rattle.page_database.proofs.DatabaseLemmas.{as_tables}
 use Rattle.page_contents.specs.Contents.{contents_at}
 use Rattle.page_versions.specs.Changed.{IsNow}
 use Rattle.page_versions.specs.Databases.{root_in, root_of, contents_in, IsDatabase}
 
--- ---- what the laws of tables say
+-- ---- what the laws of databases and tables say
 
 abbrev pub TheyStay : Type 0
-TheyStay = (old new : PageMap) (root : ℕ) (tables : List TableAt) → ((n : ℕ) → IsSome (old n) → new n ≡ old n) → HoldsTables old root tables → HoldsTables new root tables
+TheyStay = (old new : PageMap) (root : ℕ) (tables : List TableAt) → ((n : ℕ) → IsSome (old n) → new n ≡ old n) → HoldsDatabase old root tables → HoldsDatabase new root tables
 
 abbrev pub TheyAreRead : Type 0
-TheyAreRead = (pages : PageMap) (root : ℕ) (tables : List TableAt) → ((n : ℕ) → IsSome (pages n) → (0 < n) × (n < 65536)) → HoldsTables pages root tables → contents_at pages root ≡ contents_of tables
+TheyAreRead = (pages : PageMap) (root : ℕ) (tables : List plain.TableAt) → ((n : ℕ) → IsSome (pages n) → (0 < n) × (n < 65536)) → plain.HoldsTables pages root tables → contents_at pages root ≡ plain.contents_of tables
 
 abbrev pub TheyRise : Type 0
-TheyRise = (pages : PageMap) (root : ℕ) (tables : List TableAt) (name : Name) (table : StoredTable) → HoldsTables pages root tables → get (contents_of tables) name ≡ Some table → Rises table.entries
+TheyRise = (pages : PageMap) (root : ℕ) (tables : List plain.TableAt) (name : Name) (table : StoredTable) → plain.HoldsTables pages root tables → get (plain.contents_of tables) name ≡ Some table → Rises table.entries
 
 -- ---- the root
 
@@ -44,9 +46,9 @@ pub named_root : (o : Option (List ℕ)) (root : ℕ) (first : List ℕ) → o �
 named_root None root first there has = absurd (cc)
 named_root (Some page) root first there has = has
 
--- a root at which tables are held is 0, or a page in use
-pub root_there : (pages : PageMap) (root : ℕ) (tables : List TableAt) → HoldsTables pages root tables → (root ≡ 0) ⊎ IsSome (pages root)
-root_there pages root tables h = by root h.owned _ h.schema.tree
+-- a root at which a database is held is 0, or a page in use
+pub root_there : (pages : PageMap) (root : ℕ) (tables : List TableAt) → HoldsDatabase pages root tables → (root ≡ 0) ⊎ IsSome (pages root)
+root_there pages root tables h = by root h.owned _ h.trees.each.0.tree
   where
     node_there : (page : ℕ) (node : Node) → HasNode pages page node → IsSome (pages page)
     node_there page node h = ap (λ (o : Option (List ℕ)). is_some o) h.there
@@ -61,21 +63,21 @@ root_there pages root tables h = by root h.owned _ h.schema.tree
 
 -- ---- a database
 
-pub is_database : TheyAreRead → TheyRise → (version written : PageMap) (tables : List TableAt) → IsWhole (over written version) → HoldsTables (in_use version written) (root_of version written) tables
+pub is_database : TheyAreRead → TheyRise → (version written : PageMap) (tables : List TableAt) → IsWhole (over written version) → HoldsDatabase (in_use version written) (root_of version written) tables
     → IsDatabase version written
 is_database read rise version written tables whole holds = record {
   whole = whole;
   tables = tables;
   holds = holds;
-  read = read (in_use version written) (root_of version written) tables (λ n there. in_use-bounded version written n there) holds;
-  rise = λ name table e. rise (in_use version written) (root_of version written) tables name table holds e;
+  read = read (in_use version written) (root_of version written) (rows_of_tables tables) (λ n there. in_use-bounded version written n there) (as_tables (in_use version written) (root_of version written) tables holds);
+  rise = λ name table e. rise (in_use version written) (root_of version written) (rows_of_tables tables) name table (as_tables (in_use version written) (root_of version written) tables holds) e;
 }
 
 pub becomes : TheyStay → TheyAreRead → TheyRise → (version written next : PageMap) (root : ℕ) (contents : Contents) → ((n : ℕ) → in_use version next n ≡ in_use version written n)
-    → HasRoot (over next version 0) root → IsWhole (over next version) → TablesWritten (in_use version written) contents root → IsNow version next contents
+    → HasRoot (over next version 0) root → IsWhole (over next version) → DatabaseWritten (in_use version written) contents root → IsNow version next contents
 becomes stay read rise version written next root contents same has whole put =
     let is_root : root_of version next ≡ root = named_root (over next version 0) root whole.1.first whole.1.there has in
-    let holds : HoldsTables (in_use version next) (root_of version next) put.tables = subst (λ (r : ℕ). HoldsTables (in_use version next) r put.tables) (sym is_root)
+    let holds : HoldsDatabase (in_use version next) (root_of version next) put.tables = subst (λ (r : ℕ). HoldsDatabase (in_use version next) r put.tables) (sym is_root)
     (stay (in_use version written) (in_use version next) root put.tables (λ n there. same n) put.holds) in
     let is : IsDatabase version next = is_database read rise version next put.tables whole holds in
-    record { is = is; shows = read (in_use version next) (root_of version next) put.tables (λ n there. in_use-bounded version next n there) holds ∙ put.shows }
+    record { is = is; shows = read (in_use version next) (root_of version next) (rows_of_tables put.tables) (λ n there. in_use-bounded version next n there) (as_tables (in_use version next) (root_of version next) put.tables holds) ∙ put.shows }

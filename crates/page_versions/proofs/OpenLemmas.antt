@@ -23,7 +23,8 @@ use Rattle.overlay.specs.Bounded.{in_use-bounded}
 use Rattle.overlay.specs.InUse.{in_use}
 use Rattle.overlay.specs.Whole.{IsWhole, HasFreeList}
 use Rattle.overlay.proofs.LayerLemmas.{only_apart}
-use Rattle.page_tables.specs.Held.{TableAt, HoldsTables, contents_of}
+use Rattle.page_database.specs.Held as database
+use Rattle.page_database.proofs.DatabaseLemmas.{as_tables}
 use Rattle.page_versions.specs.Databases.{nothing, root_of, contents_in, IsDatabase}
 use Rattle.page_versions.specs.Opened.{Begins}
 use Rattle.page_versions.specs.Refusals.{of_open}
@@ -42,7 +43,7 @@ abbrev pub new_header : FileHeader
 new_header = record { page_count = 1; first_free = 0; catalog_root = 0 }
 
 abbrev pub TheyBegin : Type 0
-TheyBegin = (pages : PageMap) → HoldsTables pages 0 []
+TheyBegin = (pages : PageMap) → database.HoldsDatabase pages 0 []
 
 first_whole : (first : List ℕ) → IsHeader first new_header → IsWhole (only 0 first)
 first_whole first says = (
@@ -67,21 +68,22 @@ first_whole first says = (
     above : (n : ℕ) → 1 ≤ n → n ≢ 0
     above n behind = omega (arith, behind)
 
-first_holds : TheyBegin → (first : List ℕ) → IsHeader first new_header → HoldsTables (in_use (only 0 first) nothing) (root_of (only 0 first) nothing) []
-first_holds begin first says = subst (λ (r : ℕ). HoldsTables (in_use (only 0 first) nothing) r []) (sym says.catalog_root) (begin (in_use (only 0 first) nothing))
+first_holds : TheyBegin → (first : List ℕ) → IsHeader first new_header → database.HoldsDatabase (in_use (only 0 first) nothing) (root_of (only 0 first) nothing) []
+first_holds begin first says = subst (λ (r : ℕ). database.HoldsDatabase (in_use (only 0 first) nothing) r []) (sym says.catalog_root) (begin (in_use (only 0 first) nothing))
 
 first_database : TheyBegin → TheyAreRead → TheyRise → (first : List ℕ) → IsHeader first new_header → IsDatabase (only 0 first) nothing
 first_database begin read rise first says = is_database read rise (only 0 first) nothing [] (first_whole first says) (first_holds begin first says)
 
-first_shows : TheyBegin → TheyAreRead → contents_of [] ≡ empty → (first : List ℕ) → IsHeader first new_header → database_of (contents_in (only 0 first) nothing) ≡ empty
+first_shows : TheyBegin → TheyAreRead → database.contents_of [] ≡ empty → (first : List ℕ) → IsHeader first new_header → database_of (contents_in (only 0 first) nothing) ≡ empty
 first_shows begin read none first says =
-    ap database_of (read (in_use (only 0 first) nothing) (root_of (only 0 first) nothing) [] (λ n there. in_use-bounded (only 0 first) nothing n there) (first_holds begin first says) ∙ none) ∙ database-empty
+    ap database_of (read (in_use (only 0 first) nothing) (root_of (only 0 first) nothing) [] (λ n there. in_use-bounded (only 0 first) nothing n there)
+    (as_tables (in_use (only 0 first) nothing) (root_of (only 0 first) nothing) [] (first_holds begin first says)) ∙ none) ∙ database-empty
 
 -- nothing lies on an empty device
 no_page : (bytes first : List ℕ) → bytes ≡ [] → page_of bytes 0 ≡ Some first → ⊥
 no_page bytes first none e = let bad : None ≡ Some first = sym (ap (λ (f : List ℕ). page_of f 0) none) ∙ e in cc
 
-pub new_begins : TheyBegin → TheyAreRead → TheyRise → contents_of [] ≡ empty → (honest : Bool) (bytes first : List ℕ) (v : Versions) → (IsTrue honest → bytes ≡ []) → IsHeader first new_header
+pub new_begins : TheyBegin → TheyAreRead → TheyRise → database.contents_of [] ≡ empty → (honest : Bool) (bytes first : List ℕ) (v : Versions) → (IsTrue honest → bytes ≡ []) → IsHeader first new_header
     → v.last ≡ 0 → v.pages ≡ (λ c. known honest (only 0 first)) → v.pins ≡ (λ c. 0) → Begins honest bytes v
 new_begins begin read rise none honest bytes first v empty_is says last pages pins = record {
   last = last;

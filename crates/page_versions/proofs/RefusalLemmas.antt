@@ -22,19 +22,17 @@ use Rattle.pool.specs.Pages.{PageMap, over}
 use Rattle.pool.specs.Refused.{IsRefused, IsOfDevice}
 use Rattle.pool.specs.declared.error.PoolError.{PoolError}
 use Rattle.pool.specs.declared.error.PoolError.TheVariants as pool
-use Rattle.catalog.specs.declared.error.ChangeError.{ChangeError}
-use Rattle.catalog.specs.declared.error.ChangeError.TheVariants as change
-use Rattle.catalog.specs.Changed.{MayRefuse as MayRefuseTable}
-use Rattle.tablestore.specs.declared.error.AppendError.{AppendError}
-use Rattle.tablestore.specs.declared.error.AppendError.TheVariants as append
-use Rattle.tablestore.specs.Appended.{MayRefuse as MayRefuseRows, NumbersEnd}
 use Rattle.overlay.specs.InUse.{in_use}
 use Rattle.overlay.specs.Layers.{size_of}
 use Rattle.overlay.specs.Whole.{IsWhole, IsSaid, AtLimit}
-use Rattle.page_tables.specs.Held.{TableAt, HoldsTables, contents_of}
-use Rattle.page_tables.specs.Changed.{HoldsNoTablesIn}
+use Rattle.page_tables.specs.Held as plain
+use Rattle.page_database.specs.declared.error.DatabaseError.{DatabaseError}
+use Rattle.page_database.specs.declared.error.DatabaseError.TheVariants as change
+use Rattle.page_database.specs.Held.{TableAt, rows_of_tables, HoldsDatabase, contents_of}
+use Rattle.page_database.specs.Changed.{HoldsNoDatabaseIn, SpaceRefused, StoringReaches as StoringReachesIn, NumberingReaches}
+use Rattle.page_database.proofs.DatabaseLemmas.{as_tables}
 use Rattle.page_versions.specs.Databases.{root_of, contents_in, known_contents, IsDatabase}
-use Rattle.page_versions.specs.Refusals.{of_fault, of_pool, of_change, of_append, IsReached, IsCounted, RowsReach}
+use Rattle.page_versions.specs.Refusals.{of_fault, of_pool, of_change, of_rows, IsReached, IsCounted, RowsReach}
 use Rattle.page_versions.proofs.HeldLemmas.{root_is}
 
 risen_on : (top k m n : ℕ) → k ≤ m → min (m + 1) top ≤ n → min (k + 1) top ≤ n
@@ -59,32 +57,37 @@ header_fails version written reached k n f h = read_fails (IsDatabase version wr
     said : (o : Option (List ℕ)) (first : List ℕ) (header : FileHeader) → o ≡ Some first → IsSaid (Some first) header → IsSaid o header
     said o first header there is = subst (λ (p : Option (List ℕ)). IsSaid p header) (sym there) is
 
--- tables are held at the root that the header names
+-- a database is held at the root that the header names
 pub held_at : (version written : PageMap) (header : FileHeader) → ((first : List ℕ) → over written version 0 ≡ Some first → IsHeader first header) → (d : IsDatabase version written)
-    → HoldsTables (in_use version written) header.catalog_root d.tables
-held_at version written header says d = subst (λ (r : ℕ). HoldsTables (in_use version written) r d.tables) (root_is version written header says d.whole) d.holds
+    → HoldsDatabase (in_use version written) header.catalog_root d.tables
+held_at version written header says d = subst (λ (r : ℕ). HoldsDatabase (in_use version written) r d.tables) (root_is version written header says d.whole) d.holds
+
+pub tables_held_at : (version written : PageMap) (header : FileHeader) → ((first : List ℕ) → over written version 0 ≡ Some first → IsHeader first header) → (d : IsDatabase version written)
+    → plain.HoldsTables (in_use version written) header.catalog_root (rows_of_tables d.tables)
+tables_held_at version written header says d = as_tables (in_use version written) header.catalog_root d.tables (held_at version written header says d)
 
 pub tables_fail : (version written : PageMap) (header : FileHeader) (reached : StoreLimit → Type 0) (k m n : ℕ) (f : Fault)
     → ((first : List ℕ) → over written version 0 ≡ Some first → IsHeader first header) → k ≤ m
-    → ReadRefused ((tables : List TableAt) → HoldsTables (in_use version written) header.catalog_root tables → ⊥) m n f → MayFail (IsDatabase version written) k n reached (of_fault f)
+    → ReadRefused ((tables : List plain.TableAt) → plain.HoldsTables (in_use version written) header.catalog_root tables → ⊥) m n f → MayFail (IsDatabase version written) k n reached (of_fault f)
 tables_fail version written header reached k m n f says less h =
-    read_fails (IsDatabase version written) ((tables : List TableAt) → HoldsTables (in_use version written) header.catalog_root tables → ⊥) reached k m n f less
-    (λ d harm. harm d.tables (held_at version written header says d)) h
+    read_fails (IsDatabase version written) ((tables : List plain.TableAt) → plain.HoldsTables (in_use version written) header.catalog_root tables → ⊥) reached k m n f less
+    (λ d harm. harm (rows_of_tables d.tables) (tables_held_at version written header says d)) h
 
 -- ---- changes
 
-pub rows_refused : (version written fresh settled : PageMap) (header : FileHeader) (k m n : ℕ) (name : Name) (rows : List Row) (error : AppendError)
-    → ((first : List ℕ) → over written version 0 ≡ Some first → IsHeader first header) → k ≤ m
-    → ((tables : List TableAt) → HoldsTables (in_use version written) header.catalog_root tables → NumbersEnd (entries_of (get (contents_of tables) name)) (length rows) error)
-    → MayRefuseRows (AtLimit (over (over fresh settled) version 0) (size_of (over fresh settled))) (HoldsNoTablesIn (in_use version written) header.catalog_root (IsWhole (over written version))) m n rows error
-    → MayFail (IsDatabase version written) k n (RowsReach (IsCounted (IsDatabase version written) version settled) (get (contents_in version written) name) rows) (of_append error)
-rows_refused version written fresh settled header k m n name rows (append.Space fault.Memory) says less numbers h = tt
-rows_refused version written fresh settled header k m n name rows (append.Space fault.Disk) says less numbers h = has_risen k m n less h
-rows_refused version written fresh settled header k m n name rows (append.Space fault.Damaged) says less numbers h = λ d. h d.tables (held_at version written header says d) d.whole
-rows_refused version written fresh settled header k m n name rows (append.Space fault.Pages) says less numbers h = inl (inr (fresh, h))
-rows_refused version written fresh settled header k m n name rows (append.Space fault.Private) says less numbers h = inr (fresh, h)
-rows_refused version written fresh settled header k m n name rows append.Record says less numbers h = h
-rows_refused version written fresh settled header k m n name rows append.Number says less numbers h =
+pub rows_refused : (version written fresh settled : PageMap) (header : FileHeader) (k m n : ℕ) (name : Name) (rows : List Row) (error : DatabaseError)
+    → ((first : List ℕ) → over written version 0 ≡ Some first → IsHeader first header) → k ≤ m → NumberingReaches (in_use version written) header.catalog_root name rows error
+    → SpaceRefused (AtLimit (over (over fresh settled) version 0) (size_of (over fresh settled))) (HoldsNoDatabaseIn (in_use version written) header.catalog_root (IsWhole (over written version))) m n error
+    → MayFail (IsDatabase version written) k n (RowsReach (IsCounted (IsDatabase version written) version settled) (get (contents_in version written) name) rows) (of_rows error)
+rows_refused version written fresh settled header k m n name rows (change.Space fault.Memory) says less numbers h = tt
+rows_refused version written fresh settled header k m n name rows (change.Space fault.Disk) says less numbers h = has_risen k m n less h
+rows_refused version written fresh settled header k m n name rows (change.Space fault.Damaged) says less numbers h = λ d. h d.tables (held_at version written header says d) d.whole
+rows_refused version written fresh settled header k m n name rows (change.Space fault.Pages) says less numbers h = inl (inr (fresh, h))
+rows_refused version written fresh settled header k m n name rows (change.Space fault.Private) says less numbers h = inr (fresh, h)
+rows_refused version written fresh settled header k m n name rows change.Record says less numbers h = numbers
+rows_refused version written fresh settled header k m n name rows change.Key says less numbers h = tt
+rows_refused version written fresh settled header k m n name rows change.Schema says less numbers h = tt
+rows_refused version written fresh settled header k m n name rows change.Number says less numbers h =
     by (next_number (entries_of (get (contents_in version written) name)) + length rows) (2 ^ 63)
     (λ d. subst (λ (c : Contents). 2 ^ 63 < next_number (entries_of (get c name)) + length rows) (sym d.read) (numbers d.tables (held_at version written header says d)))
   where
@@ -95,9 +98,17 @@ rows_refused version written fresh settled header k m n name rows append.Number 
         which (inl more) = inr more
         which (inr most) = inl (inl (λ d. let more = above d in omega (arith, more, most)))
 
-pub table_refused : (version written fresh settled : PageMap) (header : FileHeader) (k m n : ℕ) (error : ChangeError)
+-- where no number is given, none is refused
+pub as_numbering : (pages : PageMap) (root : ℕ) (name : Name) (rows : List Row) (error : DatabaseError) → StoringReachesIn pages root name rows error → NumberingReaches pages root name rows error
+as_numbering pages root name rows (change.Space f) h = tt
+as_numbering pages root name rows change.Record h = h
+as_numbering pages root name rows change.Key h = h
+as_numbering pages root name rows change.Number h = absurd h
+as_numbering pages root name rows change.Schema h = tt
+
+pub table_refused : (version written fresh settled : PageMap) (header : FileHeader) (k m n : ℕ) (error : DatabaseError)
     → ((first : List ℕ) → over written version 0 ≡ Some first → IsHeader first header) → k ≤ m
-    → MayRefuseTable (AtLimit (over (over fresh settled) version 0) (size_of (over fresh settled))) (HoldsNoTablesIn (in_use version written) header.catalog_root (IsWhole (over written version))) m n error
+    → SpaceRefused (AtLimit (over (over fresh settled) version 0) (size_of (over fresh settled))) (HoldsNoDatabaseIn (in_use version written) header.catalog_root (IsWhole (over written version))) m n error
     → MayFail (IsDatabase version written) k n (ChangingReaches (IsCounted (IsDatabase version written) version settled)) (of_change error)
 table_refused version written fresh settled header k m n (change.Space fault.Memory) says less h = tt
 table_refused version written fresh settled header k m n (change.Space fault.Disk) says less h = has_risen k m n less h
@@ -106,6 +117,8 @@ table_refused version written fresh settled header k m n (change.Space fault.Pag
 table_refused version written fresh settled header k m n (change.Space fault.Private) says less h = inr (fresh, h)
 table_refused version written fresh settled header k m n change.Record says less h = tt
 table_refused version written fresh settled header k m n change.Key says less h = tt
+table_refused version written fresh settled header k m n change.Number says less h = tt
+table_refused version written fresh settled header k m n change.Schema says less h = tt
 
 -- a refusal of the last step, where the step before it was carried out
 pub root_refused : (version written fresh settled : PageMap) (harm : Type 0) (sound : Type 0) (reached : StoreLimit → Type 0) (k m n : ℕ) (f : Fault) → k ≤ m → (sound → harm → ⊥)

@@ -1,5 +1,5 @@
 -- One step of a call after another, over the same version.
-use Rattle.std.proofs.Common.{◌≡◌, ◌∙◌, ℕ, ◌≤◌, List, length, Some, refl, sym, ap, subst, ◌⊎◌, inl, inr}
+use Rattle.std.proofs.Common.{◌≡◌, ◌∙◌, ℕ, ◌≤◌, List, Some, refl, sym, ap, subst, ◌⊎◌, inl, inr}
 use Rattle.std.specs.FinMap.{get}
 use Rattle.denote.specs.Database.{Name}
 use Rattle.sqlval.specs.Value.{Row}
@@ -8,7 +8,6 @@ use Rattle.store.specs.declared.error.StoreLimit.{StoreLimit}
 use Rattle.store.specs.declared.error.StoreLimit.TheVariants as limit
 use Rattle.store.specs.Contents.{Contents}
 use Rattle.store.specs.Errors.{MayFail, ChangingReaches}
-use Rattle.store.specs.Indexes.{entries_of}
 use Rattle.pagefile.specs.declared.header.FileHeader.{FileHeader}
 use Rattle.pagefile.specs.Header.{IsHeader}
 use Rattle.page_space.specs.Space.{ReadRefused, ChangeRefused}
@@ -19,16 +18,14 @@ use Rattle.pool.specs.Versions.{Versions}
 use Rattle.overlay.specs.InUse.{in_use}
 use Rattle.overlay.specs.Layers.{size_of}
 use Rattle.overlay.specs.Whole.{IsWhole, AtLimit}
-use Rattle.catalog.specs.declared.error.ChangeError.{ChangeError}
-use Rattle.catalog.specs.Changed.{MayRefuse as MayRefuseTable}
-use Rattle.tablestore.specs.declared.error.AppendError.{AppendError}
-use Rattle.tablestore.specs.Appended.{MayRefuse as MayRefuseRows, NumbersEnd}
-use Rattle.page_tables.specs.Held.{TableAt, HoldsTables, HoldsNoTables, contents_of}
-use Rattle.page_tables.specs.Changed.{TablesWritten, HoldsNoTablesIn}
+use Rattle.page_tables.specs.Held as plain
+use Rattle.page_database.specs.declared.error.DatabaseError.{DatabaseError}
+use Rattle.page_database.specs.Held.{TableAt, rows_of_tables, HoldsDatabase, HoldsNoDatabase, contents_of}
+use Rattle.page_database.specs.Changed.{DatabaseWritten, HoldsNoDatabaseIn, SpaceRefused, NumberingReaches}
 use Rattle.page_versions.specs.Changed.{IsNow}
 use Rattle.page_versions.specs.Databases.{contents_in, IsDatabase}
-use Rattle.page_versions.specs.Refusals.{of_fault, of_append, of_change, IsReached, IsCounted, RowsReach}
-use Rattle.page_versions.proofs.RefusalLemmas.{held_at, tables_fail, rows_refused, table_refused, root_refused}
+use Rattle.page_versions.specs.Refusals.{of_fault, of_rows, of_change, IsReached, IsCounted, RowsReach}
+use Rattle.page_versions.proofs.RefusalLemmas.{held_at, tables_held_at, read_fails, tables_fail, rows_refused, table_refused, root_refused}
 
 -- an error that is this one
 pub fails_as : (sound : Type 0) (k n : ℕ) (reached : StoreLimit → Type 0) (error other : StoreError) → error ≡ other → MayFail sound k n reached other → MayFail sound k n reached error
@@ -40,64 +37,73 @@ Says version written header = (first : List ℕ) → over written version 0 ≡ 
 -- ---- reads
 
 pub read_of : (P : Contents → Type 0) (version next written : PageMap) (header : FileHeader) → Says version written header → next ≡ version
-    → ((tables : List TableAt) → HoldsTables (in_use next written) header.catalog_root tables → P (contents_of tables)) → IsDatabase version written → P (contents_in version written)
+    → ((tables : List plain.TableAt) → plain.HoldsTables (in_use next written) header.catalog_root tables → P (plain.contents_of tables)) → IsDatabase version written → P (contents_in version written)
 read_of P version next written header says same read d =
-    subst P (sym d.read) (read d.tables (subst (λ (v : PageMap). HoldsTables (in_use v written) header.catalog_root d.tables) (sym same) (held_at version written header says d)))
+    subst P (sym d.read) (read (rows_of_tables d.tables) (subst (λ (v : PageMap). plain.HoldsTables (in_use v written) header.catalog_root (rows_of_tables d.tables)) (sym same) (tables_held_at version written header says d)))
 
 pub tables_fail_at : (version next written : PageMap) (header : FileHeader) (reached : StoreLimit → Type 0) (k m n : ℕ) (f : Fault) (error : StoreError) → error ≡ of_fault f → Says version written header → next ≡ version → k ≤ m
-    → ReadRefused (HoldsNoTables (in_use next written) header.catalog_root) m n f → MayFail (IsDatabase version written) k n reached error
+    → ReadRefused (plain.HoldsNoTables (in_use next written) header.catalog_root) m n f → MayFail (IsDatabase version written) k n reached error
 tables_fail_at version next written header reached k m n f error is says same less h =
     fails_as (IsDatabase version written) k n reached error (of_fault f) is
-    (tables_fail version written header reached k m n f says less (subst (λ (v : PageMap). ReadRefused (HoldsNoTables (in_use v written) header.catalog_root) m n f) same h))
+    (tables_fail version written header reached k m n f says less (subst (λ (v : PageMap). ReadRefused (plain.HoldsNoTables (in_use v written) header.catalog_root) m n f) same h))
+
+-- by its indexes
+pub read_database : (P : Contents → Type 0) (version next written : PageMap) (header : FileHeader) → Says version written header → next ≡ version
+    → ((tables : List TableAt) → HoldsDatabase (in_use next written) header.catalog_root tables → P (contents_of tables)) → IsDatabase version written → P (contents_in version written)
+read_database P version next written header says same read d =
+    subst P (sym d.read) (read d.tables (subst (λ (v : PageMap). HoldsDatabase (in_use v written) header.catalog_root d.tables) (sym same) (held_at version written header says d)))
+
+pub database_fail_at : (version next written : PageMap) (header : FileHeader) (reached : StoreLimit → Type 0) (k m n : ℕ) (f : Fault) (error : StoreError) → error ≡ of_fault f → Says version written header → next ≡ version → k ≤ m
+    → ReadRefused (HoldsNoDatabase (in_use next written) header.catalog_root) m n f → MayFail (IsDatabase version written) k n reached error
+database_fail_at version next written header reached k m n f error is says same less h =
+    fails_as (IsDatabase version written) k n reached error (of_fault f) is
+    (read_fails (IsDatabase version written) (HoldsNoDatabase (in_use version written) header.catalog_root) reached k m n f less (λ d harm. harm d.tables (held_at version written header says d))
+    (subst (λ (v : PageMap). ReadRefused (HoldsNoDatabase (in_use v written) header.catalog_root) m n f) same h))
 
 -- ---- changes
 
 module _ (change : Contents → Contents) (v0 v1 v2 written mid : PageMap) (header : FileHeader) (top : ℕ) (says : Says v0 written header) (first : v1 ≡ v0) (second : v2 ≡ v1)
-    (made : (tables : List TableAt) → HoldsTables (in_use v1 written) header.catalog_root tables → TablesWritten (in_use v1 mid) (change (contents_of tables)) top)
+    (made : (tables : List TableAt) → HoldsDatabase (in_use v1 written) header.catalog_root tables → DatabaseWritten (in_use v1 mid) (change (contents_of tables)) top)
     (whole : IsWhole (over written v1) → IsWhole (over mid v1)) where
   whole_now : IsDatabase v0 written → IsWhole (over mid v2)
   whole_now d = subst (λ (v : PageMap). IsWhole (over mid v)) (sym second) (whole (subst (λ (v : PageMap). IsWhole (over written v)) (sym first) d.whole))
 
-  put_now : (d : IsDatabase v0 written) → TablesWritten (in_use v2 mid) (change (contents_in v0 written)) top
-  put_now d = subst (λ (v : PageMap). TablesWritten (in_use v mid) (change (contents_in v0 written)) top) (sym second)
-      (subst (λ (c : Contents). TablesWritten (in_use v1 mid) (change c) top) (sym d.read)
-      (made d.tables (subst (λ (v : PageMap). HoldsTables (in_use v written) header.catalog_root d.tables) (sym first) (held_at v0 written header says d))))
+  put_now : (d : IsDatabase v0 written) → DatabaseWritten (in_use v2 mid) (change (contents_in v0 written)) top
+  put_now d = subst (λ (v : PageMap). DatabaseWritten (in_use v mid) (change (contents_in v0 written)) top) (sym second)
+      (subst (λ (c : Contents). DatabaseWritten (in_use v1 mid) (change c) top) (sym d.read)
+      (made d.tables (subst (λ (v : PageMap). HoldsDatabase (in_use v written) header.catalog_root d.tables) (sym first) (held_at v0 written header says d))))
 
-  pub changed_of : (next : PageMap) → ((contents : Contents) → IsWhole (over mid v2) → TablesWritten (in_use v2 mid) contents top → IsNow v2 next contents) → IsDatabase v0 written → IsNow v0 next (change (contents_in v0 written))
+  pub changed_of : (next : PageMap) → ((contents : Contents) → IsWhole (over mid v2) → DatabaseWritten (in_use v2 mid) contents top → IsNow v2 next contents) → IsDatabase v0 written → IsNow v0 next (change (contents_in v0 written))
   changed_of next put d = subst (λ (v : PageMap). IsNow v next (change (contents_in v0 written))) (second ∙ first) (put (change (contents_in v0 written)) (whole_now d) (put_now d))
 
   pub root_fails : (fresh now_settled settled : PageMap) (reached : StoreLimit → Type 0) (k m n : ℕ) (f : Fault) (error : StoreError) → error ≡ of_fault f → k ≤ m → now_settled ≡ settled
       → (IsReached v0 settled fault.Pages → reached limit.Pages) → (IsReached v0 settled fault.Private → reached limit.Private)
-      → ChangeRefused (AtLimit (over (over fresh now_settled) v2 0) (size_of (over fresh now_settled))) ((contents : Contents) → IsWhole (over mid v2) → TablesWritten (in_use v2 mid) contents top → ⊥) m n f
+      → ChangeRefused (AtLimit (over (over fresh now_settled) v2 0) (size_of (over fresh now_settled))) ((contents : Contents) → IsWhole (over mid v2) → DatabaseWritten (in_use v2 mid) contents top → ⊥) m n f
       → MayFail (IsDatabase v0 written) k n reached error
   root_fails fresh now_settled settled reached k m n f error is less same pages private h =
       fails_as (IsDatabase v0 written) k n reached error (of_fault f) is
-      (root_refused v0 mid fresh settled ((contents : Contents) → IsWhole (over mid v2) → TablesWritten (in_use v2 mid) contents top → ⊥) (IsDatabase v0 written) reached k m n f less
+      (root_refused v0 mid fresh settled ((contents : Contents) → IsWhole (over mid v2) → DatabaseWritten (in_use v2 mid) contents top → ⊥) (IsDatabase v0 written) reached k m n f less
       (λ d never. never (change (contents_in v0 written)) (whole_now d) (put_now d)) pages private
-      (subst (λ (v : PageMap). ChangeRefused (AtLimit (over (over fresh settled) v 0) (size_of (over fresh settled))) ((contents : Contents) → IsWhole (over mid v2) → TablesWritten (in_use v2 mid) contents top → ⊥) m n f) (second ∙ first)
-      (subst (λ (s : PageMap). ChangeRefused (AtLimit (over (over fresh s) v2 0) (size_of (over fresh s))) ((contents : Contents) → IsWhole (over mid v2) → TablesWritten (in_use v2 mid) contents top → ⊥) m n f) same h)))
+      (subst (λ (v : PageMap). ChangeRefused (AtLimit (over (over fresh settled) v 0) (size_of (over fresh settled))) ((contents : Contents) → IsWhole (over mid v2) → DatabaseWritten (in_use v2 mid) contents top → ⊥) m n f) (second ∙ first)
+      (subst (λ (s : PageMap). ChangeRefused (AtLimit (over (over fresh s) v2 0) (size_of (over fresh s))) ((contents : Contents) → IsWhole (over mid v2) → DatabaseWritten (in_use v2 mid) contents top → ⊥) m n f) same h)))
 
-pub rows_fail : (v0 v1 written fresh now_settled settled : PageMap) (header : FileHeader) (k m n : ℕ) (name : Name) (rows : List Row) (cause : AppendError) (error : StoreError) → error ≡ of_append cause
-    → Says v0 written header → v1 ≡ v0 → now_settled ≡ settled → k ≤ m
-    → ((tables : List TableAt) → HoldsTables (in_use v1 written) header.catalog_root tables → NumbersEnd (entries_of (get (contents_of tables) name)) (length rows) cause)
-    → MayRefuseRows (AtLimit (over (over fresh now_settled) v1 0) (size_of (over fresh now_settled))) (HoldsNoTablesIn (in_use v1 written) header.catalog_root (IsWhole (over written v1))) m n rows cause
-    → MayFail (IsDatabase v0 written) k n (RowsReach (IsCounted (IsDatabase v0 written) v0 settled) (get (contents_in v0 written) name) rows) error
-rows_fail v0 v1 written fresh now_settled settled header k m n name rows cause error is says first same less numbers h =
-    fails_as (IsDatabase v0 written) k n (RowsReach (IsCounted (IsDatabase v0 written) v0 settled) (get (contents_in v0 written) name) rows) error (of_append cause) is
-    (rows_refused v0 written fresh settled header k m n name rows cause says less
-    (subst (λ (v : PageMap). (tables : List TableAt) → HoldsTables (in_use v written) header.catalog_root tables → NumbersEnd (entries_of (get (contents_of tables) name)) (length rows) cause) first numbers)
-    (subst (λ (v : PageMap). MayRefuseRows (AtLimit (over (over fresh settled) v 0) (size_of (over fresh settled))) (HoldsNoTablesIn (in_use v written) header.catalog_root (IsWhole (over written v))) m n rows cause) first
-    (subst (λ (s : PageMap). MayRefuseRows (AtLimit (over (over fresh s) v1 0) (size_of (over fresh s))) (HoldsNoTablesIn (in_use v1 written) header.catalog_root (IsWhole (over written v1))) m n rows cause) same h)))
+module _ (v0 v1 written fresh now_settled settled : PageMap) (header : FileHeader) (k m n : ℕ) (cause : DatabaseError) (error : StoreError) (says : Says v0 written header) (first : v1 ≡ v0) (same : now_settled ≡ settled) (less : k ≤ m)
+    (h : SpaceRefused (AtLimit (over (over fresh now_settled) v1 0) (size_of (over fresh now_settled))) (HoldsNoDatabaseIn (in_use v1 written) header.catalog_root (IsWhole (over written v1))) m n cause) where
+  refused_there : SpaceRefused (AtLimit (over (over fresh settled) v0 0) (size_of (over fresh settled))) (HoldsNoDatabaseIn (in_use v0 written) header.catalog_root (IsWhole (over written v0))) m n cause
+  refused_there =
+      subst (λ (v : PageMap). SpaceRefused (AtLimit (over (over fresh settled) v 0) (size_of (over fresh settled))) (HoldsNoDatabaseIn (in_use v written) header.catalog_root (IsWhole (over written v))) m n cause) first
+      (subst (λ (s : PageMap). SpaceRefused (AtLimit (over (over fresh s) v1 0) (size_of (over fresh s))) (HoldsNoDatabaseIn (in_use v1 written) header.catalog_root (IsWhole (over written v1))) m n cause) same h)
 
-pub table_fail : (v0 v1 written fresh now_settled settled : PageMap) (header : FileHeader) (k m n : ℕ) (cause : ChangeError) (error : StoreError) → error ≡ of_change cause
-    → Says v0 written header → v1 ≡ v0 → now_settled ≡ settled → k ≤ m
-    → MayRefuseTable (AtLimit (over (over fresh now_settled) v1 0) (size_of (over fresh now_settled))) (HoldsNoTablesIn (in_use v1 written) header.catalog_root (IsWhole (over written v1))) m n cause
-    → MayFail (IsDatabase v0 written) k n (ChangingReaches (IsCounted (IsDatabase v0 written) v0 settled)) error
-table_fail v0 v1 written fresh now_settled settled header k m n cause error is says first same less h =
-    fails_as (IsDatabase v0 written) k n (ChangingReaches (IsCounted (IsDatabase v0 written) v0 settled)) error (of_change cause) is
-    (table_refused v0 written fresh settled header k m n cause says less
-    (subst (λ (v : PageMap). MayRefuseTable (AtLimit (over (over fresh settled) v 0) (size_of (over fresh settled))) (HoldsNoTablesIn (in_use v written) header.catalog_root (IsWhole (over written v))) m n cause) first
-    (subst (λ (s : PageMap). MayRefuseTable (AtLimit (over (over fresh s) v1 0) (size_of (over fresh s))) (HoldsNoTablesIn (in_use v1 written) header.catalog_root (IsWhole (over written v1))) m n cause) same h)))
+  pub rows_fail : (name : Name) (rows : List Row) → error ≡ of_rows cause → NumberingReaches (in_use v1 written) header.catalog_root name rows cause
+      → MayFail (IsDatabase v0 written) k n (RowsReach (IsCounted (IsDatabase v0 written) v0 settled) (get (contents_in v0 written) name) rows) error
+  rows_fail name rows is numbers =
+      fails_as (IsDatabase v0 written) k n (RowsReach (IsCounted (IsDatabase v0 written) v0 settled) (get (contents_in v0 written) name) rows) error (of_rows cause) is
+      (rows_refused v0 written fresh settled header k m n name rows cause says less (subst (λ (v : PageMap). NumberingReaches (in_use v written) header.catalog_root name rows cause) first numbers) refused_there)
+
+  pub table_fail : error ≡ of_change cause → MayFail (IsDatabase v0 written) k n (ChangingReaches (IsCounted (IsDatabase v0 written) v0 settled)) error
+  table_fail is =
+      fails_as (IsDatabase v0 written) k n (ChangingReaches (IsCounted (IsDatabase v0 written) v0 settled)) error (of_change cause) is
+      (table_refused v0 written fresh settled header k m n cause says less refused_there)
 
 -- the same commit of the same versions
 pub same_pages : (v w : Versions) (at now : ℕ) → w ≡ v → now ≡ at → w.pages now ≡ v.pages at

@@ -7,7 +7,7 @@ use Rattle.pagefile.specs.Number.{number_at}
 use Rattle.pool.specs.Pages.{PageMap, over}
 use Rattle.overlay.specs.InUse.{in_use}
 use Rattle.overlay.specs.Whole.{IsWhole}
-use Rattle.page_tables.specs.Held.{TableAt, HoldsTables, contents_of}
+use Rattle.page_database.specs.Held.{TableAt, HoldsDatabase, contents_of}
 use Rattle.page_contents.specs.Contents.{contents_at}
 
 -- no page
@@ -31,10 +31,10 @@ abbrev pub known_contents : Bool → PageMap → PageMap → Contents
 known_contents true version written = contents_in version written
 known_contents false version written = empty
 
--- The list of free pages is one, and the pages in use hold tables, which are those that lie there; the numbers of rows rise.
+-- The list of free pages is one, and the pages in use hold a database, whose tables are those that lie there; the numbers of rows rise.
 pub record IsDatabase (version written : PageMap) : Type 0 where
   pub whole : IsWhole (over written version)
   pub tables : List TableAt
-  pub holds : HoldsTables (in_use version written) (root_of version written) tables
+  pub holds : HoldsDatabase (in_use version written) (root_of version written) tables
   pub read : contents_in version written ≡ contents_of tables
   pub rise : (name : Name) (table : StoredTable) → get (contents_of tables) name ≡ Some table → Rises table.entries

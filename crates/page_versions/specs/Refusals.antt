@@ -15,10 +15,8 @@ use Rattle.pagefile.specs.declared.error.OpenError.{OpenError}
 use Rattle.pagefile.specs.declared.error.OpenError.TheVariants as opening
 use Rattle.pool.specs.declared.error.PoolError.{PoolError}
 use Rattle.pool.specs.declared.error.PoolError.TheVariants as pool
-use Rattle.catalog.specs.declared.error.ChangeError.{ChangeError}
-use Rattle.catalog.specs.declared.error.ChangeError.TheVariants as change
-use Rattle.tablestore.specs.declared.error.AppendError.{AppendError}
-use Rattle.tablestore.specs.declared.error.AppendError.TheVariants as append
+use Rattle.page_database.specs.declared.error.DatabaseError.{DatabaseError}
+use Rattle.page_database.specs.declared.error.DatabaseError.TheVariants as change
 use Rattle.overlay.specs.Layers.{size_of}
 use Rattle.overlay.specs.Whole.{AtLimit}
 
@@ -39,16 +37,21 @@ abbrev pub of_open : OpenError → StoreError
 of_open (opening.Device cause) = refused.Device
 of_open opening.Damaged = refused.Damaged
 
--- a record of a schema that is too long counts as want of memory
-abbrev pub of_change : ChangeError → StoreError
+-- a store has no other refusal of a change that stores no row
+abbrev pub of_change : DatabaseError → StoreError
 of_change (change.Space f) = of_fault f
 of_change change.Record = refused.Memory
 of_change change.Key = refused.Memory
+of_change change.Number = refused.Memory
+of_change change.Schema = refused.Memory
 
-abbrev pub of_append : AppendError → StoreError
-of_append (append.Space f) = of_fault f
-of_append append.Record = refused.Exceeded limit.Record
-of_append append.Number = refused.Exceeded limit.Pages
+-- Which indexes there are is not known over a device that is not honest, so that a key is too long counts as want of memory; so does that a record of a schema is.
+abbrev pub of_rows : DatabaseError → StoreError
+of_rows (change.Space f) = of_fault f
+of_rows change.Record = refused.Exceeded limit.Record
+of_rows change.Key = refused.Memory
+of_rows change.Number = refused.Exceeded limit.Pages
+of_rows change.Schema = refused.Memory
 
 -- with some pages written since the mark, the pages are at the limit that a fault names
 abbrev pub IsReached : PageMap → PageMap → Fault → Type 0
@@ -62,7 +65,7 @@ IsCounted sound version settled limit.Kept = ⊥
 IsCounted sound version settled limit.Record = ⊥
 IsCounted sound version settled limit.Key = ⊥
 
--- rows put behind those of a table without trees of its indexes reach a limit
+-- rows that are stored reach a limit; that of keys is not named
 abbrev pub RowsReach : (StoreLimit → Type 0) → Option StoredTable → List Row → StoreLimit → Type 0
 RowsReach counted table rows limit.Record = HasLongRow rows
 RowsReach counted table rows limit.Key = ⊥

@@ -1,12 +1,11 @@
 //! Why a store refuses a call, by the refusals of what it stands on.
 ghost use Rattle.std.specs.Prelude.{◌≡◌};
-ghost use Rattle.page_versions.specs.Refusals.{of_fault, of_pool, of_change, of_append};
+ghost use Rattle.page_versions.specs.Refusals.{of_fault, of_pool, of_change, of_rows};
 
-use catalog::ChangeError;
+use page_database::DatabaseError;
 use page_space::Fault;
 use pool::PoolError;
 use store::{StoreError, StoreLimit};
-use tablestore::AppendError;
 
 pub(crate) fn of_fault(fault: Fault) -> StoreError
     ensures { result ≡ of_fault fault }
@@ -31,23 +30,29 @@ pub fn of_pool(error: PoolError) -> StoreError
     }
 }
 
-/// A record of a schema that is too long counts as want of memory: a store has no other refusal of a new table.
-pub(crate) fn of_change(error: ChangeError) -> StoreError
+/// All but the refusals of the space of pages count as want of memory: a store has no other refusal of a change that stores no row.
+pub(crate) fn of_change(error: DatabaseError) -> StoreError
     ensures { result ≡ of_change error }
 {
     match error {
-        ChangeError::Space(fault) => of_fault(fault),
-        ChangeError::Record => StoreError::Memory,
-        ChangeError::Key => StoreError::Memory,
+        DatabaseError::Space(fault) => of_fault(fault),
+        DatabaseError::Record => StoreError::Memory,
+        DatabaseError::Key => StoreError::Memory,
+        DatabaseError::Number => StoreError::Memory,
+        DatabaseError::Schema => StoreError::Memory,
     }
 }
 
-pub(crate) fn of_append(error: AppendError) -> StoreError
-    ensures { result ≡ of_append error }
+/// A key that is too long counts as want of memory: a store may name that limit only where it is known which indexes there are, and
+/// over a device that is not honest it is not. So does a record of a schema that is too long.
+pub(crate) fn of_rows(error: DatabaseError) -> StoreError
+    ensures { result ≡ of_rows error }
 {
     match error {
-        AppendError::Space(fault) => of_fault(fault),
-        AppendError::Record => StoreError::Exceeded(StoreLimit::Record),
-        AppendError::Number => StoreError::Exceeded(StoreLimit::Pages),
+        DatabaseError::Space(fault) => of_fault(fault),
+        DatabaseError::Record => StoreError::Exceeded(StoreLimit::Record),
+        DatabaseError::Key => StoreError::Memory,
+        DatabaseError::Number => StoreError::Exceeded(StoreLimit::Pages),
+        DatabaseError::Schema => StoreError::Memory,
     }
 }

@@ -8,7 +8,8 @@ ghost use Rattle.page_versions.specs.Saved.{HoldsDatabase};
 
 use disk::Disk;
 use page_contents::contents_are_read;
-use page_tables::{numbers_rise, tables_stay};
+use page_database::database_stays;
+use page_tables::numbers_rise;
 use pool::{CloseRefused, Pool};
 
 /// Writes all that is committed, and hands the device back. A refusal is that of the device, and hands the pool back with all versions as they were.
@@ -18,7 +19,7 @@ pub fn close_pool<D: Disk>(pool: Pool<D>) -> Result<D, CloseRefused<D>>
     ensures versions { IfErr result (λ r. versions_of r.pool ≡ versions_of pool) }
     ensures refusal { IfErr result (λ r. IsOfDevice (D.refused (device_of pool)) (D.refused (device_of r.pool)) r.cause) }
 {
-    tables_stay();
+    database_stays();
     contents_are_read();
     numbers_rise();
     pool.close()

@@ -2,13 +2,18 @@
 #![tactic(auto)]
 
 mod causes;
-mod changing;
 mod closing;
+mod looking;
+mod naming;
 mod opening;
 mod reading;
+mod rows;
+mod schema;
 
 pub use causes::of_pool;
-pub use changing::{append_rows, create_table};
 pub use closing::close_pool;
+pub use looking::{row_beyond, rows_sought, rows_within};
 pub use opening::pool_over;
 pub use reading::{row_after, rows_of, schema_of};
+pub use rows::{append_rows, delete_row, replace_row};
+pub use schema::{create_index, create_table, drop_index, drop_table};

@@ -9,7 +9,8 @@ ghost use Rattle.page_versions.specs.Saved.{IsSaved};
 
 use disk::Disk;
 use page_contents::contents_are_read;
-use page_tables::{no_tables_at_first, numbers_rise};
+use page_database::no_database_at_first;
+use page_tables::numbers_rise;
 use pagefile::{FileHeader, OpenError, PageFile};
 use pool::Pool;
 use std::alloc::Global;
@@ -24,7 +25,7 @@ fn new_pool<D: Disk>(alloc: Global, device: D, frames: u32) -> Result<Pool<D>, R
     ensures left { IfErr result (λ back. back.value ≡ device) }
     ensures refused { IfErr result (λ back. back.error ≡ StoreError.Memory) }
 {
-    no_tables_at_first();
+    no_database_at_first();
     contents_are_read();
     numbers_rise();
     let file = PageFile::over(device);

@@ -2,13 +2,14 @@
 use Rattle.std.proofs.Common.{◌≡◌, ◌∙◌, refl, sym, ap, subst, ℕ, Bool, List, IsTrue}
 use Rattle.std.specs.Ordering.{nat_cmp}
 use Rattle.std.specs.FinMap.{FinMap, get}
-use Rattle.denote.specs.Database.{Name}
+use Rattle.denote.specs.Database.{Name, IndexDeclaration}
 use Rattle.sqlval.specs.Value.{Row}
 use Rattle.store.specs.Contents.{Contents}
-use Rattle.store.specs.Errors.{MayFail, StoringReaches, ChangingReaches}
+use Rattle.store.specs.Errors.{MayFail, StoringReaches, IndexingReaches, ChangingReaches}
 use Rattle.store.specs.declared.error.StoreError.{StoreError}
 use Rattle.store.specs.declared.error.StoreError.TheVariants as refused
 use Rattle.store.specs.declared.error.StoreLimit.{StoreLimit}
+use Rattle.store.specs.declared.error.StoreLimit.TheVariants as limit
 use Rattle.pool.specs.Pages.{PageMap}
 use Rattle.pool.specs.Versions.{Versions}
 use Rattle.pool.specs.declared.error.PoolError.{PoolError}
@@ -20,6 +21,13 @@ use Rattle.page_versions.proofs.RefusalLemmas.{fail_weaker, rows_reach, table_re
 use Rattle.paged.specs.SeenLemmas.{known_is}
 use Rattle.paged.specs.Shown.{stored}
 use Rattle.paged.specs.Sound.{IsSound}
+
+index_reach : (counted : StoreLimit → Type 0) (rows : List Row) (index : IndexDeclaration) (l : StoreLimit) → ChangingReaches counted l → IndexingReaches counted rows index l
+index_reach counted rows index limit.Record h = h
+index_reach counted rows index limit.Key h = absurd h
+index_reach counted rows index limit.Pages h = h
+index_reach counted rows index limit.Private h = h
+index_reach counted rows index limit.Kept h = h
 
 module _ (honest : Bool) (v : Versions) (numbers : FinMap nat_cmp ℕ) (written settled : PageMap) (commits : ℕ) (last : commits ≡ v.last) where
   -- a change of the tables that lie there is one of the tables that are shown
@@ -51,6 +59,16 @@ module _ (honest : Bool) (v : Versions) (numbers : FinMap nat_cmp ℕ) (written 
       (λ s. s.working)
       (λ l reached. table_reach (v.pages v.last) settled (IsDatabase (v.pages v.last) written) (IsSound honest v numbers written settled) (λ s. s.working) l reached)
       (subst (λ (m : ℕ). MayFail (IsDatabase (v.pages m) written) k n (ChangingReaches (IsCounted (IsDatabase (v.pages m) written) (v.pages m) settled)) error) last h)
+
+  -- an index is made
+  pub index_fails : (rows : List Row) (index : IndexDeclaration) (k n : ℕ) (error : StoreError)
+      → MayFail (IsDatabase (v.pages commits) written) k n (ChangingReaches (IsCounted (IsDatabase (v.pages commits) written) (v.pages commits) settled)) error
+      → MayFail (IsSound honest v numbers written settled) k n (IndexingReaches (IsCounted (IsSound honest v numbers written settled) (v.pages v.last) settled) rows index) error
+  index_fails rows index k n error h =
+      fail_weaker (IsSound honest v numbers written settled) (IsSound honest v numbers written settled) k n
+      (ChangingReaches (IsCounted (IsSound honest v numbers written settled) (v.pages v.last) settled))
+      (IndexingReaches (IsCounted (IsSound honest v numbers written settled) (v.pages v.last) settled) rows index) error
+      (λ s. s) (λ l reached. index_reach (IsCounted (IsSound honest v numbers written settled) (v.pages v.last) settled) rows index l reached) (create_fails k n error h)
 
 -- want of memory
 pub memory_fails : (sound : Type 0) (k n : ℕ) (reached : StoreLimit → Type 0) (error : StoreError) (cause : PoolError) → error ≡ of_pool cause → cause ≡ pool.Memory → MayFail sound k n reached error

@@ -5,7 +5,7 @@ use Rattle.pool.specs.Pages.{PageMap, pick, over, known}
 use Rattle.pool.specs.Versions.{Versions}
 use Rattle.overlay.specs.Bounded as bounded
 use Rattle.overlay.specs.InUse.{in_use}
-use Rattle.page_tables.specs.Held.{HoldsTables}
+use Rattle.page_database.specs.Held.{HoldsDatabase}
 use Rattle.page_contents.specs.Contents.{contents_at}
 use Rattle.page_readers.specs.Pinned.{KeepsFound}
 use Rattle.page_versions.specs.Databases.{nothing, root_of, contents_in, known_contents, IsDatabase}
@@ -46,7 +46,7 @@ pub database_committed : (honest : Bool) (base written now : PageMap) → now �
 database_committed true base written now is device first d = subst (λ (p : PageMap). IsDatabase p nothing) (sym is) (record {
   whole = d.whole;
   tables = d.tables;
-  holds = subst (λ (pages : PageMap). HoldsTables pages (root_of base written) d.tables) (sym (use_committed base written first)) d.holds;
+  holds = subst (λ (pages : PageMap). HoldsDatabase pages (root_of base written) d.tables) (sym (use_committed base written first)) d.holds;
   read = contents_committed base written first ∙ d.read;
   rise = d.rise;
 })

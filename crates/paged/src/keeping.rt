@@ -6,7 +6,7 @@ ghost use Rattle.catalog_read.specs.Keepable.{ArePlaces, IsColumn, IsRule, IsCon
 use sqlval::{Column, ColumnType, Constraint, Index, Rule, Table};
 
 /// Places are numbers of 64 bits.
-fn are_places(places: &[usize])
+pub(crate) fn are_places(places: &[usize])
     ensures { ArePlaces places.now }
 {
     for place in places {
@@ -66,12 +66,28 @@ fn are_indexes(indexes: &[Index])
     }
 }
 
-/// Whether a table can be kept: no column is VARCHAR(0), which no text declares. All else is of a table by its types.
+/// Whether no index has a tree yet.
+fn are_new(indexes: &[Index]) -> bool
+    ensures { IsTrue result → AllByRecursion (λ index. index.root ≡ 0) indexes.now }
+{
+    for index in indexes {
+        if index.root != 0 {
+            return false;
+        }
+    }
+    true
+}
+
+/// Whether a table can be kept: no column is VARCHAR(0), which no text declares, and no index has a tree yet. All else is of a table by its types.
 pub(crate) fn is_kept(table: &Table) -> bool
-    ensures { IsTrue result → IsTable table.now }
+    ensures kept { IsTrue result → IsTable table.now }
+    ensures new { IsTrue result → AllByRecursion (λ index. index.root ≡ 0) table.now.indexes }
 {
     let _root = table.root;
     are_constraints(table.constraints.as_slice());
     are_indexes(table.indexes.as_slice());
+    if !are_new(table.indexes.as_slice()) {
+        return false;
+    }
     are_columns(table.columns.as_slice())
 }

@@ -4,15 +4,18 @@ ghost use Rattle.pool.specs.Versions.{versions_of};
 ghost use Rattle.store.specs.View.{count_of};
 ghost use Rattle.paged.specs.Orderly.{IsOrderly};
 
-use crate::keeping::is_kept;
-use crate::seen::{next_seen, rows_seen, schema_seen};
+use crate::keeping::{are_places, is_kept};
+use crate::seen::{beyond_seen, next_seen, ranged_seen, rows_seen, schema_seen, sought_seen};
 use crate::writing::write_some;
 use denote::{Row, Rows};
 use disk::Disk;
 use items::{Items, Text};
 use overlay::Changes;
 use page_readers::{Readers, found_is_pinned};
-use page_versions::{append_rows, close_pool, create_table, of_pool, pool_over};
+use page_versions::{
+    append_rows, close_pool, create_index, create_table, delete_row, drop_index, drop_table,
+    of_pool, pool_over, replace_row,
+};
 use pool::Pool;
 use sqlval::{Index, Schema, Table, Value};
 use std::alloc::Global;
@@ -22,7 +25,8 @@ use store::{Numbered, NumberedRow, Position, Returned, Store, StoreError, View};
 /// Tables in the pages of one file, in versions. Each reader sees the pages of the commit that it found; what the writer changes lies over the last one until it is
 /// committed.
 ///
-/// It does not drop, index, replace and delete yet, nor search by an index: it refuses these as for want of memory.
+/// A key of an index that is too long counts as want of memory: a store may name that limit only where it shows the index, and over a device that is not known to
+/// give back what was written nothing is shown.
 #[derive(Drop)]
 pub struct Paged<D: Disk> {
     alloc: Global,
@@ -241,15 +245,53 @@ impl<D: Disk + Drop> Store for Paged<D> {
     }
 
     fn drop_table(&mut self, name: &Text) -> Result<(), StoreError> {
-        self.refuse(StoreError::Memory)
+        match drop_table(
+            self.alloc,
+            &mut self.pool,
+            &mut self.changes,
+            self.commits,
+            name,
+        ) {
+            Ok(()) => Ok(()),
+            Err(error) => {
+                self.changes.undo();
+                Err(error)
+            }
+        }
     }
 
     fn create_index(&mut self, name: &Text, index: Index) -> Result<(), StoreError> {
-        self.refuse(StoreError::Memory)
+        are_places(index.columns.as_slice());
+        match create_index(
+            self.alloc,
+            &mut self.pool,
+            &mut self.changes,
+            self.commits,
+            name,
+            index,
+        ) {
+            Ok(()) => Ok(()),
+            Err(error) => {
+                self.changes.undo();
+                Err(error)
+            }
+        }
     }
 
     fn drop_index(&mut self, name: &Text) -> Result<(), StoreError> {
-        self.refuse(StoreError::Memory)
+        match drop_index(
+            self.alloc,
+            &mut self.pool,
+            &mut self.changes,
+            self.commits,
+            name,
+        ) {
+            Ok(()) => Ok(()),
+            Err(error) => {
+                self.changes.undo();
+                Err(error)
+            }
+        }
     }
 
     fn append(&mut self, name: &Text, rows: Rows) -> Result<(), StoreError> {
@@ -259,7 +301,7 @@ impl<D: Disk + Drop> Store for Paged<D> {
             &mut self.changes,
             self.commits,
             name,
-            rows.as_slice(),
+            rows,
         ) {
             Ok(()) => Ok(()),
             Err(error) => {
@@ -270,11 +312,38 @@ impl<D: Disk + Drop> Store for Paged<D> {
     }
 
     fn replace(&mut self, name: &Text, number: u64, row: Row) -> Result<(), StoreError> {
-        self.refuse(StoreError::Memory)
+        match replace_row(
+            self.alloc,
+            &mut self.pool,
+            &mut self.changes,
+            self.commits,
+            name,
+            number,
+            row,
+        ) {
+            Ok(()) => Ok(()),
+            Err(error) => {
+                self.changes.undo();
+                Err(error)
+            }
+        }
     }
 
     fn delete(&mut self, name: &Text, number: u64) -> Result<(), StoreError> {
-        self.refuse(StoreError::Memory)
+        match delete_row(
+            self.alloc,
+            &mut self.pool,
+            &mut self.changes,
+            self.commits,
+            name,
+            number,
+        ) {
+            Ok(()) => Ok(()),
+            Err(error) => {
+                self.changes.undo();
+                Err(error)
+            }
+        }
     }
 
     fn scan(&mut self, alloc: Global, view: View, name: &Text) -> Result<Numbered, StoreError> {
@@ -328,7 +397,23 @@ impl<D: Disk + Drop> Store for Paged<D> {
         index: usize,
         key: &[Value],
     ) -> Result<Numbered, StoreError> {
-        Err(StoreError::Memory)
+        match sought_seen(
+            alloc,
+            &mut self.pool,
+            &self.changes,
+            &self.readers,
+            self.commits,
+            view,
+            name,
+            index,
+            key,
+        ) {
+            Ok(found) => {
+                self.read = self.read.saturating_add(found.rows.len() as u64);
+                Ok(found)
+            }
+            Err(error) => Err(error),
+        }
     }
 
     fn range(
@@ -340,7 +425,24 @@ impl<D: Disk + Drop> Store for Paged<D> {
         low: &Bound<Value>,
         high: &Bound<Value>,
     ) -> Result<Numbered, StoreError> {
-        Err(StoreError::Memory)
+        match ranged_seen(
+            alloc,
+            &mut self.pool,
+            &self.changes,
+            &self.readers,
+            self.commits,
+            view,
+            name,
+            index,
+            low,
+            high,
+        ) {
+            Ok(found) => {
+                self.read = self.read.saturating_add(found.rows.len() as u64);
+                Ok(found)
+            }
+            Err(error) => Err(error),
+        }
     }
 
     fn next_in(
@@ -351,7 +453,23 @@ impl<D: Disk + Drop> Store for Paged<D> {
         index: usize,
         after: Option<&Position>,
     ) -> Result<Option<NumberedRow>, StoreError> {
-        Err(StoreError::Memory)
+        match beyond_seen(
+            alloc,
+            &mut self.pool,
+            &self.changes,
+            &self.readers,
+            self.commits,
+            view,
+            name,
+            index,
+            after,
+        ) {
+            Ok(found) => {
+                self.read = self.read.saturating_add(rows_in(&found) as u64);
+                Ok(found)
+            }
+            Err(error) => Err(error),
+        }
     }
 
     fn rows_read(&self) -> u64 {

@@ -5,5 +5,5 @@ use Rattle.page_versions.proofs.closing.close_pool.Goals as goal
 
 pub returns-clause-saved : goal.returns-clause-saved
 returns-clause-saved g c =
-    closed_holds c.tables_stay.ensures c.contents_are_read.ensures c.numbers_rise.ensures c.close.result g.D.Disk.is_honest g.D.Disk.bytes ((versions_of c.args.pool).pages (versions_of c.args.pool).last)
+    closed_holds c.database_stays.ensures c.contents_are_read.ensures c.numbers_rise.ensures c.close.result g.D.Disk.is_honest g.D.Disk.bytes ((versions_of c.args.pool).pages (versions_of c.args.pool).last)
     c.close.ensures.stored c.close.ensures.size

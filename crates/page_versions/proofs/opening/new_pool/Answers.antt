@@ -7,7 +7,7 @@ use Rattle.page_versions.proofs.opening.new_pool.Goals as goal
 pub returns-in-Ok-clause-begins : goal.returns-in-Ok-clause-begins
 returns-in-Ok-clause-begins g c =
     let e = c.in-Ok.ensures in
-    new_begins c.no_tables_at_first.ensures.holds c.contents_are_read.ensures c.numbers_rise.ensures c.no_tables_at_first.ensures.shows g.D.Disk.is_honest (g.D.Disk.bytes c.args.device) c.encode.result (versions_of c.in-Ok.pool)
+    new_begins c.no_database_at_first.ensures.holds c.contents_are_read.ensures c.numbers_rise.ensures c.no_database_at_first.ensures.shows g.D.Disk.is_honest (g.D.Disk.bytes c.args.device) c.encode.result (versions_of c.in-Ok.pool)
     c.requires.empty c.encode.ensures.reads_back e.last e.pages e.pins
 
 pub returns-in-Err-clause-left : goal.returns-in-Err-clause-left

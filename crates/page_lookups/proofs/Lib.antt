@@ -1,0 +1,6 @@
+pub mod CodeOrder
+pub mod WalkLemmas
+pub mod SoughtLemmas
+pub mod StepLemmas
+pub mod StandLemmas
+pub mod PlaceLemmas

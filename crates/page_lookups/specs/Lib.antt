@@ -1,0 +1,3 @@
+pub mod Sought
+pub mod Walked
+pub mod Begun
