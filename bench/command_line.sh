@@ -4,7 +4,7 @@
 # PROGRAM=PATH tries another build of sqlsh than that of the repository.
 set -uo pipefail
 top=$(cd "$(dirname "$0")/.." && pwd)
-program=${PROGRAM:-$top/sqlsh}
+program=$(realpath "${PROGRAM:-$top/sqlsh}")
 work=$(mktemp -d)
 trap 'rm -rf "$work"' EXIT
 failed=0
@@ -51,6 +51,17 @@ awk 'BEGIN {
   print "CREATE TABLE T (A INTEGER); INSERT INTO T VALUES (1);" text ";"
 }' > "$work/in"
 check "the deepest chain of set operators" 0 "^(1 rows)$" "" run
+# Tables in a file, by a path of the caller's folder.
+cd "$work"
+cp "$top/examples/first_run.sql" in
+check "the first run over a file" 0 "^00000 1$" "" run tables
+cp "$top/examples/second_run.sql" in
+check "the second run over it" 0 "^1$" "" run --frames 16 tables
+check "a file in no folder" 3 "^ERROR X0002$" "" run none/tables
+check "two files" 2 "" "." run tables tables
+check "a file before the frames" 2 "" "." run tables --frames 16
+head -c 4095 /dev/zero > damaged
+check "a damaged file" 3 "^ERROR X0004$" "" run damaged
 rm "$work/in"; mkdir "$work/in"
 check "input that cannot be read" 3 "^ERROR X0002$" "" run
 exit "$failed"

@@ -23,16 +23,19 @@ use std::alloc::Global;
 use std::process::Abort;
 use std::test::Fail;
 
-/// The settings of `sqlsh run` without options.
-fn plain(alloc: Global) -> Result<Settings, Fail> {
-    Ok(shell::settings(alloc, &["sqlsh", "run"])?)
+/// The command line without options and without a file.
+const PLAIN: [&str; 2] = ["sqlsh", "run"];
+
+/// Its settings.
+fn plain(alloc: Global) -> Result<Settings<'static>, Fail> {
+    Ok(shell::settings(alloc, &PLAIN)?)
 }
 
 /// Whether a script over no tables prints this.
 fn play(alloc: Global, script: &[u8], printed: &[u8]) -> Result<bool, Error> {
     let mut reader = script;
     let mut writer = Vec::new(alloc);
-    let settings = shell::settings(alloc, &["sqlsh", "run"])?;
+    let settings = shell::settings(alloc, &PLAIN)?;
     run_over_lists(alloc, &settings, &mut reader, &mut writer);
     Ok(writer.as_slice() == printed)
 }

@@ -1,5 +1,7 @@
 -- What the words of a command line of `sqlsh` ask for. All of this is our own choice.
-use Rattle.std.specs.Prelude.{◌≡◌, ◌≤◌, ◌++◌, ℕ, List, [], ◌∷◌, codes}
+use Rattle.std.specs.Prelude.{◌≡◌, ◌≤◌, ◌⊎◌, ◌++◌, ◌==◌, ℕ, Bool, false, List, [], ◌∷◌, codes, Option, Some, None}
+use Rattle.std.specs.Borrow.{Bor}
+use Rattle.std.specs.Option.{option_map}
 use Rattle.std.specs.Str.Parse.{IsNumeral, digits_value, without_leading_plus}
 
 -- a text writes a number of frames: decimal digits, perhaps behind a plus, from 16 to 4,096
@@ -9,21 +11,44 @@ pub record WritesFrames (text : List ℕ) (count : ℕ) : Type 0 where
   pub enough : 16 ≤ count
   pub bounded : count ≤ 4096
 
--- `--frames=N`
-pub record AsksInOne (word : List ℕ) (count : ℕ) : Type 0 where
+-- an option begins with `-`, whose code is 45
+abbrev pub is_option : List ℕ → Bool
+is_option [] = false
+is_option (code ∷ codes) = code == 45
+
+-- FILE, which is no option, or no more words
+abbrev pub AsksFile : List (List ℕ) → Option (List ℕ) → Type 0
+AsksFile [] file = file ≡ None
+AsksFile (word ∷ []) file = (is_option word ≡ false) × (file ≡ Some word)
+AsksFile (word ∷ next ∷ words) file = ⊥
+
+-- `--frames=N`, and then FILE or no more words
+pub record AsksInOne (word : List ℕ) (words : List (List ℕ)) (count : ℕ) (file : Option (List ℕ)) : Type 0 where
   pub text : List ℕ
   pub whole : word ≡ codes "--frames=" ++ text
   pub writes : WritesFrames text count
+  pub others : AsksFile words file
 
--- The options of `run`: none, `--frames=N`, or `--frames N`.
-abbrev pub AsksBehind : List (List ℕ) → ℕ → Type 0
-AsksBehind [] count = count ≡ 256
-AsksBehind (word ∷ []) count = AsksInOne word count
-AsksBehind (option ∷ text ∷ []) count = (option ≡ codes "--frames") × WritesFrames text count
-AsksBehind (option ∷ text ∷ word ∷ words) count = ⊥
+-- `--frames N`, and then FILE or no more words
+abbrev pub AsksInTwo : List ℕ → List (List ℕ) → ℕ → Option (List ℕ) → Type 0
+AsksInTwo option [] count file = ⊥
+AsksInTwo option (text ∷ words) count file = (option ≡ codes "--frames") × WritesFrames text count × AsksFile words file
 
--- The words, of which the first is the program's name, ask for so many frames.
-abbrev pub Asks : List (List ℕ) → ℕ → Type 0
-Asks [] count = ⊥
-Asks (name ∷ []) count = ⊥
-Asks (name ∷ command ∷ options) count = (command ≡ codes "run") × AsksBehind options count
+-- 256 frames, and FILE or no more words
+abbrev pub AsksForNone : List (List ℕ) → ℕ → Option (List ℕ) → Type 0
+AsksForNone words count file = (count ≡ 256) × AsksFile words file
+
+-- the words behind `run`: `[--frames N | --frames=N] [FILE]`
+abbrev pub AsksBehind : List (List ℕ) → ℕ → Option (List ℕ) → Type 0
+AsksBehind [] count file = AsksForNone [] count file
+AsksBehind (word ∷ words) count file = AsksForNone (word ∷ words) count file ⊎ AsksInOne word words count file ⊎ AsksInTwo word words count file
+
+-- The words, of which the first is the program's name, ask for so many frames and this file, or none.
+abbrev pub Asks : List (List ℕ) → ℕ → Option (List ℕ) → Type 0
+Asks [] count file = ⊥
+Asks (name ∷ []) count file = ⊥
+Asks (name ∷ command ∷ options) count file = (command ≡ codes "run") × AsksBehind options count file
+
+-- the name that is lent, if there is one
+abbrev pub name_of : Option (Bor (List ℕ)) → Option (List ℕ)
+name_of file = option_map (λ (name : Bor (List ℕ)). name.now) file

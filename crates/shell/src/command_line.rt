@@ -1,10 +1,10 @@
 //! Command lines.
 
-ghost use Rattle.std.specs.Prelude.{◌≡◌, ℕ, map, IfOk, IsOkAnd};
-ghost use Rattle.shell.specs.Words.{Asks};
+ghost use Rattle.std.specs.Prelude.{◌≡◌, ℕ, List, Option, map, IfOk, IsOkAnd};
+ghost use Rattle.shell.specs.Words.{Asks, name_of};
 
 use crate::options::{GREATEST_FRAMES, LEAST_FRAMES, Settings};
-use crate::words::frames_asked;
+use crate::words::settings_asked;
 use clap::error::ErrorKind;
 use clap::{Arg, Command, Error, value_parser};
 use std::alloc::Global;
@@ -12,14 +12,16 @@ use std::convert::AsStr;
 
 /// Reads the words of a command line of `sqlsh`, the program's name first.
 ///
-/// The answer is an error for all words but those that ask for a number of frames from 16 to 4,096: also where they ask for
-/// help, which the error's text then is. Words that ask for one are read without memory.
-pub fn settings<'a, S: AsStr>(alloc: Global, words: &'a [S]) -> Result<Settings, Error>
-    ensures asked { (count : ℕ) → Asks (map S.text words.entry.now) count → IsOkAnd result (λ settings. settings.frames.count ≡ count) }
-    ensures refused { IfOk result (λ settings. Asks (map S.text words.entry.now) settings.frames.count) }
+/// The answer is an error for all words but those that ask for a number of frames from 16 to 4,096, or say nothing of frames, and
+/// then for a file or none: also where they ask for help, which the error's text then is. Words that ask for that are read
+/// without memory.
+pub fn settings<'a, S: AsStr>(alloc: Global, words: &'a [S]) -> Result<Settings<'a>, Error>
+    ensures asked { (count : ℕ) (file : Option (List ℕ)) → Asks (map S.text words.entry.now) count file
+        → IsOkAnd result (λ settings. (settings.frames.count ≡ count) × (name_of settings.file ≡ file)) }
+    ensures refused { IfOk result (λ settings. Asks (map S.text words.entry.now) settings.frames.count (name_of settings.file)) }
 {
-    match frames_asked(words) {
-        Some(frames) => Ok(Settings { frames }),
+    match settings_asked(words) {
+        Some(settings) => Ok(settings),
         None => Err(told(alloc, words)),
     }
 }
@@ -31,7 +33,7 @@ fn told<'a, S: AsStr>(alloc: Global, words: &'a [S]) -> Error {
         Err(error) => return error,
     };
     match command.try_get_matches_from(words) {
-        Ok(_) => match surplus(alloc) {
+        Ok(_) => match out_of_order(alloc) {
             Ok(error) => error,
             Err(error) => error,
         },
@@ -40,8 +42,11 @@ fn told<'a, S: AsStr>(alloc: Global, words: &'a [S]) -> Error {
 }
 
 /// What is said of words that `clap` would take, and `sqlsh` does not.
-fn surplus(alloc: Global) -> Result<Error, Error> {
-    Ok(command_line(alloc)?.error(ErrorKind::InvalidValue, "words behind the options")?)
+fn out_of_order(alloc: Global) -> Result<Error, Error> {
+    Ok(command_line(alloc)?.error(
+        ErrorKind::InvalidValue,
+        "the words behind run are [--frames N] [FILE], in this order",
+    )?)
 }
 
 /// The commands of `sqlsh` and their options, for their help and for what is said of wrong words.
@@ -49,15 +54,19 @@ fn command_line<'a>(alloc: Global) -> Result<Command<'a>, Error> {
     let frames = Arg::new(alloc, "frames")
         .long("frames")
         .value_name("N")
-        .help("Frames of the page pool, from 16 to 4096; no effect while tables stand in memory")
+        .help("Frames of the page pool, from 16 to 4096; no effect without FILE")
         .value_parser(value_parser!(u32).range(
             i64::from(LEAST_FRAMES)..=i64::from(GREATEST_FRAMES),
         ))
         // `DEFAULT_FRAMES` as a text: `clap` borrows it, and one made of the number would take memory.
         .default_value("256");
+    let file = Arg::new(alloc, "file").value_name("FILE").help(
+        "The file that keeps the tables, made where there is none; without it they are gone at the end",
+    );
     let run = Command::new(alloc, "run")
         .about("Reads SQL on standard input and prints rows, counts or refusals")
-        .arg(frames)?;
+        .arg(frames)?
+        .arg(file)?;
     let sqlsh = Command::new(alloc, "sqlsh")
         .about("A SQL engine that is being proved")
         .subcommand_required(true)

@@ -5,9 +5,11 @@ mod command_line;
 mod options;
 mod program;
 mod run;
+mod telling;
 mod words;
 
 pub use command_line::settings;
 pub use options::{DEFAULT_FRAMES, Frames, GREATEST_FRAMES, LEAST_FRAMES, Settings};
-pub use program::{run_over_lists, sqlsh};
-pub use run::run_on;
+pub use program::{run_over_lists, run_over_pages, sqlsh};
+pub use run::{EndedRun, run_on, run_to_end};
+pub use telling::tell;

@@ -42,8 +42,10 @@ impl Frames {
 }
 
 /// What a command line of `sqlsh` asks for.
-#[derive(Clone, Copy, Debug, PartialEq, Eq)]
-pub struct Settings {
+#[derive(Clone, Copy, Debug)]
+pub struct Settings<'a> {
     /// The frames of the pool.
     pub frames: Frames,
+    /// The name of the file that keeps the tables; where there is none, they are gone when the program ends.
+    pub file: Option<&'a str>,
 }

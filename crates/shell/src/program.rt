@@ -1,23 +1,37 @@
-ghost use Rattle.std.specs.Prelude.{◌≡◌, ◌≢◌, ◌⊎◌};
+//! The program.
+ghost use Rattle.std.specs.Prelude.{◌≡◌, ◌≢◌, ◌⊎◌, [], IfOk, OnErr, IsTrue};
 ghost use Rattle.clap.specs.Words.{kind_of};
+ghost use Rattle.denote.specs.Database.{Database, IsGood};
+ghost use Rattle.session_definitions.specs.Rules.{Rules, AreRules};
+ghost use Rattle.session_definitions.specs.World.{new_world, opened};
+ghost use Rattle.scripts.specs.Played.{between};
+ghost use Rattle.shell.specs.Runs.{Gone, Runs};
 ghost use Rattle.shell.specs.Status.{IsStatus};
+ghost use Rattle.shell.specs.Tells.{Tells};
 
 use crate::command_line::settings;
 use crate::options::Settings;
-use crate::run::run_on;
+use crate::run::{FAILED, run_on};
+use crate::telling::tell;
 use clap::Error;
 use clap::error::ErrorKind;
+use disk::{Disk, DiskError, FileDisk};
 use list_store::{ListStore, Lists};
+use paged::Paged;
+use refusals::Refusal;
+use session_laws::databases_stay_good;
 use std::alloc::Global;
+use std::fs::{File, Files};
 use std::io::{BufWriter, Read, Write};
 use std::rt::Env;
 use std::{env, io};
+use store::Store;
 
 /// The exit status of a command line that asks for nothing that there is.
 const WRONG_WORDS: u8 = 2;
 
 /// Does what the command line of `sqlsh` asks for, and answers the exit status.
-pub fn sqlsh<R: Env + Input + Print + Eprint + AllocGlobal>(rt: &R) -> u8
+pub fn sqlsh<R: Env + Files<File = File> + Input + Print + Eprint + AllocGlobal>(rt: &R) -> u8
     ensures { (result ≡ 2) ⊎ IsStatus result }
 {
     let alloc = rt.alloc();
@@ -28,22 +42,68 @@ pub fn sqlsh<R: Env + Input + Print + Eprint + AllocGlobal>(rt: &R) -> u8
         Ok(settings) => settings,
         Err(error) => return told(rt, &error),
     };
-    let mut reader = rt.reader();
     match BufWriter::new(alloc, io::writer(rt)) {
-        Ok(mut writer) => run_over_lists(alloc, &settings, &mut reader, &mut writer),
-        Err(_) => run_over_lists(alloc, &settings, &mut reader, &mut io::writer(rt)),
+        Ok(mut writer) => run_asked(rt, alloc, &settings, &mut writer),
+        Err(_) => run_asked(rt, alloc, &settings, &mut io::writer(rt)),
+    }
+}
+
+/// Does what `sqlsh run` does: over the tables in FILE, where it is asked for, and else over tables in memory.
+fn run_asked<R: Files<File = File> + Input, W: Write>(
+    rt: &R,
+    alloc: Global,
+    settings: &Settings<'_>,
+    writer: &mut W,
+) -> u8
+    ensures { IsStatus result }
+{
+    let mut reader = rt.reader();
+    match settings.file {
+        Some(path) => run_over_pages(
+            alloc,
+            settings,
+            FileDisk::open(rt, path),
+            &mut reader,
+            writer,
+        ),
+        None => run_over_lists(alloc, settings, &mut reader, writer),
+    }
+}
+
+/// Does what `sqlsh run` does over the tables in the pages of a device, or says that the device could not be opened.
+pub fn run_over_pages<D: Disk + Drop, R: Read, W: Write>(
+    alloc: Global,
+    settings: &Settings<'_>,
+    device: Result<D, DiskError>,
+    reader: &mut R,
+    writer: &mut W,
+) -> u8
+    ensures status { IsStatus result }
+    ensures runs { IfOk device (λ device. (rules : Rules) (db : Database) → AreRules rules → ⟦<Paged<D> as Store>⟧.saved device db → IsGood rules.check db
+        → Runs rules (opened db) (between (R.remaining reader.old) (R.remaining reader.new) (W.contents writer.old) (W.contents writer.new)) result Gone) }
+    ensures new { IfOk device (λ device. (rules : Rules) → AreRules rules → IsTrue D.is_honest → D.bytes device ≡ []
+        → Runs rules new_world (between (R.remaining reader.old) (R.remaining reader.new) (W.contents writer.old) (W.contents writer.new)) result Gone) }
+    ensures not_opened { OnErr device ((R.remaining reader.new ≡ R.remaining reader.old) × Tells Refusal.Disk (W.contents writer.old) (W.contents writer.new) × (result ≡ 3)) }
+{
+    databases_stay_good();
+    match device {
+        Ok(device) => run_on::<Paged<D>, R, W>(alloc, settings, device, reader, writer),
+        Err(_) => tell(Refusal::Disk, FAILED, writer),
     }
 }
 
 /// Does what `sqlsh run` does over tables in memory, of which nothing is left at the end.
 pub fn run_over_lists<R: Read, W: Write>(
     alloc: Global,
-    settings: &Settings,
+    settings: &Settings<'_>,
     reader: &mut R,
     writer: &mut W,
 ) -> u8
-    ensures { IsStatus result }
+    ensures status { IsStatus result }
+    ensures runs { (rules : Rules) → AreRules rules
+        → Runs rules new_world (between (R.remaining reader.old) (R.remaining reader.new) (W.contents writer.old) (W.contents writer.new)) result Gone }
 {
+    databases_stay_good();
     run_on::<ListStore, R, W>(alloc, settings, Lists::new(alloc), reader, writer)
 }
 

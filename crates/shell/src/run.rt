@@ -1,12 +1,23 @@
-ghost use Rattle.std.specs.Prelude.{◌≡◌, ◌≤◌, IfOk};
-ghost use Rattle.scripts.specs.Settled.{store_of};
+//! What `sqlsh run` does over any store.
+ghost use Rattle.std.specs.Prelude.{◌≡◌, ◌≤◌, IfOk, IfErr, IfSome};
+ghost use Rattle.denote.specs.Database.{Database, IsGood};
+ghost use Rattle.session_definitions.specs.Refusals.{StopsFlush};
+ghost use Rattle.session_definitions.specs.Rules.{Rules, AreRules};
+ghost use Rattle.session_definitions.specs.World.{opened};
+ghost use Rattle.sessions.specs.OfCore.{IsSound, world_of};
+ghost use Rattle.scripts.specs.Played.{between};
+ghost use Rattle.scripts.specs.Settled.{HasNoSession, IsSettled, store_of};
 ghost use Rattle.shell.specs.Status.{refusal_of, status_of, IsStatus};
+ghost use Rattle.shell.specs.Runs.{CarriesOut, Gone, HandsBack, Runs, Says};
+ghost use Rattle.shell.specs.Tells.{Tells};
 
 use crate::options::Settings;
+use crate::telling::tell;
 use engine::{Core, Sql};
+use life_laws::no_reply_is_damaged;
 use refusals::Refusal;
-use replies::{Reply, print_reply};
 use scripts::{ScriptFault, run};
+use session_laws::databases_stay_good;
 use sessions::Refused;
 use std::alloc::Global;
 use std::io::{Read, Write};
@@ -16,7 +27,16 @@ use store::Store;
 const REFUSED: u8 = 1;
 
 /// The exit status where a store could not be opened or closed, or a script was not read or printed to its end.
-const FAILED: u8 = 3;
+pub(crate) const FAILED: u8 = 3;
+
+/// How a run ended.
+#[derive(Drop)]
+pub struct EndedRun<D> {
+    /// The exit status.
+    pub status: u8,
+    /// The device: as it was where the store could not be opened, with all that is committed where it was closed, and none where it could not be closed.
+    pub device: Option<D>,
+}
 
 /// Does what `sqlsh run` does over the store on this device, from reader to writer: opens it, carries out the script
 /// and closes it. The answer is the exit status: 0; 1 where a reply was a refusal; 3 where the store could not be
@@ -24,37 +44,77 @@ const FAILED: u8 = 3;
 /// where it can be written.
 pub fn run_on<S: Store, R: Read, W: Write>(
     alloc: Global,
-    settings: &Settings,
+    settings: &Settings<'_>,
     device: S::Device,
     reader: &mut R,
     writer: &mut W,
 ) -> u8
-    ensures { IsStatus result }
+    ensures status { IsStatus result }
+    ensures runs { (rules : Rules) (db : Database) → AreRules rules → S.saved device db → IsGood rules.check db
+        → Runs rules (opened db) (between (R.remaining reader.old) (R.remaining reader.new) (W.contents writer.old) (W.contents writer.new)) result Gone }
 {
+    run_to_end::<S, R, W>(alloc, settings, device, reader, writer).status
+}
+
+/// Does what `run_on` does, and hands the device back, unless the store could not be closed: what was committed last is saved on it, for the next run.
+///
+/// Where a database was saved on the device, the store is refused for want of memory or by the device alone, and no reply is that the file is damaged.
+pub fn run_to_end<S: Store, R: Read, W: Write>(
+    alloc: Global,
+    settings: &Settings<'_>,
+    device: S::Device,
+    reader: &mut R,
+    writer: &mut W,
+) -> EndedRun<S::Device>
+    ensures status { IsStatus result.status }
+    ensures runs { (rules : Rules) (db : Database) → AreRules rules → S.saved device db → IsGood rules.check db
+        → Runs rules (opened db) (between (R.remaining reader.old) (R.remaining reader.new) (W.contents writer.old) (W.contents writer.new)) result.status
+        (λ left. HandsBack S.saved result.device left × IfSome left (IsGood rules.check)) }
+{
+    databases_stay_good();
     let mut core: Core<S> = match opened(alloc, settings, device) {
         Ok(core) => core,
-        Err(refused) => return fail(refused.refusal, writer),
+        Err(refused) => return failed(refused.refusal, Some(refused.value), writer),
     };
     let status = carry_out(alloc, &mut core, reader, writer);
     match core.close() {
-        Ok(_device) => status,
-        Err(refused) => fail(refused.refusal, writer),
+        Ok(device) => EndedRun {
+            status,
+            device: Some(device),
+        },
+        Err(refused) => failed(refused.refusal, None, writer),
+    }
+}
+
+/// Says why a store was not opened or closed, and hands back the device that there is.
+fn failed<D, W: Write>(refusal: Refusal, device: Option<D>, writer: &mut W) -> EndedRun<D>
+    ensures status { result.status ≡ 3 }
+    ensures device { result.device ≡ device }
+    ensures tells { Tells refusal (W.contents writer.old) (W.contents writer.new) }
+{
+    EndedRun {
+        status: tell(refusal, FAILED, writer),
+        device,
     }
 }
 
 /// The core of the store on a device, with room for as many pages as the settings ask for.
 fn opened<S: Store>(
     alloc: Global,
-    settings: &Settings,
+    settings: &Settings<'_>,
     device: S::Device,
 ) -> Result<Core<S>, Refused<S::Device>>
     ensures frames { IfOk result (λ core. S.room (store_of core) ≡ settings.now.frames.count) }
+    ensures opened { IfOk result (λ core. (db : Database) → S.saved device db → IsSound S.is_sound S.shows core × (world_of S.shows core ≡ opened db)) }
+    ensures empty { IfOk result (λ core. HasNoSession (world_of S.shows core)) }
+    ensures refused { IfErr result (λ back. (db : Database) → S.saved device db → StopsFlush back.refusal) }
+    ensures left { IfErr result (λ back. (db : Database) → S.saved device db → S.saved back.value db) }
 {
     Core::open(alloc, Sql, device, frames_of(settings))
 }
 
 /// How many pages the pool may keep in memory.
-fn frames_of(settings: &Settings) -> usize
+fn frames_of(settings: &Settings<'_>) -> usize
     ensures count { result ≡ settings.now.frames.count }
     ensures enough { 16 ≤ result }
     ensures bounded { result ≤ 4096 }
@@ -69,20 +129,25 @@ fn carry_out<S: Store, R: Read, W: Write>(
     reader: &mut R,
     writer: &mut W,
 ) -> u8
-    ensures { IsStatus result }
+    ensures status { IsStatus result }
+    ensures carries_out { (rules : Rules) → AreRules rules → IsSettled S.is_sound S.shows rules.check core.old
+        → CarriesOut rules (between (R.remaining reader.old) (R.remaining reader.new) (W.contents writer.old) (W.contents writer.new)) (world_of S.shows core.old) result (world_of S.shows core.new) }
+    ensures settled { (rules : Rules) → AreRules rules → IsSettled S.is_sound S.shows rules.check core.old → IsSettled S.is_sound S.shows rules.check core.new }
 {
+    no_reply_is_damaged();
     let outcome = run(alloc, core, reader, writer);
     ended(outcome, writer)
 }
 
 /// The exit status of a script that ended so. Of a fault it says `ERROR` and the code, where it can be written.
 fn ended<W: Write>(outcome: Result<bool, ScriptFault>, writer: &mut W) -> u8
-    ensures { result ≡ status_of outcome }
+    ensures status { result ≡ status_of outcome }
+    ensures says { Says outcome (W.contents writer.old) (W.contents writer.new) }
 {
     match outcome {
         Ok(true) => REFUSED,
         Ok(false) => 0,
-        Err(fault) => fail(refusal_of(&fault), writer),
+        Err(fault) => tell(refusal_of(&fault), FAILED, writer),
     }
 }
 
@@ -95,13 +160,4 @@ fn refusal_of(fault: &ScriptFault) -> Refusal
         ScriptFault::Reader(_) => Refusal::Disk,
         ScriptFault::Writer(_) => Refusal::Disk,
     }
-}
-
-/// Says that the program failed, where it can be written.
-fn fail<W: Write>(refusal: Refusal, writer: &mut W) -> u8
-    ensures { result ≡ 3 }
-{
-    let _ = print_reply(&Reply::Refused(refusal), writer);
-    let _ = writer.flush();
-    FAILED
 }

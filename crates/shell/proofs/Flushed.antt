@@ -1,0 +1,14 @@
+-- What was written of a text stands, whatever is flushed.
+use Rattle.std.proofs.Common.{ℕ, Bool, true, false, List, Option}
+use Rattle.std.specs.Io.KnownBytes.{Keeps}
+use Rattle.std.proofs.KnownBytes.{Appends-kept}
+use Rattle.replies.specs.Writes.{Writes}
+
+pub flushed : (old mid new : Option (List ℕ)) (is_done : Bool) (text : List ℕ) → Writes old mid is_done text → Keeps mid new → Writes old new false text
+flushed old mid new is_done text written kept = record {
+  front = written.front;
+  rest = written.rest;
+  whole = written.whole;
+  taken = Appends-kept _ _ _ _ written.taken kept;
+  complete = λ e. cc (e);
+}

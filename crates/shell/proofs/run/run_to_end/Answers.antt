@@ -1,0 +1,32 @@
+use Rattle.std.proofs.Common.{◌≡◌, refl, sym, subst}
+use Rattle.session_definitions.specs.World.{World}
+use Rattle.sessions.specs.OfCore.{world_of}
+use Rattle.scripts.specs.Played.{between}
+use Rattle.shell.specs.Runs.{CarriesOut, Runs}
+use Rattle.shell.proofs.Running.{is_settled}
+use Rattle.shell.proofs.run.run_to_end.Goals as goal
+
+pub returns-in-Err-clause-runs : goal.returns-in-Err-clause-runs
+returns-in-Err-clause-runs g c = λ rules db are saved good.
+    Runs.not_opened c.in-Err.refused.refusal (c.in-Err.ensures.refused db saved) refl c.failed.ensures.tells c.failed.ensures.status
+    (rw c.failed.ensures.device (c.in-Err.ensures.left db saved, good))
+
+pub returns-in-Ok-close-clause-runs : goal.returns-in-Ok-close-clause-runs
+returns-in-Ok-close-clause-runs g c = λ rules db are saved good.
+    let begins = c.in-Ok.ensures.opened db saved in
+    let start = is_settled g.S.Store.is_sound g.S.Store.shows rules.check c.in-Ok.core db begins.0 begins.1 c.in-Ok.ensures.empty (c.databases_stay_good.ensures.opened rules.check db good) in
+    let end = c.carry_out-status.ensures.settled rules are start in
+    Runs.closed (world_of g.S.Store.shows c.carry_out-status.new.core)
+    (subst (λ (w : World). CarriesOut rules (between (g.R.Read.remaining c.args.reader.now) (g.R.Read.remaining c.carry_out-status.new.reader) (g.W.Write.contents c.args.writer.now) (g.W.Write.contents c.carry_out-status.new.writer)) w
+    c.carry_out-status.result (world_of g.S.Store.shows c.carry_out-status.new.core)) begins.1 (c.carry_out-status.ensures.carries_out rules are start))
+    (c.in-Ok-close.ensures.closed end.sound, end.good.last)
+
+pub returns-in-Err-close-clause-runs : goal.returns-in-Err-close-clause-runs
+returns-in-Err-close-clause-runs g c = λ rules db are saved good.
+    let begins = c.in-Ok.ensures.opened db saved in
+    let start = is_settled g.S.Store.is_sound g.S.Store.shows rules.check c.in-Ok.core db begins.0 begins.1 c.in-Ok.ensures.empty (c.databases_stay_good.ensures.opened rules.check db good) in
+    Runs.not_closed c.carry_out-status.result (g.W.Write.contents c.carry_out-status.new.writer) (world_of g.S.Store.shows c.carry_out-status.new.core)
+    (subst (λ (w : World). CarriesOut rules (between (g.R.Read.remaining c.args.reader.now) (g.R.Read.remaining c.carry_out-status.new.reader) (g.W.Write.contents c.args.writer.now) (g.W.Write.contents c.carry_out-status.new.writer)) w
+    c.carry_out-status.result (world_of g.S.Store.shows c.carry_out-status.new.core)) begins.1 (c.carry_out-status.ensures.carries_out rules are start))
+    (rw c.in-Err-close.ensures.fails.0 at c.failed-in-Err-close.ensures.tells) c.failed-in-Err-close.ensures.status
+    (rw c.failed-in-Err-close.ensures.device (tt, tt))
