@@ -7,7 +7,7 @@ use Rattle.sqlval.specs.declared.schema.Rule.TheVariants.{NotNull, PrimaryKey, U
 use Rattle.denote.specs.Database.{Name, Table, CheckReading, is_violated, violated_by}
 use Rattle.constraint_checks.specs.Rules.{breaks_rule, broken, is_check_rule, has_checks, broken_checks}
 
-behind : (n x : Name) (xs : List Name) → Contains xs n → Contains (x ∷ xs) n
+pub behind : (n x : Name) (xs : List Name) → Contains xs n → Contains (x ∷ xs) n
 behind n x xs h = let below = h.1 in (suc h.0, omega (arith, below), h.2)
 
 module _ (p q : Constraint → Bool) (more : (c : Constraint) → p c ≡ true → q c ≡ true) where

@@ -5,3 +5,6 @@ pub mod Settling
 pub mod Held
 pub mod Short
 pub mod Faulty
+pub mod Behind
+pub mod Foretelling
+pub mod Looking

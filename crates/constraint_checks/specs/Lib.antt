@@ -2,3 +2,5 @@ pub mod Rules
 pub mod Changed
 pub mod Settled
 pub mod Stopped
+pub mod Foreseen
+pub mod Alone

@@ -97,7 +97,7 @@ fn violation<S: Store, C: Checks>(
 }
 
 /// The name of a constraint that a table with these rows violates.
-fn violation_in<C: Checks>(
+pub(crate) fn violation_in<C: Checks>(
     alloc: Global,
     table: &Table,
     rows: &[Row],

@@ -57,7 +57,7 @@ pub fn fits_key(alloc: Global, columns: &[usize], row: &[Value]) -> Result<(), S
     Ok(())
 }
 
-fn copied_key(alloc: Global, columns: &[usize], row: &[Value]) -> Result<Row, AllocError>
+pub(crate) fn copied_key(alloc: Global, columns: &[usize], row: &[Value]) -> Result<Row, AllocError>
     ensures { IfOk result (λ key. key ≡ key_of columns.now row.now) }
 {
     let mut key = Items::new(alloc);

@@ -3,13 +3,18 @@
 
 mod checks;
 mod constraints;
+mod foreseeing;
+mod foreseen;
 mod frame;
+mod keys;
 mod lengths;
 mod refusal;
 mod tables;
 
 pub use checks::{Checks, NoChecks};
 pub use constraints::{has_check, violated_constraint};
+pub use foreseeing::foresee;
+pub use foreseen::Foreseen;
 pub use frame::{begin, settle};
 pub use lengths::{admit, fits_key, rows_fit_key};
 pub use refusal::refusal_of_stop;

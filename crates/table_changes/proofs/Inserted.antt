@@ -30,7 +30,7 @@ use Rattle.store.specs.declared.error.StoreError.{StoreError}
 use Rattle.store.specs.declared.error.StoreLimit.{StoreLimit}
 use Rattle.store.specs.Contents.{Contents, database_of, appended}
 use Rattle.store.specs.Errors.{MayFail, StoringReaches, HasLongKey, indexes_of}
-use Rattle.store.specs.Stored.{Stored, marked_now, working_on}
+use Rattle.store.specs.Stored.{Stored, SameButMark, marked_now, working_on}
 use Rattle.transactions.specs.Refused.{refused_by}
 use Rattle.transactions.proofs.Tests.{reserved}
 use Rattle.operator_laws.proofs.Orders.{length-permutes}
@@ -42,8 +42,12 @@ use Rattle.constraint_checks.specs.Settled.{Decided, Holds, Breaks}
 use Rattle.constraint_checks.proofs.Held.{held_as}
 use Rattle.constraint_checks.proofs.Violations.{same_some}
 use Rattle.constraint_checks.proofs.Short.{Fits, given_each, admitted_fits, no_long_row, no_long_key}
-use Rattle.table_changes.specs.Given.{AreGiven, HasAccepted}
+use Rattle.table_changes.specs.Given.{AreGiven, HasMore, HasAccepted}
 use Rattle.table_changes.proofs.Made.{appended-database, decided_still}
+
+-- only the mark was set
+pub marked_same : (old mid new : Stored) → mid ≡ marked_now old → new ≡ mid → SameButMark old new
+marked_same old mid new m e = subst (λ (s : Stored). SameButMark old s) (sym (e ∙ m)) (record { commits = refl; last = refl; readers = refl; working = refl })
 
 -- ---- the rows are short enough
 
@@ -129,6 +133,15 @@ module _ (reading : CheckReading) (old mid : Stored) (i : Insert) (rows : List R
   would_be made e =
       ap (λ (s : Stored). database_of s.working) (e ∙ ap (λ (s : Stored). working_on s (appended s.working i.table rows)) m)
       ∙ appended-database old.working i.table g.table rows g.there
+
+  -- the table has the rows at its end
+  pub more_there : (made : Stored) → made ≡ working_on mid (appended mid.working i.table rows) → HasMore (database_of mid.working) i.table rows (database_of made.working)
+  more_there made e =
+      subst (λ (s : Stored). HasMore (database_of s.working) i.table rows (database_of made.working)) (sym m) (record {
+        table = g.table;
+        there = g.there;
+        more = ap (λ (db : Database). get db i.table) (would_be made e) ∙ put_there reading (database_of old.working) i.table g.table g.meant rows (length g.meant) g.order;
+      })
 
   -- what decides the CHECKs of the table still does
   pub decided_made : (decides : Name → List Column → List Constraint → Type 0) (made : Stored) → made ≡ working_on mid (appended mid.working i.table rows)

@@ -6,11 +6,12 @@ use Rattle.typing.specs.declared.statement.Change.{Change}
 use Rattle.typing.specs.declared.statement.Insert.{Insert}
 use Rattle.denote.specs.Bag.{Permutes}
 use Rattle.denote.specs.Change.{changed, inserted_rows, IsAccepted}
-use Rattle.denote.specs.Database.{Table, Database, CheckReading, checks_of, rows_in}
+use Rattle.denote.specs.Database.{Name, Table, Database, CheckReading, checks_of, rows_in}
 use Rattle.replies.specs.declared.reply.Reply.{Reply}
 use Rattle.session_definitions.specs.Statements.{counted}
 use Rattle.store.specs.Contents.{Contents, database_of}
 use Rattle.store.specs.Stored.{Stored}
+use Rattle.constraint_checks.specs.Foreseen.{with_more}
 
 -- its table is there, and these are the rows that it stores, in any order, none of which faults
 pub record AreGiven (reading : CheckReading) (db : Database) (i : Insert) (rows : List Row) : Type 0 where
@@ -19,6 +20,12 @@ pub record AreGiven (reading : CheckReading) (db : Database) (i : Insert) (rows 
   pub meant : List Row
   pub given : inserted_rows (checks_of reading i.table table) (rows_in db) table i.columns i.source ≡ Ok meant
   pub order : Permutes meant rows
+
+-- in the other database the table of this name, which is there, has these rows at its end
+pub record HasMore (db : Database) (name : Name) (rows : List Row) (made : Database) : Type 0 where
+  pub table : Table
+  pub there : get db name ≡ Some table
+  pub more : get made name ≡ Some (with_more table rows)
 
 -- the newest version holds what the change makes of it, up to the order of rows; nothing else is changed, but the mark
 pub record HasAccepted (reading : CheckReading) (old : Stored) (change : Change) (reply : Reply) (new : Stored) : Type 0 where

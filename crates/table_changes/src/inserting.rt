@@ -8,11 +8,12 @@ ghost use Rattle.store.specs.Errors.{HasRisen};
 ghost use Rattle.store.specs.Stored.{SameButMark};
 ghost use Rattle.transactions.specs.Refused.{IfRefused};
 ghost use Rattle.constraint_checks.specs.Changed.{RefusesChange};
-ghost use Rattle.constraint_checks.specs.Settled.{Decided};
+ghost use Rattle.constraint_checks.specs.Settled.{Decided, Holds};
 ghost use Rattle.table_changes.specs.Given.{AreGiven, HasAccepted};
 
+use crate::deciding::{known_to_hold, settle_unless};
 use crate::reply::reply_for;
-use constraint_checks::{Checks, begin, settle};
+use constraint_checks::{Checks, begin};
 use denote::Rows;
 use refusals::Refusal;
 use replies::Reply;
@@ -21,7 +22,7 @@ use store::Store;
 use transactions::refusal_of;
 use typing::Insert;
 
-/// INSERT, where evaluation gave these rows: they come to the end of the table, or it is refused: by a constraint that the table would violate (23000), for want of memory, by the device or
+/// INSERT, where evaluation gave these rows: they come to the end of the table, which violates no constraint as it is, or it is refused: by a constraint that the table would violate (23000), for want of memory, by the device or
 /// by a limit of the store. CHECKs are decided by what is given for them. It sets the mark. Where a sound store refuses it, all is as it was, but for the mark.
 pub fn insert_rows<S: Store, C: Checks>(
     alloc: Global,
@@ -31,9 +32,9 @@ pub fn insert_rows<S: Store, C: Checks>(
     checks: &C,
 ) -> Result<Reply, Refusal>
     ensures changes { IfOk result (λ reply. (reading : CheckReading) → S.is_sound store.old → Decided (C.decides checks.now reading) (database_of (S.shows store.old).working) insert.now.table
-        → AreGiven reading (database_of (S.shows store.old).working) insert.now rows → HasAccepted reading (S.shows store.old) (does.Insert insert.now) reply (S.shows store.new)) }
+        → Holds reading (database_of (S.shows store.old).working) insert.now.table → AreGiven reading (database_of (S.shows store.old).working) insert.now rows → HasAccepted reading (S.shows store.old) (does.Insert insert.now) reply (S.shows store.new)) }
     ensures refused { IfErr result (λ refusal. (reading : CheckReading) → S.is_sound store.old → Decided (C.decides checks.now reading) (database_of (S.shows store.old).working) insert.now.table
-        → AreGiven reading (database_of (S.shows store.old).working) insert.now rows → RefusesChange reading (database_of (S.shows store.old).working) (does.Insert insert.now) refusal) }
+        → Holds reading (database_of (S.shows store.old).working) insert.now.table → AreGiven reading (database_of (S.shows store.old).working) insert.now rows → RefusesChange reading (database_of (S.shows store.old).working) (does.Insert insert.now) refusal) }
     ensures accepted { IfOk result (λ reply. IfRefused reply (λ refusal. ⊥)) }
     ensures device { IfErr result (λ refusal. refusal ≡ Disk → HasRisen (S.refused store.old) (S.refused store.new)) }
     ensures same { S.is_sound store.old → OnErr result (SameButMark (S.shows store.old) (S.shows store.new)) }
@@ -43,11 +44,15 @@ pub fn insert_rows<S: Store, C: Checks>(
     if let Err(refusal) = begin(store) {
         return Err(refusal);
     }
+    let known = match known_to_hold(alloc, store, &insert.table, rows.as_slice(), checks) {
+        Ok(known) => known,
+        Err(refusal) => return Err(refusal),
+    };
     let count = rows.len();
     if let Err(error) = store.append(&insert.table, rows) {
         return Err(refusal_of(error));
     }
-    match settle(alloc, store, &insert.table, checks) {
+    match settle_unless(alloc, store, &insert.table, checks, known) {
         Ok(()) => Ok(reply_for(count)),
         Err(refusal) => Err(refusal),
     }

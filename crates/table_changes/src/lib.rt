@@ -2,6 +2,7 @@
 #![tactic(auto)]
 
 mod creating;
+mod deciding;
 mod dropping;
 mod indexing;
 mod inserting;

@@ -1,37 +1,76 @@
-use Rattle.std.proofs.Common.{◌≡◌, sym, subst}
+use Rattle.std.proofs.Common.{◌≡◌, ◌∙◌, refl, sym, subst, List}
+use Rattle.sqlval.specs.Value.{Row}
 use Rattle.session_definitions.specs.Refusals.{IsReserved}
-use Rattle.store.specs.Contents.{database_of}
+use Rattle.store.specs.Contents.{database_of, appended}
+use Rattle.store.specs.Stored.{Stored, working_on}
 use Rattle.constraint_checks.specs.Changed.{RefusesChange}
+use Rattle.constraint_checks.specs.Settled.{Decided, Holds}
+use Rattle.table_changes.specs.Given.{HasMore}
 use Rattle.table_changes.proofs.Replied.{no_refusal}
-use Rattle.table_changes.proofs.Inserted.{withheld, inserted, broken, decided_made}
+use Rattle.table_changes.proofs.Inserted.{marked_same, withheld, inserted, broken, decided_made, more_there}
 use Rattle.table_changes.proofs.inserting.insert_rows.Goals as goal
 
-pub returns-in-Err-append-clause-refused : goal.returns-in-Err-append-clause-refused
-returns-in-Err-append-clause-refused g c = λ reading sound decided given.
-    RefusesChange.withheld (subst IsReserved (sym c.refusal_of.ensures)
-    (withheld reading (g.S.Store.shows c.args.store.now) (g.S.Store.shows c.begin.new.store) c.args.insert.now c.args.rows c.in_default.ensures.shows given
-    (g.S.Store.is_sound c.begin.new.store) (g.S.Store.refused c.begin.new.store) (g.S.Store.refused c.append.new.self) (g.S.Store.counted c.begin.new.store) c.in-Err-append.error c.in-Err-append.ensures.refused (c.begin.ensures.sound sound)))
-
-pub returns-in-Ok-clause-changes : goal.returns-in-Ok-clause-changes
-returns-in-Ok-clause-changes g c = λ reading sound decided given.
+pub returns-in-Err-known_to_hold-clause-refused : goal.returns-in-Err-known_to_hold-clause-refused
+returns-in-Err-known_to_hold-clause-refused g c = λ reading sound decided holds given.
     let old = g.S.Store.shows c.args.store.now in
     let mid = g.S.Store.shows c.begin.new.store in
-    let made = g.S.Store.shows c.append.new.self in
     let marks = c.in_default.ensures.shows in
-    let stored = c.in_default-append.ensures.shows (c.begin.ensures.sound sound) in
-    inserted reading old mid c.args.insert.now c.args.rows marks given made (g.S.Store.shows c.settle.new.store) _ _ stored c.in-Ok.ensures.kept
-    (c.in-Ok.ensures.holds reading (c.append.ensures.sound (c.begin.ensures.sound sound)) (decided_made reading old mid c.args.insert.now c.args.rows marks given (g.C.Checks.decides c.args.checks.now reading) made stored decided))
+    let name = c.args.insert.now.table in
+    let made = working_on mid (appended mid.working name c.args.rows) in
+    broken reading old mid c.args.insert.now c.args.rows marks given made c.in-Err-known_to_hold.refusal refl
+    (c.in-Err-known_to_hold.ensures.refused reading (database_of made.working) (c.begin.ensures.sound sound)
+    (subst (λ (s : Stored). Decided (g.C.Checks.decides c.args.checks.now reading) (database_of s.working) name) (sym marks) decided)
+    (subst (λ (s : Stored). Holds reading (database_of s.working) name) (sym marks) holds)
+    (subst (λ (rows : List Row). HasMore (database_of mid.working) name rows (database_of made.working)) (sym c.as_slice.ensures)
+    (more_there reading old mid c.args.insert.now c.args.rows marks given made refl)))
+
+pub returns-in-Err-known_to_hold-clause-same : goal.returns-in-Err-known_to_hold-clause-same
+returns-in-Err-known_to_hold-clause-same g c = λ sound. marked_same (g.S.Store.shows c.args.store.now) (g.S.Store.shows c.begin.new.store) (g.S.Store.shows c.known_to_hold.new.store)
+    c.in_default.ensures.shows c.known_to_hold.ensures.shows
+
+pub returns-in-Err-append-clause-refused : goal.returns-in-Err-append-clause-refused
+returns-in-Err-append-clause-refused g c = λ reading sound decided holds given.
+    let looked = c.known_to_hold.ensures.sound (c.begin.ensures.sound sound) in
+    let marks = c.known_to_hold.ensures.shows ∙ c.in_default.ensures.shows in
+    RefusesChange.withheld (subst IsReserved (sym c.refusal_of.ensures)
+    (withheld reading (g.S.Store.shows c.args.store.now) (g.S.Store.shows c.known_to_hold.new.store) c.args.insert.now c.args.rows marks given
+    (g.S.Store.is_sound c.known_to_hold.new.store) (g.S.Store.refused c.known_to_hold.new.store) (g.S.Store.refused c.append.new.self) (g.S.Store.counted c.known_to_hold.new.store)
+    c.in-Err-append.error c.in-Err-append.ensures.refused looked))
+
+pub returns-in-Ok-settle_unless-clause-changes : goal.returns-in-Ok-settle_unless-clause-changes
+returns-in-Ok-settle_unless-clause-changes g c = λ reading sound decided holds given.
+    let old = g.S.Store.shows c.args.store.now in
+    let mid = g.S.Store.shows c.begin.new.store in
+    let looked = g.S.Store.shows c.known_to_hold.new.store in
+    let made = g.S.Store.shows c.append.new.self in
+    let name = c.args.insert.now.table in
+    let first = c.in_default.ensures.shows in
+    let marks = c.known_to_hold.ensures.shows ∙ first in
+    let begun = c.begin.ensures.sound sound in
+    let stored = c.in_default-append.ensures.shows (c.known_to_hold.ensures.sound begun) in
+    inserted reading old looked c.args.insert.now c.args.rows marks given made (g.S.Store.shows c.settle_unless.new.store) _ _ stored c.in-Ok-settle_unless.ensures.kept
+    (c.in-Ok-settle_unless.ensures.holds reading (c.append.ensures.sound (c.known_to_hold.ensures.sound begun))
+    (decided_made reading old looked c.args.insert.now c.args.rows marks given (g.C.Checks.decides c.args.checks.now reading) made stored decided)
+    (λ known. c.in-Ok.ensures.known reading (database_of made.working) begun
+    (subst (λ (s : Stored). Decided (g.C.Checks.decides c.args.checks.now reading) (database_of s.working) name) (sym first) decided)
+    (subst (λ (s : Stored). Holds reading (database_of s.working) name) (sym first) holds)
+    (subst (λ (rows : List Row). HasMore (database_of mid.working) name rows (database_of made.working)) (sym c.as_slice.ensures)
+    (subst (λ (s : Stored). HasMore (database_of s.working) name c.args.rows (database_of made.working)) c.known_to_hold.ensures.shows
+    (more_there reading old looked c.args.insert.now c.args.rows marks given made stored)))
+    known))
     c.len-count.ensures c.reply_for.ensures
 
-pub returns-in-Err-settle-clause-refused : goal.returns-in-Err-settle-clause-refused
-returns-in-Err-settle-clause-refused g c = λ reading sound decided given.
+pub returns-in-Err-settle_unless-clause-refused : goal.returns-in-Err-settle_unless-clause-refused
+returns-in-Err-settle_unless-clause-refused g c = λ reading sound decided holds given.
     let old = g.S.Store.shows c.args.store.now in
-    let mid = g.S.Store.shows c.begin.new.store in
+    let looked = g.S.Store.shows c.known_to_hold.new.store in
     let made = g.S.Store.shows c.append.new.self in
-    let marks = c.in_default.ensures.shows in
-    let stored = c.in_default-append.ensures.shows (c.begin.ensures.sound sound) in
-    broken reading old mid c.args.insert.now c.args.rows marks given made c.in-Err-settle.refusal stored
-    (c.in-Err-settle.ensures.refused reading (c.append.ensures.sound (c.begin.ensures.sound sound)) (decided_made reading old mid c.args.insert.now c.args.rows marks given (g.C.Checks.decides c.args.checks.now reading) made stored decided))
+    let marks = c.known_to_hold.ensures.shows ∙ c.in_default.ensures.shows in
+    let is_sound = c.known_to_hold.ensures.sound (c.begin.ensures.sound sound) in
+    let stored = c.in_default-append.ensures.shows is_sound in
+    broken reading old looked c.args.insert.now c.args.rows marks given made c.in-Err-settle_unless.refusal stored
+    (c.in-Err-settle_unless.ensures.refused reading (c.append.ensures.sound is_sound)
+    (decided_made reading old looked c.args.insert.now c.args.rows marks given (g.C.Checks.decides c.args.checks.now reading) made stored decided))
 
-pub returns-in-Ok-clause-accepted : goal.returns-in-Ok-clause-accepted
-returns-in-Ok-clause-accepted g c = no_refusal c.len-count.result c.reply_for.result c.reply_for.ensures
+pub returns-in-Ok-settle_unless-clause-accepted : goal.returns-in-Ok-settle_unless-clause-accepted
+returns-in-Ok-settle_unless-clause-accepted g c = no_refusal c.len-count.result c.reply_for.result c.reply_for.ensures
