@@ -15,7 +15,7 @@ pub use checks::{Checks, NoChecks};
 pub use constraints::{has_check, violated_constraint};
 pub use foreseeing::foresee;
 pub use foreseen::Foreseen;
-pub use frame::{begin, settle};
+pub use frame::{begin, settle, settle_unless};
 pub use lengths::{admit, fits_key, rows_fit_key};
 pub use refusal::refusal_of_stop;
 pub use tables::table_named;

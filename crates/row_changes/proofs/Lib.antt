@@ -7,3 +7,6 @@ pub mod Standing
 pub mod Carried
 pub mod Planning
 pub mod Made
+pub mod Sparse
+pub mod Selecting
+pub mod Fewer

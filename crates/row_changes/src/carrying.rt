@@ -1,5 +1,5 @@
 //! What becomes of the rows of a table is made, and the table is decided on as a whole.
-ghost use Rattle.std.specs.Prelude.{◌≡◌, ◌≤◌, IfOk, IfErr, OnErr};
+ghost use Rattle.std.specs.Prelude.{◌≡◌, ◌≤◌, true, IfOk, IfErr, OnErr};
 ghost use Rattle.refusals.specs.declared.refusal.Refusal.TheVariants.{Disk};
 ghost use Rattle.typing.specs.declared.statement.Change.{Change};
 ghost use Rattle.denote.specs.Database.{CheckReading};
@@ -9,19 +9,19 @@ ghost use Rattle.store.specs.Errors.{HasRisen};
 ghost use Rattle.store.specs.Stored.{SameButMark};
 ghost use Rattle.constraint_checks.specs.Changed.{HasChanged, RefusesChange};
 ghost use Rattle.constraint_checks.specs.Settled.{Decided};
-ghost use Rattle.row_changes.specs.Plans.{IsMeant};
+ghost use Rattle.row_changes.specs.Plans.{IsMeant, LeavesGood};
 
 use crate::making::{make_changes, touched};
 use crate::planned::Planned;
 use crate::reply::reply_for;
-use constraint_checks::{Checks, begin, settle};
+use constraint_checks::{Checks, begin, settle_unless};
 use items::Text;
 use refusals::Refusal;
 use replies::Reply;
 use std::alloc::Global;
 use store::Store;
 
-/// Makes of the rows of a table what is planned: all of it, where the table then violates no constraint; else nothing. It sets the mark. It is refused by a constraint that the table would
+/// Makes of the rows of a table what is planned: all of it, where the table then violates no constraint; else nothing. The table is looked at unless it is known that it will violate none. It sets the mark. It is refused by a constraint that the table would
 /// violate (23000), for want of memory, by the device or by a limit of the store.
 pub(crate) fn carry_out<S: Store, C: Checks>(
     alloc: Global,
@@ -29,9 +29,11 @@ pub(crate) fn carry_out<S: Store, C: Checks>(
     name: &Text,
     planned: Planned,
     checks: &C,
+    known: bool,
 ) -> Result<Reply, Refusal>
     ensures changes { IfOk result (λ reply. (reading : CheckReading) (change : Change) → S.is_sound store.old → Decided (C.decides checks.now reading) (database_of (S.shows store.old).working) name.now
-        → IsMeant reading (S.shows store.old).working change name.now planned → HasChanged reading (S.shows store.old) change reply (S.shows store.new)) }
+        → (meant : IsMeant reading (S.shows store.old).working change name.now planned) → (known ≡ true → LeavesGood reading (S.shows store.old).working change name.now planned meant)
+        → HasChanged reading (S.shows store.old) change reply (S.shows store.new)) }
     ensures refused { IfErr result (λ refusal. (reading : CheckReading) (change : Change) → S.is_sound store.old → Decided (C.decides checks.now reading) (database_of (S.shows store.old).working) name.now
         → IsMeant reading (S.shows store.old).working change name.now planned → RefusesChange reading (database_of (S.shows store.old).working) change refusal) }
     ensures accepted { IfOk result (λ reply. IfRefused reply (λ refusal. ⊥)) }
@@ -48,7 +50,7 @@ pub(crate) fn carry_out<S: Store, C: Checks>(
     if let Err(refusal) = make_changes(store, name, numbers.as_slice(), changes) {
         return Err(refusal);
     }
-    match settle(alloc, store, name, checks) {
+    match settle_unless(alloc, store, name, checks, known) {
         Ok(()) => Ok(reply_for(count)),
         Err(refusal) => Err(refusal),
     }

@@ -2,6 +2,7 @@
 #![tactic(auto)]
 
 mod assigned;
+mod candidates;
 mod carrying;
 mod change;
 mod delete;

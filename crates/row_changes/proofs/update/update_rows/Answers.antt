@@ -21,7 +21,8 @@ returns-in-Ok-Some-clause-changes g c = IfOk-weaker c.carry_out.result _ _
     subst (λ (s : Stored). HasChanged reading s change reply (g.S.Store.shows c.carry_out.new.store)) same
     (h reading change (c.planned_update.ensures.sound sound)
     (subst (λ (s : Stored). Decided (g.C.Checks.decides c.args.checks.now reading) (database_of s.working) c.args.update.now.table) (sym same) decided)
-    (subst (λ (s : Stored). IsMeant reading s.working change c.args.update.now.table c.in-Ok-Some.planned) (sym same) meant)))
+    (subst (λ (s : Stored). IsMeant reading s.working change c.args.update.now.table c.in-Ok-Some.planned) (sym same) meant)
+    (λ known. absurd (cc known))))
     c.carry_out.ensures.changes
 
 pub returns-in-Ok-Some-clause-refused : goal.returns-in-Ok-Some-clause-refused
