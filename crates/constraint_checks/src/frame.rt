@@ -124,8 +124,8 @@ fn violation<S: Store, C: Checks>(
     }
 }
 
-/// The name of a constraint that a table with these rows violates.
-pub(crate) fn violation_in<C: Checks>(
+/// The name of a constraint that a table with these rows violates. It is refused for want of memory alone.
+pub fn violation_in<C: Checks>(
     alloc: Global,
     table: &Table,
     rows: &[Row],

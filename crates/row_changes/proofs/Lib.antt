@@ -9,4 +9,5 @@ pub mod Planning
 pub mod Made
 pub mod Sparse
 pub mod Selecting
+pub mod Keeping
 pub mod Fewer

@@ -1,5 +1,5 @@
 -- What is planned for the rows of a table is what the definitions make of it.
-use Rattle.std.proofs.Common.{◌≡◌, ◌∙◌, refl, sym, ap, subst, ℕ, Bool, false, not, List, [], map, filter, Option, Some, None, Result, Ok, Err, arith}
+use Rattle.std.proofs.Common.{◌≡◌, ◌∙◌, refl, sym, ap, subst, ℕ, Bool, true, false, not, List, [], map, filter, Option, Some, None, Result, Ok, Err, arith}
 use Rattle.std.specs.Prelude.{Contains, count_by}
 use Rattle.std.specs.List.{list_any}
 use Rattle.std.specs.FinMap.{get}
@@ -36,6 +36,8 @@ use Rattle.row_changes.specs.declared.planned.Planned.{Planned}
 use Rattle.row_changes.specs.Plans.{IsMeant, IsHarmless}
 use Rattle.row_changes.proofs.Sparse.{made-spread, count-spread, every-spread}
 use Rattle.row_changes.proofs.Fewer.{own-rows, violates-no-more}
+use Rattle.row_changes.specs.Kept.{Keeps, KeepAll}
+use Rattle.row_changes.proofs.Keeping.{keep-spread, constraints-kept}
 
 -- no table has the name
 pub no_update : (reading : CheckReading) (c : Contents) (schema : Schema) (u : Update) → IsSchemaOf schema (database_of c)
@@ -107,6 +109,18 @@ module _ (reading : CheckReading) (c : Contents) (u : Update) (table : Table) (t
   pub update_stopped : (s : Stop) → IsFaultOf (faults_in updated) s → RefusesChange reading (database_of c) (does.Update u) (refused_by s)
   update_stopped s h = stopped reading (database_of c) (does.Update u) updated (λ rows. with_rows reading (database_of c) u.table table (map (λ r. r.1) rows) (count_by (λ r. r.0) rows)) s update_is h
 
+  -- a table whose keys stay, and to which no row comes that violates a constraint alone, holds
+  pub update_harmless : (planned : Planned) (test : Row → Bool) → planned.numbers ≡ map (λ (e : Entry). e.0) (filter (λ (e : Entry). test e.1) (entries_of (get c u.table)))
+      → (found : List (Bool × Row)) → updated ≡ Ok found → AreUpdates table (spread test table.rows planned.changes) found
+      → (planned.harmless ≡ true → KeepAll (Keeps reading u.table table table.constraints) (filter test table.rows) planned.changes) → IsHarmless reading c (does.Update u) u.table planned
+  unfolding update_meant
+  update_harmless planned test numbered found e are keeps = (
+    update_meant planned test numbered found e are,
+    (λ sure holds. ap (λ (rows : List Row). violated_by reading u.table (record table { rows = rows })) (sym are.left_so)
+        ∙ constraints-kept reading u.table table (spread test table.rows planned.changes)
+        (keep-spread (Keeps reading u.table table table.constraints) test table.rows planned.changes (keeps sure)) (holds table there)),
+  )
+
 -- ---- DELETE
 
 module _ (reading : CheckReading) (c : Contents) (d : Delete) (table : Table) (there : get (database_of c) d.table ≡ Some table) where
@@ -139,7 +153,7 @@ module _ (reading : CheckReading) (c : Contents) (d : Delete) (table : Table) (t
   deletion_harmless planned test numbered found e are =
       let own : map (λ (r : Bool × Row). r.1) found ≡ table.rows = own-rows (is_touched (rows_in (database_of c)) d.filter) table.rows found e in (
         deletion_meant planned test numbered found e are,
-        (λ holds. violates-no-more (λ (r : Bool × Row). not r.0) reading d.table table found
+        (λ sure holds. violates-no-more (λ (r : Bool × Row). not r.0) reading d.table table found
             (ap (λ (rows : List Row). violated_by reading d.table (record table { rows = rows })) own ∙ holds table there)),
       )
 

@@ -5,3 +5,4 @@ pub mod Made
 pub mod Checked
 pub mod Plans
 pub mod Candidates
+pub mod Kept

@@ -1,5 +1,5 @@
 -- What is planned for the rows of a table, and what the definitions make of the database by it.
-use Rattle.std.specs.Prelude.{◌≡◌, ℕ, List, [], map, count_by, Option, Some, None}
+use Rattle.std.specs.Prelude.{◌≡◌, ℕ, true, List, [], map, count_by, Option, Some, None}
 use Rattle.std.specs.FinMap.{get}
 use Rattle.sqlval.specs.Value.{Row}
 use Rattle.typing.specs.declared.statement.Change.{Change}
@@ -32,16 +32,12 @@ pub record IsMeant (reading : CheckReading) (c : Contents) (change : Change) (na
 abbrev pub LeavesGood : (reading : CheckReading) (c : Contents) (change : Change) (name : Name) (planned : Planned) → IsMeant reading c change name planned → Type 0
 LeavesGood reading c change name planned meant = violated_by reading name (record meant.table { rows = meant.left }) ≡ []
 
--- and so it is where the table violates none as it is
+-- and so it is, where that is said to be sure and the table violates none as it is
 abbrev pub IsHarmless : CheckReading → Contents → Change → Name → Planned → Type 0
 IsHarmless reading c change name planned =
-    (meant : IsMeant reading c change name planned) × (Holds reading (database_of c) name → LeavesGood reading c change name planned meant)
+    (meant : IsMeant reading c change name planned) × (planned.harmless ≡ true → Holds reading (database_of c) name → LeavesGood reading c change name planned meant)
 
 -- where no table has the name, nothing is planned and nothing changes
 abbrev pub IsPlanned : CheckReading → Contents → Change → Name → Option Planned → Type 0
 IsPlanned reading c change name None = changed reading (database_of c) change ≡ Makes (database_of c) (Some 0)
-IsPlanned reading c change name (Some planned) = IsMeant reading c change name planned
-
-abbrev pub IsHarmlesslyPlanned : CheckReading → Contents → Change → Name → Option Planned → Type 0
-IsHarmlesslyPlanned reading c change name None = changed reading (database_of c) change ≡ Makes (database_of c) (Some 0)
-IsHarmlesslyPlanned reading c change name (Some planned) = IsHarmless reading c change name planned
+IsPlanned reading c change name (Some planned) = IsHarmless reading c change name planned

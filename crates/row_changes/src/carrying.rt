@@ -1,5 +1,5 @@
 //! What becomes of the rows of a table is made, and the table is decided on as a whole.
-ghost use Rattle.std.specs.Prelude.{◌≡◌, ◌≤◌, true, IfOk, IfErr, OnErr};
+ghost use Rattle.std.specs.Prelude.{◌≡◌, ◌≤◌, IfOk, IfErr, OnErr};
 ghost use Rattle.refusals.specs.declared.refusal.Refusal.TheVariants.{Disk};
 ghost use Rattle.typing.specs.declared.statement.Change.{Change};
 ghost use Rattle.denote.specs.Database.{CheckReading};
@@ -8,8 +8,8 @@ ghost use Rattle.store.specs.Contents.{database_of};
 ghost use Rattle.store.specs.Errors.{HasRisen};
 ghost use Rattle.store.specs.Stored.{SameButMark};
 ghost use Rattle.constraint_checks.specs.Changed.{HasChanged, RefusesChange};
-ghost use Rattle.constraint_checks.specs.Settled.{Decided};
-ghost use Rattle.row_changes.specs.Plans.{IsMeant, LeavesGood};
+ghost use Rattle.constraint_checks.specs.Settled.{Decided, Holds};
+ghost use Rattle.row_changes.specs.Plans.{IsMeant, IsHarmless};
 
 use crate::making::{make_changes, touched};
 use crate::planned::Planned;
@@ -21,7 +21,7 @@ use replies::Reply;
 use std::alloc::Global;
 use store::Store;
 
-/// Makes of the rows of a table what is planned: all of it, where the table then violates no constraint; else nothing. The table is looked at unless it is known that it will violate none. It sets the mark. It is refused by a constraint that the table would
+/// Makes of the rows of a table what is planned: all of it, where the table then violates no constraint; else nothing. The table, which violates none as it is, is looked at unless what is planned is sure to be harmless. It sets the mark. It is refused by a constraint that the table would
 /// violate (23000), for want of memory, by the device or by a limit of the store.
 pub(crate) fn carry_out<S: Store, C: Checks>(
     alloc: Global,
@@ -29,10 +29,9 @@ pub(crate) fn carry_out<S: Store, C: Checks>(
     name: &Text,
     planned: Planned,
     checks: &C,
-    known: bool,
 ) -> Result<Reply, Refusal>
     ensures changes { IfOk result (λ reply. (reading : CheckReading) (change : Change) → S.is_sound store.old → Decided (C.decides checks.now reading) (database_of (S.shows store.old).working) name.now
-        → (meant : IsMeant reading (S.shows store.old).working change name.now planned) → (known ≡ true → LeavesGood reading (S.shows store.old).working change name.now planned meant)
+        → Holds reading (database_of (S.shows store.old).working) name.now → IsHarmless reading (S.shows store.old).working change name.now planned
         → HasChanged reading (S.shows store.old) change reply (S.shows store.new)) }
     ensures refused { IfErr result (λ refusal. (reading : CheckReading) (change : Change) → S.is_sound store.old → Decided (C.decides checks.now reading) (database_of (S.shows store.old).working) name.now
         → IsMeant reading (S.shows store.old).working change name.now planned → RefusesChange reading (database_of (S.shows store.old).working) change refusal) }
@@ -45,12 +44,16 @@ pub(crate) fn carry_out<S: Store, C: Checks>(
     if let Err(refusal) = begin(store) {
         return Err(refusal);
     }
-    let Planned { numbers, changes } = planned;
+    let Planned {
+        numbers,
+        changes,
+        harmless,
+    } = planned;
     let count = touched(changes.as_slice());
     if let Err(refusal) = make_changes(store, name, numbers.as_slice(), changes) {
         return Err(refusal);
     }
-    match settle_unless(alloc, store, name, checks, known) {
+    match settle_unless(alloc, store, name, checks, harmless) {
         Ok(()) => Ok(reply_for(count)),
         Err(refusal) => Err(refusal),
     }

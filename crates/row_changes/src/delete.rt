@@ -15,7 +15,7 @@ ghost use Rattle.constraint_checks.specs.Changed.{HasChanged, RefusesChange};
 ghost use Rattle.constraint_checks.specs.Settled.{Decided, Holds};
 ghost use Rattle.row_changes.specs.Statements.{IsFilterOf, tables_in_filter};
 ghost use Rattle.row_changes.specs.Candidates.{AreCandidates};
-ghost use Rattle.row_changes.specs.Plans.{IsHarmlesslyPlanned};
+ghost use Rattle.row_changes.specs.Plans.{IsPlanned};
 
 use crate::candidates::candidates;
 use crate::carrying::carry_out;
@@ -55,7 +55,7 @@ pub fn delete_rows<S: Store, C: Checks>(
     ensures counts { S.refused store.old ≤ S.refused store.new }
 {
     match planned_deletion(alloc, store, delete) {
-        Ok(Some(planned)) => carry_out(alloc, store, &delete.table, planned, checks, true),
+        Ok(Some(planned)) => carry_out(alloc, store, &delete.table, planned, checks),
         Ok(None) => Ok(Reply::Unchanged),
         Err(refusal) => Err(refusal),
     }
@@ -68,7 +68,7 @@ fn planned_deletion<S: Store>(
     delete: &Delete,
 ) -> Result<Option<Planned>, Refusal>
     ensures planned { IfOk result (λ planned. (reading : CheckReading) → S.is_sound store.old → IsSchemaOf (S.prepared store.old) (database_of (S.shows store.old).working)
-        → IsHarmlesslyPlanned reading (S.shows store.old).working (does.Delete delete.now) delete.now.table planned) }
+        → IsPlanned reading (S.shows store.old).working (does.Delete delete.now) delete.now.table planned) }
     ensures refused { IfErr result (λ refusal. (reading : CheckReading) → S.is_sound store.old → IsSchemaOf (S.prepared store.old) (database_of (S.shows store.old).working)
         → RefusesChange reading (database_of (S.shows store.old).working) (does.Delete delete.now) refusal) }
     ensures device { IfErr result (λ refusal. refusal ≡ Disk → HasRisen (S.refused store.old) (S.refused store.new)) }
@@ -102,7 +102,7 @@ fn all_deletions(
 ) -> Result<Option<Planned>, Refusal>
     ensures planned { IfOk result (λ planned. (reading : CheckReading) (c : Contents) → IsSchemaOf schema.now (database_of c)
         → IsFilterOf delete.now.filter filter.now → Agree (rows_lent lent.now.tables) (rows_in (database_of c)) (tables_in_filter filter.now)
-        → AreCandidates (get c delete.now.table) filter.now found → IsHarmlesslyPlanned reading c (does.Delete delete.now) delete.now.table planned) }
+        → AreCandidates (get c delete.now.table) filter.now found → IsPlanned reading c (does.Delete delete.now) delete.now.table planned) }
     ensures refused { IfErr result (λ refusal. (reading : CheckReading) (c : Contents) → IsSchemaOf schema.now (database_of c)
         → IsFilterOf delete.now.filter filter.now → Agree (rows_lent lent.now.tables) (rows_in (database_of c)) (tables_in_filter filter.now)
         → AreCandidates (get c delete.now.table) filter.now found → RefusesChange reading (database_of c) (does.Delete delete.now) refusal) }
@@ -113,7 +113,11 @@ fn all_deletions(
     };
     let Numbered { numbers, rows } = found;
     match deletions(alloc, lent, filter, rows.as_slice()) {
-        Ok(changes) => Ok(Some(Planned { numbers, changes })),
+        Ok(changes) => Ok(Some(Planned {
+            numbers,
+            changes,
+            harmless: true,
+        })),
         Err(stop) => Err(refusal_of_stop(stop)),
     }
 }

@@ -7,6 +7,7 @@ mod carrying;
 mod change;
 mod delete;
 mod deleting;
+mod harmless;
 mod held;
 mod making;
 mod planned;

@@ -12,7 +12,7 @@ ghost use Rattle.store.specs.Stored.{SameButMark};
 ghost use Rattle.tree_tables.specs.TablesRead.{Agree};
 ghost use Rattle.query_answers.specs.Lent.{rows_lent};
 ghost use Rattle.constraint_checks.specs.Changed.{HasChanged, RefusesChange};
-ghost use Rattle.constraint_checks.specs.Settled.{Decided};
+ghost use Rattle.constraint_checks.specs.Settled.{Decided, Holds};
 ghost use Rattle.row_changes.specs.Statements.{IsUpdateOf, tables_in_update};
 ghost use Rattle.row_changes.specs.Checked.{AreChecksFor};
 ghost use Rattle.row_changes.specs.Candidates.{AreCandidates};
@@ -21,6 +21,7 @@ ghost use Rattle.row_changes.specs.Plans.{IsPlanned};
 use crate::candidates::candidates;
 use crate::carrying::carry_out;
 use crate::change::RowUpdate;
+use crate::harmless::are_harmless;
 use crate::planned::Planned;
 use crate::reading::lent_to_update;
 use crate::trees::update_trees;
@@ -49,6 +50,7 @@ pub fn update_rows<S: Store, C: Checks>(
     ensures changes { IfOk result (λ reply. (reading : CheckReading) → S.is_sound store.old → IsSchemaOf (S.prepared store.old) (database_of (S.shows store.old).working)
         → Decided (C.decides checks.now reading) (database_of (S.shows store.old).working) update.now.table
         → AreChecksFor reading (database_of (S.shows store.old).working) update.now.table trees.now
+        → Holds reading (database_of (S.shows store.old).working) update.now.table
         → HasChanged reading (S.shows store.old) (does.Update update.now) reply (S.shows store.new)) }
     ensures refused { IfErr result (λ refusal. (reading : CheckReading) → S.is_sound store.old → IsSchemaOf (S.prepared store.old) (database_of (S.shows store.old).working)
         → Decided (C.decides checks.now reading) (database_of (S.shows store.old).working) update.now.table
@@ -60,21 +62,23 @@ pub fn update_rows<S: Store, C: Checks>(
     ensures sound { S.is_sound store.old → S.is_sound store.new }
     ensures counts { S.refused store.old ≤ S.refused store.new }
 {
-    match planned_update(alloc, store, update, trees) {
-        Ok(Some(planned)) => carry_out(alloc, store, &update.table, planned, checks, false),
+    match planned_update(alloc, store, update, trees, checks) {
+        Ok(Some(planned)) => carry_out(alloc, store, &update.table, planned, checks),
         Ok(None) => Ok(Reply::Unchanged),
         Err(refusal) => Err(refusal),
     }
 }
 
 /// What becomes of the rows that the condition may touch, where the others stay; nothing where no table has the name. The store is left as it was.
-fn planned_update<S: Store>(
+fn planned_update<S: Store, C: Checks>(
     alloc: Global,
     store: &mut S,
     update: &Update,
     trees: &[Condition],
+    checks: &C,
 ) -> Result<Option<Planned>, Refusal>
     ensures planned { IfOk result (λ planned. (reading : CheckReading) → S.is_sound store.old → IsSchemaOf (S.prepared store.old) (database_of (S.shows store.old).working)
+        → Decided (C.decides checks.now reading) (database_of (S.shows store.old).working) update.now.table
         → AreChecksFor reading (database_of (S.shows store.old).working) update.now.table trees.now
         → IsPlanned reading (S.shows store.old).working (does.Update update.now) update.now.table planned) }
     ensures refused { IfErr result (λ refusal. (reading : CheckReading) → S.is_sound store.old → IsSchemaOf (S.prepared store.old) (database_of (S.shows store.old).working)
@@ -97,20 +101,31 @@ fn planned_update<S: Store>(
         Ok(found) => found,
         Err(refusal) => return Err(refusal),
     };
-    all_updates(alloc, store.schema(), update, trees, &made, &lent, found)
+    all_updates(
+        alloc,
+        store.schema(),
+        update,
+        trees,
+        checks,
+        &made,
+        &lent,
+        found,
+    )
 }
 
 /// What becomes of the rows that were found.
-fn all_updates(
+fn all_updates<C: Checks>(
     alloc: Global,
     schema: &Schema,
     update: &Update,
     trees: &[Condition],
+    checks: &C,
     made: &RowUpdate,
     lent: &LentTables,
     found: Numbered,
 ) -> Result<Option<Planned>, Refusal>
-    ensures planned { IfOk result (λ planned. (reading : CheckReading) (c : Contents) → IsSchemaOf schema.now (database_of c) → AreChecksFor reading (database_of c) update.now.table trees.now
+    ensures planned { IfOk result (λ planned. (reading : CheckReading) (c : Contents) → IsSchemaOf schema.now (database_of c)
+        → Decided (C.decides checks.now reading) (database_of c) update.now.table → AreChecksFor reading (database_of c) update.now.table trees.now
         → IsUpdateOf update.now made.now → Agree (rows_lent lent.now.tables) (rows_in (database_of c)) (tables_in_update made.now)
         → AreCandidates (get c update.now.table) made.now.filter found → IsPlanned reading c (does.Update update.now) update.now.table planned) }
     ensures refused { IfErr result (λ refusal. (reading : CheckReading) (c : Contents) → IsSchemaOf schema.now (database_of c) → AreChecksFor reading (database_of c) update.now.table trees.now
@@ -123,7 +138,14 @@ fn all_updates(
     };
     let Numbered { numbers, rows } = found;
     match updates(alloc, lent, table, trees, made, rows.as_slice()) {
-        Ok(changes) => Ok(Some(Planned { numbers, changes })),
+        Ok(changes) => match are_harmless(alloc, table, checks, &rows, &changes) {
+            Ok(harmless) => Ok(Some(Planned {
+                numbers,
+                changes,
+                harmless,
+            })),
+            Err(refusal) => Err(refusal),
+        },
         Err(stop) => Err(refusal_of_stop(stop)),
     }
 }

@@ -22,7 +22,8 @@ returns-in-Err-make_changes-clause-same g c = λ sound.
     (c.in-Err-make_changes.ensures.undone (c.begin.ensures.sound sound))
 
 pub returns-in-Ok-clause-changes : goal.returns-in-Ok-clause-changes
-returns-in-Ok-clause-changes g c = λ reading change sound decided meant good.
+returns-in-Ok-clause-changes g c = λ reading change sound decided holds harmless.
+    let meant = harmless.0 in
     let old = g.S.Store.shows c.args.store.now in
     let mid = g.S.Store.shows c.begin.new.store in
     let made = g.S.Store.shows c.make_changes.new.store in
@@ -34,7 +35,7 @@ returns-in-Ok-clause-changes g c = λ reading change sound decided meant good.
     carried reading old mid change c.args.name.now c.args.planned marks meant made all rises (g.S.Store.shows c.settle_unless.new.store) _ _ c.in-Ok.ensures.kept
     (c.in-Ok.ensures.holds reading (c.make_changes.ensures.sound (c.begin.ensures.sound sound))
     (decided_made reading old mid change c.args.name.now c.args.planned marks meant made all rises (g.C.Checks.decides c.args.checks.now reading) decided)
-    (λ known. holds_made reading old mid change c.args.name.now c.args.planned marks meant made all rises (good known)))
+    (λ known. holds_made reading old mid change c.args.name.now c.args.planned marks meant made all rises (harmless.1 known holds)))
     (c.touched-count.ensures ∙ ap (λ (cs : List RowChange). count_by is_change cs) c.as_slice.ensures ∙ meant.touched) c.reply_for.ensures.gives
 
 pub returns-clause-refused : goal.returns-clause-refused

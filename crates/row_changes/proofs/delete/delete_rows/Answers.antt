@@ -23,7 +23,7 @@ returns-in-Ok-Some-clause-changes g c = IfOk-weaker c.carry_out.result _ _
     subst (λ (s : Stored). HasChanged reading s change reply (g.S.Store.shows c.carry_out.new.store)) same
     (h reading change (c.planned_deletion.ensures.sound sound)
     (subst (λ (s : Stored). Decided (g.C.Checks.decides c.args.checks.now reading) (database_of s.working) c.args.delete.now.table) (sym same) decided)
-    moved.0 (λ known. moved.1 holds_there)))
+    holds_there moved))
     c.carry_out.ensures.changes
 
 pub returns-in-Ok-Some-clause-refused : goal.returns-in-Ok-Some-clause-refused

@@ -10,7 +10,7 @@ use Rattle.row_changes.proofs.update.planned_update.Goals as goal
 
 pub returns-clause-planned : goal.returns-clause-planned
 returns-clause-planned g c = IfOk-weaker c.all_updates.result _ _
-    (λ planned h reading sound of checks.
+    (λ planned h reading sound of decided checks.
     let old = g.S.Store.shows c.args.store.now in
     let schema : IsSchemaOf c.schema-2.result.now (database_of old.working) =
     subst (λ (s : Schema). IsSchemaOf s (database_of old.working)) (sym (c.schema-2.ensures ∙ c.candidates.ensures.prepared ∙ c.lent_to_update.ensures.prepared)) of in
@@ -21,7 +21,7 @@ returns-clause-planned g c = IfOk-weaker c.all_updates.result _ _
     let entries : AreCandidates (get old.working c.args.update.now.table) c.in-Ok.made.filter c.in-Ok-candidates.found =
     subst (λ (s : Stored). AreCandidates (get s.working c.args.update.now.table) c.in-Ok.made.filter c.in-Ok-candidates.found) c.lent_to_update.ensures.shows
     (c.in-Ok-candidates.ensures.rows (c.lent_to_update.ensures.sound sound) of_lent) in
-    h reading old.working schema checks c.in-Ok.ensures.trees (c.in-Ok-lent_to_update.ensures.lent sound) entries)
+    h reading old.working schema decided checks c.in-Ok.ensures.trees (c.in-Ok-lent_to_update.ensures.lent sound) entries)
     c.all_updates.ensures.planned
 
 pub returns-clause-refused : goal.returns-clause-refused
