@@ -7,3 +7,4 @@ pub mod Standing
 pub mod Carried
 pub mod Planning
 pub mod Made
+pub mod KeptChangeLemmas

@@ -4,3 +4,4 @@ pub mod Given
 pub mod Made
 pub mod Checked
 pub mod Plans
+pub mod KeptChanges

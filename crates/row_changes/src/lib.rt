@@ -7,6 +7,7 @@ mod change;
 mod delete;
 mod deleting;
 mod held;
+mod keeping;
 mod making;
 mod planned;
 mod reading;
