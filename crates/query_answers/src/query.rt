@@ -20,7 +20,8 @@ use crate::lent::lent_tables;
 use algebra::Tree;
 use algebra_laws::listings_answer_queries;
 use denote::{Rows, Stop};
-use executor::{Env, Listed, tree_listed};
+use executor::Listed;
+use kept_subqueries::listed_once;
 use refusals::Refusal;
 use sqlval::Schema;
 use std::alloc::{AllocError, Global};
@@ -54,7 +55,7 @@ pub fn run_all<R: Reading>(alloc: Global, reading: &mut R, plan: &Tree) -> Resul
         Ok(lent) => lent,
         Err(refusal) => return Err(refusal),
     };
-    unstopped(tree_listed(alloc, &lent, &Env::Outermost, plan))
+    unstopped(listed_once(alloc, &lent, plan))
 }
 
 /// A list. What stops one is want of memory.

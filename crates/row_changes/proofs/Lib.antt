@@ -11,3 +11,4 @@ pub mod Sparse
 pub mod Selecting
 pub mod Keeping
 pub mod Fewer
+pub mod KeptChangeLemmas

@@ -6,3 +6,4 @@ pub mod Checked
 pub mod Plans
 pub mod Candidates
 pub mod Kept
+pub mod KeptChanges

@@ -15,11 +15,13 @@ ghost use Rattle.row_changes.specs.RowChanges.{AreDeletions, GivesChanges, sprea
 ghost use Rattle.row_changes.specs.Statements.{IsFilterOf, tables_in_filter};
 
 use crate::change::RowChange;
+use crate::listed::kept_filter;
 use crate::touched::is_touched;
 use algebra::Condition;
 use algebra_laws::evaluation_keeps_the_meaning;
 use denote::{Row, Stop};
 use items::Items;
+use kept_subqueries::kept_trees_mean_the_same;
 use query_answers::LentTables;
 use sqlval::Value;
 use std::alloc::Global;
@@ -40,7 +42,11 @@ pub fn deletions(
     evaluation_keeps_the_meaning();
     listings_read_their_tables();
     values_read_their_tables();
-    all_deletions(alloc, lent, filter, rows)
+    kept_trees_mean_the_same();
+    match kept_filter(alloc, lent, filter) {
+        Ok(kept) => all_deletions(alloc, lent, &kept, rows),
+        Err(_) => Err(Stop::Memory),
+    }
 }
 
 fn all_deletions(

@@ -9,6 +9,7 @@ mod delete;
 mod deleting;
 mod harmless;
 mod held;
+mod listed;
 mod making;
 mod planned;
 mod reading;

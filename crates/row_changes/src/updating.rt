@@ -18,11 +18,13 @@ ghost use Rattle.row_changes.specs.Statements.{IsUpdateOf, tables_in_update};
 use crate::assigned::assigned_row;
 use crate::change::{RowChange, RowUpdate};
 use crate::held::may_hold;
+use crate::listed::kept_update;
 use crate::touched::is_touched;
 use algebra::Condition;
 use algebra_laws::evaluation_keeps_the_meaning;
 use denote::{Row, Stop};
 use items::Items;
+use kept_subqueries::kept_trees_mean_the_same;
 use query_answers::LentTables;
 use sqlval::{Table, Value};
 use std::alloc::Global;
@@ -48,7 +50,11 @@ pub fn updates(
     evaluation_keeps_the_meaning();
     listings_read_their_tables();
     values_read_their_tables();
-    all_updates(alloc, lent, table, checks, update, rows)
+    kept_trees_mean_the_same();
+    match kept_update(alloc, lent, update) {
+        Ok(kept) => all_updates(alloc, lent, table, checks, &kept, rows),
+        Err(_) => Err(Stop::Memory),
+    }
 }
 
 fn all_updates(
