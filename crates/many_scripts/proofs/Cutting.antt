@@ -121,7 +121,7 @@ finishes bytes request old new texts parts h ends = by h.tail refl
 
 -- ---- the same, as the code has them
 
-pub take_all : (n : ℕ) (xs : List ℕ) → length xs ≤ n → take n xs ≡ xs
+pub take_all : {A : Type 0} (n : ℕ) (xs : List A) → length xs ≤ n → take n xs ≡ xs
 take_all zero [] h = refl
 take_all zero (x ∷ xs) h = absurd (omega (arith, h))
 take_all (suc n) [] h = refl

@@ -5,9 +5,7 @@ use Rattle.script_pieces.specs.Pieces.{ArePieces}
 use Rattle.script_pieces.specs.PieceMeaning.{Request, Asks}
 use Rattle.many_scripts.specs.declared.part.Part.{Part}
 use Rattle.many_scripts.specs.declared.part.Part.TheVariants as part
-
-abbrev pub Text : Type 0
-Text = Vec ℕ
+use Rattle.shared.specs.Scripts.{Script, Text}
 
 abbrev pub texts_in : List Text → List (List ℕ)
 texts_in texts = map (λ t. t.items) texts
@@ -43,3 +41,23 @@ pub record IsCut (bytes : List ℕ) (texts : List (List ℕ)) (parts : List Part
   pub pieces : List (List ℕ)
   pub are : ArePieces bytes pieces
   pub ask : Ask pieces texts parts
+
+-- what the pieces of a script are
+abbrev pub Parts : Type 0
+Parts = Vec Part
+
+-- each of these scripts has these texts of calls, and is these parts
+abbrev pub AreCut : List Text → List Script → List Parts → Type 0
+AreCut [] texts parts = (texts ≡ []) × (parts ≡ [])
+AreCut (script ∷ scripts) texts parts =
+    (first : Script) × (others : List Script) × (kinds : Parts) × (more : List Parts)
+    × IsCut script.items (texts_in first.items) kinds.items × (texts ≡ first ∷ others) × (parts ≡ kinds ∷ more)
+    × AreCut scripts others more
+
+-- one script more, of these bytes
+pub record HasPushed (bytes : List ℕ) (old_texts new_texts : List Script) (old_parts new_parts : List Parts) : Type 0 where
+  pub texts : Script
+  pub parts : Parts
+  pub cut : IsCut bytes (texts_in texts.items) parts.items
+  pub texts_are : new_texts ≡ old_texts ++ texts ∷ []
+  pub parts_are : new_parts ≡ old_parts ++ parts ∷ []

@@ -1,2 +1,5 @@
 pub mod Cut
+pub mod Ends
 pub mod Shown
+pub mod Many
+pub mod Words

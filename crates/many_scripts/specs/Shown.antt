@@ -1,5 +1,6 @@
 -- What is printed of scripts that ran side by side. All of this is our own choice.
-use Rattle.std.specs.Prelude.{ℕ, Bool, List, [], ◌∷◌, ◌++◌, codes, decimal, Result, Ok, Err}
+use Rattle.std.specs.Prelude.{ℕ, ◌+◌, Bool, false, ◌||◌, List, [], ◌∷◌, ◌++◌, codes, decimal, Result, Ok, Err}
+use Rattle.std.specs.Global.{Vec}
 use Rattle.std.specs.List.{list_any}
 use Rattle.refusals.specs.declared.refusal.Refusal.{Refusal}
 use Rattle.refusals.specs.declared.refusal.Refusal.TheVariants.{Invalid}
@@ -10,6 +11,7 @@ use Rattle.replies.specs.Printed.{printed_reply}
 use Rattle.replies.specs.Refused.{is_refusal}
 use Rattle.many_scripts.specs.declared.part.Part.{Part}
 use Rattle.many_scripts.specs.declared.part.Part.TheVariants as part
+use Rattle.many_scripts.specs.Cut.{Parts}
 
 abbrev pub Answer : Type 0
 Answer = Result Reply Refusal
@@ -43,3 +45,20 @@ printed_number k = codes "-- " ++ (decimal k ++ codes "\n")
 -- a script's line and its replies
 abbrev pub printed_script : ℕ → List Part → List Answer → List ℕ
 printed_script k parts answers = printed_number k ++ printed_replies (replies_to parts answers)
+
+-- ---- scripts, each with its parts and its answers
+
+abbrev pub Answers : Type 0
+Answers = Vec Answer
+
+-- each script's line and replies, the first of which has this number; there are answers for each
+abbrev pub printed_scripts : ℕ → List Parts → List Answers → List ℕ
+printed_scripts k [] all = []
+printed_scripts k (parts ∷ scripts) [] = []
+printed_scripts k (parts ∷ scripts) (answers ∷ all) = printed_script k parts.items answers.items ++ printed_scripts (k + 1) scripts all
+
+-- whether a reply to one of them is a refusal
+abbrev pub some_refused : List Parts → List Answers → Bool
+some_refused [] all = false
+some_refused (parts ∷ scripts) [] = false
+some_refused (parts ∷ scripts) (answers ∷ all) = has_refusal (replies_to parts.items answers.items) || some_refused scripts all

@@ -1,28 +1,51 @@
 //! Command lines of `sqlmany`.
+ghost use Rattle.std.specs.Prelude.{◌≡◌, ℕ, List, map, IfOk, IsOkAnd};
+ghost use Rattle.many_scripts.specs.Words.{Asks};
 
 use crate::options::Settings;
+use crate::words::settings_asked;
 use clap::error::ErrorKind;
-use clap::{Arg, ArgMatches, Command, Error, value_parser};
-use shell::{DEFAULT_FRAMES, Frames, GREATEST_FRAMES, LEAST_FRAMES};
+use clap::{Arg, Command, Error, value_parser};
+use page_frames::{GREATEST_FRAMES, LEAST_FRAMES};
 use std::alloc::Global;
 use std::convert::AsStr;
 
-/// Reads the words of a command line of `sqlmany`, the program's name first.
+/// Reads the words of a command line of `sqlmany`, the program's name first: `[--frames N] SCRIPT ..`, or `--frames=N`, with N from 16 to 4,096. A word that begins with `-` names
+/// no script.
 ///
-/// The answer is an error where no script is named, for an option that there is not, for a number of frames outside 16 to 4,096, for want of memory, and where the words ask
-/// for help, which the error's text then is.
-pub fn settings<'a, S: AsStr>(alloc: Global, words: &'a [S]) -> Result<Settings<'a>, Error> {
-    let command: Command<'a> = command_line(alloc)?;
-    let matches = command.try_get_matches_from(words)?;
-    let count = matches.get_one::<u32>("frames").unwrap_or(DEFAULT_FRAMES);
-    let Some(frames) = Frames::new(count) else {
-        return fault(alloc, "--frames takes a number from 16 to 4096");
-    };
-    let scripts = named(alloc, &matches)?;
-    Ok(Settings { frames, scripts })
+/// The answer is an error for all other words: also where they ask for help, which the error's text then is. Words that ask for scripts are read without memory.
+pub fn settings<'a, S: AsStr>(alloc: Global, words: &'a [S]) -> Result<Settings<'a, S>, Error>
+    ensures asked { (count : ℕ) (names : List (List ℕ)) → Asks (map S.text words.entry.now) count names
+        → IsOkAnd result (λ settings. (settings.frames.count ≡ count) × (map S.text settings.scripts.now ≡ names)) }
+    ensures refused { IfOk result (λ settings. Asks (map S.text words.entry.now) settings.frames.count (map S.text settings.scripts.now)) }
+{
+    match settings_asked(words) {
+        Some(settings) => Ok(settings),
+        None => Err(told(alloc, words)),
+    }
 }
 
-/// The option and the arguments of `sqlmany`.
+/// What is said of words that ask for no settings: help, or what is wrong with them.
+fn told<'a, S: AsStr>(alloc: Global, words: &'a [S]) -> Error {
+    let command: Command<'a> = match command_line(alloc) {
+        Ok(command) => command,
+        Err(error) => return error,
+    };
+    match command.try_get_matches_from(words) {
+        Ok(_) => match surplus(alloc) {
+            Ok(error) => error,
+            Err(error) => error,
+        },
+        Err(error) => error,
+    }
+}
+
+/// What is said of words that `clap` would take, and `sqlmany` does not.
+fn surplus(alloc: Global) -> Result<Error, Error> {
+    Ok(command_line(alloc)?.error(ErrorKind::InvalidValue, "options behind the scripts")?)
+}
+
+/// The option and the arguments of `sqlmany`, for its help and for what is said of wrong words.
 fn command_line<'a>(alloc: Global) -> Result<Command<'a>, Error> {
     let frames = Arg::new(alloc, "frames")
         .long("frames")
@@ -46,20 +69,4 @@ fn command_line<'a>(alloc: Global) -> Result<Command<'a>, Error> {
             .arg(frames)?
             .arg(scripts)?,
     )
-}
-
-/// The names of the scripts.
-fn named<'a>(alloc: Global, matches: &ArgMatches<'a>) -> Result<Vec<&'a str>, Error> {
-    let mut scripts = Vec::new(alloc);
-    if let Some(names) = matches.get_strs("scripts") {
-        for name in names {
-            scripts.push(*name)?;
-        }
-    }
-    Ok(scripts)
-}
-
-/// A command line fault with this text.
-fn fault<'a>(alloc: Global, text: &str) -> Result<Settings<'a>, Error> {
-    Err(command_line(alloc)?.error(ErrorKind::InvalidValue, text)?)
 }

@@ -1,7 +1,7 @@
 //! Scripts in pieces.
-ghost use Rattle.std.specs.Prelude.{◌≡◌, ◌++◌, IfOk, OnOk};
+ghost use Rattle.std.specs.Prelude.{◌≡◌, ◌++◌, [], IfOk, OnOk};
 ghost use Rattle.script_pieces.specs.Cutter.{asked};
-ghost use Rattle.many_scripts.specs.Cut.{IsCut, parts_of, texts_in, texts_of};
+ghost use Rattle.many_scripts.specs.Cut.{AreCut, HasPushed, IsCut, parts_of, texts_in, texts_of};
 
 use crate::part::Part;
 use script_pieces::{Cutter, Request};
@@ -9,21 +9,23 @@ use std::alloc::{AllocError, Global};
 
 /// A script: the texts of its calls, and what its pieces are, but for those that ask for nothing.
 #[derive(Drop)]
-pub(crate) struct CutScript {
-    pub(crate) texts: Vec<Vec<u8>>,
-    pub(crate) parts: Vec<Part>,
+struct CutScript {
+    texts: Vec<Vec<u8>>,
+    parts: Vec<Part>,
 }
 
 /// Scripts as they are run: of each the texts of its calls, and what its pieces are.
 #[derive(Drop)]
-pub struct CutScripts {
-    pub texts: Vec<Vec<Vec<u8>>>,
-    pub parts: Vec<Vec<Part>>,
+pub(crate) struct CutScripts {
+    pub(crate) texts: Vec<Vec<Vec<u8>>>,
+    pub(crate) parts: Vec<Vec<Part>>,
 }
 
 impl CutScripts {
     /// No script.
-    pub fn new(alloc: Global) -> CutScripts {
+    fn new(alloc: Global) -> CutScripts
+        ensures { (result.texts.items ≡ []) × (result.parts.items ≡ []) }
+    {
         CutScripts {
             texts: Vec::new(alloc),
             parts: Vec::new(alloc),
@@ -31,7 +33,9 @@ impl CutScripts {
     }
 
     /// One script more, of these bytes. Refuses for want of memory alone.
-    pub fn push(&mut self, alloc: Global, bytes: &[u8]) -> Result<(), AllocError> {
+    fn push(&mut self, alloc: Global, bytes: &[u8]) -> Result<(), AllocError>
+        ensures { OnOk result (HasPushed bytes.now self.old.texts.items self.new.texts.items self.old.parts.items self.new.parts.items) }
+    {
         let CutScript { texts, parts } = cut(alloc, bytes)?;
         self.texts.push(texts)?;
         self.parts.push(parts)?;
@@ -62,8 +66,19 @@ impl CutScript {
     }
 }
 
+/// The scripts of these bytes. Refuses for want of memory alone.
+pub(crate) fn cut_all(alloc: Global, scripts: &[Vec<u8>]) -> Result<CutScripts, AllocError>
+    ensures { IfOk result (λ cut. AreCut scripts.now cut.texts.items cut.parts.items) }
+{
+    let mut all = CutScripts::new(alloc);
+    for bytes in scripts {
+        all.push(alloc, bytes.as_slice())?;
+    }
+    Ok(all)
+}
+
 /// The script of these bytes. Refuses for want of memory alone.
-pub(crate) fn cut(alloc: Global, bytes: &[u8]) -> Result<CutScript, AllocError>
+fn cut(alloc: Global, bytes: &[u8]) -> Result<CutScript, AllocError>
     ensures { IfOk result (λ script. IsCut bytes.now (texts_in script.texts.items) script.parts.items) }
 {
     let mut cutter = Cutter::new(alloc)?;

@@ -1,8 +1,10 @@
 //! What `sqlmany` does: scripts that run side by side over one store, and what is printed of them.
 #![tactic(auto)]
 
+mod closing;
 mod command_line;
 mod cut;
+mod ending;
 mod files;
 mod many;
 mod options;
@@ -10,10 +12,11 @@ mod part;
 mod program;
 mod put;
 mod show;
+mod tables;
+mod words;
 
 pub use command_line::settings;
-pub use cut::CutScripts;
 pub use many::many_on;
 pub use options::Settings;
-pub use part::Part;
 pub use program::sqlmany;
+pub use tables::many_in_memory;

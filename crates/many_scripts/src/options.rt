@@ -1,12 +1,12 @@
 //! What a command line asks for.
 
-use shell::Frames;
+use page_frames::Frames;
 
 /// What a command line of `sqlmany` asks for.
 #[derive(Drop)]
-pub struct Settings<'a> {
+pub struct Settings<'a, S> {
     /// The frames of the pool.
     pub frames: Frames,
-    /// The names of the scripts' files, at least one.
-    pub scripts: Vec<&'a str>,
+    /// The words that name the scripts' files, at least one.
+    pub scripts: &'a [S],
 }

@@ -2,7 +2,7 @@
 
 /// What a piece of a script is to `sqlmany`.
 #[derive(Clone, Copy, Debug, PartialEq, Eq)]
-pub enum Part {
+pub(crate) enum Part {
     /// It is a call.
     Calls,
     /// It begins with `@`, and is refused: each script has one session.

@@ -1,18 +1,18 @@
 //! The program.
 ghost use Rattle.std.specs.Prelude.{◌≡◌, ◌≢◌, ◌⊎◌};
 ghost use Rattle.clap.specs.Words.{kind_of};
-ghost use Rattle.shell.specs.Status.{IsStatus};
+ghost use Rattle.many_scripts.specs.Ends.{IsStatus};
 
 use crate::command_line::settings;
-use crate::files::read_all;
-use crate::many::{many_on, told};
+use crate::ending::{FAILED, ended, say};
+use crate::files::{read_all, refusal_of};
 use crate::options::Settings;
+use crate::tables::many_in_memory;
 use clap::Error;
 use clap::error::ErrorKind;
-use list_store::{ListStore, Lists};
-use refusals::Refusal;
 use shared::NoGate;
 use std::alloc::Global;
+use std::convert::AsStr;
 use std::fs::Files;
 use std::io::{BufWriter, Write};
 use std::rt::Env;
@@ -23,14 +23,11 @@ use std::{env, io};
 /// The exit status of a command line that asks for nothing that there is.
 const WRONG_WORDS: u8 = 2;
 
-/// The exit status where a script cannot be read.
-const NOT_READ: u8 = 3;
-
-/// Does what the command line of `sqlmany` asks for, and answers the exit status: 2 for words that ask for nothing that there is, 3 where a script cannot be read, and else that of
-/// `many_on`.
-pub fn sqlmany<R: Env + Files + Print + Eprint + AllocGlobal + Threads + Wait + Sync>(
-    rt: &R,
-) -> u8 {
+/// Does what the command line of `sqlmany` asks for, and answers the exit status: 2 for words that ask for nothing that there is, 0 where they ask for help, 3 where a script cannot be
+/// read, and else that of `many_on`.
+pub fn sqlmany<R: Env + Files + Print + Eprint + AllocGlobal + Threads + Wait + Sync>(rt: &R) -> u8
+    ensures { (result ≡ 2) ⊎ IsStatus result }
+{
     let alloc = rt.alloc();
     let Ok(words) = words(rt, alloc) else {
         return WRONG_WORDS;
@@ -45,32 +42,26 @@ pub fn sqlmany<R: Env + Files + Print + Eprint + AllocGlobal + Threads + Wait + 
     }
 }
 
-/// Reads the scripts and carries them out over tables in memory, of which nothing is left at the end.
-fn run_files<R: Files + AllocGlobal + Threads + Wait + Sync, W: Write>(
+/// Reads the scripts, all of them before a call is made, and carries them out over tables in memory, of which nothing is left at the end. Where one cannot be read, that is said,
+/// and the status is 3.
+fn run_files<R: Files + AllocGlobal + Threads + Wait + Sync, W: Write, S: AsStr>(
     rt: &R,
     alloc: Global,
-    settings: &Settings<'_>,
+    settings: &Settings<'_, S>,
     writer: &mut W,
 ) -> u8
     ensures { IsStatus result }
 {
-    let scripts = match read_all(rt, settings.scripts.as_slice()) {
-        Ok(scripts) => scripts,
-        Err(_) => return told(Refusal::Disk, NOT_READ, writer),
-    };
-    let device = Lists::new(alloc);
-    let status = many_on::<ListStore, NoGate, R, W>(
-        rt,
-        alloc,
-        settings.frames,
-        device,
-        &scripts,
-        &NoGate,
-        writer,
-    );
-    match writer.flush() {
-        Ok(()) => status,
-        Err(_) => NOT_READ,
+    match read_all(rt, settings.scripts) {
+        Ok(scripts) => many_in_memory(
+            rt,
+            alloc,
+            settings.frames,
+            scripts.as_slice(),
+            &NoGate,
+            writer,
+        ),
+        Err(error) => ended(say(refusal_of(&error), FAILED, writer), writer),
     }
 }
 

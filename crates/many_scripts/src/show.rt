@@ -1,9 +1,9 @@
 //! What is printed of scripts.
-ghost use Rattle.std.specs.Prelude.{◌≡◌, ℕ, List, ◌∷◌, is_ok, IfOk};
+ghost use Rattle.std.specs.Prelude.{◌≡◌, ℕ, List, [], ◌∷◌, is_ok, IfOk, MatchOption};
 ghost use Rattle.std.specs.Vec.Iter.{into_iter_items};
 ghost use Rattle.replies.specs.Writes.{Writes};
 ghost use Rattle.many_scripts.specs.declared.part.Part.{Part as Kind};
-ghost use Rattle.many_scripts.specs.Shown.{has_refusal, printed_number, printed_replies, printed_script, replies_to, reply_of};
+ghost use Rattle.many_scripts.specs.Shown.{has_refusal, printed_number, printed_replies, printed_script, printed_scripts, replies_to, reply_of, some_refused};
 
 use crate::part::Part;
 use crate::put::put_three;
@@ -20,17 +20,27 @@ pub(crate) fn show_all<W: Write>(
     parts: &[Vec<Part>],
     all: Vec<Answers>,
     writer: &mut W,
-) -> io::Result<bool> {
+) -> io::Result<bool>
+    ensures writes { Writes (W.contents writer.old) (W.contents writer.new) (is_ok result) (printed_scripts 1 parts.now all.items) }
+    ensures refused { IfOk result (λ refused. refused ≡ some_refused parts.now all.items) }
+{
     let mut refused = false;
     let mut left = all.into_iter();
     for place in 0..parts.len() {
-        let Some(answers) = left.next() else {
+        let Some(answers) = next_answers(&mut left) else {
             return Ok(refused);
         };
         let one = show_script(place as u64 + 1, parts[place].as_slice(), answers, writer)?;
         refused = refused || one;
     }
     Ok(refused)
+}
+
+/// The answers to the next script.
+fn next_answers(left: &mut IntoIter<Answers>) -> Option<Answers>
+    ensures { MatchOption result (into_iter_items left.old ≡ []) (λ answers. into_iter_items left.old ≡ answers ∷ into_iter_items left.new) }
+{
+    left.next()
 }
 
 /// Prints the line of a script, and the replies to its pieces. Tells whether one of them is a refusal.

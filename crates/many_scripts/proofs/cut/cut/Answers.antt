@@ -1,7 +1,8 @@
 use Rattle.std.proofs.Common.{rules, ◌≡◌, ◌<◌, ◌≤◌, ℕ, List, [], length, take, sym, subst₂}
 use Rattle.std.proofs.lemmas.List.{take_more}
 use Rattle.many_scripts.specs.declared.part.Part.{Part}
-use Rattle.many_scripts.specs.Cut.{Text, texts_in}
+use Rattle.shared.specs.Scripts.{Text}
+use Rattle.many_scripts.specs.Cut.{texts_in}
 use Rattle.many_scripts.proofs.Cutting.{HasCut, begins, goes_with, ends_with, finishes_with, take_all}
 use Rattle.many_scripts.proofs.cut.cut.Goals.{in-Some+in_ok-put, in_default}
 use Rattle.many_scripts.proofs.cut.cut.Goals as goal

@@ -1,0 +1,9 @@
+use Rattle.many_scripts.specs.Many.{Cuts}
+use Rattle.many_scripts.proofs.Endings.{puts_by}
+use Rattle.many_scripts.proofs.many.cut_and_run.Goals as goal
+
+pub returns-in-Ok-clause-cuts : goal.returns-in-Ok-clause-cuts
+returns-in-Ok-clause-cuts g c = λ db saved. puts_by _ _ _ _ _ (λ text status opens. Cuts.cut _ _ c.in-Ok.ensures opens) (c.open_and_run.ensures.opens db saved)
+
+pub returns-in-Err-clause-cuts : goal.returns-in-Err-clause-cuts
+returns-in-Err-clause-cuts g c = λ db saved. puts_by _ _ _ _ _ (λ text status told. Cuts.no_room told) c.say.ensures.puts

@@ -1,0 +1,5 @@
+use Rattle.std.specs.FinMap.{empty}
+use Rattle.many_scripts.proofs.tables.many_in_memory.Goals as goal
+
+pub returns-clause-runs : goal.returns-clause-runs
+returns-clause-runs g c = c.many_on.ensures.runs empty c.no_tables.ensures

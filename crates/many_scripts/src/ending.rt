@@ -1,0 +1,90 @@
+//! How what prints ends.
+ghost use Rattle.std.specs.Prelude.{◌≡◌, false, IfOk, MatchBool, MatchResult, Ok, Err};
+ghost use Rattle.std.specs.Io.KnownBytes.{Keeps};
+ghost use Rattle.refusals.specs.declared.refusal.Refusal.TheVariants.{Disk};
+ghost use Rattle.replies.specs.Writes.{Writes};
+ghost use Rattle.many_scripts.specs.Ends.{EndsBy, IsStatus, Puts, Tells, refusal_line};
+
+use refusals::Refusal;
+use replies::{Reply, print_reply};
+use std::io;
+use std::io::{ErrorKind, Write};
+
+/// The exit status where something went wrong around the scripts: one could not be read, the store not be opened or closed, or the output not be written.
+pub(crate) const FAILED: u8 = 3;
+
+/// Prints a refusal, and answers this exit status.
+pub(crate) fn say<W: Write>(refusal: Refusal, status: u8, writer: &mut W) -> io::Result<u8>
+    ensures puts { Puts (Tells refusal status) (W.contents writer.old) (W.contents writer.new) result }
+    ensures status { IsStatus status → IfOk result IsStatus }
+{
+    let printed = print_reply(&Reply::Refused(refusal), writer);
+    with_status(printed, status)
+}
+
+/// This status, where all was printed.
+fn with_status(printed: io::Result<()>, status: u8) -> io::Result<u8>
+    ensures { MatchResult printed (λ _. result ≡ Ok status) (λ error. result ≡ Err error) }
+{
+    match printed {
+        Ok(()) => Ok(status),
+        Err(error) => Err(error),
+    }
+}
+
+/// Prints that the device refused where the store was not closed. The answer is the exit status: 3 then, and else this one.
+pub(crate) fn say_unless_closed<W: Write>(
+    is_closed: bool,
+    status: u8,
+    writer: &mut W,
+) -> io::Result<u8>
+    ensures puts { MatchBool is_closed ((W.contents writer.new ≡ W.contents writer.old) × (result ≡ Ok status))
+        (Puts (Tells Disk 3) (W.contents writer.old) (W.contents writer.new) result) }
+    ensures status { IsStatus status → IfOk result IsStatus }
+{
+    if is_closed {
+        return Ok(status);
+    }
+    say(Refusal::Disk, FAILED, writer)
+}
+
+/// The exit status of what was printed so: its own, where the writer passes it on; and else 3, and the fault of the writer is told where that can be written.
+pub(crate) fn ended<W: Write>(outcome: io::Result<u8>, writer: &mut W) -> u8
+    ensures ends { EndsBy outcome (W.contents writer.old) (W.contents writer.new) result }
+    ensures status { IfOk outcome IsStatus → IsStatus result }
+{
+    match outcome {
+        Ok(status) => match pass_on(writer) {
+            Ok(()) => status,
+            Err(_) => FAILED,
+        },
+        Err(_error) => fail(writer),
+    }
+}
+
+/// Tells that the writer refused, where that can be written.
+fn fail<W: Write>(writer: &mut W) -> u8
+    ensures status { result ≡ 3 }
+    ensures tells { Writes (W.contents writer.old) (W.contents writer.new) false (refusal_line Disk) }
+{
+    let _ = print_reply(&Reply::Refused(Refusal::Disk), writer);
+    let _ = pass_on(writer);
+    FAILED
+}
+
+/// Has the writer pass on what it took. What was interrupted is tried again.
+fn pass_on<W: Write>(writer: &mut W) -> io::Result<()>
+    ensures { Keeps (W.contents writer.old) (W.contents writer.new) }
+{
+    for _ in 0..u64::MAX {
+        match writer.flush() {
+            Ok(()) => return Ok(()),
+            Err(error) => {
+                if error.kind() != ErrorKind::Interrupted {
+                    return Err(error);
+                }
+            }
+        }
+    }
+    Err(io::Error::from(ErrorKind::TimedOut))
+}
