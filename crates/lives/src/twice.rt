@@ -1,0 +1,93 @@
+//! Two runs over one device.
+ghost use Rattle.std.specs.Prelude.{◌≡◌, ℕ, [], List, Option, IsTrue, IfSome};
+ghost use Rattle.std.specs.FinMap.{empty};
+ghost use Rattle.denote.specs.Database.{Database, IsGood};
+ghost use Rattle.session_definitions.specs.Rules.{Rules, AreRules};
+ghost use Rattle.scripts.specs.Played.{between};
+ghost use Rattle.shell.specs.Runs.{HandsBack};
+ghost use Rattle.lives.specs.Twice.{RunsTwice};
+
+use disk::Disk;
+use life_laws::{reopened_runs_are_runs, stopped_scripts_are_runs};
+use paged::Paged;
+use session_laws::{databases_stay_good, scripts_are_runs};
+use shell::{EndedRun, Settings, run_to_end};
+use std::alloc::Global;
+use std::io::{Read, Write};
+use store::Store;
+
+/// How two runs over one device ended.
+#[derive(Drop)]
+pub struct EndedRuns<D> {
+    /// The exit status of the first.
+    pub first: u8,
+    /// The exit status of the second; none where the store could not be closed after the first.
+    pub second: Option<u8>,
+    /// The device; none where the store could not be closed.
+    pub device: Option<D>,
+}
+
+/// Does what `sqlsh run` does over the store on a device, and then once more over the device that is handed back, with another reader.
+///
+/// Where a good database is saved on the device, the second run begins with the database that the first committed last, and all that both do is one run of the definitions.
+/// No reply is that the file is damaged, the store is opened unless memory or the device refuses, and closed unless the device does.
+pub fn run_twice<S: Store, A: Read, B: Read, W: Write>(
+    alloc: Global,
+    settings: &Settings<'_>,
+    device: S::Device,
+    first: &mut A,
+    second: &mut B,
+    writer: &mut W,
+) -> EndedRuns<S::Device>
+    ensures { (rules : Rules) (db : Database) → AreRules rules → S.saved device db → IsGood rules.check db
+        → (mid : Option (List ℕ)) × RunsTwice rules db (between (A.remaining first.old) (A.remaining first.new) (W.contents writer.old) mid)
+        (between (B.remaining second.old) (B.remaining second.new) mid (W.contents writer.new)) result.first result.second
+        (λ left. HandsBack S.saved result.device left × IfSome left (IsGood rules.check)) }
+{
+    scripts_are_runs();
+    stopped_scripts_are_runs();
+    reopened_runs_are_runs();
+    let EndedRun {
+        status: first_status,
+        device,
+    } = run_to_end::<S, A, W>(alloc, settings, device, first, writer);
+    match device {
+        Some(device) => {
+            let again = run_to_end::<S, B, W>(alloc, settings, device, second, writer);
+            EndedRuns {
+                first: first_status,
+                second: Some(again.status),
+                device: again.device,
+            }
+        }
+        None => EndedRuns {
+            first: first_status,
+            second: None,
+            device: None,
+        },
+    }
+}
+
+/// Does what `run_twice` does over the tables in the pages of a device.
+///
+/// The one premise is on the device: it gives back what was written, and is empty (`new`), or as an earlier run left it (`saved`).
+pub fn run_twice_over_pages<D: Disk + Drop, A: Read, B: Read, W: Write>(
+    alloc: Global,
+    settings: &Settings<'_>,
+    device: D,
+    first: &mut A,
+    second: &mut B,
+    writer: &mut W,
+) -> EndedRuns<D>
+    ensures saved { (rules : Rules) (db : Database) → AreRules rules → ⟦<Paged<D> as Store>⟧.saved device db → IsGood rules.check db
+        → (mid : Option (List ℕ)) × RunsTwice rules db (between (A.remaining first.old) (A.remaining first.new) (W.contents writer.old) mid)
+        (between (B.remaining second.old) (B.remaining second.new) mid (W.contents writer.new)) result.first result.second
+        (λ left. HandsBack ⟦<Paged<D> as Store>⟧.saved result.device left × IfSome left (IsGood rules.check)) }
+    ensures new { (rules : Rules) → AreRules rules → IsTrue D.is_honest → D.bytes device ≡ []
+        → (mid : Option (List ℕ)) × RunsTwice rules empty (between (A.remaining first.old) (A.remaining first.new) (W.contents writer.old) mid)
+        (between (B.remaining second.old) (B.remaining second.new) mid (W.contents writer.new)) result.first result.second
+        (λ left. HandsBack ⟦<Paged<D> as Store>⟧.saved result.device left × IfSome left (IsGood rules.check)) }
+{
+    databases_stay_good();
+    run_twice::<Paged<D>, A, B, W>(alloc, settings, device, first, second, writer)
+}
