@@ -15,7 +15,7 @@ use crate::run::{FAILED, run_on};
 use crate::telling::tell;
 use clap::Error;
 use clap::error::ErrorKind;
-use disk::{Disk, DiskError, FileDisk};
+use disk::{Disk, DiskError, FileDisk, MemDisk};
 use list_store::{ListStore, Lists};
 use paged::Paged;
 use refusals::Refusal;
@@ -48,7 +48,7 @@ pub fn sqlsh<R: Env + Files<File = File> + Input + Print + Eprint + AllocGlobal>
     }
 }
 
-/// Does what `sqlsh run` does: over the tables in FILE, where it is asked for, and else over tables in memory.
+/// Does what `sqlsh run` does: over the tables in FILE, where it is asked for, and else over tables on a device in memory.
 fn run_asked<R: Files<File = File> + Input, W: Write>(
     rt: &R,
     alloc: Global,
@@ -66,7 +66,13 @@ fn run_asked<R: Files<File = File> + Input, W: Write>(
             &mut reader,
             writer,
         ),
-        None => run_over_lists(alloc, settings, &mut reader, writer),
+        None => run_over_pages(
+            alloc,
+            settings,
+            Ok(MemDisk::new(alloc)),
+            &mut reader,
+            writer,
+        ),
     }
 }
 
@@ -92,7 +98,7 @@ pub fn run_over_pages<D: Disk + Drop, R: Read, W: Write>(
     }
 }
 
-/// Does what `sqlsh run` does over tables in memory, of which nothing is left at the end.
+/// Does what `sqlsh run` does, over tables in lists, of which nothing is left at the end: for tests.
 pub fn run_over_lists<R: Read, W: Write>(
     alloc: Global,
     settings: &Settings<'_>,
