@@ -9,7 +9,7 @@ mod Joins
 mod Sides
 mod Sets
 mod Groups
-mod Trees
+pub mod Trees
 mod Sorting
 mod Replies
 pub mod RolledTrees

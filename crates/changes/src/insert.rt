@@ -4,7 +4,7 @@ ghost use Rattle.std.specs.FinMap.{get};
 ghost use Rattle.refusals.specs.declared.refusal.Refusal.TheVariants.{Disk};
 ghost use Rattle.typing.specs.Check.{IsCheckReading};
 ghost use Rattle.typing.specs.declared.statement.Change.TheVariants as does;
-ghost use Rattle.denote.specs.Database.{CheckReading, Table, checks_of};
+ghost use Rattle.denote.specs.Database.{CheckReading, IsGood, Table, checks_of};
 ghost use Rattle.denote.specs.SchemaOf.{IsSchemaOf};
 ghost use Rattle.query_answers.specs.Sources.{AreChecksOf};
 ghost use Rattle.transactions.specs.Refused.{IfRefused};
@@ -35,9 +35,9 @@ pub(crate) fn insert<S: Store>(
     insert: &Insert,
 ) -> Result<Reply, Refusal>
     ensures changes { IfOk result (λ reply. (reading : CheckReading) → IsCheckReading reading → S.is_sound store.old → IsSchemaOf (S.prepared store.old) (database_of (S.shows store.old).working)
-        → HasAccepted reading (S.shows store.old) (does.Insert insert.now) reply (S.shows store.new)) }
+        → IsGood reading (database_of (S.shows store.old).working) → HasAccepted reading (S.shows store.old) (does.Insert insert.now) reply (S.shows store.new)) }
     ensures refused { IfErr result (λ refusal. (reading : CheckReading) → IsCheckReading reading → S.is_sound store.old → IsSchemaOf (S.prepared store.old) (database_of (S.shows store.old).working)
-        → RefusesChange reading (database_of (S.shows store.old).working) (does.Insert insert.now) refusal) }
+        → IsGood reading (database_of (S.shows store.old).working) → RefusesChange reading (database_of (S.shows store.old).working) (does.Insert insert.now) refusal) }
     ensures accepted { IfOk result (λ reply. IfRefused reply (λ refusal. ⊥)) }
     ensures device { IfErr result (λ refusal. refusal ≡ Disk → HasRisen (S.refused store.old) (S.refused store.new)) }
     ensures same { S.is_sound store.old → OnErr result (SameButMark (S.shows store.old) (S.shows store.new)) }

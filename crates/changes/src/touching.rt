@@ -3,7 +3,7 @@ ghost use Rattle.std.specs.Prelude.{◌≡◌, ◌≤◌, IfOk, IfErr, OnErr};
 ghost use Rattle.refusals.specs.declared.refusal.Refusal.TheVariants.{Disk};
 ghost use Rattle.typing.specs.Check.{IsCheckReading};
 ghost use Rattle.typing.specs.declared.statement.Change.TheVariants as does;
-ghost use Rattle.denote.specs.Database.{CheckReading};
+ghost use Rattle.denote.specs.Database.{CheckReading, IsGood};
 ghost use Rattle.denote.specs.SchemaOf.{IsSchemaOf};
 ghost use Rattle.transactions.specs.Refused.{IfRefused};
 ghost use Rattle.store.specs.Contents.{database_of};
@@ -26,7 +26,7 @@ pub(crate) fn update<S: Store>(
     update: &Update,
 ) -> Result<Reply, Refusal>
     ensures changes { IfOk result (λ reply. (reading : CheckReading) → IsCheckReading reading → S.is_sound store.old → IsSchemaOf (S.prepared store.old) (database_of (S.shows store.old).working)
-        → HasChanged reading (S.shows store.old) (does.Update update.now) reply (S.shows store.new)) }
+        → IsGood reading (database_of (S.shows store.old).working) → HasChanged reading (S.shows store.old) (does.Update update.now) reply (S.shows store.new)) }
     ensures refused { IfErr result (λ refusal. (reading : CheckReading) → IsCheckReading reading → S.is_sound store.old → IsSchemaOf (S.prepared store.old) (database_of (S.shows store.old).working)
         → RefusesChange reading (database_of (S.shows store.old).working) (does.Update update.now) refusal) }
     ensures accepted { IfOk result (λ reply. IfRefused reply (λ refusal. ⊥)) }
@@ -48,7 +48,7 @@ pub(crate) fn delete<S: Store>(
     delete: &Delete,
 ) -> Result<Reply, Refusal>
     ensures changes { IfOk result (λ reply. (reading : CheckReading) → IsCheckReading reading → S.is_sound store.old → IsSchemaOf (S.prepared store.old) (database_of (S.shows store.old).working)
-        → HasChanged reading (S.shows store.old) (does.Delete delete.now) reply (S.shows store.new)) }
+        → IsGood reading (database_of (S.shows store.old).working) → HasChanged reading (S.shows store.old) (does.Delete delete.now) reply (S.shows store.new)) }
     ensures refused { IfErr result (λ refusal. (reading : CheckReading) → IsCheckReading reading → S.is_sound store.old → IsSchemaOf (S.prepared store.old) (database_of (S.shows store.old).working)
         → RefusesChange reading (database_of (S.shows store.old).working) (does.Delete delete.now) refusal) }
     ensures accepted { IfOk result (λ reply. IfRefused reply (λ refusal. ⊥)) }

@@ -1,5 +1,5 @@
 //! The frame of a change: the mark before it, and the constraints of its table after it.
-ghost use Rattle.std.specs.Prelude.{◌≡◌, ◌≤◌, [], Some, IfOk, IfErr, OnOk, OnErr, MatchOption, Contains};
+ghost use Rattle.std.specs.Prelude.{◌≡◌, ◌≤◌, true, [], Some, IfOk, IfErr, OnOk, OnErr, MatchOption, Contains};
 ghost use Rattle.std.specs.FinMap.{get};
 ghost use Rattle.refusals.specs.declared.refusal.Refusal.TheVariants.{Memory, Disk};
 ghost use Rattle.denote.specs.Database.{Name, Table as TableOf, CheckReading, table_of, violated_by};
@@ -67,6 +67,34 @@ pub fn settle<S: Store, C: Checks>(
     }
 }
 
+/// Keeps what was changed since the mark, where the table of this name now violates no constraint; else goes back to the mark. The table is looked at unless it is known to violate none. It
+/// is refused by a constraint that the table violates (23000), for want of memory or by the device.
+pub fn settle_unless<S: Store, C: Checks>(
+    alloc: Global,
+    store: &mut S,
+    name: &Text,
+    checks: &C,
+    known: bool,
+) -> Result<(), Refusal>
+    ensures kept { OnOk result (S.shows store.new ≡ S.shows store.old) }
+    ensures holds { OnOk result ((reading : CheckReading) → S.is_sound store.old → Decided (C.decides checks.now reading) (database_of (S.shows store.old).working) name.now
+        → (known ≡ true → Holds reading (database_of (S.shows store.old).working) name.now) → Holds reading (database_of (S.shows store.old).working) name.now) }
+    ensures undone { OnErr result (S.shows store.new ≡ undone (S.shows store.old)) }
+    ensures refused { IfErr result (λ refusal. (reading : CheckReading) → S.is_sound store.old → Decided (C.decides checks.now reading) (database_of (S.shows store.old).working) name.now
+        → Breaks reading (database_of (S.shows store.old).working) name.now refusal) }
+    ensures device { IfErr result (λ refusal. refusal ≡ Disk → HasRisen (S.refused store.old) (S.refused store.new)) }
+    ensures sound { S.is_sound store.old → S.is_sound store.new }
+    ensures counts { S.refused store.old ≤ S.refused store.new }
+{
+    if known {
+        return Ok(());
+    }
+    match settle(alloc, store, name, checks) {
+        Ok(()) => Ok(()),
+        Err(refusal) => Err(refusal),
+    }
+}
+
 /// The name of a constraint that the table of this name violates in the newest version with its changes.
 fn violation<S: Store, C: Checks>(
     alloc: Global,
@@ -96,8 +124,8 @@ fn violation<S: Store, C: Checks>(
     }
 }
 
-/// The name of a constraint that a table with these rows violates.
-pub(crate) fn violation_in<C: Checks>(
+/// The name of a constraint that a table with these rows violates. It is refused for want of memory alone.
+pub fn violation_in<C: Checks>(
     alloc: Global,
     table: &Table,
     rows: &[Row],

@@ -37,7 +37,7 @@ pub(crate) fn keys_of(
 }
 
 /// The columns of a PRIMARY KEY or a UNIQUE.
-fn key_columns(rule: &Rule) -> Option<&[usize]>
+pub fn key_columns(rule: &Rule) -> Option<&[usize]>
     ensures { option_map (λ columns. columns.now) result ≡ columns_of_key rule.now }
 {
     match rule {

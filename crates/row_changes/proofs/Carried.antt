@@ -21,11 +21,11 @@ use Rattle.constraint_checks.specs.Changed.{HasChanged, RefusesChange}
 use Rattle.constraint_checks.specs.Settled.{Decided, Holds, Breaks}
 use Rattle.constraint_checks.proofs.Held.{held_as}
 use Rattle.constraint_checks.proofs.Settling.{undone_all, makes, refuses}
-use Rattle.row_changes.proofs.Made.{decided_still}
+use Rattle.row_changes.proofs.Made.{decided_still, holds_still}
 use Rattle.row_changes.specs.RowChanges.{IsShort, rows_left, is_change}
 use Rattle.row_changes.specs.declared.planned.Planned.{Planned}
 use Rattle.row_changes.specs.Made.{all_made}
-use Rattle.row_changes.specs.Plans.{IsMeant}
+use Rattle.row_changes.specs.Plans.{IsMeant, LeavesGood}
 use Rattle.row_changes.proofs.MadeTables.{made-all}
 
 module _ (reading : CheckReading) (old mid : Stored) (change : Change) (name : Name) (planned : Planned) (m : mid ≡ marked_now old) (is : IsMeant reading old.working change name planned) where
@@ -35,7 +35,7 @@ module _ (reading : CheckReading) (old mid : Stored) (change : Change) (name : N
       let held = held_as old.working name is.table is.there in
       let same : is.table.indexes ≡ indexes_of (get mid.working name) =
       sym (ap (λ (s : Stored). indexes_of (get s.working name)) m ∙ ap indexes_of held.1 ∙ ap (λ (t : Table). t.indexes) held.2) in
-      subst (λ (indexes : List IndexDeclaration). Every (IsShort indexes) planned.changes) same is.are.short
+      subst (λ (indexes : List IndexDeclaration). Every (IsShort indexes) planned.changes) same is.short
 
   module _ (made : Stored) (e : made ≡ working_on mid (all_made name planned.numbers planned.changes mid.working)) (rises : (t : StoredTable) → get old.working name ≡ Some t → Rises t.entries) where
     made_is : made ≡ record old { working = all_made name planned.numbers planned.changes old.working; marked = old.working }
@@ -44,8 +44,13 @@ module _ (reading : CheckReading) (old mid : Stored) (change : Change) (name : N
     would_be : database_of made.working ≡ insert (database_of old.working) name (record is.table { rows = is.left })
     would_be =
         ap (λ (s : Stored). database_of s.working) made_is
-        ∙ made-all old.working name is.table planned.numbers planned.changes is.there is.numbered rises
+        ∙ ap database_of (is.made_so old.working)
+        ∙ made-all old.working name is.table (map (λ (e : Entry). e.0) (entries_of (get old.working name))) is.all is.there refl rises
         ∙ ap (λ (rows : List Row). insert (database_of old.working) name (record is.table { rows = rows })) is.are.left_so
+
+    -- the table that would be violates nothing where that is known
+    pub holds_made : LeavesGood reading old.working change name planned is → Holds reading (database_of made.working) name
+    holds_made good = holds_still reading (database_of old.working) (database_of made.working) name is.table is.left would_be good
 
     -- what decides the CHECKs of the table still does
     pub decided_made : (decides : Name → List Column → List Constraint → Type 0) → Decided decides (database_of old.working) name → Decided decides (database_of made.working) name

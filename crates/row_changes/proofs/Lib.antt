@@ -7,3 +7,7 @@ pub mod Standing
 pub mod Carried
 pub mod Planning
 pub mod Made
+pub mod Sparse
+pub mod Selecting
+pub mod Keeping
+pub mod Fewer

@@ -12,11 +12,11 @@ use Rattle.sqlval.specs.declared.schema.Table as declared
 use Rattle.sqlval.specs.Value.{Row}
 use Rattle.typing.specs.declared.statement.CreateTable.{CreateTable}
 use Rattle.denote.specs.Change.{created, owned_index}
-use Rattle.denote.specs.Database.{Name, Table, Database}
+use Rattle.denote.specs.Database.{Name, Table, Database, CheckReading, violated_by}
 use Rattle.denote.specs.SchemaOf.{index_of}
 use Rattle.store.specs.Contents.{Entry, StoredTable, Contents, table_of, rows_of, database_of, next_number, with_rows, with_index, new_table, with_table, appended, indexed}
 use Rattle.store.proofs.Databases.{database-insert}
-use Rattle.constraint_checks.specs.Settled.{Decided}
+use Rattle.constraint_checks.specs.Settled.{Decided, Holds}
 use Rattle.constraint_checks.proofs.Held.{held_as, changed-database}
 use Rattle.constraint_checks.proofs.Violations.{same_some}
 
@@ -30,3 +30,12 @@ decided_still decides db made name table rows is there decided = λ t found.
     ap (λ (m : Database). get m name) is ∙ get-insert nat_list_cmp_total db name (record table { rows = rows }) name
     ∙ ap (λ b. cond b (Some (record table { rows = rows })) (get db name)) (ap is_eq (tied_itself nat_list_cmp_total name)) in
     subst (λ (u : Table). decides name u.columns u.constraints) (same_some (record table { rows = rows }) t (sym put ∙ found)) (decided table there)
+
+-- and where its rows violate nothing, so it is of the table
+pub holds_still : (reading : CheckReading) (db made : Database) (name : Name) (table : Table) (rows : List Row) → made ≡ insert db name (record table { rows = rows })
+    → violated_by reading name (record table { rows = rows }) ≡ [] → Holds reading made name
+holds_still reading db made name table rows is good = λ t found.
+    let put : get made name ≡ Some (record table { rows = rows }) =
+    ap (λ (m : Database). get m name) is ∙ get-insert nat_list_cmp_total db name (record table { rows = rows }) name
+    ∙ ap (λ b. cond b (Some (record table { rows = rows })) (get db name)) (ap is_eq (tied_itself nat_list_cmp_total name)) in
+    subst (λ (u : Table). violated_by reading name u ≡ []) (same_some (record table { rows = rows }) t (sym put ∙ found)) good

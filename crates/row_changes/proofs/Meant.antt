@@ -43,9 +43,10 @@ use Rattle.row_changes.specs.declared.change.RowChange.{RowChange}
 use Rattle.row_changes.specs.declared.change.RowChange.TheVariants.{Stays, Goes, Becomes}
 use Rattle.row_changes.specs.declared.change.RowUpdate.{RowUpdate}
 use Rattle.row_changes.specs.Given.{touched_given, gone_if, deletion_given, value_at, assigned_given, replaced_if, update_given}
-use Rattle.row_changes.specs.RowChanges.{left_of, rows_left, is_change, IsShort, AreChanges, AreUpdates, AreDeletions, GivesChanges}
+use Rattle.row_changes.specs.RowChanges.{left_of, rows_left, spread, is_change, IsShort, AreChanges, AreUpdates, AreDeletions, GivesChanges}
 use Rattle.row_changes.specs.Statements.{IsFilterOf, IsUpdateOf, tables_in_filter, tables_in_update}
 use Rattle.row_changes.proofs.ConditionsRead.{ValuesRead, ListingsRead, conditions-read}
+use Rattle.row_changes.proofs.Sparse.{ok_map, faults-kept, together-spread}
 
 -- the laws, as the calls of them say
 abbrev pub ValuesShow : Type 0
@@ -258,17 +259,33 @@ module _ (kept : Bool × Row → List Row) (table : Table) (left : List (Bool ×
       stopped (stop.Fault fault) (Err shown) (Ok asked) e s = absurd s
       stopped (stop.Fault fault) (Err shown) (Err faults) e s = s.within fault e
 
+-- of the rows that pass a test, where the others stay
+module _ (kept : Bool × Row → List Row) (table : Table) (left : List (Bool × Row) → List Row) (same : (found : List (Bool × Row)) → flat_map kept found ≡ left found) (test : Row → Bool) where
+  pub gives-sparse : (reply : Result (List RowChange) Stop) (found given : Evaluation (List RowChange)) (asked : Evaluation (List (Bool × Row))) → Gives reply found
+      → given ≡ ok_map (λ (cs : List RowChange). spread test table.rows cs) found → ShowsBy (AreAll kept table.indexes table.rows) given asked
+      → GivesChanges (λ changes rows. AreChanges table (spread test table.rows changes) (left rows) (count_by (λ (r : Bool × Row). r.0) rows)) reply asked
+  gives-sparse (Ok changes) found given asked h e s =
+      let given_is : given ≡ Ok (spread test table.rows changes) = e ∙ ap (ok_map (λ (cs : List RowChange). spread test table.rows cs)) h.ok in
+      let all = gives kept table left same (Ok (spread test table.rows changes)) given asked (record { ok = given_is; err = tt }) s in
+      record { ok = all.ok; err = tt }
+  gives-sparse (Err why) found given asked h e s =
+      let faults : faults_in given ≡ faults_in found = ap faults_in e ∙ faults-kept (λ (cs : List RowChange). spread test table.rows cs) found in
+      let all = gives kept table left same (Err why) given asked (record { ok = tt; err = subst (λ (fs : List Fault). IsFaultOf fs why) (sym faults) h.err }) s in
+      record { ok = tt; err = all.err }
+
 module _ (values : ValuesShow) (truths : TruthsShow) (read_values : ValuesRead) (read_listings : ListingsRead) (lent tables : Tables) where
   -- the changes of a DELETE
-  pub deletions_meant : (table : Table) (d : Delete) (filter : Option Condition) (rows : List Row) (reply : Result (List RowChange) Stop) → table.rows ≡ rows
-      → Agree lent tables (tables_in_filter filter) → IsFilterOf d.filter filter → Gives reply (together (map (deletion_given lent filter) rows))
-      → GivesChanges (AreDeletions table) reply (deleted_rows tables table d)
-  deletions_meant table d filter rows reply is agree of h =
-      gives kept_of table kept_rows rows_kept reply (together (map (deletion_given lent filter) rows)) (deleted_rows tables table d) h
-      (subst (λ (rs : List Row). ShowsBy (AreAll kept_of table.indexes table.rows) (together (map (deletion_given lent filter) rs)) (deleted_rows tables table d)) is
-      (all_shown kept_of table.indexes (deletion_given lent filter) (λ row. is_touched tables d.filter row >>= (λ touched. Ok (touched, row)))
-      (λ row. deletion-shows table.indexes row (touched_given lent filter row) (is_touched tables d.filter row)
-      (filter-shows truths read_values read_listings lent tables d.filter filter row of.described of.names of.is agree)) table.rows))
+  pub deletions_meant : (table : Table) (d : Delete) (tree : Option Condition) (rows : List Row) (test : Row → Bool) (reply : Result (List RowChange) Stop) → rows ≡ filter test table.rows
+      → ((row : Row) → test row ≡ false → touched_given lent tree row ≡ Ok false) → Agree lent tables (tables_in_filter tree) → IsFilterOf d.filter tree
+      → Gives reply (together (map (deletion_given lent tree) rows))
+      → GivesChanges (λ changes found. AreDeletions table (spread test table.rows changes) found) reply (deleted_rows tables table d)
+  deletions_meant table d tree rows test reply is others agree of h =
+      gives-sparse kept_of table kept_rows rows_kept test reply (together (map (deletion_given lent tree) (filter test table.rows))) (together (map (deletion_given lent tree) table.rows))
+      (deleted_rows tables table d) (subst (λ (rs : List Row). Gives reply (together (map (deletion_given lent tree) rs))) is h)
+      (together-spread (deletion_given lent tree) test (λ row out. ap (λ x. x >>= (λ touched. Ok (gone_if touched))) (others row out)) table.rows)
+      (all_shown kept_of table.indexes (deletion_given lent tree) (λ row. is_touched tables d.filter row >>= (λ touched. Ok (touched, row)))
+      (λ row. deletion-shows table.indexes row (touched_given lent tree row) (is_touched tables d.filter row)
+      (filter-shows truths read_values read_listings lent tables d.filter tree row of.described of.names of.is agree)) table.rows)
 
   sources-show : (described : List ℕ → StoredTable) → ((name : List ℕ) → (described name).name ≡ name) → (assignments : List Assignment) (row : Row)
       → Agree lent tables (tables_in_row (map (λ (a : Assignment). tree_of_expression described a.source) assignments))
@@ -298,13 +315,17 @@ module _ (values : ValuesShow) (truths : TruthsShow) (read_values : ValuesRead) 
       (row-shows table.columns made.columns (map (value_at lent row) made.sources) meant row shown))
 
   -- the changes of an UPDATE
-  pub updates_meant : (conditions : List typed_condition.Condition) (checks : List Condition) (table : Table) (u : Update) (made : RowUpdate) (reply : Result (List RowChange) Stop)
-      → Agree lent tables (tables_in_update made) → IsUpdateOf u made → AreChecksOf conditions checks → Gives reply (together (map (update_given lent checks table made) table.rows))
-      → GivesChanges (AreUpdates table) reply (updated_rows conditions tables table u)
-  updates_meant conditions checks table u made reply agree of checked h =
+  pub updates_meant : (conditions : List typed_condition.Condition) (checks : List Condition) (table : Table) (u : Update) (made : RowUpdate) (rows : List Row) (test : Row → Bool)
+      (reply : Result (List RowChange) Stop) → rows ≡ filter test table.rows → ((row : Row) → test row ≡ false → touched_given lent made.filter row ≡ Ok false)
+      → Agree lent tables (tables_in_update made) → IsUpdateOf u made → AreChecksOf conditions checks → Gives reply (together (map (update_given lent checks table made) rows))
+      → GivesChanges (λ changes found. AreUpdates table (spread test table.rows changes) found) reply (updated_rows conditions tables table u)
+  updates_meant conditions checks table u made rows test reply is others agree of checked h =
       let in_filter = tables_in_filter made.filter in
       let in_sources = tables_in_row made.sources in
-      gives found_of table (λ found. map (λ (r : Bool × Row). r.1) found) rows_found reply (together (map (update_given lent checks table made) table.rows)) (updated_rows conditions tables table u) h
+      gives-sparse found_of table (λ found. map (λ (r : Bool × Row). r.1) found) rows_found test reply (together (map (update_given lent checks table made) (filter test table.rows)))
+      (together (map (update_given lent checks table made) table.rows)) (updated_rows conditions tables table u)
+      (subst (λ (rs : List Row). Gives reply (together (map (update_given lent checks table made) rs))) is h)
+      (together-spread (update_given lent checks table made) test (λ row out. ap (λ x. x >>= replaced_if (assigned_given lent checks table made row)) (others row out)) table.rows)
       (all_shown found_of table.indexes (update_given lent checks table made) (λ row. is_touched tables u.filter row >>= updated_if conditions tables table u.assignments row)
       (λ row. update-shows conditions tables table u.assignments row (assigned_given lent checks table made row) (touched_given lent made.filter row) (is_touched tables u.filter row)
       (filter-shows truths read_values read_listings lent tables u.filter made.filter row of.described of.names of.filter (λ name among. agree name (Contains-append_left in_filter in_sources name among)))

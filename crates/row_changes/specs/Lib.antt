@@ -4,3 +4,5 @@ pub mod Given
 pub mod Made
 pub mod Checked
 pub mod Plans
+pub mod Candidates
+pub mod Kept

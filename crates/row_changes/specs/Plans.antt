@@ -1,27 +1,43 @@
 -- What is planned for the rows of a table, and what the definitions make of the database by it.
-use Rattle.std.specs.Prelude.{◌≡◌, ℕ, List, map, Option, Some, None}
+use Rattle.std.specs.Prelude.{◌≡◌, ℕ, true, List, [], map, count_by, Option, Some, None}
 use Rattle.std.specs.FinMap.{get}
 use Rattle.sqlval.specs.Value.{Row}
 use Rattle.typing.specs.declared.statement.Change.{Change}
 use Rattle.denote.specs.Change.{changed, with_rows}
 use Rattle.denote.specs.Change.Changed.{Makes}
-use Rattle.denote.specs.Database.{Name, Table, CheckReading}
+use Rattle.denote.specs.Database.{Name, Table, CheckReading, violated_by}
+use Rattle.operator_laws.specs.Same.{Every}
 use Rattle.store.specs.Contents.{Contents, Entry, database_of}
 use Rattle.store.specs.Indexes.{entries_of}
-use Rattle.row_changes.specs.RowChanges.{AreChanges}
+use Rattle.constraint_checks.specs.Settled.{Holds}
+use Rattle.row_changes.specs.declared.change.RowChange.{RowChange}
+use Rattle.row_changes.specs.Made.{all_made}
+use Rattle.row_changes.specs.RowChanges.{is_change, IsShort, AreChanges}
 use Rattle.row_changes.specs.declared.planned.Planned.{Planned}
 
--- the table is there with these numbers, and the planned changes leave the rows that it has by the definitions
+-- The table is there. The planned changes make of a store what changes of all rows of the table make, of which some may stay; and these leave the rows that it has by the definitions.
 pub record IsMeant (reading : CheckReading) (c : Contents) (change : Change) (name : Name) (planned : Planned) : Type 0 where
   pub table : Table
   pub there : get (database_of c) name ≡ Some table
-  pub numbered : planned.numbers ≡ map (λ (e : Entry). e.0) (entries_of (get c name))
+  pub all : List RowChange
+  pub made_so : (k : Contents) → all_made name planned.numbers planned.changes k ≡ all_made name (map (λ (e : Entry). e.0) (entries_of (get c name))) all k
+  pub short : Every (IsShort table.indexes) planned.changes
   pub left : List Row
   pub count : ℕ
-  pub are : AreChanges table planned.changes left count
+  pub touched : count_by is_change planned.changes ≡ count
+  pub are : AreChanges table all left count
   pub means : changed reading (database_of c) change ≡ with_rows reading (database_of c) name table left count
+
+-- the table that would be violates no constraint
+abbrev pub LeavesGood : (reading : CheckReading) (c : Contents) (change : Change) (name : Name) (planned : Planned) → IsMeant reading c change name planned → Type 0
+LeavesGood reading c change name planned meant = violated_by reading name (record meant.table { rows = meant.left }) ≡ []
+
+-- and so it is, where that is said to be sure and the table violates none as it is
+abbrev pub IsHarmless : CheckReading → Contents → Change → Name → Planned → Type 0
+IsHarmless reading c change name planned =
+    (meant : IsMeant reading c change name planned) × (planned.harmless ≡ true → Holds reading (database_of c) name → LeavesGood reading c change name planned meant)
 
 -- where no table has the name, nothing is planned and nothing changes
 abbrev pub IsPlanned : CheckReading → Contents → Change → Name → Option Planned → Type 0
 IsPlanned reading c change name None = changed reading (database_of c) change ≡ Makes (database_of c) (Some 0)
-IsPlanned reading c change name (Some planned) = IsMeant reading c change name planned
+IsPlanned reading c change name (Some planned) = IsHarmless reading c change name planned

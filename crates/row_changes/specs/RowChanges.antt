@@ -22,6 +22,16 @@ rows_left [] changes = []
 rows_left (row ∷ rows) [] = row ∷ rows
 rows_left (row ∷ rows) (change ∷ changes) = left_of row change ++ rows_left rows changes
 
+-- changes of the rows that pass a test, put among those of all rows: the others stay
+abbrev pub spread_at : Bool → (List RowChange → List RowChange) → List RowChange → List RowChange
+spread_at false others changes = Stays ∷ others changes
+spread_at true others [] = Stays ∷ others []
+spread_at true others (change ∷ changes) = change ∷ others changes
+
+abbrev pub spread : (Row → Bool) → List Row → List RowChange → List RowChange
+spread test [] changes = changes
+spread test (row ∷ rows) changes = spread_at (test row) (λ (others : List RowChange). spread test rows others) changes
+
 abbrev pub is_change : RowChange → Bool
 is_change Stays = false
 is_change Goes = true

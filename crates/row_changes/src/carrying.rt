@@ -8,20 +8,20 @@ ghost use Rattle.store.specs.Contents.{database_of};
 ghost use Rattle.store.specs.Errors.{HasRisen};
 ghost use Rattle.store.specs.Stored.{SameButMark};
 ghost use Rattle.constraint_checks.specs.Changed.{HasChanged, RefusesChange};
-ghost use Rattle.constraint_checks.specs.Settled.{Decided};
-ghost use Rattle.row_changes.specs.Plans.{IsMeant};
+ghost use Rattle.constraint_checks.specs.Settled.{Decided, Holds};
+ghost use Rattle.row_changes.specs.Plans.{IsMeant, IsHarmless};
 
 use crate::making::{make_changes, touched};
 use crate::planned::Planned;
 use crate::reply::reply_for;
-use constraint_checks::{Checks, begin, settle};
+use constraint_checks::{Checks, begin, settle_unless};
 use items::Text;
 use refusals::Refusal;
 use replies::Reply;
 use std::alloc::Global;
 use store::Store;
 
-/// Makes of the rows of a table what is planned: all of it, where the table then violates no constraint; else nothing. It sets the mark. It is refused by a constraint that the table would
+/// Makes of the rows of a table what is planned: all of it, where the table then violates no constraint; else nothing. The table, which violates none as it is, is looked at unless what is planned is sure to be harmless. It sets the mark. It is refused by a constraint that the table would
 /// violate (23000), for want of memory, by the device or by a limit of the store.
 pub(crate) fn carry_out<S: Store, C: Checks>(
     alloc: Global,
@@ -31,7 +31,8 @@ pub(crate) fn carry_out<S: Store, C: Checks>(
     checks: &C,
 ) -> Result<Reply, Refusal>
     ensures changes { IfOk result (λ reply. (reading : CheckReading) (change : Change) → S.is_sound store.old → Decided (C.decides checks.now reading) (database_of (S.shows store.old).working) name.now
-        → IsMeant reading (S.shows store.old).working change name.now planned → HasChanged reading (S.shows store.old) change reply (S.shows store.new)) }
+        → Holds reading (database_of (S.shows store.old).working) name.now → IsHarmless reading (S.shows store.old).working change name.now planned
+        → HasChanged reading (S.shows store.old) change reply (S.shows store.new)) }
     ensures refused { IfErr result (λ refusal. (reading : CheckReading) (change : Change) → S.is_sound store.old → Decided (C.decides checks.now reading) (database_of (S.shows store.old).working) name.now
         → IsMeant reading (S.shows store.old).working change name.now planned → RefusesChange reading (database_of (S.shows store.old).working) change refusal) }
     ensures accepted { IfOk result (λ reply. IfRefused reply (λ refusal. ⊥)) }
@@ -43,12 +44,16 @@ pub(crate) fn carry_out<S: Store, C: Checks>(
     if let Err(refusal) = begin(store) {
         return Err(refusal);
     }
-    let Planned { numbers, changes } = planned;
+    let Planned {
+        numbers,
+        changes,
+        harmless,
+    } = planned;
     let count = touched(changes.as_slice());
     if let Err(refusal) = make_changes(store, name, numbers.as_slice(), changes) {
         return Err(refusal);
     }
-    match settle(alloc, store, name, checks) {
+    match settle_unless(alloc, store, name, checks, harmless) {
         Ok(()) => Ok(reply_for(count)),
         Err(refusal) => Err(refusal),
     }

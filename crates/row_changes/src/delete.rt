@@ -8,16 +8,16 @@ ghost use Rattle.denote.specs.SchemaOf.{IsSchemaOf};
 ghost use Rattle.transactions.specs.Refused.{IfRefused};
 ghost use Rattle.store.specs.Contents.{Contents, database_of};
 ghost use Rattle.store.specs.Errors.{HasRisen};
-ghost use Rattle.store.specs.Indexes.{entries_of};
 ghost use Rattle.store.specs.Stored.{SameButMark};
-ghost use Rattle.store.specs.View.{AreEntries};
 ghost use Rattle.tree_tables.specs.TablesRead.{Agree};
 ghost use Rattle.query_answers.specs.Lent.{rows_lent};
 ghost use Rattle.constraint_checks.specs.Changed.{HasChanged, RefusesChange};
-ghost use Rattle.constraint_checks.specs.Settled.{Decided};
+ghost use Rattle.constraint_checks.specs.Settled.{Decided, Holds};
 ghost use Rattle.row_changes.specs.Statements.{IsFilterOf, tables_in_filter};
+ghost use Rattle.row_changes.specs.Candidates.{AreCandidates};
 ghost use Rattle.row_changes.specs.Plans.{IsPlanned};
 
+use crate::candidates::candidates;
 use crate::carrying::carry_out;
 use crate::deleting::deletions;
 use crate::planned::Planned;
@@ -30,12 +30,10 @@ use refusals::Refusal;
 use replies::Reply;
 use sqlval::Schema;
 use std::alloc::Global;
-use store::{Numbered, Store, View};
-use transactions::refusal_of;
+use store::{Numbered, Store};
 use typing::Delete;
 
-/// DELETE: the rows that its condition touches go. The condition sees the tables as they were. It is refused by a fault of its evaluation over all rows, or else by a constraint that the table
-/// would violate (23000); for want of memory, by the device or by a limit of the store. Whether a CHECK is violated is decided by `checks`. It sets the mark. Where a sound store refuses it, all
+/// DELETE from a table that violates no constraint: the rows that its condition touches go, so that it violates none. The condition sees the tables as they were. It is refused by a fault of its evaluation over all rows; for want of memory, by the device or by a limit of the store. Whether a CHECK is violated is decided by `checks`. It sets the mark. Where a sound store refuses it, all
 /// is as it was, but for the mark.
 pub fn delete_rows<S: Store, C: Checks>(
     alloc: Global,
@@ -45,6 +43,7 @@ pub fn delete_rows<S: Store, C: Checks>(
 ) -> Result<Reply, Refusal>
     ensures changes { IfOk result (λ reply. (reading : CheckReading) → S.is_sound store.old → IsSchemaOf (S.prepared store.old) (database_of (S.shows store.old).working)
         → Decided (C.decides checks.now reading) (database_of (S.shows store.old).working) delete.now.table
+        → Holds reading (database_of (S.shows store.old).working) delete.now.table
         → HasChanged reading (S.shows store.old) (does.Delete delete.now) reply (S.shows store.new)) }
     ensures refused { IfErr result (λ refusal. (reading : CheckReading) → S.is_sound store.old → IsSchemaOf (S.prepared store.old) (database_of (S.shows store.old).working)
         → Decided (C.decides checks.now reading) (database_of (S.shows store.old).working) delete.now.table
@@ -62,7 +61,7 @@ pub fn delete_rows<S: Store, C: Checks>(
     }
 }
 
-/// What becomes of all rows; nothing where no table has the name. The store is left as it was.
+/// What becomes of the rows that the condition may touch, where the others stay; nothing where no table has the name. The store is left as it was.
 fn planned_deletion<S: Store>(
     alloc: Global,
     store: &mut S,
@@ -85,9 +84,9 @@ fn planned_deletion<S: Store>(
         Ok(lent) => lent,
         Err(refusal) => return Err(refusal),
     };
-    let found = match store.scan(alloc, View::Working, &delete.table) {
+    let found = match candidates(alloc, store, &delete.table, &filter) {
         Ok(found) => found,
-        Err(error) => return Err(refusal_of(error)),
+        Err(refusal) => return Err(refusal),
     };
     all_deletions(alloc, store.schema(), delete, &filter, &lent, found)
 }
@@ -103,10 +102,10 @@ fn all_deletions(
 ) -> Result<Option<Planned>, Refusal>
     ensures planned { IfOk result (λ planned. (reading : CheckReading) (c : Contents) → IsSchemaOf schema.now (database_of c)
         → IsFilterOf delete.now.filter filter.now → Agree (rows_lent lent.now.tables) (rows_in (database_of c)) (tables_in_filter filter.now)
-        → AreEntries found (entries_of (get c delete.now.table)) → IsPlanned reading c (does.Delete delete.now) delete.now.table planned) }
+        → AreCandidates (get c delete.now.table) filter.now found → IsPlanned reading c (does.Delete delete.now) delete.now.table planned) }
     ensures refused { IfErr result (λ refusal. (reading : CheckReading) (c : Contents) → IsSchemaOf schema.now (database_of c)
         → IsFilterOf delete.now.filter filter.now → Agree (rows_lent lent.now.tables) (rows_in (database_of c)) (tables_in_filter filter.now)
-        → AreEntries found (entries_of (get c delete.now.table)) → RefusesChange reading (database_of c) (does.Delete delete.now) refusal) }
+        → AreCandidates (get c delete.now.table) filter.now found → RefusesChange reading (database_of c) (does.Delete delete.now) refusal) }
     ensures device { IfErr result (λ refusal. refusal ≡ Disk → ⊥) }
 {
     let Some(_) = table_named(schema, &delete.table) else {
@@ -114,7 +113,11 @@ fn all_deletions(
     };
     let Numbered { numbers, rows } = found;
     match deletions(alloc, lent, filter, rows.as_slice()) {
-        Ok(changes) => Ok(Some(Planned { numbers, changes })),
+        Ok(changes) => Ok(Some(Planned {
+            numbers,
+            changes,
+            harmless: true,
+        })),
         Err(stop) => Err(refusal_of_stop(stop)),
     }
 }

@@ -1,5 +1,7 @@
 //! The rows that a DELETE touches go.
-ghost use Rattle.std.specs.Prelude.{◌≡◌, map};
+ghost use Rattle.std.specs.Prelude.{◌≡◌, Bool, false, Ok, map};
+ghost use Rattle.std.specs.Prelude.{filter as list_filter};
+ghost use Rattle.sqlval.specs.Value.{Row as AnyRow};
 ghost use Rattle.typing.specs.declared.statement.Delete.{Delete};
 ghost use Rattle.denote.specs.Change.{deleted_rows};
 ghost use Rattle.denote.specs.Database.{Table};
@@ -8,8 +10,8 @@ ghost use Rattle.denote.specs.Meaning.{Tables};
 ghost use Rattle.denote.specs.Stop.{Gives};
 ghost use Rattle.tree_tables.specs.TablesRead.{Agree};
 ghost use Rattle.query_answers.specs.Lent.{rows_lent};
-ghost use Rattle.row_changes.specs.Given.{deletion_given};
-ghost use Rattle.row_changes.specs.RowChanges.{AreDeletions, GivesChanges};
+ghost use Rattle.row_changes.specs.Given.{deletion_given, touched_given};
+ghost use Rattle.row_changes.specs.RowChanges.{AreDeletions, GivesChanges, spread};
 ghost use Rattle.row_changes.specs.Statements.{IsFilterOf, tables_in_filter};
 
 use crate::change::RowChange;
@@ -23,15 +25,17 @@ use sqlval::Value;
 use std::alloc::Global;
 use tree_tables::{listings_read_their_tables, values_read_their_tables};
 
-/// What becomes of each row of a table by a DELETE, or one of the faults of its condition at all rows. `filter` is the tree of the condition, and `lent` the tables that it names.
+/// What becomes of each of these rows by a DELETE: they are the rows of a table that pass a test, at no other of which the condition is true or raises a fault, so that the others stay; or one of the
+/// faults of its condition at all rows. `filter` is the tree of the condition, and `lent` the tables that it names.
 pub fn deletions(
     alloc: Global,
     lent: &LentTables,
     filter: &Option<Condition>,
     rows: &[Row],
 ) -> Result<Items<RowChange>, Stop>
-    ensures gives { (tables : Tables) (table : Table) (d : Delete) → table.rows ≡ rows.now → Agree (rows_lent lent.now.tables) tables (tables_in_filter filter.now)
-        → IsFilterOf d.filter filter.now → GivesChanges (AreDeletions table) result (deleted_rows tables table d) }
+    ensures gives { (tables : Tables) (table : Table) (d : Delete) (test : AnyRow → Bool) → rows.now ≡ list_filter test table.rows
+        → ((row : AnyRow) → test row ≡ false → touched_given (rows_lent lent.now.tables) filter.now row ≡ Ok false) → Agree (rows_lent lent.now.tables) tables (tables_in_filter filter.now)
+        → IsFilterOf d.filter filter.now → GivesChanges (λ changes found. AreDeletions table (spread test table.rows changes) found) result (deleted_rows tables table d) }
 {
     evaluation_keeps_the_meaning();
     listings_read_their_tables();

@@ -2,10 +2,12 @@
 #![tactic(auto)]
 
 mod assigned;
+mod candidates;
 mod carrying;
 mod change;
 mod delete;
 mod deleting;
+mod harmless;
 mod held;
 mod making;
 mod planned;

@@ -8,19 +8,20 @@ ghost use Rattle.denote.specs.SchemaOf.{IsSchemaOf};
 ghost use Rattle.transactions.specs.Refused.{IfRefused};
 ghost use Rattle.store.specs.Contents.{Contents, database_of};
 ghost use Rattle.store.specs.Errors.{HasRisen};
-ghost use Rattle.store.specs.Indexes.{entries_of};
 ghost use Rattle.store.specs.Stored.{SameButMark};
-ghost use Rattle.store.specs.View.{AreEntries};
 ghost use Rattle.tree_tables.specs.TablesRead.{Agree};
 ghost use Rattle.query_answers.specs.Lent.{rows_lent};
 ghost use Rattle.constraint_checks.specs.Changed.{HasChanged, RefusesChange};
-ghost use Rattle.constraint_checks.specs.Settled.{Decided};
+ghost use Rattle.constraint_checks.specs.Settled.{Decided, Holds};
 ghost use Rattle.row_changes.specs.Statements.{IsUpdateOf, tables_in_update};
 ghost use Rattle.row_changes.specs.Checked.{AreChecksFor};
+ghost use Rattle.row_changes.specs.Candidates.{AreCandidates};
 ghost use Rattle.row_changes.specs.Plans.{IsPlanned};
 
+use crate::candidates::candidates;
 use crate::carrying::carry_out;
 use crate::change::RowUpdate;
+use crate::harmless::are_harmless;
 use crate::planned::Planned;
 use crate::reading::lent_to_update;
 use crate::trees::update_trees;
@@ -32,8 +33,7 @@ use refusals::Refusal;
 use replies::Reply;
 use sqlval::Schema;
 use std::alloc::Global;
-use store::{Numbered, Store, View};
-use transactions::refusal_of;
+use store::{Numbered, Store};
 use typing::Update;
 
 /// UPDATE: each row that its condition touches gets the values of its sources, all at once, and where no row is touched nothing changes. Conditions and sources see the tables as they were.
@@ -50,6 +50,7 @@ pub fn update_rows<S: Store, C: Checks>(
     ensures changes { IfOk result (λ reply. (reading : CheckReading) → S.is_sound store.old → IsSchemaOf (S.prepared store.old) (database_of (S.shows store.old).working)
         → Decided (C.decides checks.now reading) (database_of (S.shows store.old).working) update.now.table
         → AreChecksFor reading (database_of (S.shows store.old).working) update.now.table trees.now
+        → Holds reading (database_of (S.shows store.old).working) update.now.table
         → HasChanged reading (S.shows store.old) (does.Update update.now) reply (S.shows store.new)) }
     ensures refused { IfErr result (λ refusal. (reading : CheckReading) → S.is_sound store.old → IsSchemaOf (S.prepared store.old) (database_of (S.shows store.old).working)
         → Decided (C.decides checks.now reading) (database_of (S.shows store.old).working) update.now.table
@@ -61,21 +62,23 @@ pub fn update_rows<S: Store, C: Checks>(
     ensures sound { S.is_sound store.old → S.is_sound store.new }
     ensures counts { S.refused store.old ≤ S.refused store.new }
 {
-    match planned_update(alloc, store, update, trees) {
+    match planned_update(alloc, store, update, trees, checks) {
         Ok(Some(planned)) => carry_out(alloc, store, &update.table, planned, checks),
         Ok(None) => Ok(Reply::Unchanged),
         Err(refusal) => Err(refusal),
     }
 }
 
-/// What becomes of all rows; nothing where no table has the name. The store is left as it was.
-fn planned_update<S: Store>(
+/// What becomes of the rows that the condition may touch, where the others stay; nothing where no table has the name. The store is left as it was.
+fn planned_update<S: Store, C: Checks>(
     alloc: Global,
     store: &mut S,
     update: &Update,
     trees: &[Condition],
+    checks: &C,
 ) -> Result<Option<Planned>, Refusal>
     ensures planned { IfOk result (λ planned. (reading : CheckReading) → S.is_sound store.old → IsSchemaOf (S.prepared store.old) (database_of (S.shows store.old).working)
+        → Decided (C.decides checks.now reading) (database_of (S.shows store.old).working) update.now.table
         → AreChecksFor reading (database_of (S.shows store.old).working) update.now.table trees.now
         → IsPlanned reading (S.shows store.old).working (does.Update update.now) update.now.table planned) }
     ensures refused { IfErr result (λ refusal. (reading : CheckReading) → S.is_sound store.old → IsSchemaOf (S.prepared store.old) (database_of (S.shows store.old).working)
@@ -94,29 +97,40 @@ fn planned_update<S: Store>(
         Ok(lent) => lent,
         Err(refusal) => return Err(refusal),
     };
-    let found = match store.scan(alloc, View::Working, &update.table) {
+    let found = match candidates(alloc, store, &update.table, &made.filter) {
         Ok(found) => found,
-        Err(error) => return Err(refusal_of(error)),
+        Err(refusal) => return Err(refusal),
     };
-    all_updates(alloc, store.schema(), update, trees, &made, &lent, found)
+    all_updates(
+        alloc,
+        store.schema(),
+        update,
+        trees,
+        checks,
+        &made,
+        &lent,
+        found,
+    )
 }
 
 /// What becomes of the rows that were found.
-fn all_updates(
+fn all_updates<C: Checks>(
     alloc: Global,
     schema: &Schema,
     update: &Update,
     trees: &[Condition],
+    checks: &C,
     made: &RowUpdate,
     lent: &LentTables,
     found: Numbered,
 ) -> Result<Option<Planned>, Refusal>
-    ensures planned { IfOk result (λ planned. (reading : CheckReading) (c : Contents) → IsSchemaOf schema.now (database_of c) → AreChecksFor reading (database_of c) update.now.table trees.now
+    ensures planned { IfOk result (λ planned. (reading : CheckReading) (c : Contents) → IsSchemaOf schema.now (database_of c)
+        → Decided (C.decides checks.now reading) (database_of c) update.now.table → AreChecksFor reading (database_of c) update.now.table trees.now
         → IsUpdateOf update.now made.now → Agree (rows_lent lent.now.tables) (rows_in (database_of c)) (tables_in_update made.now)
-        → AreEntries found (entries_of (get c update.now.table)) → IsPlanned reading c (does.Update update.now) update.now.table planned) }
+        → AreCandidates (get c update.now.table) made.now.filter found → IsPlanned reading c (does.Update update.now) update.now.table planned) }
     ensures refused { IfErr result (λ refusal. (reading : CheckReading) (c : Contents) → IsSchemaOf schema.now (database_of c) → AreChecksFor reading (database_of c) update.now.table trees.now
         → IsUpdateOf update.now made.now → Agree (rows_lent lent.now.tables) (rows_in (database_of c)) (tables_in_update made.now)
-        → AreEntries found (entries_of (get c update.now.table)) → RefusesChange reading (database_of c) (does.Update update.now) refusal) }
+        → AreCandidates (get c update.now.table) made.now.filter found → RefusesChange reading (database_of c) (does.Update update.now) refusal) }
     ensures device { IfErr result (λ refusal. refusal ≡ Disk → ⊥) }
 {
     let Some(table) = table_named(schema, &update.table) else {
@@ -124,7 +138,14 @@ fn all_updates(
     };
     let Numbered { numbers, rows } = found;
     match updates(alloc, lent, table, trees, made, rows.as_slice()) {
-        Ok(changes) => Ok(Some(Planned { numbers, changes })),
+        Ok(changes) => match are_harmless(alloc, table, checks, &rows, &changes) {
+            Ok(harmless) => Ok(Some(Planned {
+                numbers,
+                changes,
+                harmless,
+            })),
+            Err(refusal) => Err(refusal),
+        },
         Err(stop) => Err(refusal_of_stop(stop)),
     }
 }

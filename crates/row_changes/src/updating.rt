@@ -1,5 +1,6 @@
 //! The rows that an UPDATE touches become new ones.
-ghost use Rattle.std.specs.Prelude.{[], List, map};
+ghost use Rattle.std.specs.Prelude.{◌≡◌, Bool, false, Ok, [], List, filter, map};
+ghost use Rattle.sqlval.specs.Value.{Row as AnyRow};
 ghost use Rattle.typing.specs.declared.statement.Update.{Update};
 ghost use Rattle.typing.specs.declared.typed.Condition.{Condition as Asked};
 ghost use Rattle.denote.specs.Change.{updated_rows};
@@ -10,8 +11,8 @@ ghost use Rattle.denote.specs.Stop.{Gives};
 ghost use Rattle.tree_tables.specs.TablesRead.{Agree};
 ghost use Rattle.query_answers.specs.Lent.{rows_lent};
 ghost use Rattle.query_answers.specs.Sources.{AreChecksOf};
-ghost use Rattle.row_changes.specs.Given.{assigned_given, update_given};
-ghost use Rattle.row_changes.specs.RowChanges.{AreUpdates, GivesChanges};
+ghost use Rattle.row_changes.specs.Given.{assigned_given, touched_given, update_given};
+ghost use Rattle.row_changes.specs.RowChanges.{AreUpdates, GivesChanges, spread};
 ghost use Rattle.row_changes.specs.Statements.{IsUpdateOf, tables_in_update};
 
 use crate::assigned::assigned_row;
@@ -27,7 +28,8 @@ use sqlval::{Table, Value};
 use std::alloc::Global;
 use tree_tables::{listings_read_their_tables, values_read_their_tables};
 
-/// What becomes of each row of a table by an UPDATE, or one of the faults of all rows: of the condition, of a source, of storing, of a CHECK that cannot be evaluated at the new row, or of
+/// What becomes of each of these rows by an UPDATE: they are the rows of a table that pass a test, at no other of which the condition is true or raises a fault, so that the others stay; or one of the
+/// faults of all rows: of the condition, of a source, of storing, of a CHECK that cannot be evaluated at the new row, or of
 /// the length of that row or of a key of it. Each row is seen as it was. `update` has the trees of the statement, `lent` the tables that these name, and `checks` the trees of the conditions
 /// of the table's CHECKs.
 pub fn updates(
@@ -38,8 +40,10 @@ pub fn updates(
     update: &RowUpdate,
     rows: &[Row],
 ) -> Result<Items<RowChange>, Stop>
-    ensures gives { (tables : Tables) (conditions : List Asked) (u : Update) → Agree (rows_lent lent.now.tables) tables (tables_in_update update.now) → IsUpdateOf u update.now
-        → AreChecksOf conditions checks.now → GivesChanges (AreUpdates (table_of table.now rows.now)) result (updated_rows conditions tables (table_of table.now rows.now) u) }
+    ensures gives { (tables : Tables) (conditions : List Asked) (u : Update) (whole : List AnyRow) (test : AnyRow → Bool) → rows.now ≡ filter test whole
+        → ((row : AnyRow) → test row ≡ false → touched_given (rows_lent lent.now.tables) update.now.filter row ≡ Ok false) → Agree (rows_lent lent.now.tables) tables (tables_in_update update.now)
+        → IsUpdateOf u update.now → AreChecksOf conditions checks.now
+        → GivesChanges (λ changes found. AreUpdates (table_of table.now whole) (spread test whole changes) found) result (updated_rows conditions tables (table_of table.now whole) u) }
 {
     evaluation_keeps_the_meaning();
     listings_read_their_tables();

@@ -1,14 +1,13 @@
-//! Whether a table holds with rows at its end, looked at before these come there, and else after.
-ghost use Rattle.std.specs.Prelude.{◌≡◌, ◌≤◌, true, IfOk, IfErr, OnOk, OnErr};
+//! Whether a table holds with rows at its end, looked at before these come there.
+ghost use Rattle.std.specs.Prelude.{◌≡◌, ◌≤◌, true, IfOk, IfErr};
 ghost use Rattle.refusals.specs.declared.refusal.Refusal.TheVariants.{Disk};
 ghost use Rattle.denote.specs.Database.{CheckReading, Database};
 ghost use Rattle.store.specs.Contents.{database_of};
 ghost use Rattle.store.specs.Errors.{HasRisen};
-ghost use Rattle.store.specs.Stored.{undone};
 ghost use Rattle.constraint_checks.specs.Settled.{Decided, Holds, Breaks};
 ghost use Rattle.table_changes.specs.Given.{HasMore};
 
-use constraint_checks::{Checks, Foreseen, foresee, settle};
+use constraint_checks::{Checks, Foreseen, foresee};
 use denote::Row;
 use items::Text;
 use refusals::Refusal;
@@ -37,34 +36,6 @@ pub(crate) fn known_to_hold<S: Store, C: Checks>(
         Ok(Foreseen::Fits) => Ok(true),
         Ok(Foreseen::Violates(constraint)) => Err(Refusal::Violated(constraint)),
         Ok(Foreseen::Open) => Ok(false),
-        Err(refusal) => Err(refusal),
-    }
-}
-
-/// Keeps what was changed since the mark, where the table of this name now violates no constraint; else goes back to the mark. The table is looked at unless it is known to violate none. It
-/// is refused by a constraint that the table violates (23000), for want of memory or by the device.
-pub(crate) fn settle_unless<S: Store, C: Checks>(
-    alloc: Global,
-    store: &mut S,
-    name: &Text,
-    checks: &C,
-    known: bool,
-) -> Result<(), Refusal>
-    ensures kept { OnOk result (S.shows store.new ≡ S.shows store.old) }
-    ensures holds { OnOk result ((reading : CheckReading) → S.is_sound store.old → Decided (C.decides checks.now reading) (database_of (S.shows store.old).working) name.now
-        → (known ≡ true → Holds reading (database_of (S.shows store.old).working) name.now) → Holds reading (database_of (S.shows store.old).working) name.now) }
-    ensures undone { OnErr result (S.shows store.new ≡ undone (S.shows store.old)) }
-    ensures refused { IfErr result (λ refusal. (reading : CheckReading) → S.is_sound store.old → Decided (C.decides checks.now reading) (database_of (S.shows store.old).working) name.now
-        → Breaks reading (database_of (S.shows store.old).working) name.now refusal) }
-    ensures device { IfErr result (λ refusal. refusal ≡ Disk → HasRisen (S.refused store.old) (S.refused store.new)) }
-    ensures sound { S.is_sound store.old → S.is_sound store.new }
-    ensures counts { S.refused store.old ≤ S.refused store.new }
-{
-    if known {
-        return Ok(());
-    }
-    match settle(alloc, store, name, checks) {
-        Ok(()) => Ok(()),
         Err(refusal) => Err(refusal),
     }
 }

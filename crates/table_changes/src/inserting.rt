@@ -11,9 +11,9 @@ ghost use Rattle.constraint_checks.specs.Changed.{RefusesChange};
 ghost use Rattle.constraint_checks.specs.Settled.{Decided, Holds};
 ghost use Rattle.table_changes.specs.Given.{AreGiven, HasAccepted};
 
-use crate::deciding::{known_to_hold, settle_unless};
+use crate::deciding::known_to_hold;
 use crate::reply::reply_for;
-use constraint_checks::{Checks, begin};
+use constraint_checks::{Checks, begin, settle_unless};
 use denote::Rows;
 use refusals::Refusal;
 use replies::Reply;

@@ -7,12 +7,13 @@ use Rattle.row_changes.specs.Checked.{AreChecksFor}
 use Rattle.store.specs.Contents.{database_of}
 use Rattle.store.specs.Stored.{Stored}
 use Rattle.constraint_checks.specs.Changed.{RefusesChange}
+use Rattle.constraint_checks.specs.Settled.{Holds}
 use Rattle.table_changes.specs.Given.{AreGiven, HasAccepted}
 use Rattle.changes.proofs.insert.insert.Goals as goal
 
 pub returns-in-Ok-rows_of-clause-changes : goal.returns-in-Ok-rows_of-clause-changes
 returns-in-Ok-rows_of-clause-changes g c = IfOk-weaker c.insert_rows.result _ _
-    (λ reply h reading is_reading sound of.
+    (λ reply h reading is_reading sound of good.
     let old = g.S.Store.shows c.args.store.now in
     let schema : IsSchemaOf c.schema.result.now (database_of old.working) = subst (λ (s : Schema). IsSchemaOf s (database_of old.working)) (sym c.schema.ensures) of in
     let there = c.in-Ok.ensures.there (database_of old.working) schema in
@@ -22,12 +23,13 @@ returns-in-Ok-rows_of-clause-changes g c = IfOk-weaker c.insert_rows.result _ _
     subst (λ (s : Stored). HasAccepted reading s (does.Insert c.args.insert.now) reply (g.S.Store.shows c.insert_rows.new.store)) (sym same)
     (h reading (c.rows_of.ensures.sound sound)
     (subst (λ (s : Stored). AreChecksFor reading (database_of s.working) c.args.insert.now.table c.in-Ok.checks.conditions) same decided)
+    (subst (λ (s : Stored). Holds reading (database_of s.working) c.args.insert.now.table) same (λ table is. (good c.args.insert.now.table table is).unviolated))
     (subst (λ (s : Stored). AreGiven reading (database_of s.working) c.args.insert.now c.in-Ok-rows_of.rows) same given)))
     c.insert_rows.ensures.changes
 
 pub returns-in-Ok-rows_of-clause-refused : goal.returns-in-Ok-rows_of-clause-refused
 returns-in-Ok-rows_of-clause-refused g c = IfErr-weaker c.insert_rows.result _ _
-    (λ refusal h reading is_reading sound of.
+    (λ refusal h reading is_reading sound of good.
     let old = g.S.Store.shows c.args.store.now in
     let schema : IsSchemaOf c.schema.result.now (database_of old.working) = subst (λ (s : Schema). IsSchemaOf s (database_of old.working)) (sym c.schema.ensures) of in
     let there = c.in-Ok.ensures.there (database_of old.working) schema in
@@ -37,11 +39,12 @@ returns-in-Ok-rows_of-clause-refused g c = IfErr-weaker c.insert_rows.result _ _
     subst (λ (s : Stored). RefusesChange reading (database_of s.working) (does.Insert c.args.insert.now) refusal) (sym same)
     (h reading (c.rows_of.ensures.sound sound)
     (subst (λ (s : Stored). AreChecksFor reading (database_of s.working) c.args.insert.now.table c.in-Ok.checks.conditions) same decided)
+    (subst (λ (s : Stored). Holds reading (database_of s.working) c.args.insert.now.table) same (λ table is. (good c.args.insert.now.table table is).unviolated))
     (subst (λ (s : Stored). AreGiven reading (database_of s.working) c.args.insert.now c.in-Ok-rows_of.rows) same given)))
     c.insert_rows.ensures.refused
 
 pub returns-clause-refused : goal.returns-clause-refused
-returns-clause-refused g c = λ reading is_reading sound of.
+returns-clause-refused g c = λ reading is_reading sound of good.
     let db = database_of (g.S.Store.shows c.args.store.now).working in
     let schema : IsSchemaOf c.schema.result.now db = subst (λ (s : Schema). IsSchemaOf s db) (sym c.schema.ensures) of in
     let there = c.in-Ok.ensures.there db schema in

@@ -6,31 +6,31 @@ use Rattle.changes.proofs.making.make.Goals as goal
 
 pub returns-in-CreateTable-clause-changes : goal.returns-in-CreateTable-clause-changes
 returns-in-CreateTable-clause-changes g c = rw c.in-CreateTable.is (IfOk-weaker c.create_table.result _ _
-    (λ reply h reading is_reading sound of. accepted_of reading (g.S.Store.shows c.args.store.now) (does.CreateTable c.in-CreateTable.table) reply (g.S.Store.shows c.create_table.new.store) (h reading sound of)) c.create_table.ensures.changes)
+    (λ reply h reading is_reading sound of good. accepted_of reading (g.S.Store.shows c.args.store.now) (does.CreateTable c.in-CreateTable.table) reply (g.S.Store.shows c.create_table.new.store) (h reading sound of)) c.create_table.ensures.changes)
 
 pub returns-in-CreateTable-clause-refused : goal.returns-in-CreateTable-clause-refused
-returns-in-CreateTable-clause-refused g c = rw c.in-CreateTable.is (IfErr-weaker c.create_table.result _ _ (λ refusal h reading is_reading sound of. RefusesChange.withheld (h sound)) c.create_table.ensures.refused)
+returns-in-CreateTable-clause-refused g c = rw c.in-CreateTable.is (IfErr-weaker c.create_table.result _ _ (λ refusal h reading is_reading sound of good. RefusesChange.withheld (h sound)) c.create_table.ensures.refused)
 
 pub returns-in-DropTable-clause-changes : goal.returns-in-DropTable-clause-changes
 returns-in-DropTable-clause-changes g c = rw c.in-DropTable.is (IfOk-weaker c.drop_table.result _ _
-    (λ reply h reading is_reading sound of. accepted_of reading (g.S.Store.shows c.args.store.now) (does.DropTable c.in-DropTable.name) reply (g.S.Store.shows c.drop_table.new.store) (h reading sound)) c.drop_table.ensures.changes)
+    (λ reply h reading is_reading sound of good. accepted_of reading (g.S.Store.shows c.args.store.now) (does.DropTable c.in-DropTable.name) reply (g.S.Store.shows c.drop_table.new.store) (h reading sound)) c.drop_table.ensures.changes)
 
 pub returns-in-DropTable-clause-refused : goal.returns-in-DropTable-clause-refused
-returns-in-DropTable-clause-refused g c = rw c.in-DropTable.is (IfErr-weaker c.drop_table.result _ _ (λ refusal h reading is_reading sound of. RefusesChange.withheld (h sound)) c.drop_table.ensures.refused)
+returns-in-DropTable-clause-refused g c = rw c.in-DropTable.is (IfErr-weaker c.drop_table.result _ _ (λ refusal h reading is_reading sound of good. RefusesChange.withheld (h sound)) c.drop_table.ensures.refused)
 
 pub returns-in-CreateIndex-clause-changes : goal.returns-in-CreateIndex-clause-changes
 returns-in-CreateIndex-clause-changes g c = rw c.in-CreateIndex.is (IfOk-weaker c.create_index.result _ _
-    (λ reply h reading is_reading sound of. accepted_of reading (g.S.Store.shows c.args.store.now) (does.CreateIndex c.in-CreateIndex.index) reply (g.S.Store.shows c.create_index.new.store) (h reading sound of)) c.create_index.ensures.changes)
+    (λ reply h reading is_reading sound of good. accepted_of reading (g.S.Store.shows c.args.store.now) (does.CreateIndex c.in-CreateIndex.index) reply (g.S.Store.shows c.create_index.new.store) (h reading sound of)) c.create_index.ensures.changes)
 
 pub returns-in-CreateIndex-clause-refused : goal.returns-in-CreateIndex-clause-refused
-returns-in-CreateIndex-clause-refused g c = rw c.in-CreateIndex.is (IfErr-weaker c.create_index.result _ _ (λ refusal h reading is_reading sound of. h reading sound of) c.create_index.ensures.refused)
+returns-in-CreateIndex-clause-refused g c = rw c.in-CreateIndex.is (IfErr-weaker c.create_index.result _ _ (λ refusal h reading is_reading sound of good. h reading sound of) c.create_index.ensures.refused)
 
 pub returns-in-DropIndex-clause-changes : goal.returns-in-DropIndex-clause-changes
 returns-in-DropIndex-clause-changes g c = rw c.in-DropIndex.is (IfOk-weaker c.drop_index.result _ _
-    (λ reply h reading is_reading sound of. accepted_of reading (g.S.Store.shows c.args.store.now) (does.DropIndex c.in-DropIndex.name) reply (g.S.Store.shows c.drop_index.new.store) (h reading sound)) c.drop_index.ensures.changes)
+    (λ reply h reading is_reading sound of good. accepted_of reading (g.S.Store.shows c.args.store.now) (does.DropIndex c.in-DropIndex.name) reply (g.S.Store.shows c.drop_index.new.store) (h reading sound)) c.drop_index.ensures.changes)
 
 pub returns-in-DropIndex-clause-refused : goal.returns-in-DropIndex-clause-refused
-returns-in-DropIndex-clause-refused g c = rw c.in-DropIndex.is (IfErr-weaker c.drop_index.result _ _ (λ refusal h reading is_reading sound of. RefusesChange.withheld (h sound)) c.drop_index.ensures.refused)
+returns-in-DropIndex-clause-refused g c = rw c.in-DropIndex.is (IfErr-weaker c.drop_index.result _ _ (λ refusal h reading is_reading sound of good. RefusesChange.withheld (h sound)) c.drop_index.ensures.refused)
 
 pub returns-in-Insert-clause-changes : goal.returns-in-Insert-clause-changes
 returns-in-Insert-clause-changes g c = rw c.in-Insert.is c.insert.ensures.changes
@@ -40,14 +40,14 @@ returns-in-Insert-clause-refused g c = rw c.in-Insert.is c.insert.ensures.refuse
 
 pub returns-in-Update-clause-changes : goal.returns-in-Update-clause-changes
 returns-in-Update-clause-changes g c = rw c.in-Update.is (IfOk-weaker c.update.result _ _
-    (λ reply h reading is_reading sound of. accepted_of reading (g.S.Store.shows c.args.store.now) (does.Update c.in-Update.updated) reply (g.S.Store.shows c.update.new.store) (h reading is_reading sound of)) c.update.ensures.changes)
+    (λ reply h reading is_reading sound of good. accepted_of reading (g.S.Store.shows c.args.store.now) (does.Update c.in-Update.updated) reply (g.S.Store.shows c.update.new.store) (h reading is_reading sound of good)) c.update.ensures.changes)
 
 pub returns-in-Update-clause-refused : goal.returns-in-Update-clause-refused
-returns-in-Update-clause-refused g c = rw c.in-Update.is c.update.ensures.refused
+returns-in-Update-clause-refused g c = rw c.in-Update.is (IfErr-weaker c.update.result _ _ (λ refusal h reading is_reading sound of good. h reading is_reading sound of) c.update.ensures.refused)
 
 pub returns-in-Delete-clause-changes : goal.returns-in-Delete-clause-changes
 returns-in-Delete-clause-changes g c = rw c.in-Delete.is (IfOk-weaker c.delete.result _ _
-    (λ reply h reading is_reading sound of. accepted_of reading (g.S.Store.shows c.args.store.now) (does.Delete c.in-Delete.deleted) reply (g.S.Store.shows c.delete.new.store) (h reading is_reading sound of)) c.delete.ensures.changes)
+    (λ reply h reading is_reading sound of good. accepted_of reading (g.S.Store.shows c.args.store.now) (does.Delete c.in-Delete.deleted) reply (g.S.Store.shows c.delete.new.store) (h reading is_reading sound of good)) c.delete.ensures.changes)
 
 pub returns-in-Delete-clause-refused : goal.returns-in-Delete-clause-refused
-returns-in-Delete-clause-refused g c = rw c.in-Delete.is c.delete.ensures.refused
+returns-in-Delete-clause-refused g c = rw c.in-Delete.is (IfErr-weaker c.delete.result _ _ (λ refusal h reading is_reading sound of good. h reading is_reading sound of) c.delete.ensures.refused)

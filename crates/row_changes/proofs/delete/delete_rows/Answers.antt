@@ -5,23 +5,25 @@ use Rattle.typing.specs.declared.statement.Change.TheVariants as does
 use Rattle.store.specs.Contents.{database_of}
 use Rattle.store.specs.Stored.{Stored, SameButMark}
 use Rattle.constraint_checks.specs.Changed.{HasChanged, RefusesChange}
-use Rattle.constraint_checks.specs.Settled.{Decided}
-use Rattle.row_changes.specs.Plans.{IsMeant}
+use Rattle.constraint_checks.specs.Settled.{Decided, Holds}
+use Rattle.row_changes.specs.Plans.{IsMeant, IsHarmless}
 use Rattle.row_changes.proofs.Carried.{nothing}
 use Rattle.row_changes.proofs.delete.delete_rows.Goals as goal
 
 pub returns-in-Ok-Some-clause-changes : goal.returns-in-Ok-Some-clause-changes
 returns-in-Ok-Some-clause-changes g c = IfOk-weaker c.carry_out.result _ _
-    (λ reply h reading sound of decided.
+    (λ reply h reading sound of decided holds.
     let change = does.Delete c.args.delete.now in
     let old = g.S.Store.shows c.args.store.now in
     let mid = g.S.Store.shows c.planned_deletion.new.store in
     let same = c.planned_deletion.ensures.shows in
     let meant = rw c.in-Ok-Some.field-0-is at (c.in-Ok-Some.ensures.planned reading sound of) in
+    let moved = subst (λ (s : Stored). IsHarmless reading s.working change c.args.delete.now.table c.in-Ok-Some.planned) (sym same) meant in
+    let holds_there = subst (λ (s : Stored). Holds reading (database_of s.working) c.args.delete.now.table) (sym same) holds in
     subst (λ (s : Stored). HasChanged reading s change reply (g.S.Store.shows c.carry_out.new.store)) same
     (h reading change (c.planned_deletion.ensures.sound sound)
     (subst (λ (s : Stored). Decided (g.C.Checks.decides c.args.checks.now reading) (database_of s.working) c.args.delete.now.table) (sym same) decided)
-    (subst (λ (s : Stored). IsMeant reading s.working change c.args.delete.now.table c.in-Ok-Some.planned) (sym same) meant)))
+    holds_there moved))
     c.carry_out.ensures.changes
 
 pub returns-in-Ok-Some-clause-refused : goal.returns-in-Ok-Some-clause-refused
@@ -34,11 +36,11 @@ returns-in-Ok-Some-clause-refused g c = IfErr-weaker c.carry_out.result _ _
     subst (λ (s : Stored). RefusesChange reading (database_of s.working) change refusal) same
     (h reading change (c.planned_deletion.ensures.sound sound)
     (subst (λ (s : Stored). Decided (g.C.Checks.decides c.args.checks.now reading) (database_of s.working) c.args.delete.now.table) (sym same) decided)
-    (subst (λ (s : Stored). IsMeant reading s.working change c.args.delete.now.table c.in-Ok-Some.planned) (sym same) meant)))
+    (subst (λ (s : Stored). IsMeant reading s.working change c.args.delete.now.table c.in-Ok-Some.planned) (sym same) meant.0)))
     c.carry_out.ensures.refused
 
 pub returns-in-Ok-None-clause-changes : goal.returns-in-Ok-None-clause-changes
-returns-in-Ok-None-clause-changes g c = λ reading sound of decided.
+returns-in-Ok-None-clause-changes g c = λ reading sound of decided holds.
     nothing reading (g.S.Store.shows c.args.store.now) (g.S.Store.shows c.planned_deletion.new.store) (does.Delete c.args.delete.now)
     (rw c.in-Ok-None.field-0-is at (c.in-Ok-None.ensures.planned reading sound of)) c.planned_deletion.ensures.shows
 

@@ -5,23 +5,24 @@ use Rattle.typing.specs.declared.statement.Change.TheVariants as does
 use Rattle.store.specs.Contents.{database_of}
 use Rattle.store.specs.Stored.{Stored, SameButMark}
 use Rattle.constraint_checks.specs.Changed.{HasChanged, RefusesChange}
-use Rattle.constraint_checks.specs.Settled.{Decided}
-use Rattle.row_changes.specs.Plans.{IsMeant}
+use Rattle.constraint_checks.specs.Settled.{Decided, Holds}
+use Rattle.row_changes.specs.Plans.{IsMeant, IsHarmless}
 use Rattle.row_changes.proofs.Carried.{nothing}
 use Rattle.row_changes.proofs.update.update_rows.Goals as goal
 
 pub returns-in-Ok-Some-clause-changes : goal.returns-in-Ok-Some-clause-changes
 returns-in-Ok-Some-clause-changes g c = IfOk-weaker c.carry_out.result _ _
-    (λ reply h reading sound of decided checks.
+    (λ reply h reading sound of decided checks holds.
     let change = does.Update c.args.update.now in
     let old = g.S.Store.shows c.args.store.now in
     let mid = g.S.Store.shows c.planned_update.new.store in
     let same = c.planned_update.ensures.shows in
-    let meant = rw c.in-Ok-Some.field-0-is at (c.in-Ok-Some.ensures.planned reading sound of checks) in
+    let meant = rw c.in-Ok-Some.field-0-is at (c.in-Ok-Some.ensures.planned reading sound of decided checks) in
     subst (λ (s : Stored). HasChanged reading s change reply (g.S.Store.shows c.carry_out.new.store)) same
     (h reading change (c.planned_update.ensures.sound sound)
     (subst (λ (s : Stored). Decided (g.C.Checks.decides c.args.checks.now reading) (database_of s.working) c.args.update.now.table) (sym same) decided)
-    (subst (λ (s : Stored). IsMeant reading s.working change c.args.update.now.table c.in-Ok-Some.planned) (sym same) meant)))
+    (subst (λ (s : Stored). Holds reading (database_of s.working) c.args.update.now.table) (sym same) holds)
+    (subst (λ (s : Stored). IsHarmless reading s.working change c.args.update.now.table c.in-Ok-Some.planned) (sym same) meant)))
     c.carry_out.ensures.changes
 
 pub returns-in-Ok-Some-clause-refused : goal.returns-in-Ok-Some-clause-refused
@@ -30,17 +31,17 @@ returns-in-Ok-Some-clause-refused g c = IfErr-weaker c.carry_out.result _ _
     let change = does.Update c.args.update.now in
     let old = g.S.Store.shows c.args.store.now in
     let same = c.planned_update.ensures.shows in
-    let meant = rw c.in-Ok-Some.field-0-is at (c.in-Ok-Some.ensures.planned reading sound of checks) in
+    let meant = rw c.in-Ok-Some.field-0-is at (c.in-Ok-Some.ensures.planned reading sound of decided checks) in
     subst (λ (s : Stored). RefusesChange reading (database_of s.working) change refusal) same
     (h reading change (c.planned_update.ensures.sound sound)
     (subst (λ (s : Stored). Decided (g.C.Checks.decides c.args.checks.now reading) (database_of s.working) c.args.update.now.table) (sym same) decided)
-    (subst (λ (s : Stored). IsMeant reading s.working change c.args.update.now.table c.in-Ok-Some.planned) (sym same) meant)))
+    (subst (λ (s : Stored). IsMeant reading s.working change c.args.update.now.table c.in-Ok-Some.planned) (sym same) meant.0)))
     c.carry_out.ensures.refused
 
 pub returns-in-Ok-None-clause-changes : goal.returns-in-Ok-None-clause-changes
-returns-in-Ok-None-clause-changes g c = λ reading sound of decided checks.
+returns-in-Ok-None-clause-changes g c = λ reading sound of decided checks holds.
     nothing reading (g.S.Store.shows c.args.store.now) (g.S.Store.shows c.planned_update.new.store) (does.Update c.args.update.now)
-    (rw c.in-Ok-None.field-0-is at (c.in-Ok-None.ensures.planned reading sound of checks)) c.planned_update.ensures.shows
+    (rw c.in-Ok-None.field-0-is at (c.in-Ok-None.ensures.planned reading sound of decided checks)) c.planned_update.ensures.shows
 
 pub returns-in-Ok-Some-clause-same : goal.returns-in-Ok-Some-clause-same
 returns-in-Ok-Some-clause-same g c = λ sound.
