@@ -19,7 +19,10 @@ fn step_again(core: &mut Core<ListStore>, session: SessionId, text: &[u8]) -> Re
 }
 
 /// Carries out statements, of which one allocation may be refused, and compares their replies.
-fn check_again(rt: &(impl Abort + AllocGlobal), statements: &[(&str, &str)]) -> Result<(), Fail> {
+pub fn check_again(
+    rt: &(impl Abort + AllocGlobal),
+    statements: &[(&str, &str)],
+) -> Result<(), Fail> {
     let alloc = rt.alloc();
     let Ok(mut writer) = Vec::with_capacity(alloc, 256) else {
         return Ok(());
