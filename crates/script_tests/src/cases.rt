@@ -8,6 +8,7 @@ mod ended_sessions;
 mod faults;
 mod key_limits;
 mod limits;
+mod looked_up_keys;
 mod memory;
 mod overlapping;
 mod pieces;
