@@ -18,13 +18,14 @@ awk 'BEGIN {
       printf "%s(%d, '\''text %d'\'', %d)", row ? ", " : "", number, number, number % 1000
     }
     print ";"
+    if (++statements % 10 == 0) print "COMMIT;"  # a transaction writes at most 1,024 pages
   }
   print "COMMIT;"
 }' > "$work/insert.sql"
 echo "SELECT A, B FROM T WHERE C = 7 AND A > 1000;" > "$work/scan.sql"
 cat "$work/insert.sql" "$work/scan.sql" > "$work/insert_and_scan.sql"
 for name in insert insert_and_scan; do
-  { echo "BEGIN;"; cat "$work/$name.sql"; } > "$work/$name.lite"
+  { echo "BEGIN;"; sed 's/^COMMIT;$/COMMIT; BEGIN;/' "$work/$name.sql"; } > "$work/$name.lite"
 done
 
 run_sqlsh() { "$top/sqlsh" run < "$work/$1.sql"; }

@@ -26,6 +26,7 @@ tables() {
       }
       print "INSERT INTO T VALUES " texts ";"
       print "INSERT INTO U VALUES " numbers ";"
+      if (first % 5000 == 4500) print "COMMIT;"  # a transaction writes at most 1,024 pages
     }
     print "COMMIT;"
   }'
