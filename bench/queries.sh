@@ -53,7 +53,7 @@ rows_of() {
 }
 
 run_sqlsh() { "$program" run < "$1"; }
-run_sqlite3() { sqlite3 < "$1"; }
+run_sqlite3() { grep -v "^COMMIT;$" "$1" | sqlite3; }  # it commits each statement by itself
 
 # seconds PROGRAM SCRIPT: what one run takes
 seconds() {
