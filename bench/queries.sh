@@ -33,7 +33,7 @@ tables() {
 }
 
 declare -A query=(
-  [sort]="SELECT A, B FROM T ORDER BY C DESC, A;"
+  [sort]="SELECT A, B, C FROM T ORDER BY C DESC, A;"
   [distinct]="SELECT DISTINCT B FROM T;"
   [group]="SELECT C, COUNT(*), SUM(A), MIN(B) FROM T GROUP BY C;"
   [union]="SELECT A FROM T UNION SELECT A FROM U;"
