@@ -38,8 +38,8 @@ fn ends_before<R: PageReader>(
     Ok(is_absent(&found))
 }
 
-/// The number of the next row of the tree at a root: 0 where there are no rows, else one more than the greatest number. It is
-/// found by halves, as a tree is read from its least key on.
+/// The number of the next row of the tree at a root: 0 where there are no rows, else one more than the greatest number. A tree is
+/// read from its least key on, so the number is looked for twice as far each time, and by halves once no row is found there.
 ///
 /// Refused as `scan` is.
 pub fn next_number<R: PageReader>(space: &mut R, alloc: Global, root: u32) -> Result<u64, Fault>
@@ -53,7 +53,7 @@ pub fn next_number<R: PageReader>(space: &mut R, alloc: Global, root: u32) -> Re
     let mut low: u64 = 0;
     let mut high: u64 = 1 << 63;
     'halved: while low < high {
-        let middle = low + (high - low) / 2;
+        let middle = (low + (high - low) / 2).min(2 * low);
         if ends_before(space, alloc, root, middle)? {
             high = middle;
         } else {
