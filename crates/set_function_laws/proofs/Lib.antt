@@ -1,3 +1,10 @@
 mod Walk
 mod Numbers
 mod Existence
+mod Places
+mod Fitting
+mod Columns
+mod Turns
+mod Standing
+mod Placing
+mod Valued

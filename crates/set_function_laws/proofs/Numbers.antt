@@ -10,7 +10,7 @@ use Rattle.ast.specs.declared.tree.SelectItem.{SelectItem}
 use Rattle.ast.specs.Parts.{selected_parts, written}
 use Rattle.ast.specs.Parts as node
 use Rattle.typing.specs.declared.typed.Condition.{Condition as Typed, the_lemmas}
-use Rattle.typing.specs.declared.typed.Query.{Query, Query-F, out-Query}
+use Rattle.typing.specs.declared.typed.Query.{Query-F, out-Query}
 use Rattle.typing.specs.declared.typed.Query.TheVariants as query
 use Rattle.typing.specs.declared.typed.Select.{Select, roll-Select, out-Select}
 use Rattle.typing.specs.declared.typed.SetFunction.{SetFunction}
@@ -35,24 +35,24 @@ use Rattle.set_function_laws.proofs.Walk.{all_at, all_append, all_mapped, listed
 
 -- ---- what is found comes of what its parts are found to be
 
-same_ok : {A : Type 0} (x y : A) → ◌≡◌ {A = Finding A} (Ok x) (Ok y) → x ≡ y
+pub same_ok : {A : Type 0} (x y : A) → ◌≡◌ {A = Finding A} (Ok x) (Ok y) → x ≡ y
 same_ok x y e = cc
 
-bound : {A B : Type 0} (x : Finding A) (next : A → Finding B) (y : B) → (x >>= next) ≡ Ok y → (a : A) × (x ≡ Ok a) × (next a ≡ Ok y)
+pub bound : {A B : Type 0} (x : Finding A) (next : A → Finding B) (y : B) → (x >>= next) ≡ Ok y → (a : A) × (x ≡ Ok a) × (next a ≡ Ok y)
 bound (Ok a) next y e = (a, refl, e)
 bound (Err reasons) next y e = absurd (cc)
 
-beside : {A B : Type 0} (x : Finding A) (y : Finding B) (p : A × B) → also x y ≡ Ok p → (x ≡ Ok p.0) × (y ≡ Ok p.1)
+pub beside : {A B : Type 0} (x : Finding A) (y : Finding B) (p : A × B) → also x y ≡ Ok p → (x ≡ Ok p.0) × (y ≡ Ok p.1)
 beside {A} {B} (Ok x) (Ok y) p e = let same : (x, y) ≡ p = same_ok (x, y) p e in (ap (λ (q : A × B). Ok q.0) same, ap (λ (q : A × B). Ok q.1) same)
 beside (Ok x) (Err reasons) p e = absurd (cc)
 beside (Err reasons) y p e = absurd (cc)
 
 -- ---- the set functions of a typed SELECT
 
-opened_query : (s : Select) → out-Query (query.Select s) ≡ Query-F.Select s
+pub opened_query : (s : Select) → out-Query (query.Select s) ≡ Query-F.Select s
 opened_query s = search (rules, the_lemmas)
 
-opened_select : (s : _) → out-Select (roll-Select s) ≡ s
+pub opened_select : (s : _) → out-Select (roll-Select s) ≡ s
 opened_select s = search (rules, the_lemmas)
 
 grouped_of : (select : Clauses) (source : Source) (settled : Settled)
@@ -135,7 +135,7 @@ clauses_settled select outer found e =
 -- ---- those of the text
 
 module _ (k : Known) where
-  abbrev clauses_of : Tree → Clauses
+  abbrev pub clauses_of : Tree → Clauses
   clauses_of tree = record {
     is_distinct = is_distinct (out-Tree tree).quantifier;
     items = option_map (map (item_part k)) (out-Tree tree).items;

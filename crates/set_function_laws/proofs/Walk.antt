@@ -1,24 +1,17 @@
 -- What the definitions say of the set functions of a node, and of its parts.
-use Rattle.std.proofs.Common.{◌≡◌, refl, sym, ap, ◌∙◌, Bool, true, not, List, [], ◌∷◌, ◌++◌, map, Option, Some, None, append-nil, append_assoc}
+use Rattle.std.proofs.Common.{◌≡◌, refl, sym, ap, ◌∙◌, true, not, List, [], ◌∷◌, ◌++◌, map, Option, Some, None, append-nil, append_assoc}
 use Rattle.std.specs.Prelude.{flat_map}
 use Rattle.ast.specs.declared.operator.Sign.{Sign}
-use Rattle.ast.specs.declared.tree.Join.{Join}
-use Rattle.ast.specs.declared.tree.Operand.{Operand}
 use Rattle.ast.specs.declared.tree.Predicate.{Predicate, Predicate-F, out-Predicate, map-Predicate, fold_out-Predicate}
 use Rattle.ast.specs.declared.tree.Primary.{Primary, Primary-F, out-Primary, map-Primary, fold_out-Primary}
-use Rattle.ast.specs.declared.tree.TableSource.{TableSource}
-use Rattle.ast.specs.declared.tree.Addend.{Addend}
-use Rattle.ast.specs.declared.tree.Condition.{Condition, out-Condition}
-use Rattle.ast.specs.declared.tree.Conjunction.{Conjunction, out-Conjunction}
-use Rattle.ast.specs.declared.tree.Expression.{Expression, out-Expression}
+use Rattle.ast.specs.declared.tree.Condition.{out-Condition}
+use Rattle.ast.specs.declared.tree.Conjunction.{out-Conjunction}
+use Rattle.ast.specs.declared.tree.Expression.{out-Expression}
 use Rattle.ast.specs.declared.tree.Factor.{Factor, out-Factor}
-use Rattle.ast.specs.declared.tree.Negation.{Negation, out-Negation}
-use Rattle.ast.specs.declared.tree.Query.{Query}
-use Rattle.ast.specs.declared.tree.Select.{Select}
-use Rattle.ast.specs.declared.tree.SelectItem.{SelectItem, out-SelectItem}
-use Rattle.ast.specs.declared.tree.TableReference.{TableReference}
-use Rattle.ast.specs.declared.tree.Term.{Term, out-Term}
-use Rattle.ast.specs.declared.tree.Test.{Test, out-Test}
+use Rattle.ast.specs.declared.tree.Negation.{out-Negation}
+use Rattle.ast.specs.declared.tree.SelectItem.{out-SelectItem}
+use Rattle.ast.specs.declared.tree.Term.{out-Term}
+use Rattle.ast.specs.declared.tree.Test.{out-Test}
 use Rattle.ast.specs.Layers.{PredicateLayer, PrimaryLayer}
 use Rattle.ast.specs.Parts.{Node, parts, predicate_parts as parts_of_predicate, primary_parts as parts_of_primary}
 use Rattle.ast.specs.Parts as node

@@ -3,4 +3,4 @@
 
 mod laws;
 
-pub use laws::set_functions_are_listed;
+pub use laws::{set_functions_are_listed, set_functions_stand_in_place};
