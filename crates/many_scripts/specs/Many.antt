@@ -3,7 +3,7 @@ use Rattle.std.specs.Prelude.{◌≡◌, ℕ, ◌<◌, ◌≤◌, Bool, true, fa
 use Rattle.refusals.specs.declared.refusal.Refusal.{Refusal}
 use Rattle.refusals.specs.declared.refusal.Refusal.TheVariants.{Disk, Exceeded, Memory}
 use Rattle.refusals.specs.declared.limit.Limit.TheVariants as limit
-use Rattle.session_definitions.specs.Refusals.{IsReserved}
+use Rattle.session_definitions.specs.Refusals.{StopsFlush}
 use Rattle.session_definitions.specs.World.{World}
 use Rattle.sessions.specs.declared.core_of.Core.{Core}
 use Rattle.shared.specs.Scripts.{OneHistory, Script, Text}
@@ -34,9 +34,9 @@ pub data Runs (start : World) (scripts : List Script) (parts : List Parts) (text
   no_memory : Tells Memory 1 text status → Runs start scripts parts text status
   ran : (answers : List Answers) → Ran start scripts answers → Shows parts answers text status → Runs start scripts parts text status
 
--- The store on the device was not opened; or the scripts ran in the world of its database.
+-- The store on the device was not opened, for want of memory or by the device; or the scripts ran in the world of its database.
 pub data Opens (start : World) (scripts : List Script) (parts : List Parts) (text : List ℕ) (status : ℕ) : Type 0 where
-  not_opened : (refusal : Refusal) → IsReserved refusal → Tells refusal 3 text status → Opens start scripts parts text status
+  not_opened : (refusal : Refusal) → StopsFlush refusal → Tells refusal 3 text status → Opens start scripts parts text status
   opened : Runs start scripts parts text status → Opens start scripts parts text status
 
 -- There was no memory for the texts of the scripts' calls; or they were cut into these.

@@ -50,7 +50,7 @@ fn command_line<'a>(alloc: Global) -> Result<Command<'a>, Error> {
     let frames = Arg::new(alloc, "frames")
         .long("frames")
         .value_name("N")
-        .help("Frames of the page pool, from 16 to 4096; no effect while tables stand in memory")
+        .help("Frames of the page pool, from 16 to 4096")
         .value_parser(value_parser!(u32).range(
             i64::from(LEAST_FRAMES)..=i64::from(GREATEST_FRAMES),
         ))

@@ -3,7 +3,7 @@ ghost use Rattle.std.specs.Prelude.{◌≡◌, ◌<◌, ℕ, false, length, IfOk
 ghost use Rattle.denote.specs.Database.{Database};
 ghost use Rattle.refusals.specs.declared.refusal.Refusal.TheVariants.{Exceeded};
 ghost use Rattle.refusals.specs.declared.limit.Limit.TheVariants as limit;
-ghost use Rattle.session_definitions.specs.Refusals.{IsReserved};
+ghost use Rattle.session_definitions.specs.Refusals.{StopsFlush};
 ghost use Rattle.session_definitions.specs.World.{is_live, opened};
 ghost use Rattle.sessions.specs.OfCore.{IsSound, world_of};
 ghost use Rattle.many_scripts.specs.Ends.{Ends, IsStatus, Puts, Tells};
@@ -117,7 +117,7 @@ fn core_on<S: Store>(alloc: Global, frames: Frames, device: S::Device) -> Result
     ensures frames { IfOk result (λ core. S.room (store_of core) ≡ frames.count) }
     ensures opened { IfOk result (λ core. (db : Database) → S.saved device db → IsSound S.is_sound S.shows core × (world_of S.shows core ≡ opened db)) }
     ensures empty { IfOk result (λ core. (id : ℕ) → is_live (world_of S.shows core) id ≡ false) }
-    ensures refused { IfErr result (λ refusal. (db : Database) → S.saved device db → IsReserved refusal) }
+    ensures refused { IfErr result (λ refusal. (db : Database) → S.saved device db → StopsFlush refusal) }
 {
     match Core::open(alloc, Sql, device, frames.get() as usize) {
         Ok(core) => Ok(core),

@@ -1,25 +1,23 @@
 //! The store of `sqlmany`, which is chosen here alone.
-ghost use Rattle.std.specs.Prelude.{◌≡◌, ◌<◌, length};
-ghost use Rattle.std.specs.FinMap.{empty};
+ghost use Rattle.std.specs.Prelude.{◌<◌, length};
 ghost use Rattle.refusals.specs.declared.refusal.Refusal.TheVariants.{Exceeded};
 ghost use Rattle.refusals.specs.declared.limit.Limit.TheVariants as limit;
 ghost use Rattle.session_definitions.specs.World.{new_world};
-ghost use Rattle.store.specs.Contents.{database_of};
-ghost use Rattle.list_store.specs.Versions.{replayed};
 ghost use Rattle.many_scripts.specs.Ends.{Ends, IsStatus, Tells};
 ghost use Rattle.many_scripts.specs.Many.{ComesTo};
 
 use crate::many::many_on;
-use list_store::{ListStore, Lists};
+use disk::MemDisk;
 use page_frames::Frames;
+use paged::Paged;
 use shared::Gate;
 use std::alloc::Global;
 use std::io::Write;
 use std::sync::Wait;
 use std::thread::Threads;
 
-/// Tables in memory, of which nothing is left at the end.
-type Tables = ListStore;
+/// Tables in the pages of a device in memory, of which nothing is left at the end.
+type Tables = Paged<MemDisk>;
 
 /// Carries out scripts side by side over a new database in memory, as `many_on` does over any store.
 pub fn many_in_memory<G: Gate + Sync, R: Threads + Wait + Sync, W: Write>(
@@ -34,12 +32,6 @@ pub fn many_in_memory<G: Gate + Sync, R: Threads + Wait + Sync, W: Write>(
     ensures many { 64 < length scripts.now → Ends (Tells (Exceeded limit.Sessions) 1) (W.contents writer.old) (W.contents writer.new) result }
     ensures runs { Ends (ComesTo new_world scripts.now) (W.contents writer.old) (W.contents writer.new) result }
 {
-    many_on::<Tables, G, R, W>(rt, alloc, frames, no_tables(alloc), scripts, gate, writer)
-}
-
-/// A new database on a device in memory.
-fn no_tables(alloc: Global) -> Lists
-    ensures { database_of (replayed result.changes) ≡ empty }
-{
-    Lists::new(alloc)
+    let device = MemDisk::new(alloc);
+    many_on::<Tables, G, R, W>(rt, alloc, frames, device, scripts, gate, writer)
 }

@@ -18,8 +18,10 @@ mod refused;
 mod values;
 
 use clap::Error;
-use shell::{Settings, run_over_lists};
+use list_store::{ListStore, Lists};
+use shell::{Settings, run_on};
 use std::alloc::Global;
+use std::io::{Read, Write};
 use std::process::Abort;
 use std::test::Fail;
 
@@ -29,6 +31,16 @@ const PLAIN: [&str; 2] = ["sqlsh", "run"];
 /// Its settings.
 fn plain(alloc: Global) -> Result<Settings<'static>, Fail> {
     Ok(shell::settings(alloc, &PLAIN)?)
+}
+
+/// Does what `sqlsh run` does, over tables in lists, of which nothing is left at the end.
+fn run_over_lists<R: Read, W: Write>(
+    alloc: Global,
+    settings: &Settings<'_>,
+    reader: &mut R,
+    writer: &mut W,
+) -> u8 {
+    run_on::<ListStore, R, W>(alloc, settings, Lists::new(alloc), reader, writer)
 }
 
 /// Whether a script over no tables prints this.

@@ -1,15 +1,8 @@
 -- What the words of a command line of `sqlsh` ask for. All of this is our own choice.
-use Rattle.std.specs.Prelude.{◌≡◌, ◌≤◌, ◌⊎◌, ◌++◌, ◌==◌, ℕ, Bool, false, List, [], ◌∷◌, codes, Option, Some, None}
+use Rattle.std.specs.Prelude.{◌≡◌, ◌⊎◌, ◌++◌, ◌==◌, ℕ, Bool, false, List, [], ◌∷◌, codes, Option, Some, None}
 use Rattle.std.specs.Borrow.{Bor}
 use Rattle.std.specs.Option.{option_map}
-use Rattle.std.specs.Str.Parse.{IsNumeral, digits_value, without_leading_plus}
-
--- a text writes a number of frames: decimal digits, perhaps behind a plus, from 16 to 4,096
-pub record WritesFrames (text : List ℕ) (count : ℕ) : Type 0 where
-  pub numeral : IsNumeral 10 (without_leading_plus text)
-  pub value : digits_value 10 (without_leading_plus text) ≡ count
-  pub enough : 16 ≤ count
-  pub bounded : count ≤ 4096
+use Rattle.page_frames.specs.Written.{WritesFrames}
 
 -- an option begins with `-`, whose code is 45
 abbrev pub is_option : List ℕ → Bool

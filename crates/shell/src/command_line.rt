@@ -3,10 +3,11 @@
 ghost use Rattle.std.specs.Prelude.{◌≡◌, ℕ, List, Option, map, IfOk, IsOkAnd};
 ghost use Rattle.shell.specs.Words.{Asks, name_of};
 
-use crate::options::{GREATEST_FRAMES, LEAST_FRAMES, Settings};
+use crate::options::Settings;
 use crate::words::settings_asked;
 use clap::error::ErrorKind;
 use clap::{Arg, Command, Error, value_parser};
+use page_frames::{GREATEST_FRAMES, LEAST_FRAMES};
 use std::alloc::Global;
 use std::convert::AsStr;
 

@@ -16,7 +16,6 @@ use crate::telling::tell;
 use clap::Error;
 use clap::error::ErrorKind;
 use disk::{Disk, DiskError, FileDisk, MemDisk};
-use list_store::{ListStore, Lists};
 use paged::Paged;
 use refusals::Refusal;
 use session_laws::databases_stay_good;
@@ -96,21 +95,6 @@ pub fn run_over_pages<D: Disk + Drop, R: Read, W: Write>(
         Ok(device) => run_on::<Paged<D>, R, W>(alloc, settings, device, reader, writer),
         Err(_) => tell(Refusal::Disk, FAILED, writer),
     }
-}
-
-/// Does what `sqlsh run` does, over tables in lists, of which nothing is left at the end: for tests.
-pub fn run_over_lists<R: Read, W: Write>(
-    alloc: Global,
-    settings: &Settings<'_>,
-    reader: &mut R,
-    writer: &mut W,
-) -> u8
-    ensures status { IsStatus result }
-    ensures runs { (rules : Rules) → AreRules rules
-        → Runs rules new_world (between (R.remaining reader.old) (R.remaining reader.new) (W.contents writer.old) (W.contents writer.new)) result Gone }
-{
-    databases_stay_good();
-    run_on::<ListStore, R, W>(alloc, settings, Lists::new(alloc), reader, writer)
 }
 
 /// Prints help, or what is wrong with the words, and answers the exit status: 0 for help and 2 for a fault.

@@ -1,9 +1,11 @@
 //! The words of a command line of `sqlsh`.
 
 ghost use Rattle.std.specs.Prelude.{◌≡◌, ℕ, false, List, Option, Some, codes, map, IfSome, IsSomeAnd};
-ghost use Rattle.shell.specs.Words.{Asks, AsksBehind, AsksFile, AsksForNone, WritesFrames, is_option, name_of};
+ghost use Rattle.page_frames.specs.Written.{WritesFrames};
+ghost use Rattle.shell.specs.Words.{Asks, AsksBehind, AsksFile, AsksForNone, is_option, name_of};
 
-use crate::options::{DEFAULT_FRAMES, Frames, Settings};
+use crate::options::Settings;
+use page_frames::{DEFAULT_FRAMES, Frames};
 use std::convert::AsStr;
 
 /// The settings that the words ask for, of which the first is the program's name; or none, where they ask for nothing that there is.
@@ -60,7 +62,7 @@ fn frames_and_file<'a, S: AsStr>(number: &str, words: &'a [S]) -> Option<Setting
         → IsSomeAnd result (λ settings. (settings.frames.count ≡ count) × (name_of settings.file ≡ file)) }
     ensures found { IfSome result (λ settings. WritesFrames number.now settings.frames.count × AsksFile (map S.text words.entry.now) (name_of settings.file)) }
 {
-    with_file(frames_written(number)?, words)
+    with_file(Frames::written(number)?, words)
 }
 
 /// These frames, and the file that the last word names, if there is a word.
@@ -101,16 +103,5 @@ fn is_option(word: &str) -> bool
     match word.as_bytes().first() {
         Some(code) => *code == b'-',
         None => false,
-    }
-}
-
-/// The number of frames that a text writes, where there may be so many.
-fn frames_written(text: &str) -> Option<Frames>
-    ensures asked { (count : ℕ) → WritesFrames text.now count → IsSomeAnd result (λ frames. frames.count ≡ count) }
-    ensures found { IfSome result (λ frames. WritesFrames text.now frames.count) }
-{
-    match text.parse::<u32>() {
-        Ok(count) => Frames::new(count),
-        Err(_) => None,
     }
 }

@@ -1,7 +1,6 @@
 //! Readers and writers that fail.
 
-use super::plain;
-use shell::run_over_lists;
+use super::{plain, run_over_lists};
 use std::io;
 use std::io::{Read, Write};
 use std::test::Fail;

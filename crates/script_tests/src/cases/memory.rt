@@ -18,8 +18,11 @@ fn step_again(core: &mut Core<ListStore>, session: SessionId, text: &[u8]) -> Re
     }
 }
 
-/// Carries out statements, of which one allocation may be refused, and compares their replies.
-fn check_again(rt: &(impl Abort + AllocGlobal), statements: &[(&str, &str)]) -> Result<(), Fail> {
+/// Carries out statements of two sessions, of which one allocation may be refused, and compares their replies. Each has the number of its session, 1 or 2.
+fn check_again(
+    rt: &(impl Abort + AllocGlobal),
+    statements: &[(u8, &str, &str)],
+) -> Result<(), Fail> {
     let alloc = rt.alloc();
     let Ok(mut writer) = Vec::with_capacity(alloc, 256) else {
         return Ok(());
@@ -27,16 +30,21 @@ fn check_again(rt: &(impl Abort + AllocGlobal), statements: &[(&str, &str)]) -> 
     let Ok(mut core) = Core::<ListStore>::open(alloc, Sql, Lists::new(alloc), 256) else {
         return Ok(());
     };
-    let Ok(session) = core.new_session() else {
+    let Ok(first) = core.new_session() else {
         return Ok(());
     };
-    for (text, printed) in statements {
+    let Ok(second) = core.new_session() else {
+        return Ok(());
+    };
+    for (number, text, printed) in statements {
+        let session = if *number == 1 { first } else { second };
         let reply = step_again(&mut core, session, text.as_bytes());
         writer.clear();
         assert!(rt; print_reply(&reply, &mut writer).is_ok());
         assert!(rt; writer.as_slice() == printed.as_bytes(), "{text}");
     }
-    core.end_session(session);
+    core.end_session(first);
+    core.end_session(second);
     Ok(())
 }
 
@@ -45,10 +53,10 @@ fn a_query_can_be_given_again(rt: HostRuntime) -> Result<(), Fail> {
     check_again(
         &rt,
         &[
-            ("CREATE TABLE T (A INTEGER, B VARCHAR(5))", "00000\n"),
-            ("INSERT INTO T VALUES (1, 'x'), (2, NULL)", "00000 2\n"),
-            ("COMMIT", "00000\n"),
-            ("SELECT A FROM T WHERE B <> 'y'", "1\n(1 rows)\n"),
+            (1, "CREATE TABLE T (A INTEGER, B VARCHAR(5))", "00000\n"),
+            (1, "INSERT INTO T VALUES (1, 'x'), (2, NULL)", "00000 2\n"),
+            (1, "COMMIT", "00000\n"),
+            (1, "SELECT A FROM T WHERE B <> 'y'", "1\n(1 rows)\n"),
         ],
     )
 }
@@ -58,11 +66,32 @@ fn an_insert_can_be_given_again(rt: HostRuntime) -> Result<(), Fail> {
     check_again(
         &rt,
         &[
-            ("CREATE TABLE T (V VARCHAR(3))", "00000\n"),
-            ("COMMIT", "00000\n"),
-            ("INSERT INTO T VALUES ('abc  ')", "00000 1\n"),
-            ("INSERT INTO T VALUES ('abcd')", "ERROR 22001\n"),
-            ("SELECT V FROM T", "'abc'\n(1 rows)\n"),
+            (1, "CREATE TABLE T (V VARCHAR(3))", "00000\n"),
+            (1, "COMMIT", "00000\n"),
+            (1, "INSERT INTO T VALUES ('abc  ')", "00000 1\n"),
+            (1, "INSERT INTO T VALUES ('abcd')", "ERROR 22001\n"),
+            (1, "SELECT V FROM T", "'abc'\n(1 rows)\n"),
+        ],
+    )
+}
+
+#[test]
+fn statements_of_two_sessions_can_be_given_again(rt: HostRuntime) -> Result<(), Fail> {
+    check_again(
+        &rt,
+        &[
+            (1, "CREATE TABLE T (A INTEGER)", "00000\n"),
+            (1, "COMMIT", "00000\n"),
+            (1, "INSERT INTO T VALUES (5)", "00000 1\n"),
+            (2, "SELECT A FROM T", "(0 rows)\n"),
+            (2, "INSERT INTO T VALUES (6)", "ERROR 40001\n"),
+            (2, "SELECT A FROM T", "(0 rows)\n"),
+            (1, "COMMIT", "00000\n"),
+            (2, "SELECT A FROM T", "(0 rows)\n"),
+            (2, "ROLLBACK", "00000\n"),
+            (2, "INSERT INTO T VALUES (6)", "00000 1\n"),
+            (1, "SELECT A FROM T", "5\n(1 rows)\n"),
+            (2, "SELECT A FROM T", "5\n6\n(2 rows)\n"),
         ],
     )
 }

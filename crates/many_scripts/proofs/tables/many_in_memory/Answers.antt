@@ -1,5 +1,6 @@
+use Rattle.std.proofs.Common.{refl, inl, ap}
 use Rattle.std.specs.FinMap.{empty}
 use Rattle.many_scripts.proofs.tables.many_in_memory.Goals as goal
 
 pub returns-clause-runs : goal.returns-clause-runs
-returns-clause-runs g c = c.many_on.ensures.runs empty c.no_tables.ensures
+returns-clause-runs g c = c.many_on.ensures.runs empty (refl, inl (ap (λ d. d.bytes) c.new-device.ensures, refl))
