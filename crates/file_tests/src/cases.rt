@@ -3,6 +3,9 @@
 mod closing;
 mod damaged;
 mod files;
+mod malformed;
+mod refusing;
+mod sample;
 mod turns;
 mod worked;
 
