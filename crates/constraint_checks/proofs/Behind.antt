@@ -1,8 +1,12 @@
 -- The rules that rows violate with more rows behind them: those that either violate alone, and the keys that both have.
-use Rattle.std.proofs.Common.{◌≡◌, ◌∙◌, refl, sym, ap, ℕ, Bool, true, false, ◌||◌, List, [], ◌∷◌, ◌++◌, Option, Some, None}
+use Rattle.std.proofs.Common.{◌≡◌, ◌∙◌, refl, sym, ap, ℕ, ◌<◌, Bool, true, false, ◌&&◌, ◌||◌, List, [], ◌∷◌, ◌++◌, Option, Some, None, arith}
+use Rattle.std.specs.Prelude.{nat_lt}
 use Rattle.std.specs.List.{list_any}
 use Rattle.std.specs.Cmp.{eq_by_cmp_equiv}
 use Rattle.std.specs.Cmp.Lexicographic.{pointwise, nat_list_cmp_total}
+use Rattle.std.specs.Ordering.{is_eq, int_cmp}
+use Rattle.std.specs.declared.cmp.Ordering.{Ordering}
+use Rattle.std.specs.declared.cmp.Ordering.TheVariants.{Less, Equal, Greater}
 use Rattle.std.proofs.lemmas.Cmp.{int_eq_equiv}
 use Rattle.std.proofs.lemmas.List.Folds.{list_any-append}
 use Rattle.sqlval.specs.declared.schema.Rule.{Rule}
@@ -11,14 +15,24 @@ use Rattle.sqlval.specs.declared.schema.Table as declared
 use Rattle.sqlval.specs.declared.truth.Truth.TheVariants.{True}
 use Rattle.sqlval.specs.declared.value.Value.{Value}
 use Rattle.sqlval.specs.declared.value.Value.TheVariants.{Null, Int, Text}
+use Rattle.sqlval.specs.Comparison.{text_order}
 use Rattle.sqlval.specs.Matching.{key_of, is_equal, matches}
 use Rattle.sqlval.specs.Truth.{truth_of, same_truth}
 use Rattle.sqlval.specs.Value.{Row, is_null}
+use Rattle.sqlval.proofs.ValueOrderLaws.{value_order-level}
 use Rattle.denote.specs.Database.{Name, CheckReading, table_of, check_at, is_false, has_null, has_twins, is_violated}
 use Rattle.constraint_checks.specs.Foreseen.{columns_of_key, meets}
 
 same_some : {X : Type 0} (x y : X) → Some x ≡ Some y → x ≡ y
 same_some x y e = cc
+
+-- ---- numbers
+
+pub more-counts : (m n : ℕ) → nat_lt m n ≡ true → m < n
+more-counts m n e = grind (arith, e)
+
+pub counts-more : (m n : ℕ) → m < n → nat_lt m n ≡ true
+counts-more m n e = grind (arith, e)
 
 -- ---- equality of values has no direction
 
@@ -33,11 +47,44 @@ equal-turned (Text x) Null = refl
 equal-turned (Text x) (Int y) = refl
 equal-turned (Text x) (Text y) = ap (λ b. same_truth (truth_of b) True) ((eq_by_cmp_equiv nat_list_cmp_total).symm x y)
 
-keys-turned : (xs ys : List Value) → pointwise is_equal xs ys ≡ pointwise is_equal ys xs
+pub keys-turned : (xs ys : List Value) → pointwise is_equal xs ys ≡ pointwise is_equal ys xs
 keys-turned [] [] = refl
 keys-turned [] (y ∷ ys) = refl
 keys-turned (x ∷ xs) [] = refl
 keys-turned (x ∷ xs) (y ∷ ys) = rw (equal-turned x y, keys-turned xs ys) refl
+
+-- ---- and equal values are one value
+
+level : (r : Ordering) → same_truth (truth_of (is_eq r)) True ≡ true → r ≡ Equal
+level Less e = absurd (cc)
+level Equal e = refl
+level Greater e = absurd (cc)
+
+equal-one : (x y : Value) → is_equal x y ≡ true → x ≡ y
+equal-one Null Null e = refl
+equal-one Null (Int y) e = absurd (cc)
+equal-one Null (Text y) e = absurd (cc)
+equal-one (Int x) Null e = absurd (cc)
+equal-one (Int x) (Int y) e = value_order-level (Int x) (Int y) (level (int_cmp x y) e)
+equal-one (Int x) (Text y) e = absurd (cc)
+equal-one (Text x) Null e = absurd (cc)
+equal-one (Text x) (Int y) e = absurd (cc)
+equal-one (Text x) (Text y) e = value_order-level (Text x) (Text y) (level (text_order x y) e)
+
+both-true : (a b : Bool) → (a && b) ≡ true → (a ≡ true) × (b ≡ true)
+both-true true true e = (refl, refl)
+both-true true false e = absurd (cc)
+both-true false b e = absurd (cc)
+
+pub equal-keys : (xs ys : List Value) → pointwise is_equal xs ys ≡ true → xs ≡ ys
+equal-keys [] [] e = refl
+equal-keys [] (y ∷ ys) e = absurd (cc)
+equal-keys (x ∷ xs) [] e = absurd (cc)
+equal-keys (x ∷ xs) (y ∷ ys) e =
+    let both = both-true (is_equal x y) (pointwise is_equal xs ys) e in
+    let head = equal-one x y both.0 in
+    let tail = equal-keys xs ys both.1 in
+    cc
 
 -- ---- twins
 
@@ -56,7 +103,7 @@ none-met : (columns : List ℕ) (new : List Row) → meets columns [] new ≡ fa
 none-met columns [] = refl
 none-met columns (row ∷ new) = none-met columns new
 
-any-same : {X : Type 0} (p q : X → Bool) (xs : List X) → ((x : X) → p x ≡ q x) → list_any p xs ≡ list_any q xs
+pub any-same : {X : Type 0} (p q : X → Bool) (xs : List X) → ((x : X) → p x ≡ q x) → list_any p xs ≡ list_any q xs
 any-same p q [] h = refl
 any-same p q (x ∷ xs) h = rw (h x, any-same p q xs h) refl
 

@@ -42,7 +42,7 @@ either-first true false c = refl
 either-first false true c = refl
 either-first false false c = refl
 
-any-permutes : {X : Type 0} (p : X → Bool) (xs ys : List X) → Permutes xs ys → list_any p xs ≡ list_any p ys
+pub any-permutes : {X : Type 0} (p : X → Bool) (xs ys : List X) → Permutes xs ys → list_any p xs ≡ list_any p ys
 any-permutes p _ _ nothing = refl
 any-permutes p _ _ (keeps x {xs} {ys} h) = ap (λ b. p x || b) (any-permutes p xs ys h)
 any-permutes p _ _ (exchanges x y xs) = either-first (p x) (p y) (list_any p xs)

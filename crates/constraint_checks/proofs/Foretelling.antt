@@ -1,4 +1,4 @@
--- What keys that are looked up say of the constraints of a table with more rows.
+-- What keys that are looked up say of the constraints of a table with more rows, before these come.
 use Rattle.std.proofs.Common.{◌≡◌, ◌∙◌, refl, sym, ap, subst, ℕ, zero, suc, ◌+◌, ◌<◌, Bool, true, false, cond, ◌&&◌, ◌||◌, List, [], ◌∷◌, ◌++◌, map, length, slice_index_or, Option, Some, None, arith}
 use Rattle.std.specs.Prelude.{Contains, filter, nat_eq}
 use Rattle.std.specs.List.{list_any, filter_map, cons_option, position_from, slice_get}
@@ -22,18 +22,18 @@ use Rattle.store.specs.Indexes.{entries_of, columns_at, matching, sought}
 use Rattle.constraint_checks.specs.declared.foreseen.Foreseen.{Foreseen}
 use Rattle.constraint_checks.specs.declared.foreseen.Foreseen.TheVariants.{Fits, Violates, Open}
 use Rattle.constraint_checks.specs.declared.keys.Key.{Key}
-use Rattle.constraint_checks.specs.Foreseen.{columns_of_key, same_columns, place_of, key_over, key_asked, keys_asked, meets, has_any, is_met, met_in, foreseen_at, foreseen_by, Foretells}
-use Rattle.constraint_checks.proofs.Behind.{meets_rule, rule-behind, asked-met, unasked-met}
+use Rattle.constraint_checks.specs.Foreseen.{columns_of_key, same_columns, place_of, key_over, key_asked, keys_asked, meets, are_more, is_met, met_in, foreseen_at, foreseen_by, Foretells}
+use Rattle.constraint_checks.proofs.Behind.{counts-more, meets_rule, rule-behind, asked-met, unasked-met}
 use Rattle.constraint_checks.proofs.Broken.{behind, wider}
 
 -- ---- what an index finds
 
-any-filtered : {X : Type 0} (p : X → Bool) (xs : List X) → has_any (filter p xs) ≡ list_any p xs
+pub any-filtered : {X : Type 0} (p : X → Bool) (xs : List X) → are_more 0 (filter p xs) ≡ list_any p xs
 any-filtered p [] = refl
 any-filtered p (x ∷ xs) = by (p x) refl (any-filtered p xs)
   where
-    by : (b : Bool) → p x ≡ b → has_any (filter p xs) ≡ list_any p xs → has_any (filter p (x ∷ xs)) ≡ (b || list_any p xs)
-    by true is rest = rw is refl
+    by : (b : Bool) → p x ≡ b → are_more 0 (filter p xs) ≡ list_any p xs → are_more 0 (filter p (x ∷ xs)) ≡ (b || list_any p xs)
+    by true is rest = rw is (counts-more 0 (suc (length (filter p xs))) (omega arith))
     by false is rest = rw is rest
 
 any-mapped : {X Y : Type 0} (f : X → Y) (p : Y → Bool) (xs : List X) → list_any (λ x. p (f x)) xs ≡ list_any p (map f xs)
@@ -45,10 +45,10 @@ any-same p q [] h = refl
 any-same p q (x ∷ xs) h = rw (h x, any-same p q xs h) refl
 
 pub met-found : (table : Option StoredTable) (place : ℕ) (columns : List ℕ) (rows : List Row) → columns_at table place ≡ Some columns
-    → is_met table place columns rows ≡ meets columns (rows_of (entries_of table)) rows
+    → is_met 0 table place columns rows ≡ meets columns (rows_of (entries_of table)) rows
 met-found table place columns rows e = any-same
-    (λ (row : Row). has_any (sought table place (key_of columns row))) (λ (row : Row). list_any (matches columns (key_of columns row)) (rows_of (entries_of table))) rows
-    (λ row. ap (λ o. has_any (matching o (key_of columns row) (entries_of table))) e
+    (λ (row : Row). are_more 0 (sought table place (key_of columns row))) (λ (row : Row). list_any (matches columns (key_of columns row)) (rows_of (entries_of table))) rows
+    (λ row. ap (λ o. are_more 0 (matching o (key_of columns row) (entries_of table))) e
     ∙ any-filtered (λ (e : Entry). matches columns (key_of columns row) e.1) (entries_of table)
     ∙ any-mapped (λ (e : Entry). e.1) (matches columns (key_of columns row)) (entries_of table))
 
@@ -72,7 +72,7 @@ equal_columns (x ∷ xs) (y ∷ ys) e =
     let tail = equal_columns xs ys both.1 in
     cc
 
-some_one : {X : Type 0} (x y : X) → Some x ≡ Some y → x ≡ y
+pub some_one : {X : Type 0} (x y : X) → Some x ≡ Some y → x ≡ y
 some_one x y e = cc
 
 -- an index that is found from place k on stands k places before in what is left
@@ -198,30 +198,29 @@ module _ (old new q m : Constraint → Bool) (met : Key → Option Bool) (indexe
 
 module _ (reading : CheckReading) (name : Name) (d : declared.Table) (table : StoredTable) (new : List Row) (indexes : map index_of d.indexes ≡ table.indexes) where
   abbrev pub met_here : Key → Option Bool
-  met_here = met_in (Some table) new
+  met_here = met_in 0 (Some table) new
 
   -- what is found of a key is whether its columns are met
   found-met : (constraint : Name) (columns : List ℕ) (b : Bool) → met_here (key_over d.indexes constraint columns) ≡ Some b → meets columns (rows_of table.entries) new ≡ b
   found-met constraint columns b e = by (place_of columns d.indexes) refl e
     where
-      by : (o : Option ℕ) → place_of columns d.indexes ≡ o → option_map (λ (place : ℕ). is_met (Some table) place columns new) o ≡ Some b → meets columns (rows_of table.entries) new ≡ b
+      by : (o : Option ℕ) → place_of columns d.indexes ≡ o → option_map (λ (place : ℕ). is_met 0 (Some table) place columns new) o ≡ Some b → meets columns (rows_of table.entries) new ≡ b
       by None is found = absurd (cc found)
       by (Some place) is found =
           sym (met-found (Some table) place columns new (index_there columns d.indexes table place is indexes))
-          ∙ some_one (is_met (Some table) place columns new) b found
+          ∙ some_one (is_met 0 (Some table) place columns new) b found
 
-  pub foretold : (foreseen : Foreseen) → foreseen ≡ foreseen_by met_here (keys_asked d.indexes d.constraints)
-      → violated_by reading name (table_of d (rows_of table.entries)) ≡ [] → violated_by reading name (table_of d new) ≡ []
-      → Foretells foreseen (violated_by reading name (table_of d (rows_of table.entries ++ new)) ≡ [])
+  pub foretold : (foreseen : Foreseen) → foreseen ≡ foreseen_by met_here (keys_asked d.indexes d.constraints) → violated_by reading name (table_of d new) ≡ []
+      → Foretells foreseen (violated_by reading name (table_of d (rows_of table.entries)) ≡ [] → violated_by reading name (table_of d (rows_of table.entries ++ new)) ≡ [])
       (λ constraint. Contains (violated_by reading name (table_of d (rows_of table.entries ++ new))) constraint)
-  foretold Fits e before alone =
+  foretold Fits e alone = λ before.
       none-named (λ (c : Constraint). is_violated reading name (table_of d (rows_of table.entries)) c.rule) (λ (c : Constraint). is_violated reading name (table_of d new) c.rule)
       (λ (c : Constraint). is_violated reading name (table_of d (rows_of table.entries ++ new)) c.rule) (λ (c : Constraint). meets_rule c.rule (rows_of table.entries) new)
       met_here d.indexes (λ c. rule-behind reading name d (rows_of table.entries) new c.rule)
       (λ c columns asked is. asked-met c.rule columns (rows_of table.entries) new asked ∙ found-met c.name columns false is)
       (λ c asked. unasked-met c.rule (rows_of table.entries) new asked)
       d.constraints (sym e) before alone
-  foretold (Violates constraint) e before alone =
+  foretold (Violates constraint) e alone =
       names-one (λ (c : Constraint). is_violated reading name (table_of d (rows_of table.entries ++ new)) c.rule) met_here d.indexes
       (λ c columns asked is. last (is_violated reading name (table_of d (rows_of table.entries)) c.rule) (is_violated reading name (table_of d new) c.rule)
       (meets_rule c.rule (rows_of table.entries) new) (is_violated reading name (table_of d (rows_of table.entries ++ new)) c.rule) (rule-behind reading name d (rows_of table.entries) new c.rule)
@@ -232,7 +231,7 @@ module _ (reading : CheckReading) (name : Name) (d : declared.Table) (table : St
       last true b m r e is = e
       last false true m r e is = e
       last false false m r e is = e ∙ is
-  foretold Open e before alone = tt
+  foretold Open e alone = tt
 
   -- what the new rows violate alone, the table violates with them
   pub violated-alone : (constraint : Name) → Contains (violated_by reading name (table_of d new)) constraint → Contains (violated_by reading name (table_of d (rows_of table.entries ++ new))) constraint

@@ -8,3 +8,5 @@ pub mod Faulty
 pub mod Behind
 pub mod Foretelling
 pub mod Looking
+pub mod Recounted
+pub mod Said

@@ -1,6 +1,7 @@
 -- Keys that are looked up one after another, and the table of the database to which rows come.
 use Rattle.std.proofs.Common.{◌≡◌, ◌∙◌, refl, sym, ap, subst, ℕ, suc, ◌+◌, ◌<◌, Bool, true, false, ◌||◌, List, [], ◌∷◌, map, drop, length, get_or, drop-cons, Option, Some, None, Ok, Err, IfOk, arith}
 use Rattle.std.specs.Prelude.{Contains, Result}
+use Rattle.std.specs.List.{list_all}
 use Rattle.std.specs.Option.{option_map}
 use Rattle.std.specs.FinMap.{get}
 use Rattle.sqlval.specs.declared.schema.Column.{Column}
@@ -14,13 +15,16 @@ use Rattle.denote.specs.SchemaOf.{IsSchemaOf, index_of}
 use Rattle.store.specs.Contents.{StoredTable, Contents, database_of, rows_of}
 use Rattle.store.specs.Contents.{table_of as held}
 use Rattle.store.specs.Indexes.{entries_of, sought}
+use Rattle.store.proofs.Databases.{database-get}
 use Rattle.constraint_checks.specs.declared.foreseeing.Alone.TheVariants.{Violates, Keys}
 use Rattle.constraint_checks.specs.declared.foreseen.Foreseen.{Foreseen}
 use Rattle.constraint_checks.specs.declared.foreseen.Foreseen.TheVariants.{Open}
 use Rattle.constraint_checks.specs.declared.keys.Key.{Key}
 use Rattle.constraint_checks.specs.Alone.{IsAlone}
-use Rattle.constraint_checks.specs.Foreseen.{with_more, keys_asked, has_any, is_met, met_in, foreseen_at, foreseen_by, Foretells}
+use Rattle.constraint_checks.specs.Foreseen.{Comes, with_more, keys_asked, are_more, is_met, met_in, foreseen_at, foreseen_by, Foretells, IsSaid, is_over, columns_of_key, has_key_indexes}
 use Rattle.constraint_checks.proofs.Foretelling.{foretold, violated-alone}
+use Rattle.constraint_checks.proofs.Recounted.{retold, violated-among}
+use Rattle.constraint_checks.proofs.Said.{says-something}
 use Rattle.constraint_checks.proofs.Held.{held_as}
 use Rattle.constraint_checks.proofs.Violations.{same_some, table_read}
 
@@ -32,27 +36,27 @@ when (Err e) S P Q h f = tt
 -- ---- one after another
 
 -- the rows from one on are met where it is, or one of the others
-pub met-next : (table now : Option StoredTable) (place : ℕ) (columns : List ℕ) (rows : List Row) (k : ℕ) (row : Row) (b : Bool) → now ≡ table → k < length rows → row ≡ get_or rows k row
-    → b ≡ has_any (sought now place (key_of columns row)) → is_met table place columns (drop k rows) ≡ (b || is_met table place columns (drop (k + 1) rows))
-met-next table now place columns rows k row b same below is found =
+pub met-next : (own : ℕ) (table now : Option StoredTable) (place : ℕ) (columns : List ℕ) (rows : List Row) (k : ℕ) (row : Row) (b : Bool) → now ≡ table → k < length rows → row ≡ get_or rows k row
+    → b ≡ are_more own (sought now place (key_of columns row)) → is_met own table place columns (drop k rows) ≡ (b || is_met own table place columns (drop (k + 1) rows))
+met-next own table now place columns rows k row b same below is found =
     let one : drop k rows ≡ row ∷ drop (suc k) rows = drop-cons rows k row below ∙ ap (λ (x : Row). x ∷ drop (suc k) rows) (sym is) in
     let more : suc k ≡ k + 1 = omega arith in
     let rest : drop k rows ≡ row ∷ drop (k + 1) rows = one ∙ ap (λ (n : ℕ). row ∷ drop n rows) more in
-    ap (is_met table place columns) rest
-    ∙ ap (λ c. c || is_met table place columns (drop (k + 1) rows)) (sym (found ∙ ap (λ (t : Option StoredTable). has_any (sought t place (key_of columns row))) same))
+    ap (is_met own table place columns) rest
+    ∙ ap (λ c. c || is_met own table place columns (drop (k + 1) rows)) (sym (found ∙ ap (λ (t : Option StoredTable). are_more own (sought t place (key_of columns row))) same))
 
 -- the keys from one on
-pub key-next : (table now : Option StoredTable) (rows : List Row) (keys rest : List Key) (key : Key) (place : ℕ) (b : Bool) → now ≡ table → keys ≡ key ∷ rest → key.place ≡ Some place
-    → b ≡ is_met now place key.columns rows → foreseen_by (met_in table rows) keys ≡ foreseen_at (Some b) key.constraint (foreseen_by (met_in table rows) rest)
-key-next table now rows keys rest key place b same all at found =
-    ap (foreseen_by (met_in table rows)) all
-    ∙ ap (λ o. foreseen_at (option_map (λ (place : ℕ). is_met table place key.columns rows) o) key.constraint (foreseen_by (met_in table rows) rest)) at
-    ∙ ap (λ c. foreseen_at (Some c) key.constraint (foreseen_by (met_in table rows) rest)) (sym (found ∙ ap (λ (t : Option StoredTable). is_met t place key.columns rows) same))
+pub key-next : (own : ℕ) (table now : Option StoredTable) (rows : List Row) (keys rest : List Key) (key : Key) (place : ℕ) (b : Bool) → now ≡ table → keys ≡ key ∷ rest → key.place ≡ Some place
+    → b ≡ is_met own now place key.columns rows → foreseen_by (met_in own table rows) keys ≡ foreseen_at (Some b) key.constraint (foreseen_by (met_in own table rows) rest)
+key-next own table now rows keys rest key place b same all at found =
+    ap (foreseen_by (met_in own table rows)) all
+    ∙ ap (λ o. foreseen_at (option_map (λ (place : ℕ). is_met own table place key.columns rows) o) key.constraint (foreseen_by (met_in own table rows) rest)) at
+    ∙ ap (λ c. foreseen_at (Some c) key.constraint (foreseen_by (met_in own table rows) rest)) (sym (found ∙ ap (λ (t : Option StoredTable). is_met own t place key.columns rows) same))
 
-pub key-open : (table : Option StoredTable) (rows : List Row) (keys rest : List Key) (key : Key) → keys ≡ key ∷ rest → key.place ≡ None → foreseen_by (met_in table rows) keys ≡ Open
-key-open table rows keys rest key all at =
-    ap (foreseen_by (met_in table rows)) all
-    ∙ ap (λ o. foreseen_at (option_map (λ (place : ℕ). is_met table place key.columns rows) o) key.constraint (foreseen_by (met_in table rows) rest)) at
+pub key-open : (own : ℕ) (table : Option StoredTable) (rows : List Row) (keys rest : List Key) (key : Key) → keys ≡ key ∷ rest → key.place ≡ None → foreseen_by (met_in own table rows) keys ≡ Open
+key-open own table rows keys rest key all at =
+    ap (foreseen_by (met_in own table rows)) all
+    ∙ ap (λ o. foreseen_at (option_map (λ (place : ℕ). is_met own table place key.columns rows) o) key.constraint (foreseen_by (met_in own table rows) rest)) at
 
 -- ---- the table
 
@@ -63,7 +67,7 @@ record Stands (c : Contents) (name : Name) (d : declared.Table) (table : Table) 
   pub table_is : table ≡ table_of d (rows_of stored.entries)
   pub indexes : map index_of d.indexes ≡ stored.indexes
 
-module _ (reading : CheckReading) (c : Contents) (schema : Schema) (name : Name) (d : declared.Table) (of : IsSchemaOf schema (database_of c)) (inside : Contains schema.tables d)
+module _ (c : Contents) (schema : Schema) (name : Name) (d : declared.Table) (of : IsSchemaOf schema (database_of c)) (inside : Contains schema.tables d)
     (named : d.name ≡ name) (table : Table) (there : get (database_of c) name ≡ Some table) where
   stands : Stands c name d table
   stands =
@@ -78,21 +82,68 @@ module _ (reading : CheckReading) (c : Contents) (schema : Schema) (name : Name)
         indexes = ap (λ (t : Table). t.indexes) (sym is) ∙ ap (λ (t : Table). t.indexes) (sym found.2);
       }
 
+module _ (reading : CheckReading) (c : Contents) (schema : Schema) (name : Name) (d : declared.Table) (of : IsSchemaOf schema (database_of c)) (inside : Contains schema.tables d)
+    (named : d.name ≡ name) (table : Table) (there : get (database_of c) name ≡ Some table) where
+  it : Stands c name d table
+  it = stands c schema name d of inside named table there
+
   -- what decides its CHECKs
   pub still_decides : (decides : Name → List Column → List Constraint → Type 0) → decides name table.columns table.constraints → decides name d.columns d.constraints
-  still_decides decides h = let s = stands in subst (λ (u : Table). decides name u.columns u.constraints) s.table_is h
+  still_decides decides h = let s = it in subst (λ (u : Table). decides name u.columns u.constraints) s.table_is h
 
-  pub told_alone : (rows : List Row) (constraint : Name) → IsAlone reading name d rows (Violates constraint)
-      → Contains (violated_by reading name (with_more table rows)) constraint
-  told_alone rows constraint one =
-      let s = stands in
-      subst (λ (u : Table). Contains (violated_by reading name (with_more u rows)) constraint) (sym s.table_is) (violated-alone reading name d s.stored rows s.indexes constraint one)
+  -- a table to which rows come, as the schema declares it
+  abbrev Shown : StoredTable → List Row → ℕ → Table → Table → Type 0
+  Shown stored rows own before whole = Comes (table_of d (rows_of stored.entries)) rows own before whole
 
-  pub told : (rows : List Row) (keys : List Key) (foreseen : Foreseen) → IsAlone reading name d rows (Keys keys) → foreseen ≡ foreseen_by (met_in (get c name) rows) keys → violated_by reading name table ≡ []
-      → Foretells foreseen (violated_by reading name (with_more table rows) ≡ []) (λ constraint. Contains (violated_by reading name (with_more table rows)) constraint)
-  told rows keys foreseen alone is before =
-      let s = stands in
-      let met : foreseen ≡ foreseen_by (met_in (Some s.stored) rows) (keys_asked d.indexes d.constraints) =
-      is ∙ ap (λ o. foreseen_by (met_in o rows) keys) s.there ∙ ap (foreseen_by (met_in (Some s.stored) rows)) alone.0 in
-      subst (λ (u : Table). Foretells foreseen (violated_by reading name (with_more u rows) ≡ []) (λ constraint. Contains (violated_by reading name (with_more u rows)) constraint)) (sym s.table_is)
-      (foretold reading name d s.stored rows s.indexes foreseen met (subst (λ (u : Table). violated_by reading name u ≡ []) s.table_is before) alone.1)
+  shown : (rows : List Row) (own : ℕ) (before whole : Table) → Comes table rows own before whole → Shown it.stored rows own before whole
+  shown rows own before whole comes = subst (λ (u : Table). Comes u rows own before whole) it.table_is comes
+
+  pub told_alone : (rows : List Row) (own : ℕ) (before whole : Table) (constraint : Name) → Comes table rows own before whole → IsAlone reading name d rows (Violates constraint)
+      → Contains (violated_by reading name whole) constraint
+  told_alone rows own before whole constraint comes one = by (shown rows own before whole comes)
+    where
+      by : Shown it.stored rows own before whole → Contains (violated_by reading name whole) constraint
+      by (Comes.later own_is before_is whole_is) =
+          subst (λ (u : Table). Contains (violated_by reading name u) constraint) (sym whole_is) (violated-alone reading name d it.stored rows it.indexes constraint one)
+      by (Comes.already others own_is order before_is whole_is) =
+          subst (λ (u : Table). Contains (violated_by reading name u) constraint) (sym whole_is) (violated-among reading name d it.stored others rows it.indexes order constraint one)
+
+  pub told : (rows : List Row) (own : ℕ) (before whole : Table) (keys : List Key) (foreseen : Foreseen) → Comes table rows own before whole → IsAlone reading name d rows (Keys keys)
+      → foreseen ≡ foreseen_by (met_in own (get c name) rows) keys
+      → Foretells foreseen (violated_by reading name before ≡ [] → violated_by reading name whole ≡ []) (λ constraint. Contains (violated_by reading name whole) constraint)
+  told rows own before whole keys foreseen comes alone is = by (shown rows own before whole comes)
+    where
+      met : (n : ℕ) → own ≡ n → foreseen ≡ foreseen_by (met_in n (Some it.stored) rows) (keys_asked d.indexes d.constraints)
+      met n own_is =
+          is ∙ ap (λ o. foreseen_by (met_in own o rows) keys) it.there ∙ ap (foreseen_by (met_in own (Some it.stored) rows)) alone.0
+          ∙ ap (λ (m : ℕ). foreseen_by (met_in m (Some it.stored) rows) (keys_asked d.indexes d.constraints)) own_is
+
+      both : (b w : Table) → before ≡ b → whole ≡ w
+          → Foretells foreseen (violated_by reading name b ≡ [] → violated_by reading name w ≡ []) (λ constraint. Contains (violated_by reading name w) constraint)
+          → Foretells foreseen (violated_by reading name before ≡ [] → violated_by reading name whole ≡ []) (λ constraint. Contains (violated_by reading name whole) constraint)
+      both b w before_is whole_is h =
+          subst (λ (u : Table). Foretells foreseen (violated_by reading name u ≡ [] → violated_by reading name whole ≡ []) (λ constraint. Contains (violated_by reading name whole) constraint)) (sym before_is)
+          (subst (λ (u : Table). Foretells foreseen (violated_by reading name b ≡ [] → violated_by reading name u ≡ []) (λ constraint. Contains (violated_by reading name u) constraint)) (sym whole_is) h)
+
+      by : Shown it.stored rows own before whole
+          → Foretells foreseen (violated_by reading name before ≡ [] → violated_by reading name whole ≡ []) (λ constraint. Contains (violated_by reading name whole) constraint)
+      by (Comes.later own_is before_is whole_is) =
+          both (table_of d (rows_of it.stored.entries)) (with_more (table_of d (rows_of it.stored.entries)) rows) before_is whole_is
+          (foretold reading name d it.stored rows it.indexes foreseen (met 0 own_is) alone.1)
+      by (Comes.already others own_is order before_is whole_is) =
+          both (table_of d others) (table_of d (rows_of it.stored.entries)) before_is whole_is
+          (retold reading name d it.stored others rows it.indexes order foreseen (met 1 own_is) alone.1)
+
+-- each key that a constraint asks for is looked up, where it has an index
+pub said_of : (c : Contents) (schema : Schema) (name : Name) (d : declared.Table) → IsSchemaOf schema (database_of c) → Contains schema.tables d → d.name ≡ name
+    → (own : ℕ) (table : StoredTable) (rows : List Row) (keys : List Key) (foreseen : Foreseen) → get c name ≡ Some table → keys ≡ keys_asked d.indexes d.constraints
+    → foreseen ≡ foreseen_by (met_in own (get c name) rows) keys → has_key_indexes table ≡ true → IsSaid foreseen
+said_of c schema name d of inside named own table rows keys foreseen is asked met indexed =
+    let there : get (database_of c) name ≡ Some (held table) = database-get c name ∙ ap (option_map held) is in
+    let s = stands c schema name d of inside named (held table) there in
+    let same : table ≡ s.stored = same_some table s.stored (sym is ∙ s.there) in
+    let indexes : map index_of d.indexes ≡ table.indexes = s.indexes ∙ ap (λ (t : StoredTable). t.indexes) (sym same) in
+    let constraints : d.constraints ≡ table.constraints = ap (λ (t : Table). t.constraints) (sym s.table_is) in
+    let all : list_all (λ (c : Constraint). is_over (columns_of_key c.rule) (map index_of d.indexes)) d.constraints ≡ true =
+    (λ i. list_all (λ (c : Constraint). is_over (columns_of_key c.rule) (indexes i)) (constraints i)) ∙ indexed in
+    subst IsSaid (sym (met ∙ ap (foreseen_by (met_in own (get c name) rows)) asked)) (says-something own (get c name) rows d.indexes d.constraints all)

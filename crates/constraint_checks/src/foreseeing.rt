@@ -1,17 +1,18 @@
-//! The constraints of a table with rows that are to come to its end, by looking their keys up.
-ghost use Rattle.std.specs.Prelude.{◌≡◌, ◌≤◌, [], Some, IfOk, IfErr, Contains};
-ghost use Rattle.std.specs.List.{list_any};
+//! The constraints of a table to which rows come or have come, by looking their keys up.
+ghost use Rattle.std.specs.Prelude.{◌≡◌, ◌≤◌, true, List, [], ◌++◌, Some, IfOk, IfErr, Contains, length};
 ghost use Rattle.std.specs.FinMap.{get};
 ghost use Rattle.refusals.specs.declared.refusal.Refusal.TheVariants.{Memory, Disk};
+ghost use Rattle.sqlval.specs.Value.{Row as AnyRow};
+ghost use Rattle.denote.specs.Bag.{Permutes};
 ghost use Rattle.denote.specs.Database.{Name, Table as TableOf, CheckReading, violated_by};
-ghost use Rattle.constraint_checks.specs.Alone.{IsAlone};
+ghost use Rattle.constraint_checks.specs.Alone.{HasKeys, IsAlone};
 ghost use Rattle.session_definitions.specs.Refusals.{IsReserved};
 ghost use Rattle.sqlval.specs.Matching.{key_of};
-ghost use Rattle.store.specs.Contents.{database_of};
+ghost use Rattle.store.specs.Contents.{StoredTable, database_of};
 ghost use Rattle.store.specs.Errors.{HasRisen};
-ghost use Rattle.store.specs.Indexes.{sought};
+ghost use Rattle.store.specs.Indexes.{entries_of, sought};
 ghost use Rattle.store.specs.View.{table_named as found_as};
-ghost use Rattle.constraint_checks.specs.Foreseen.{Foretells, foreseen_by, has_any, is_met, met_in, with_more};
+ghost use Rattle.constraint_checks.specs.Foreseen.{Comes, Foretells, IsSaid, are_more, foreseen_by, has_key_indexes, has_many_more, is_met, met_in, with_more};
 
 use crate::checks::Checks;
 use crate::foreseen::Foreseen;
@@ -31,8 +32,8 @@ use transactions::refusal_of;
 const MANY_TIMES: u64 = 8;
 
 /// What can be said of the table of this name with these rows at its end, where it violates no constraint in the newest version with its changes. Each of the rows is looked at alone, then all
-/// of them for keys that they share, and each key is looked up in the index of its columns. Where the rows are not few beside those of the table, or a key has no index, nothing is said.
-/// The store is left as it was. It is refused for want of memory or by the device. CHECKs are decided by what is given for them.
+/// of them for keys that they share, and each key is looked up in the index of its columns. Where the rows are not few beside those of the table, or a key has no index, nothing is said; else
+/// something is. The store is left as it was. It is refused for want of memory or by the device. CHECKs are decided by what is given for them.
 pub fn foresee<S: Store, C: Checks>(
     alloc: Global,
     store: &mut S,
@@ -43,6 +44,8 @@ pub fn foresee<S: Store, C: Checks>(
     ensures found { IfOk result (λ foreseen. (reading : CheckReading) (table : TableOf) → S.is_sound store.old → get (database_of (S.shows store.old).working) name.now ≡ Some table
         → C.decides checks.now reading name.now table.columns table.constraints → violated_by reading name.now table ≡ []
         → Foretells foreseen (violated_by reading name.now (with_more table rows.now) ≡ []) (λ constraint. Contains (violated_by reading name.now (with_more table rows.now)) constraint)) }
+    ensures said { IfOk result (λ foreseen. (table : StoredTable) → S.is_sound store.old → get (S.shows store.old).working name.now ≡ Some table → has_many_more (length rows.now) table.entries ≡ true
+        → has_key_indexes table ≡ true → IsSaid foreseen) }
     ensures shows { S.shows store.new ≡ S.shows store.old }
     ensures refused { IfErr result (λ refusal. S.is_sound store.old → IsReserved refusal) }
     ensures device { IfErr result (λ refusal. refusal ≡ Disk → HasRisen (S.refused store.old) (S.refused store.new)) }
@@ -50,19 +53,44 @@ pub fn foresee<S: Store, C: Checks>(
     ensures counts { S.refused store.old ≤ S.refused store.new }
 {
     match are_few(alloc, store, name, rows.len()) {
-        Ok(true) => foresee_few(alloc, store, name, rows, checks),
+        Ok(true) => look_up(alloc, store, name, rows, checks, 0),
         Ok(false) => Ok(Foreseen::Open),
         Err(refusal) => Err(refusal),
     }
 }
 
-/// Whether so many rows are few beside those of the table, as its row numbers let suppose.
-fn are_few<S: Store>(
+/// What can be said of the table of this name in the newest version with its changes, where these rows are some of its own and the others violate no constraint. Each of the rows is looked at alone,
+/// then all of them for keys that they share, and each key is looked up in the index of its columns, where it finds its own row. Where a key has no index, nothing is said; else something is. The
+/// store is left as it was. It is refused for want of memory or by the device. CHECKs are decided by what is given for them.
+pub fn look_again<S: Store, C: Checks>(
+    alloc: Global,
+    store: &mut S,
+    name: &Text,
+    rows: &[Row],
+    checks: &C,
+) -> Result<Foreseen, Refusal>
+    ensures found { IfOk result (λ foreseen. (reading : CheckReading) (table : TableOf) (others : List AnyRow) → S.is_sound store.old
+        → get (database_of (S.shows store.old).working) name.now ≡ Some table → C.decides checks.now reading name.now table.columns table.constraints → Permutes (others ++ rows.now) table.rows
+        → Foretells foreseen (violated_by reading name.now (record table { rows = others }) ≡ [] → violated_by reading name.now table ≡ [])
+        (λ constraint. Contains (violated_by reading name.now table) constraint)) }
+    ensures said { IfOk result (λ foreseen. (table : StoredTable) → S.is_sound store.old → get (S.shows store.old).working name.now ≡ Some table → has_key_indexes table ≡ true → IsSaid foreseen) }
+    ensures shows { S.shows store.new ≡ S.shows store.old }
+    ensures refused { IfErr result (λ refusal. S.is_sound store.old → IsReserved refusal) }
+    ensures device { IfErr result (λ refusal. refusal ≡ Disk → HasRisen (S.refused store.old) (S.refused store.new)) }
+    ensures sound { S.is_sound store.old → S.is_sound store.new }
+    ensures counts { S.refused store.old ≤ S.refused store.new }
+{
+    look_up(alloc, store, name, rows, checks, 1)
+}
+
+/// Whether so many rows are few beside those of the table, as its row numbers let suppose: they are where some number is above eight times as much.
+pub fn are_few<S: Store>(
     alloc: Global,
     store: &mut S,
     name: &Text,
     count: usize,
 ) -> Result<bool, Refusal>
+    ensures few { S.is_sound store.old → IfOk result (λ few. has_many_more count (entries_of (get (S.shows store.old).working name.now)) ≡ true → few ≡ true) }
     ensures shows { S.shows store.new ≡ S.shows store.old }
     ensures refused { IfErr result (λ refusal. S.is_sound store.old → IsReserved refusal) }
     ensures device { IfErr result (λ refusal. refusal ≡ Disk → HasRisen (S.refused store.old) (S.refused store.new)) }
@@ -76,17 +104,19 @@ fn are_few<S: Store>(
     }
 }
 
-/// What can be said with few rows.
-fn foresee_few<S: Store, C: Checks>(
+/// What can be said of a table to which few rows come or have come: `own` is how many of the rows that a key finds are the row itself, none before it comes and one after.
+fn look_up<S: Store, C: Checks>(
     alloc: Global,
     store: &mut S,
     name: &Text,
     rows: &[Row],
     checks: &C,
+    own: usize,
 ) -> Result<Foreseen, Refusal>
-    ensures found { IfOk result (λ foreseen. (reading : CheckReading) (table : TableOf) → S.is_sound store.old → get (database_of (S.shows store.old).working) name.now ≡ Some table
-        → C.decides checks.now reading name.now table.columns table.constraints → violated_by reading name.now table ≡ []
-        → Foretells foreseen (violated_by reading name.now (with_more table rows.now) ≡ []) (λ constraint. Contains (violated_by reading name.now (with_more table rows.now)) constraint)) }
+    ensures found { IfOk result (λ foreseen. (reading : CheckReading) (table before whole : TableOf) → S.is_sound store.old → get (database_of (S.shows store.old).working) name.now ≡ Some table
+        → C.decides checks.now reading name.now table.columns table.constraints → Comes table rows.now own before whole
+        → Foretells foreseen (violated_by reading name.now before ≡ [] → violated_by reading name.now whole ≡ []) (λ constraint. Contains (violated_by reading name.now whole) constraint)) }
+    ensures said { IfOk result (λ foreseen. (table : StoredTable) → S.is_sound store.old → get (S.shows store.old).working name.now ≡ Some table → has_key_indexes table ≡ true → IsSaid foreseen) }
     ensures shows { S.shows store.new ≡ S.shows store.old }
     ensures refused { IfErr result (λ refusal. S.is_sound store.old → IsReserved refusal) }
     ensures device { IfErr result (λ refusal. refusal ≡ Disk → HasRisen (S.refused store.old) (S.refused store.new)) }
@@ -100,13 +130,13 @@ fn foresee_few<S: Store, C: Checks>(
         None => Ok(Foreseen::Open),
         Some(table) => match seen_alone(alloc, table, rows, checks) {
             Ok(Alone::Violates(constraint)) => Ok(Foreseen::Violates(constraint)),
-            Ok(Alone::Keys(keys)) => looked_up(alloc, store, name, keys, rows),
+            Ok(Alone::Keys(keys)) => looked_up(alloc, store, name, keys, rows, own),
             Err(refusal) => Err(refusal),
         },
     }
 }
 
-/// What is found at rows that are to come to a table without a look at the others: a constraint that they violate alone; else the keys that are to be looked up.
+/// What is found at rows that come to a table without a look at the others: a constraint that they violate alone; else the keys that are to be looked up.
 #[derive(Drop)]
 enum Alone {
     Violates(Text),
@@ -120,6 +150,7 @@ fn seen_alone<C: Checks>(
     checks: &C,
 ) -> Result<Alone, Refusal>
     ensures found { IfOk result (λ found. (reading : CheckReading) (name : Name) → C.decides checks.now reading name table.now.columns table.now.constraints → IsAlone reading name table.now rows.now found) }
+    ensures keys { IfOk result (λ found. HasKeys table.now found) }
     ensures refused { IfErr result (λ refusal. refusal ≡ Memory) }
 {
     match violation_in(alloc, table, rows, checks) {
@@ -143,8 +174,9 @@ fn looked_up<S: Store>(
     name: &Text,
     keys: Items<Key>,
     rows: &[Row],
+    own: usize,
 ) -> Result<Foreseen, Refusal>
-    ensures found { S.is_sound store.old → IfOk result (λ foreseen. foreseen ≡ foreseen_by (met_in (get (S.shows store.old).working name.now) rows.now) keys) }
+    ensures found { S.is_sound store.old → IfOk result (λ foreseen. foreseen ≡ foreseen_by (met_in own (get (S.shows store.old).working name.now) rows.now) keys) }
     ensures shows { S.shows store.new ≡ S.shows store.old }
     ensures refused { IfErr result (λ refusal. S.is_sound store.old → IsReserved refusal) }
     ensures device { IfErr result (λ refusal. refusal ≡ Disk → HasRisen (S.refused store.old) (S.refused store.new)) }
@@ -155,18 +187,19 @@ fn looked_up<S: Store>(
         store,
         view: View::Working,
     };
-    first_met(alloc, &mut seen, name, keys, rows)
+    first_met(alloc, &mut seen, name, keys, rows, own)
 }
 
-/// What the look-ups of keys say: the first that a row of the table has is violated.
+/// What the look-ups of keys say: the first that more rows than `own` have is violated.
 fn first_met<R: Reading>(
     alloc: Global,
     reading: &mut R,
     name: &Text,
     keys: Items<Key>,
     rows: &[Row],
+    own: usize,
 ) -> Result<Foreseen, Refusal>
-    ensures found { R.is_sound reading.old → IfOk result (λ foreseen. foreseen ≡ foreseen_by (met_in (found_as (R.shows reading.old) name.now) rows.now) keys) }
+    ensures found { R.is_sound reading.old → IfOk result (λ foreseen. foreseen ≡ foreseen_by (met_in own (found_as (R.shows reading.old) name.now) rows.now) keys) }
     ensures refused { IfErr result (λ refusal. R.is_sound reading.old → IsReserved refusal) }
     ensures counts { IfErr result (λ refusal. refusal ≡ Disk → HasRisen (R.shows reading.old).refused (R.shows reading.new).refused) }
     ensures follows { R.follows reading.old reading.new }
@@ -180,7 +213,7 @@ fn first_met<R: Reading>(
         let Some(place) = place else {
             return Ok(Foreseen::Open);
         };
-        match is_met(alloc, reading, name, place, columns.as_slice(), rows) {
+        match is_met(alloc, reading, name, place, columns.as_slice(), rows, own) {
             Ok(true) => return Ok(Foreseen::Violates(constraint)),
             Ok(false) => {}
             Err(refusal) => return Err(refusal),
@@ -189,7 +222,7 @@ fn first_met<R: Reading>(
     Ok(Foreseen::Fits)
 }
 
-/// Whether a row of the table has the key of one of these rows, none of it null, in the columns of the index at this place.
+/// Whether the key of one of these rows, none of it null, finds more rows of the table than `own` in the index at this place, which is over these columns.
 fn is_met<R: Reading>(
     alloc: Global,
     reading: &mut R,
@@ -197,14 +230,15 @@ fn is_met<R: Reading>(
     place: usize,
     columns: &[usize],
     rows: &[Row],
+    own: usize,
 ) -> Result<bool, Refusal>
-    ensures found { R.is_sound reading.old → IfOk result (λ met. met ≡ is_met (found_as (R.shows reading.old) name.now) place columns.now rows.now) }
+    ensures found { R.is_sound reading.old → IfOk result (λ met. met ≡ is_met own (found_as (R.shows reading.old) name.now) place columns.now rows.now) }
     ensures refused { IfErr result (λ refusal. R.is_sound reading.old → IsReserved refusal) }
     ensures counts { IfErr result (λ refusal. refusal ≡ Disk → HasRisen (R.shows reading.old).refused (R.shows reading.new).refused) }
     ensures follows { R.follows reading.old reading.new }
 {
     for row in rows {
-        match has_twin(alloc, reading, name, place, columns, row.as_slice()) {
+        match has_twin(alloc, reading, name, place, columns, row.as_slice(), own) {
             Ok(true) => return Ok(true),
             Ok(false) => {}
             Err(refusal) => return Err(refusal),
@@ -220,8 +254,9 @@ fn has_twin<R: Reading>(
     place: usize,
     columns: &[usize],
     row: &[Value],
+    own: usize,
 ) -> Result<bool, Refusal>
-    ensures found { R.is_sound reading.old → IfOk result (λ found. found ≡ has_any (sought (found_as (R.shows reading.old) name.now) place (key_of columns.now row.now))) }
+    ensures found { R.is_sound reading.old → IfOk result (λ found. found ≡ are_more own (sought (found_as (R.shows reading.old) name.now) place (key_of columns.now row.now))) }
     ensures refused { IfErr result (λ refusal. R.is_sound reading.old → IsReserved refusal) }
     ensures counts { IfErr result (λ refusal. refusal ≡ Disk → HasRisen (R.shows reading.old).refused (R.shows reading.new).refused) }
     ensures follows { R.follows reading.old reading.new }
@@ -231,16 +266,7 @@ fn has_twin<R: Reading>(
         Err(_) => return Err(Refusal::Memory),
     };
     match reading.seek(alloc, name, place, key.as_slice()) {
-        Ok(found) => Ok(is_any(found.rows.as_slice())),
+        Ok(found) => Ok(found.rows.len() > own),
         Err(error) => Err(refusal_of(error)),
-    }
-}
-
-fn is_any(rows: &[Row]) -> bool
-    ensures { result ≡ has_any rows.now }
-{
-    match rows {
-        [] => false,
-        [_, ..] => true,
     }
 }

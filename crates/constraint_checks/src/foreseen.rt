@@ -1,8 +1,8 @@
-//! What is known of a table before rows come to it.
+//! What is known of a table to which rows come or have come.
 
 use items::Text;
 
-/// What can be said of a table that violates no constraint before rows come to its end.
+/// What can be said of a table to which rows come, or have come, and which violates no constraint without them.
 #[derive(Drop)]
 pub enum Foreseen {
     /// It violates none with them.

@@ -9,14 +9,16 @@ mod frame;
 mod keys;
 mod lengths;
 mod refusal;
+mod settled_rows;
 mod tables;
 
 pub use checks::{Checks, NoChecks};
 pub use constraints::{has_check, violated_constraint};
-pub use foreseeing::foresee;
+pub use foreseeing::{are_few, foresee, look_again};
 pub use foreseen::Foreseen;
 pub use frame::{begin, settle, settle_unless, violation_in};
 pub use keys::key_columns;
 pub use lengths::{admit, fits_key, rows_fit_key};
 pub use refusal::refusal_of_stop;
+pub use settled_rows::settle_rows;
 pub use tables::table_named;

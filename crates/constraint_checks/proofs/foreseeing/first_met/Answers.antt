@@ -13,7 +13,7 @@ loop-key-preserved g c =
       g.met.R.Reading.follows_trans _ _ _ f c.is_met.ensures.follows,
       (λ sound.
           let found = rw (is, c.as_slice.ensures) at (c.in-Ok-false.ensures.found (g.met.R.Reading.follows_sound _ _ f sound)) in
-          sym (key-next _ _ c.args.rows.now c.loop-key.key-iterator.rest.items c.next.new.self.rest.items c.in-Some.key c.in-Some-place.place false
+          sym (key-next c.args.own _ _ c.args.rows.now c.loop-key.key-iterator.rest.items c.next.new.self.rest.items c.in-Some.key c.in-Some-place.place false
           (ap (λ (m : Contents). get m c.args.name.now) same) moved c.in-Some-place.is found)
           ∙ c.loop-key.invariant.1 sound),
     )
@@ -25,7 +25,7 @@ returns-in-Ok-true-clause-found g c =
     let is : c.in-Ok-true.field-0 ≡ true = search rules in
     let moved : c.loop-key.key-iterator.rest.items ≡ c.in-Some.key ∷ c.next.new.self.rest.items = search (rules) in λ sound.
     let found = rw (is, c.as_slice.ensures) at (c.in-Ok-true.ensures.found (g.met.R.Reading.follows_sound _ _ f sound)) in
-    sym (key-next _ _ c.args.rows.now c.loop-key.key-iterator.rest.items c.next.new.self.rest.items c.in-Some.key c.in-Some-place.place true
+    sym (key-next c.args.own _ _ c.args.rows.now c.loop-key.key-iterator.rest.items c.next.new.self.rest.items c.in-Some.key c.in-Some-place.place true
     (ap (λ (m : Contents). get m c.args.name.now) same) moved c.in-Some-place.is found)
     ∙ c.loop-key.invariant.1 sound
 
@@ -36,4 +36,4 @@ pub returns-in_default-clause-found : goal.returns-in_default-clause-found
 returns-in_default-clause-found g c =
     let moved : c.loop-key.key-iterator.rest.items ≡ c.in-Some.key ∷ c.next.new.self.rest.items = search (rules) in
     let none : c.in-Some.key.place ≡ None = c.in_default.is in λ sound.
-    sym (key-open _ c.args.rows.now c.loop-key.key-iterator.rest.items c.next.new.self.rest.items c.in-Some.key moved none) ∙ c.loop-key.invariant.1 sound
+    sym (key-open c.args.own _ c.args.rows.now c.loop-key.key-iterator.rest.items c.next.new.self.rest.items c.in-Some.key moved none) ∙ c.loop-key.invariant.1 sound

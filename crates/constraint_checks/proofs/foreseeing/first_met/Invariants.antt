@@ -7,5 +7,5 @@ use Rattle.constraint_checks.proofs.foreseeing.first_met.Given as goal
 abbrev pub invariant-loop-key : goal.invariant-loop-key
 invariant-loop-key g l =
     g.R.Reading.follows l.fn.reading l.reading
-    × (g.R.Reading.is_sound l.fn.reading → foreseen_by (met_in (table_named (g.R.Reading.shows l.fn.reading) l.name) l.rows) l.key-iterator.rest.items
-    ≡ foreseen_by (met_in (table_named (g.R.Reading.shows l.fn.reading) l.name) l.rows) l.fn.keys)
+    × (g.R.Reading.is_sound l.fn.reading → foreseen_by (met_in l.own (table_named (g.R.Reading.shows l.fn.reading) l.name) l.rows) l.key-iterator.rest.items
+    ≡ foreseen_by (met_in l.own (table_named (g.R.Reading.shows l.fn.reading) l.name) l.rows) l.fn.keys)

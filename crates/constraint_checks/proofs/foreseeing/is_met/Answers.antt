@@ -12,7 +12,7 @@ loop-row-preserved g c =
       g.met.R.Reading.follows_trans _ _ _ f c.has_twin.ensures.follows,
       (λ sound.
           let found = rw (is, c.as_slice.ensures) at (c.in-Ok-false.ensures.found (g.met.R.Reading.follows_sound _ _ f sound)) in
-          sym (met-next _ _ c.args.place c.args.columns.now c.args.rows.now c.loop-row.row-index c.row-item.result false (ap (λ (m : Contents). get m c.args.name.now) same)
+          sym (met-next c.args.own _ _ c.args.place c.args.columns.now c.args.rows.now c.loop-row.row-index c.row-item.result false (ap (λ (m : Contents). get m c.args.name.now) same)
           c.loop-row-test.true c.row-item.is found)
           ∙ c.loop-row.invariant.1 sound),
     )
@@ -23,7 +23,7 @@ returns-in-Ok-true-clause-found g c =
     let same = (g.met.R.Reading.follows_keeps _ _ f).contents in
     let is : c.in-Ok-true.field-0 ≡ true = search rules in λ sound.
     let found = rw (is, c.as_slice.ensures) at (c.in-Ok-true.ensures.found (g.met.R.Reading.follows_sound _ _ f sound)) in
-    sym (met-next _ _ c.args.place c.args.columns.now c.args.rows.now c.loop-row.row-index c.row-item.result true (ap (λ (m : Contents). get m c.args.name.now) same)
+    sym (met-next c.args.own _ _ c.args.place c.args.columns.now c.args.rows.now c.loop-row.row-index c.row-item.result true (ap (λ (m : Contents). get m c.args.name.now) same)
     c.loop-row-test.true c.row-item.is found)
     ∙ c.loop-row.invariant.1 sound
 

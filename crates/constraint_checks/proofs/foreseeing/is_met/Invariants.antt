@@ -7,5 +7,5 @@ use Rattle.constraint_checks.proofs.foreseeing.is_met.Given as goal
 abbrev pub invariant-loop-row : goal.invariant-loop-row
 invariant-loop-row g l =
     g.R.Reading.follows l.fn.reading l.reading
-    × (g.R.Reading.is_sound l.fn.reading → is_met (table_named (g.R.Reading.shows l.fn.reading) l.name) l.place l.columns (drop l.row-index l.rows)
-    ≡ is_met (table_named (g.R.Reading.shows l.fn.reading) l.name) l.place l.columns l.rows)
+    × (g.R.Reading.is_sound l.fn.reading → is_met l.own (table_named (g.R.Reading.shows l.fn.reading) l.name) l.place l.columns (drop l.row-index l.rows)
+    ≡ is_met l.own (table_named (g.R.Reading.shows l.fn.reading) l.name) l.place l.columns l.rows)
