@@ -1,10 +1,10 @@
 -- The rows that are left by changes are those that stay and those that come.
-use Rattle.std.proofs.Common.{◌≡◌, ◌∙◌, refl, sym, ap, subst, ℕ, suc, ◌+◌, ◌≤◌, Bool, true, false, cond, List, [], ◌∷◌, ◌++◌, map, length, Result, Ok, Err, IfOk, arith}
+use Rattle.std.proofs.Common.{◌≡◌, ◌∙◌, refl, sym, ap, subst, suc, ◌+◌, ◌≤◌, Bool, true, false, cond, List, [], ◌∷◌, ◌++◌, map, length, Result, Ok, Err, IfOk, arith}
 use Rattle.std.specs.Prelude.{filter}
 use Rattle.sqlval.specs.Value.{Row}
 use Rattle.denote.specs.declared.fault.Stop.{Stop}
 use Rattle.denote.specs.Bag.{Permutes}
-use Rattle.denote.specs.Bag.Permutes.{nothing, keeps, exchanges, goes_on}
+use Rattle.denote.specs.Bag.Permutes.{nothing, keeps, goes_on}
 use Rattle.denote.specs.Database.{Name, Table, CheckReading, violated_by}
 use Rattle.denote.specs.Evaluation.{Evaluation, joined, together}
 use Rattle.denote.specs.Stop.{Gives}
@@ -16,7 +16,7 @@ use Rattle.row_changes.specs.Kept.{Keeps, KeepAll}
 use Rattle.row_changes.proofs.Keeping.{constraints-kept}
 
 -- a change, but that what becomes another row goes
-gone : RowChange → RowChange
+abbrev pub gone : RowChange → RowChange
 gone Stays = Stays
 gone Goes = Goes
 gone (Becomes row) = Goes

@@ -1,5 +1,5 @@
 //! The new rows of a change, and their look-up once they have come.
-ghost use Rattle.std.specs.Prelude.{◌≡◌, ◌≤◌, ◌×◌, true, false, IfOk, IfErr, IfSome, OnOk, OnErr};
+ghost use Rattle.std.specs.Prelude.{◌≡◌, ◌≤◌, true, false, IfOk, IfErr, IfSome, OnOk, OnErr};
 ghost use Rattle.std.specs.Option.{option_copied};
 ghost use Rattle.refusals.specs.declared.refusal.Refusal.TheVariants.{Disk};
 ghost use Rattle.denote.specs.Database.{CheckReading};
@@ -13,9 +13,9 @@ ghost use Rattle.row_changes.specs.RowChanges.{new_of, rows_new};
 use crate::change::RowChange;
 use constraint_checks::{Checks, are_few, settle_rows, settle_unless};
 use denote::{Row, Rows};
-use executor::copied_row;
 use items::{Items, Text};
 use refusals::Refusal;
+use sqlval::Value;
 use std::alloc::{AllocError, Global};
 use store::Store;
 
@@ -58,6 +58,16 @@ fn new_rows(alloc: Global, changes: &[RowChange]) -> Result<Rows, AllocError>
         }
     }
     Ok(rows)
+}
+
+fn copied_row(alloc: Global, row: &[Value]) -> Result<Row, AllocError>
+    ensures { IfOk result (λ copied. copied ≡ row.now) }
+{
+    let mut copied = Items::with_capacity(alloc, row.len())?;
+    for value in row {
+        copied.push(value.copy(alloc)?)?;
+    }
+    Ok(copied)
 }
 
 fn new_row(change: &RowChange) -> Option<&Row>

@@ -1,4 +1,4 @@
-use Rattle.std.proofs.Common.{◌≡◌, ◌∙◌, ap, subst, sym, List, ℕ, Option, Some, None, IfSome}
+use Rattle.std.proofs.Common.{◌≡◌, ◌∙◌, ap, List, ℕ, Some}
 use Rattle.std.specs.FinMap.{get}
 use Rattle.std.specs.Prelude.{count_by}
 use Rattle.sqlval.specs.Value.{Row}
@@ -8,7 +8,7 @@ use Rattle.store.specs.Stored.{working_on, marked_now}
 use Rattle.constraint_checks.specs.Changed.{RefusesChange}
 use Rattle.constraint_checks.specs.Settled.{AreAmong, OthersHold}
 use Rattle.row_changes.specs.declared.change.RowChange.{RowChange}
-use Rattle.row_changes.specs.RowChanges.{is_change, rows_new}
+use Rattle.row_changes.specs.RowChanges.{is_change}
 use Rattle.row_changes.specs.Made.{all_made}
 use Rattle.row_changes.proofs.Carried.{all_short, among_made, decided_made, holds_made, others_made, carried, broken, taken_back, taken_back_at_once, where_new}
 use Rattle.row_changes.proofs.carrying.carry_out.Goals as goal
@@ -50,8 +50,8 @@ returns-in-Ok-settle_new-clause-changes g c = λ reading change sound decided ho
     (λ unsure. others_made reading old mid change c.args.name.now c.args.planned marks meant made all rises unsure (harmless.others_good unsure holds))))
     (c.touched-count.ensures ∙ ap (λ (cs : List RowChange). count_by is_change cs) c.as_slice.ensures ∙ meant.touched) c.reply_for.ensures.gives
 
-pub returns-in-Err-settle_new-clause-refused : goal.returns-in-Err-settle_new-clause-refused
-returns-in-Err-settle_new-clause-refused g c = λ reading change sound decided meant.
+pub returns-clause-refused : goal.returns-clause-refused
+returns-clause-refused g c = λ reading change sound decided meant.
     let old = g.S.Store.shows c.args.store.now in
     let mid = g.S.Store.shows c.begin.new.store in
     let made = g.S.Store.shows c.make_changes.new.store in
@@ -68,8 +68,8 @@ returns-in-Err-settle_new-clause-refused g c = λ reading change sound decided m
     (where_new c.in-Ok.rows c.args.planned (λ (rows : List Row). AreAmong (database_of made.working) c.args.name.now rows) new
     (λ unsure. among_made reading old mid change c.args.name.now c.args.planned marks meant made all rises unsure)))
 
-pub returns-in-Err-settle_new-clause-same : goal.returns-in-Err-settle_new-clause-same
-returns-in-Err-settle_new-clause-same g c = λ sound.
+pub returns-clause-same : goal.returns-clause-same
+returns-clause-same g c = λ sound.
     let old = g.S.Store.shows c.args.store.now in
     let mid = g.S.Store.shows c.begin.new.store in
     let marks : mid ≡ marked_now old = c.in_default.ensures.shows ∙ ap marked_now c.rows_to_look_up.ensures.shows in
