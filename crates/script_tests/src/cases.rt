@@ -2,6 +2,7 @@
 
 mod change_table;
 mod changed_rows;
+mod closed_subqueries;
 mod command_lines;
 mod depth;
 mod ended_sessions;

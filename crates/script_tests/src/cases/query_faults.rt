@@ -404,7 +404,7 @@ fn faults_of_scalar_subqueries(rt: HostRuntime) -> Result<(), Fail> {
 /// IN and EXISTS take the whole subquery, its last row too; where they are not asked they have no fault.
 #[test]
 fn faults_of_in_and_exists(rt: HostRuntime) -> Result<(), Fail> {
-    let rows: [(&str, &str, u8); 11] = [
+    let rows: [(&str, &str, u8); 18] = [
         (
             "SELECT A FROM T WHERE A IN (SELECT 1 / (A - 2) FROM T)",
             "ERROR 22012\n",
@@ -457,6 +457,41 @@ fn faults_of_in_and_exists(rt: HostRuntime) -> Result<(), Fail> {
         ),
         (
             "SELECT A FROM T WHERE A = 1 AND EXISTS (SELECT 1 FROM S WHERE (SELECT COUNT(*) FROM S X WHERE X.A = T.A) / (C - 10) = 0)",
+            "ERROR 22012\n",
+            1,
+        ),
+        (
+            "SELECT A FROM T WHERE A = (SELECT A FROM S)",
+            "ERROR 21000\n",
+            1,
+        ),
+        (
+            "SELECT N FROM E WHERE N = (SELECT A FROM S)",
+            "(0 rows)\n",
+            0,
+        ),
+        (
+            "SELECT A FROM T WHERE 1 = 0 AND A IN (SELECT 1 / 0 FROM S)",
+            "(0 rows)\n",
+            0,
+        ),
+        (
+            "SELECT A FROM T WHERE 1 = 1 OR EXISTS (SELECT 1 / 0 FROM S) ORDER BY A",
+            "NULL\n1\n2\n3\n(4 rows)\n",
+            0,
+        ),
+        (
+            "SELECT A FROM T WHERE A = 1 OR A IN (SELECT 1 / (C - 10) FROM S)",
+            "ERROR 22012\n",
+            1,
+        ),
+        (
+            "SELECT A FROM T WHERE EXISTS (SELECT 1 / 0 FROM E)",
+            "(0 rows)\n",
+            0,
+        ),
+        (
+            "SELECT A FROM T WHERE NOT EXISTS (SELECT 1 FROM S WHERE A IN (SELECT 1 / 0 FROM T))",
             "ERROR 22012\n",
             1,
         ),
