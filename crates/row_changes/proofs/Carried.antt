@@ -1,5 +1,5 @@
 -- What is left of a store once all changes of rows are made and the table was looked at.
-use Rattle.std.proofs.Common.{◌≡◌, ◌∙◌, refl, sym, ap, subst, ℕ, List, map, Option, Some}
+use Rattle.std.proofs.Common.{◌≡◌, ◌∙◌, refl, sym, ap, subst, ℕ, false, List, [], ◌++◌, map, Option, Some, None, IfSome}
 use Rattle.std.specs.FinMap.{get, insert}
 use Rattle.refusals.specs.declared.refusal.Refusal.{Refusal}
 use Rattle.operator_laws.specs.Same.{Every}
@@ -7,9 +7,10 @@ use Rattle.sqlval.specs.declared.schema.Column.{Column}
 use Rattle.sqlval.specs.declared.schema.Constraint.{Constraint}
 use Rattle.sqlval.specs.Value.{Row}
 use Rattle.typing.specs.declared.statement.Change.{Change}
+use Rattle.denote.specs.Bag.{Permutes}
 use Rattle.denote.specs.Change.{changed, with_rows}
 use Rattle.denote.specs.Change.Changed.{Makes}
-use Rattle.denote.specs.Database.{Name, Table, Database, CheckReading, IndexDeclaration}
+use Rattle.denote.specs.Database.{Name, Table, Database, CheckReading, IndexDeclaration, violated_by}
 use Rattle.replies.specs.declared.reply.Reply.{Reply}
 use Rattle.replies.specs.declared.reply.Reply.TheVariants as says
 use Rattle.session_definitions.specs.Statements.{counted}
@@ -18,14 +19,14 @@ use Rattle.store.specs.Errors.{indexes_of}
 use Rattle.store.specs.Indexes.{entries_of}
 use Rattle.store.specs.Stored.{Stored, SameButMark, marked_now, undone, working_on}
 use Rattle.constraint_checks.specs.Changed.{HasChanged, RefusesChange}
-use Rattle.constraint_checks.specs.Settled.{Decided, Holds, Breaks}
+use Rattle.constraint_checks.specs.Settled.{AreAmong, Decided, Holds, OthersHold, Breaks}
 use Rattle.constraint_checks.proofs.Held.{held_as}
 use Rattle.constraint_checks.proofs.Settling.{undone_all, makes, refuses}
-use Rattle.row_changes.proofs.Made.{decided_still, holds_still}
-use Rattle.row_changes.specs.RowChanges.{IsShort, rows_left, is_change}
+use Rattle.row_changes.proofs.Made.{decided_still, found_still, holds_still, put_still}
+use Rattle.row_changes.specs.RowChanges.{IsShort, rows_left, rows_new, is_change}
 use Rattle.row_changes.specs.declared.planned.Planned.{Planned}
 use Rattle.row_changes.specs.Made.{all_made}
-use Rattle.row_changes.specs.Plans.{IsMeant, LeavesGood}
+use Rattle.row_changes.specs.Plans.{IsMeant, LeavesGood, OthersGood}
 use Rattle.row_changes.proofs.MadeTables.{made-all}
 
 module _ (reading : CheckReading) (old mid : Stored) (change : Change) (name : Name) (planned : Planned) (m : mid ≡ marked_now old) (is : IsMeant reading old.working change name planned) where
@@ -52,6 +53,19 @@ module _ (reading : CheckReading) (old mid : Stored) (change : Change) (name : N
     pub holds_made : LeavesGood reading old.working change name planned is → Holds reading (database_of made.working) name
     holds_made good = holds_still reading (database_of old.working) (database_of made.working) name is.table is.left would_be good
 
+    -- the new rows are some of its own, and where the others violate nothing, they do
+    pub among_made : planned.harmless ≡ false → AreAmong (database_of made.working) name (rows_new planned.changes)
+    among_made unsure = record {
+      table = record is.table { rows = is.left };
+      there = put_still (database_of old.working) (database_of made.working) name is.table is.left would_be;
+      others = is.others;
+      order = is.among unsure;
+    }
+
+    pub others_made : planned.harmless ≡ false → OthersGood reading old.working change name planned is → OthersHold reading (database_of made.working) name (rows_new planned.changes)
+    others_made unsure good = found_still (database_of old.working) (database_of made.working) name is.table is.left would_be
+        (λ (t : Table). (others : List Row) × Permutes (others ++ rows_new planned.changes) t.rows × (violated_by reading name (record t { rows = others }) ≡ [])) (is.others, is.among unsure, good)
+
     -- what decides the CHECKs of the table still does
     pub decided_made : (decides : Name → List Column → List Constraint → Type 0) → Decided decides (database_of old.working) name → Decided decides (database_of made.working) name
     decided_made decides = decided_still decides (database_of old.working) (database_of made.working) name is.table is.left would_be is.there
@@ -71,6 +85,12 @@ module _ (reading : CheckReading) (old mid : Stored) (change : Change) (name : N
 
     pub broken : (refusal : Refusal) → Breaks reading (database_of made.working) name refusal → RefusesChange reading (database_of old.working) change refusal
     broken refusal h = refuses reading (database_of old.working) (database_of made.working) name is.table is.left is.count would_be change refusal is.means h
+
+-- what is so of the new rows is so of those that are looked up
+pub where_new : (found : Option (List Row)) (planned : Planned) (P : List Row → Type 0) → IfSome found (λ (rows : List Row). (rows ≡ rows_new planned.changes) × (planned.harmless ≡ false))
+    → (planned.harmless ≡ false → P (rows_new planned.changes)) → IfSome found P
+where_new None planned P new h = tt
+where_new (Some rows) planned P new h = subst P (sym new.0) (h new.1)
 
 -- what goes back to the mark
 pub taken_back : (old mid made new : Stored) (c : Contents) → mid ≡ marked_now old → made ≡ working_on mid c → new ≡ undone made → SameButMark old new

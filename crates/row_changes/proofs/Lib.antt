@@ -12,3 +12,4 @@ pub mod Selecting
 pub mod Keeping
 pub mod Fewer
 pub mod KeptChangeLemmas
+pub mod Coming

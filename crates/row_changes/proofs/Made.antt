@@ -31,6 +31,18 @@ decided_still decides db made name table rows is there decided = λ t found.
     ∙ ap (λ b. cond b (Some (record table { rows = rows })) (get db name)) (ap is_eq (tied_itself nat_list_cmp_total name)) in
     subst (λ (u : Table). decides name u.columns u.constraints) (same_some (record table { rows = rows }) t (sym put ∙ found)) (decided table there)
 
+-- it is there
+pub put_still : (db made : Database) (name : Name) (table : Table) (rows : List Row) → made ≡ insert db name (record table { rows = rows }) → get made name ≡ Some (record table { rows = rows })
+put_still db made name table rows is =
+    ap (λ (m : Database). get m name) is ∙ get-insert nat_list_cmp_total db name (record table { rows = rows }) name
+    ∙ ap (λ b. cond b (Some (record table { rows = rows })) (get db name)) (ap is_eq (tied_itself nat_list_cmp_total name))
+
+-- and what is so of it is so of the one that is found
+pub found_still : (db made : Database) (name : Name) (table : Table) (rows : List Row) → made ≡ insert db name (record table { rows = rows })
+    → (P : Table → Type 0) → P (record table { rows = rows }) → (t : Table) → get made name ≡ Some t → P t
+found_still db made name table rows is P h t found =
+    subst P (same_some (record table { rows = rows }) t (sym (put_still db made name table rows is) ∙ found)) h
+
 -- and where its rows violate nothing, so it is of the table
 pub holds_still : (reading : CheckReading) (db made : Database) (name : Name) (table : Table) (rows : List Row) → made ≡ insert db name (record table { rows = rows })
     → violated_by reading name (record table { rows = rows }) ≡ [] → Holds reading made name

@@ -1,5 +1,5 @@
 -- What is planned for the rows of a table is what the definitions make of it.
-use Rattle.std.proofs.Common.{◌≡◌, ◌∙◌, refl, sym, ap, subst, ℕ, Bool, true, false, not, List, [], map, filter, Option, Some, None, Result, Ok, Err, arith}
+use Rattle.std.proofs.Common.{◌≡◌, ◌∙◌, refl, sym, ap, subst, ℕ, Bool, true, false, not, ◌≤◌, List, [], ◌++◌, map, filter, length, Option, Some, None, Result, Ok, Err, arith}
 use Rattle.std.specs.Prelude.{Contains, count_by}
 use Rattle.std.specs.List.{list_any}
 use Rattle.std.specs.FinMap.{get}
@@ -12,6 +12,7 @@ use Rattle.typing.specs.declared.statement.Change.{Change}
 use Rattle.typing.specs.declared.statement.Change.TheVariants as does
 use Rattle.typing.specs.declared.statement.Delete.{Delete}
 use Rattle.typing.specs.declared.statement.Update.{Update}
+use Rattle.denote.specs.Bag.{Permutes}
 use Rattle.denote.specs.declared.fault.Fault.{Fault}
 use Rattle.denote.specs.declared.fault.Fault.TheVariants as fault
 use Rattle.denote.specs.declared.fault.Stop.{Stop}
@@ -31,13 +32,14 @@ use Rattle.constraint_checks.proofs.Declared.{no_table}
 use Rattle.constraint_checks.proofs.Held.{held_as}
 use Rattle.row_changes.specs.declared.change.RowChange.{RowChange}
 use Rattle.row_changes.specs.Made.{all_made}
-use Rattle.row_changes.specs.RowChanges.{spread, IsShort, AreUpdates, AreDeletions}
+use Rattle.row_changes.specs.RowChanges.{spread, rows_new, IsShort, AreUpdates, AreDeletions}
 use Rattle.row_changes.specs.declared.planned.Planned.{Planned}
 use Rattle.row_changes.specs.Plans.{IsMeant, IsHarmless}
 use Rattle.row_changes.proofs.Sparse.{made-spread, count-spread, every-spread}
 use Rattle.row_changes.proofs.Fewer.{own-rows, violates-no-more}
 use Rattle.row_changes.specs.Kept.{Keeps, KeepAll}
 use Rattle.row_changes.proofs.Keeping.{keep-spread, constraints-kept}
+use Rattle.row_changes.proofs.Coming.{staying, staying-hold, left-permutes}
 
 -- no table has the name
 pub no_update : (reading : CheckReading) (c : Contents) (schema : Schema) (u : Update) → IsSchemaOf schema (database_of c)
@@ -92,8 +94,9 @@ module _ (reading : CheckReading) (c : Contents) (u : Update) (table : Table) (t
   update_is = ap (λ o. on_table (database_of c) o (update_in reading (database_of c) u)) there
 
   pub update_meant : (planned : Planned) (test : Row → Bool) → planned.numbers ≡ map (λ (e : Entry). e.0) (filter (λ (e : Entry). test e.1) (entries_of (get c u.table)))
-      → (found : List (Bool × Row)) → updated ≡ Ok found → AreUpdates table (spread test table.rows planned.changes) found → IsMeant reading c (does.Update u) u.table planned
-  update_meant planned test numbered found e are = record {
+      → (found : List (Bool × Row)) → updated ≡ Ok found → AreUpdates table (spread test table.rows planned.changes) found → length planned.changes ≤ length (filter test table.rows)
+      → IsMeant reading c (does.Update u) u.table planned
+  update_meant planned test numbered found e are few = record {
     table = table;
     there = there;
     all = spread test table.rows planned.changes;
@@ -103,6 +106,10 @@ module _ (reading : CheckReading) (c : Contents) (u : Update) (table : Table) (t
     count = count_by (λ r. r.0) found;
     touched = sym (count-spread test table.rows planned.changes) ∙ are.as_many;
     are = are;
+    others = staying table.rows (spread test table.rows planned.changes);
+    among = λ unsure.
+        subst (λ (rows : List Row). Permutes (staying table.rows (spread test table.rows planned.changes) ++ rows_new planned.changes) rows) are.left_so
+        (left-permutes test table.rows planned.changes few);
     means = update_is ∙ ap (λ x. unless_raised x (λ (rows : List (Bool × Row)). with_rows reading (database_of c) u.table table (map (λ r. r.1) rows) (count_by (λ r. r.0) rows))) e;
   }
 
@@ -111,15 +118,16 @@ module _ (reading : CheckReading) (c : Contents) (u : Update) (table : Table) (t
 
   -- a table whose keys stay, and to which no row comes that violates a constraint alone, holds
   pub update_harmless : (planned : Planned) (test : Row → Bool) → planned.numbers ≡ map (λ (e : Entry). e.0) (filter (λ (e : Entry). test e.1) (entries_of (get c u.table)))
-      → (found : List (Bool × Row)) → updated ≡ Ok found → AreUpdates table (spread test table.rows planned.changes) found
+      → (found : List (Bool × Row)) → updated ≡ Ok found → AreUpdates table (spread test table.rows planned.changes) found → length planned.changes ≤ length (filter test table.rows)
       → (planned.harmless ≡ true → KeepAll (Keeps reading u.table table table.constraints) (filter test table.rows) planned.changes) → IsHarmless reading c (does.Update u) u.table planned
   unfolding update_meant
-  update_harmless planned test numbered found e are keeps = (
-    update_meant planned test numbered found e are,
-    (λ sure holds. ap (λ (rows : List Row). violated_by reading u.table (record table { rows = rows })) (sym are.left_so)
+  update_harmless planned test numbered found e are few keeps = record {
+    meant = update_meant planned test numbered found e are few;
+    others_good = λ unsure holds. staying-hold reading u.table table (spread test table.rows planned.changes) (holds table there);
+    leaves_good = λ sure holds. ap (λ (rows : List Row). violated_by reading u.table (record table { rows = rows })) (sym are.left_so)
         ∙ constraints-kept reading u.table table (spread test table.rows planned.changes)
-        (keep-spread (Keeps reading u.table table table.constraints) test table.rows planned.changes (keeps sure)) (holds table there)),
-  )
+        (keep-spread (Keeps reading u.table table table.constraints) test table.rows planned.changes (keeps sure)) (holds table there);
+  }
 
 -- ---- DELETE
 
@@ -131,9 +139,9 @@ module _ (reading : CheckReading) (c : Contents) (d : Delete) (table : Table) (t
       ≡ unless_raised deleted (λ rows. with_rows reading (database_of c) d.table table (map (λ r. r.1) (filter (λ r. not r.0) rows)) (count_by (λ r. r.0) rows))
   deletion_is = ap (λ o. on_table (database_of c) o (delete_from reading (database_of c) d)) there
 
-  pub deletion_meant : (planned : Planned) (test : Row → Bool) → planned.numbers ≡ map (λ (e : Entry). e.0) (filter (λ (e : Entry). test e.1) (entries_of (get c d.table)))
+  pub deletion_meant : (planned : Planned) (test : Row → Bool) → planned.harmless ≡ true → planned.numbers ≡ map (λ (e : Entry). e.0) (filter (λ (e : Entry). test e.1) (entries_of (get c d.table)))
       → (found : List (Bool × Row)) → deleted ≡ Ok found → AreDeletions table (spread test table.rows planned.changes) found → IsMeant reading c (does.Delete d) d.table planned
-  deletion_meant planned test numbered found e are = record {
+  deletion_meant planned test sure numbered found e are = record {
     table = table;
     there = there;
     all = spread test table.rows planned.changes;
@@ -143,19 +151,23 @@ module _ (reading : CheckReading) (c : Contents) (d : Delete) (table : Table) (t
     count = count_by (λ r. r.0) found;
     touched = sym (count-spread test table.rows planned.changes) ∙ are.as_many;
     are = are;
+    others = [];
+    among = λ unsure. absurd (cc (sure, unsure));
     means = deletion_is ∙ ap (λ x. unless_raised x (λ (rows : List (Bool × Row)). with_rows reading (database_of c) d.table table (map (λ r. r.1) (filter (λ r. not r.0) rows)) (count_by (λ r. r.0) rows))) e;
   }
 
   -- fewer rows violate no more
-  pub deletion_harmless : (planned : Planned) (test : Row → Bool) → planned.numbers ≡ map (λ (e : Entry). e.0) (filter (λ (e : Entry). test e.1) (entries_of (get c d.table)))
+  pub deletion_harmless : (planned : Planned) (test : Row → Bool) → planned.harmless ≡ true
+      → planned.numbers ≡ map (λ (e : Entry). e.0) (filter (λ (e : Entry). test e.1) (entries_of (get c d.table)))
       → (found : List (Bool × Row)) → deleted ≡ Ok found → AreDeletions table (spread test table.rows planned.changes) found → IsHarmless reading c (does.Delete d) d.table planned
   unfolding deletion_meant
-  deletion_harmless planned test numbered found e are =
-      let own : map (λ (r : Bool × Row). r.1) found ≡ table.rows = own-rows (is_touched (rows_in (database_of c)) d.filter) table.rows found e in (
-        deletion_meant planned test numbered found e are,
-        (λ sure holds. violates-no-more (λ (r : Bool × Row). not r.0) reading d.table table found
-            (ap (λ (rows : List Row). violated_by reading d.table (record table { rows = rows })) own ∙ holds table there)),
-      )
+  deletion_harmless planned test sure numbered found e are =
+      let own : map (λ (r : Bool × Row). r.1) found ≡ table.rows = own-rows (is_touched (rows_in (database_of c)) d.filter) table.rows found e in record {
+        meant = deletion_meant planned test sure numbered found e are;
+        others_good = λ unsure holds. absurd (cc (sure, unsure));
+        leaves_good = λ said holds. violates-no-more (λ (r : Bool × Row). not r.0) reading d.table table found
+            (ap (λ (rows : List Row). violated_by reading d.table (record table { rows = rows })) own ∙ holds table there);
+      }
 
   pub deletion_stopped : (s : Stop) → IsFaultOf (faults_in deleted) s → RefusesChange reading (database_of c) (does.Delete d) (refused_by s)
   deletion_stopped s h =

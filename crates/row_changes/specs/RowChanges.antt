@@ -1,5 +1,6 @@
 -- What becomes of the rows of a table by an UPDATE or a DELETE (ISO/IEC 9075:1992, 13.7, 13.10).
-use Rattle.std.specs.Prelude.{◌≡◌, ℕ, Bool, true, false, not, List, [], ◌∷◌, ◌++◌, map, filter, flat_map, count_by, Result, Ok, IfOk, IfErr}
+use Rattle.std.specs.Prelude.{◌≡◌, ℕ, Bool, true, false, not, List, [], ◌∷◌, ◌++◌, map, filter, flat_map, count_by, Option, Some, None, Result, Ok, IfOk, IfErr}
+use Rattle.std.specs.List.{filter_map}
 use Rattle.sqlval.specs.Value.{Row}
 use Rattle.denote.specs.declared.fault.Stop.{Stop}
 use Rattle.denote.specs.Database.{IndexDeclaration, Table}
@@ -31,6 +32,15 @@ spread_at true others (change ∷ changes) = change ∷ others changes
 abbrev pub spread : (Row → Bool) → List Row → List RowChange → List RowChange
 spread test [] changes = changes
 spread test (row ∷ rows) changes = spread_at (test row) (λ (others : List RowChange). spread test rows others) changes
+
+-- the row that comes in place of another, and all that come
+abbrev pub new_of : RowChange → Option Row
+new_of Stays = None
+new_of Goes = None
+new_of (Becomes row) = Some row
+
+abbrev pub rows_new : List RowChange → List Row
+rows_new = filter_map new_of
 
 abbrev pub is_change : RowChange → Bool
 is_change Stays = false

@@ -12,16 +12,18 @@ ghost use Rattle.constraint_checks.specs.Settled.{Decided, Holds};
 ghost use Rattle.row_changes.specs.Plans.{IsMeant, IsHarmless};
 
 use crate::making::{make_changes, touched};
+use crate::new_rows::{rows_to_look_up, settle_new};
 use crate::planned::Planned;
 use crate::reply::reply_for;
-use constraint_checks::{Checks, begin, settle_unless};
+use constraint_checks::{Checks, begin};
 use items::Text;
 use refusals::Refusal;
 use replies::Reply;
 use std::alloc::Global;
 use store::Store;
 
-/// Makes of the rows of a table what is planned: all of it, where the table then violates no constraint; else nothing. The table, which violates none as it is, is looked at unless what is planned is sure to be harmless. It sets the mark. It is refused by a constraint that the table would
+/// Makes of the rows of a table what is planned: all of it, where the table then violates no constraint; else nothing. The table, which violates none as it is, is not looked at where what is
+/// planned is sure to be harmless; where few rows change, only these are, and the keys of the new ones are looked up; else all of it is. It sets the mark. It is refused by a constraint that the table would
 /// violate (23000), for want of memory, by the device or by a limit of the store.
 pub(crate) fn carry_out<S: Store, C: Checks>(
     alloc: Global,
@@ -41,19 +43,23 @@ pub(crate) fn carry_out<S: Store, C: Checks>(
     ensures sound { S.is_sound store.old → S.is_sound store.new }
     ensures counts { S.refused store.old ≤ S.refused store.new }
 {
-    if let Err(refusal) = begin(store) {
-        return Err(refusal);
-    }
     let Planned {
         numbers,
         changes,
         harmless,
     } = planned;
     let count = touched(changes.as_slice());
+    let rows = match rows_to_look_up(alloc, store, name, harmless, count, changes.as_slice()) {
+        Ok(rows) => rows,
+        Err(refusal) => return Err(refusal),
+    };
+    if let Err(refusal) = begin(store) {
+        return Err(refusal);
+    }
     if let Err(refusal) = make_changes(store, name, numbers.as_slice(), changes) {
         return Err(refusal);
     }
-    match settle_unless(alloc, store, name, checks, harmless) {
+    match settle_new(alloc, store, name, checks, harmless, &rows) {
         Ok(()) => Ok(reply_for(count)),
         Err(refusal) => Err(refusal),
     }

@@ -11,6 +11,7 @@ mod harmless;
 mod held;
 mod listed;
 mod making;
+mod new_rows;
 mod planned;
 mod reading;
 mod reply;

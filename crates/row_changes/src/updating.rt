@@ -1,5 +1,5 @@
 //! The rows that an UPDATE touches become new ones.
-ghost use Rattle.std.specs.Prelude.{◌≡◌, Bool, false, Ok, [], List, filter, map};
+ghost use Rattle.std.specs.Prelude.{◌≡◌, Bool, false, Ok, IfOk, [], List, filter, length, map};
 ghost use Rattle.sqlval.specs.Value.{Row as AnyRow};
 ghost use Rattle.typing.specs.declared.statement.Update.{Update};
 ghost use Rattle.typing.specs.declared.typed.Condition.{Condition as Asked};
@@ -33,7 +33,7 @@ use tree_tables::{listings_read_their_tables, values_read_their_tables};
 /// What becomes of each of these rows by an UPDATE: they are the rows of a table that pass a test, at no other of which the condition is true or raises a fault, so that the others stay; or one of the
 /// faults of all rows: of the condition, of a source, of storing, of a CHECK that cannot be evaluated at the new row, or of
 /// the length of that row or of a key of it. Each row is seen as it was. `update` has the trees of the statement, `lent` the tables that these name, and `checks` the trees of the conditions
-/// of the table's CHECKs.
+/// of the table's CHECKs. There are as many as rows.
 pub fn updates(
     alloc: Global,
     lent: &LentTables,
@@ -46,6 +46,7 @@ pub fn updates(
         → ((row : AnyRow) → test row ≡ false → touched_given (rows_lent lent.now.tables) update.now.filter row ≡ Ok false) → Agree (rows_lent lent.now.tables) tables (tables_in_update update.now)
         → IsUpdateOf u update.now → AreChecksOf conditions checks.now
         → GivesChanges (λ changes found. AreUpdates (table_of table.now whole) (spread test whole changes) found) result (updated_rows conditions tables (table_of table.now whole) u) }
+    ensures as_many { IfOk result (λ changes. length changes ≡ length rows.now) }
 {
     evaluation_keeps_the_meaning();
     listings_read_their_tables();

@@ -4,3 +4,4 @@ pub mod Dropped
 pub mod Listed
 pub mod Inserted
 pub mod Replied
+pub mod Owned

@@ -15,7 +15,7 @@ ghost use Rattle.transactions.specs.Refused.{IfRefused};
 ghost use Rattle.constraint_checks.specs.Changed.{HasChanged};
 ghost use Rattle.table_changes.specs.Indexes.{key_index};
 
-use constraint_checks::{begin, table_named};
+use constraint_checks::{begin, key_columns, table_named};
 use items::Items;
 use refusals::Refusal;
 use replies::Reply;
@@ -82,7 +82,7 @@ fn owned_indexes(alloc: Global, constraints: &[Constraint]) -> Result<Items<Inde
 {
     let mut indexes = Items::new(alloc);
     for (place, constraint) in constraints.iter().enumerate() {
-        if let Some(columns) = key_columns(&constraint.rule) {
+        if let Some(columns) = owned_columns(&constraint.rule) {
             indexes.push(Index {
                 name: None,
                 columns: copied(alloc, columns)?,
@@ -94,16 +94,11 @@ fn owned_indexes(alloc: Global, constraints: &[Constraint]) -> Result<Items<Inde
     Ok(indexes)
 }
 
-/// The columns of a PRIMARY KEY or a UNIQUE.
-fn key_columns(rule: &Rule) -> Option<&[usize]>
+/// The columns of the index that a PRIMARY KEY or a UNIQUE owns.
+fn owned_columns(rule: &Rule) -> Option<&[usize]>
     ensures { option_map (λ columns. key_index columns.now) result ≡ owned_index rule.now }
 {
-    match rule {
-        Rule::NotNull(_) => None,
-        Rule::PrimaryKey(columns) => Some(columns.as_slice()),
-        Rule::Unique(columns) => Some(columns.as_slice()),
-        Rule::Check(_) => None,
-    }
+    key_columns(rule)
 }
 
 fn copied(alloc: Global, places: &[usize]) -> Result<Items<usize>, AllocError>

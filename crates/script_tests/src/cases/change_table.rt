@@ -41,7 +41,7 @@ pub(super) fn check_changes(
 
 #[test]
 fn keys_are_decided_on_the_whole_table(rt: HostRuntime) -> Result<(), Fail> {
-    let rows: [(&str, &str, u8); 17] = [
+    let rows: [(&str, &str, u8); 19] = [
         (
             "CREATE TABLE U (A INTEGER PRIMARY KEY); INSERT INTO U VALUES (1), (2); UPDATE U SET A = A + 1; SELECT A FROM U ORDER BY A;",
             "00000\n00000 2\n00000 2\n2\n3\n(2 rows)\n",
@@ -126,6 +126,16 @@ fn keys_are_decided_on_the_whole_table(rt: HostRuntime) -> Result<(), Fail> {
             "CREATE TABLE U (A INTEGER PRIMARY KEY); INSERT INTO U VALUES (1), (2); DELETE FROM U; INSERT INTO U VALUES (2), (1); SELECT A FROM U ORDER BY A;",
             "00000\n00000 2\n00000 2\n00000 2\n1\n2\n(2 rows)\n",
             0,
+        ),
+        (
+            "CREATE TABLE U (A INTEGER PRIMARY KEY); INSERT INTO U VALUES (1), (2), (3), (4), (5), (6), (7), (8), (9), (10), (11), (12), (13), (14), (15), (16), (17), (18), (19), (20); UPDATE U SET A = 21 WHERE A = 7; UPDATE U SET A = 8 WHERE A = 21; UPDATE U SET A = NULL WHERE A = 8; UPDATE U SET A = 31 - A WHERE A = 15 OR A = 16; UPDATE U SET A = A + 1 WHERE A = 20 OR A = 21; UPDATE U SET A = A + 1 WHERE A = 1 OR A = 2; UPDATE U SET A = 7 WHERE A = 1 OR A = 2; SELECT COUNT(*), MIN(A), MAX(A), SUM(A) FROM U;",
+            "00000\n00000 20\n00000 1\nERROR 23000 #1\nERROR 23000 #1\n00000 2\n00000 2\nERROR 23000 #1\nERROR 23000 #1\n20|1|22|226\n(1 rows)\n",
+            1,
+        ),
+        (
+            "CREATE TABLE U (A INTEGER PRIMARY KEY, B INTEGER UNIQUE, C INTEGER NOT NULL CHECK (C < 9)); INSERT INTO U VALUES (1, NULL, 1), (2, 2, 1), (3, 3, 1), (4, NULL, 1), (5, 5, 1), (6, 6, 1), (7, 7, 1), (8, 8, 1), (9, 9, 1), (10, 10, 1); UPDATE U SET B = NULL WHERE A = 2; UPDATE U SET B = 3 WHERE A = 2; UPDATE U SET B = 11, C = NULL WHERE A = 2; UPDATE U SET B = 11, C = 9 WHERE A = 2; UPDATE U SET B = 11 WHERE A = 2; SELECT A, B, C FROM U WHERE A < 4 ORDER BY A;",
+            "00000\n00000 10\n00000 1\nERROR 23000 #2\nERROR 23000 #3\nERROR 23000 #4\n00000 1\n1|NULL|1\n2|11|1\n3|3|1\n(3 rows)\n",
+            1,
         ),
     ];
     check_scripts(&rt, &rows)

@@ -6,7 +6,7 @@ use std::test::Fail;
 
 #[test]
 fn rows_are_updated(rt: HostRuntime) -> Result<(), Fail> {
-    let rows: [(&str, &str, u8); 20] = [
+    let rows: [(&str, &str, u8); 22] = [
         (
             "UPDATE T SET A = A * 2; SELECT A, B FROM T ORDER BY A;",
             "00000 4\nNULL|'x'\n2|'x'\n4|NULL\n6|'y'\n(4 rows)\n",
@@ -64,6 +64,16 @@ fn rows_are_updated(rt: HostRuntime) -> Result<(), Fail> {
             0,
         ),
         (
+            "UPDATE T SET A = 0 WHERE EXISTS (SELECT 1 FROM T X WHERE 1 / (X.A - 2) > T.A); SELECT COUNT(*) FROM T WHERE A = 0;",
+            "ERROR 22012\n0\n(1 rows)\n",
+            1,
+        ),
+        (
+            "UPDATE T SET A = 0 WHERE A IN (SELECT 1 / (A - 2) FROM T); SELECT COUNT(*) FROM T WHERE A = 0;",
+            "ERROR 22012\n0\n(1 rows)\n",
+            1,
+        ),
+        (
             "UPDATE T SET A = 0 WHERE A = (SELECT A FROM T WHERE B = 'x');",
             "ERROR 21000\n",
             1,
@@ -95,7 +105,7 @@ fn rows_are_updated_over_no_tables(rt: HostRuntime) -> Result<(), Fail> {
 
 #[test]
 fn rows_are_deleted(rt: HostRuntime) -> Result<(), Fail> {
-    let rows: [(&str, &str, u8); 9] = [
+    let rows: [(&str, &str, u8); 11] = [
         (
             "DELETE FROM T WHERE A = 1; SELECT A, B FROM T ORDER BY A; DELETE FROM T; DELETE FROM T; SELECT A FROM T;",
             "00000 1\nNULL|'x'\n2|NULL\n3|'y'\n(3 rows)\n00000 3\n02000 0\n(0 rows)\n",
@@ -120,6 +130,16 @@ fn rows_are_deleted(rt: HostRuntime) -> Result<(), Fail> {
             "DELETE FROM T WHERE EXISTS (SELECT 1 FROM T X WHERE X.B = T.B AND X.A <> T.A); SELECT A FROM T ORDER BY A;",
             "02000 0\nNULL\n1\n2\n3\n(4 rows)\n",
             0,
+        ),
+        (
+            "DELETE FROM T WHERE EXISTS (SELECT 1 FROM T X WHERE 1 / (X.A - 2) > T.A); SELECT COUNT(*) FROM T;",
+            "ERROR 22012\n4\n(1 rows)\n",
+            1,
+        ),
+        (
+            "DELETE FROM T WHERE A IN (SELECT 1 / (A - 2) FROM T); SELECT COUNT(*) FROM T;",
+            "ERROR 22012\n4\n(1 rows)\n",
+            1,
         ),
         (
             "DELETE FROM T WHERE 1 / (A - 1) > 0; SELECT COUNT(*) FROM T;",
@@ -147,7 +167,7 @@ fn rows_are_deleted(rt: HostRuntime) -> Result<(), Fail> {
 
 #[test]
 fn queries_are_inserted(rt: HostRuntime) -> Result<(), Fail> {
-    let rows: [(&str, &str, u8); 14] = [
+    let rows: [(&str, &str, u8); 17] = [
         (
             "INSERT INTO T SELECT A + 10, B FROM T; SELECT A, B FROM T ORDER BY A, B;",
             "00000 4\nNULL|'x'\nNULL|'x'\n1|'x'\n2|NULL\n3|'y'\n11|'x'\n12|NULL\n13|'y'\n(8 rows)\n",
@@ -174,6 +194,21 @@ fn queries_are_inserted(rt: HostRuntime) -> Result<(), Fail> {
             "INSERT INTO T SELECT COUNT(*), B FROM T GROUP BY B; SELECT A, B FROM T ORDER BY A, B;",
             "00000 3\nNULL|'x'\n1|NULL\n1|'x'\n1|'y'\n2|NULL\n2|'x'\n3|'y'\n(7 rows)\n",
             0,
+        ),
+        (
+            "INSERT INTO T SELECT X.A / (Y.A - 3), X.B FROM T X, T Y WHERE X.A = 1; SELECT COUNT(*) FROM T;",
+            "ERROR 22012\n4\n(1 rows)\n",
+            1,
+        ),
+        (
+            "INSERT INTO T SELECT SUM(A) / (COUNT(*) - 1), B FROM T GROUP BY B; SELECT COUNT(*) FROM T;",
+            "ERROR 22012\n4\n(1 rows)\n",
+            1,
+        ),
+        (
+            "INSERT INTO T SELECT A, B FROM T UNION ALL SELECT 1 / (A - 2), B FROM T; SELECT COUNT(*) FROM T;",
+            "ERROR 22012\n4\n(1 rows)\n",
+            1,
         ),
         (
             "INSERT INTO T SELECT 1 / (A - 2), B FROM T; SELECT COUNT(*) FROM T;",

@@ -90,35 +90,37 @@ fn keys_have_600_coded_bytes(rt: HostRuntime) -> Result<(), Fail> {
     let last = repeated(alloc, "y", "", 76)?;
     let table = long_columns(&rt, ", UNIQUE (A, B, C)")?;
     let within = format!(in alloc; "INSERT INTO T VALUES ('{long}', '{long}', '{last}')")?;
-    let beyond = format!(in alloc; "INSERT INTO T VALUES ('{long}', '{long}', '{last}y')")?;
-    check_limit(
-        &rt,
-        (table.as_str(), "00000\n"),
-        (within.as_str(), "00000 1"),
-        beyond.as_str(),
-        "key",
-    )?;
+    let beyond = format!(in alloc; "('{long}', '{long}', '{last}y')")?;
+    // (the fault comes before the key that the first row would have twice)
+    let insert = format!(in alloc; "INSERT INTO T VALUES {beyond}")?;
+    let twins = format!(in alloc; "INSERT INTO T VALUES ('{long}', '{long}', '{last}'), {beyond}")?;
     let update = format!(in alloc; "UPDATE T SET C = '{last}y'")?;
-    check_limit(
-        &rt,
-        (table.as_str(), "00000\n"),
-        (within.as_str(), "00000 1"),
-        update.as_str(),
-        "key",
-    )
+    for text in [insert.as_str(), twins.as_str(), update.as_str()] {
+        check_limit(
+            &rt,
+            (table.as_str(), "00000\n"),
+            (within.as_str(), "00000 1"),
+            text,
+            "key",
+        )?;
+    }
+    Ok(())
 }
 
 #[test]
 fn an_index_needs_short_keys(rt: HostRuntime) -> Result<(), Fail> {
     let alloc = rt.alloc();
     let long = repeated(alloc, "x", "", 255)?;
-    let last = repeated(alloc, "y", "", 77)?;
+    let last = repeated(alloc, "y", "", 76)?;
     let table = long_columns(&rt, "")?;
-    let within = format!(in alloc; "INSERT INTO T VALUES ('{long}', '{long}', '{last}')")?;
+    let row = format!(in alloc; "INSERT INTO T VALUES ('{long}', '{long}', '{last}")?;
+    let within = format!(in alloc;
+        "{row}'); CREATE INDEX H ON T (A, B, C); DROP INDEX H; {row}y')"
+    )?;
     check_limit(
         &rt,
         (table.as_str(), "00000\n"),
-        (within.as_str(), "00000 1"),
+        (within.as_str(), "00000 1\n00000\n00000\n00000 1"),
         "CREATE INDEX I ON T (A, B, C)",
         "key",
     )

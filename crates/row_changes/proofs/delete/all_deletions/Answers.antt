@@ -20,7 +20,7 @@ returns-in-Ok-clause-planned c = λ reading k of made agree entries.
     let there = table_read k c.args.schema.now d.table c.in-Some.field-0.now whole of c.in-Some.ensures.there c.in-Some.ensures.named refl in
     let passing = c.as_slice.ensures ∙ entries.are.rows ∙ rows-filtered entries.test (entries_of (get k d.table)) in
     let given = (c.in-Ok.ensures.gives (rows_in (database_of k)) table d entries.test passing (entries.others (rows_lent c.args.lent.now.tables)) agree made).ok in
-    deletion_harmless reading k d table there (record { numbers = c.args.found.numbers; changes = c.in-Ok.changes; harmless = true }) entries.test entries.are.numbers given.0 given.1 given.2
+    deletion_harmless reading k d table there (record { numbers = c.args.found.numbers; changes = c.in-Ok.changes; harmless = true }) entries.test refl entries.are.numbers given.0 given.1 given.2
 
 pub returns-in-Err-clause-refused : goal.returns-in-Err-clause-refused
 returns-in-Err-clause-refused c = λ reading k of made agree entries.

@@ -36,7 +36,7 @@ returns-in-Ok-Some-clause-refused g c = IfErr-weaker c.carry_out.result _ _
     subst (λ (s : Stored). RefusesChange reading (database_of s.working) change refusal) same
     (h reading change (c.planned_deletion.ensures.sound sound)
     (subst (λ (s : Stored). Decided (g.C.Checks.decides c.args.checks.now reading) (database_of s.working) c.args.delete.now.table) (sym same) decided)
-    (subst (λ (s : Stored). IsMeant reading s.working change c.args.delete.now.table c.in-Ok-Some.planned) (sym same) meant.0)))
+    (subst (λ (s : Stored). IsMeant reading s.working change c.args.delete.now.table c.in-Ok-Some.planned) (sym same) meant.meant)))
     c.carry_out.ensures.refused
 
 pub returns-in-Ok-None-clause-changes : goal.returns-in-Ok-None-clause-changes

@@ -1,4 +1,4 @@
-use Rattle.std.proofs.Common.{◌≡◌, ◌∙◌, refl, sym, subst, List}
+use Rattle.std.proofs.Common.{◌≡◌, ◌∙◌, refl, sym, subst, List, filter}
 use Rattle.sqlval.specs.Value.{Row}
 use Rattle.session_definitions.specs.Refusals.{IsReserved}
 use Rattle.constraint_checks.specs.Changed.{RefusesChange}
@@ -10,6 +10,7 @@ use Rattle.store.specs.Indexes.{entries_of}
 use Rattle.query_answers.specs.Lent.{rows_lent}
 use Rattle.constraint_checks.proofs.Violations.{table_read}
 use Rattle.row_changes.proofs.Sparse.{rows-filtered}
+use Rattle.row_changes.proofs.Coming.{few-in}
 use Rattle.row_changes.proofs.Planning.{no_update, update_harmless, update_stopped, is_no_device}
 use Rattle.row_changes.proofs.update.all_updates.Goals as goal
 
@@ -27,7 +28,7 @@ returns-in-Ok-are_harmless-clause-planned g c = λ reading k of decided checks m
     let given = (c.in-Ok.ensures.gives (rows_in (database_of k)) (checks_of reading u.table table) u whole entries.test (c.as_slice.ensures ∙ passing)
     (entries.others (rows_lent c.args.lent.now.tables)) agree made (checks table there)).ok in
     update_harmless reading k u table there (record { numbers = c.args.found.numbers; changes = c.in-Ok.changes; harmless = c.in-Ok-are_harmless.harmless }) entries.test entries.are.numbers
-    given.0 given.1 given.2
+    given.0 given.1 given.2 (few-in c.in-Ok.changes c.as_slice.result.now (filter entries.test whole) c.in-Ok.ensures.as_many (c.as_slice.ensures ∙ passing))
     (λ sure. subst (λ (rows : List Row). KeepAll (Keeps reading u.table table d.constraints) rows c.in-Ok.changes) passing
     (c.in-Ok-are_harmless.ensures.sure reading u.table whole (decided table there) sure))
 
