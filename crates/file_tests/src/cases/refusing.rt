@@ -55,21 +55,21 @@ const CHANGED: Swept = Swept {
 /// A change of a row in a table that was read, with three indexes that were not: a call that is refused after its first write undoes that.
 const INDEXED: Swept = Swept {
     script: "SELECT COUNT(*) FROM BOOKS; UPDATE BOOKS SET READER = 'BERT' WHERE ID = 1; SELECT READER FROM BOOKS WHERE ID = 1; COMMIT;",
-    query: "SELECT READER FROM BOOKS WHERE ID < 2 ORDER BY ID;",
+    query: "SELECT ID, READER FROM BOOKS WHERE ID < 2 ORDER BY ID;",
     outcomes: &[
         (
             "44\n(1 rows)\n00000 1\n'BERT'\n(1 rows)\n00000\n",
-            "NULL\n'BERT'\n(2 rows)\n",
+            "-2|NULL\n1|'BERT'\n(2 rows)\n",
         ),
         (
             "ERROR X0002\n00000 1\n'BERT'\n(1 rows)\n00000\n",
-            "NULL\n'BERT'\n(2 rows)\n",
+            "-2|NULL\n1|'BERT'\n(2 rows)\n",
         ),
         (
             "44\n(1 rows)\nERROR X0002\n'ANNA'\n(1 rows)\n00000\n",
-            "NULL\n'ANNA'\n(2 rows)\n",
+            "-2|NULL\n1|'ANNA'\n(2 rows)\n",
         ),
-        ("ERROR X0002\n", "NULL\n'ANNA'\n(2 rows)\n"),
+        ("ERROR X0002\n", "-2|NULL\n1|'ANNA'\n(2 rows)\n"),
     ],
 };
 
