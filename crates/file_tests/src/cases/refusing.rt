@@ -1,4 +1,5 @@
 //! Devices that refuse one call of a run, each in turn: what is printed, and what the next run finds.
+use super::sample::sample_device;
 use disk::{FaultyDisk, MemDisk};
 use paged::Paged;
 use shell::{Settings, run_to_end, settings};
@@ -8,17 +9,20 @@ use std::test::Fail;
 /// More calls of the device than a script here makes.
 const CALLS: u64 = 60;
 
-/// What the next run is asked.
-const ROWS: &str = "SELECT A FROM T;";
-
-/// A script, and what it may print where one call is refused, each with what the next run finds. The first of these is that of a run without a refusal.
-type Swept = (&'static str, &'static [(&'static str, &'static str)]);
+/// A script, what the next run is asked, and what the script may print where one call is refused, each with what the next run prints. The first of these is that of a run without a refusal.
+#[derive(Drop)]
+struct Swept {
+    script: &'static str,
+    query: &'static str,
+    outcomes: &'static [(&'static str, &'static str)],
+}
 
 /// Three commits, with pages that are written before the last one, while session 2 reads the first. Where that is refused half-way, all goes on as before, and the pages are written when the
 /// store is closed.
-const FLUSHED: Swept = (
-    "CREATE TABLE T (A INTEGER); INSERT INTO T VALUES (1); COMMIT; @2 SELECT A FROM T; @1 INSERT INTO T VALUES (2); COMMIT; @flush; @2 SELECT A FROM T; @1 INSERT INTO T VALUES (3); COMMIT; @2 SELECT A FROM T;",
-    &[
+const FLUSHED: Swept = Swept {
+    script: "CREATE TABLE T (A INTEGER); INSERT INTO T VALUES (1); COMMIT; @2 SELECT A FROM T; @1 INSERT INTO T VALUES (2); COMMIT; @flush; @2 SELECT A FROM T; @1 INSERT INTO T VALUES (3); COMMIT; @2 SELECT A FROM T;",
+    query: "SELECT A FROM T;",
+    outcomes: &[
         (
             "00000\n00000 1\n00000\n1\n(1 rows)\n00000 1\n00000\n00000\n1\n(1 rows)\n00000 1\n00000\n1\n(1 rows)\n",
             "1\n2\n3\n(3 rows)\n",
@@ -29,12 +33,13 @@ const FLUSHED: Swept = (
         ),
         ("ERROR X0002\n", "ERROR 42000 name\n"),
     ],
-);
+};
 
 /// Changes over the rows 1, 2 and 3 of a file. A change that is refused leaves its transaction open, and may be given again.
-const CHANGED: Swept = (
-    "UPDATE T SET A = A + 10 WHERE A = 3; UPDATE T SET A = A + 20 WHERE A = 2; COMMIT; INSERT INTO T VALUES (4); COMMIT;",
-    &[
+const CHANGED: Swept = Swept {
+    script: "UPDATE T SET A = A + 10 WHERE A = 3; UPDATE T SET A = A + 20 WHERE A = 2; COMMIT; INSERT INTO T VALUES (4); COMMIT;",
+    query: "SELECT A FROM T;",
+    outcomes: &[
         (
             "00000 1\n00000 1\n00000\n00000 1\n00000\n",
             "1\n22\n13\n4\n(4 rows)\n",
@@ -45,7 +50,28 @@ const CHANGED: Swept = (
         ),
         ("ERROR X0002\n", "1\n2\n3\n(3 rows)\n"),
     ],
-);
+};
+
+/// A change of a row in a table that was read, with three indexes that were not: a call that is refused after its first write undoes that.
+const INDEXED: Swept = Swept {
+    script: "SELECT COUNT(*) FROM BOOKS; UPDATE BOOKS SET READER = 'BERT' WHERE ID = 1; SELECT READER FROM BOOKS WHERE ID = 1; COMMIT;",
+    query: "SELECT ID, READER FROM BOOKS WHERE ID < 2 ORDER BY ID;",
+    outcomes: &[
+        (
+            "44\n(1 rows)\n00000 1\n'BERT'\n(1 rows)\n00000\n",
+            "-2|NULL\n1|'BERT'\n(2 rows)\n",
+        ),
+        (
+            "ERROR X0002\n00000 1\n'BERT'\n(1 rows)\n00000\n",
+            "-2|NULL\n1|'BERT'\n(2 rows)\n",
+        ),
+        (
+            "44\n(1 rows)\nERROR X0002\n'ANNA'\n(1 rows)\n00000\n",
+            "-2|NULL\n1|'ANNA'\n(2 rows)\n",
+        ),
+        ("ERROR X0002\n", "-2|NULL\n1|'ANNA'\n(2 rows)\n"),
+    ],
+};
 
 /// What a run over a device with these bytes prints, which refuses the call after so many; and what the next run finds there, none where the device is not handed back.
 fn played(
@@ -53,10 +79,10 @@ fn played(
     settings: &Settings<'_>,
     bytes: Vec<u8>,
     passed: u64,
-    script: &str,
+    swept: &Swept,
 ) -> (Vec<u8>, Option<Vec<u8>>) {
     let device = FaultyDisk::new(MemDisk::from_bytes(bytes), passed, false);
-    let mut reader = script.as_bytes();
+    let mut reader = swept.script.as_bytes();
     let mut printed = Vec::new(alloc);
     let ended = run_to_end::<Paged<FaultyDisk<MemDisk>>, _, _>(
         alloc,
@@ -66,14 +92,17 @@ fn played(
         &mut printed,
     );
     match ended.device {
-        Some(device) => (printed, Some(rows_in(alloc, settings, device.into_inner()))),
+        Some(device) => (
+            printed,
+            Some(rows_in(alloc, settings, device.into_inner(), swept.query)),
+        ),
         None => (printed, None),
     }
 }
 
-/// What the next run over a device finds.
-fn rows_in(alloc: Global, settings: &Settings<'_>, device: MemDisk) -> Vec<u8> {
-    let mut reader = ROWS.as_bytes();
+/// What the next run over a device prints, which is asked this.
+fn rows_in(alloc: Global, settings: &Settings<'_>, device: MemDisk, query: &str) -> Vec<u8> {
+    let mut reader = query.as_bytes();
     let mut printed = Vec::new(alloc);
     let _ = run_to_end::<Paged<MemDisk>, _, _>(alloc, settings, device, &mut reader, &mut printed);
     printed
@@ -109,8 +138,8 @@ fn all_are_among(alloc: Global, settings: &Settings<'_>, good: &[u8], swept: &Sw
     for passed in 0..CALLS {
         match good.to_vec(alloc) {
             Ok(bytes) => {
-                let (printed, found) = played(alloc, settings, bytes, passed, swept.0);
-                if !is_among(printed.as_slice(), &found, swept.1) {
+                let (printed, found) = played(alloc, settings, bytes, passed, swept);
+                if !is_among(printed.as_slice(), &found, swept.outcomes) {
                     return false;
                 }
             }
@@ -125,13 +154,13 @@ fn is_given(
     alloc: Global,
     settings: &Settings<'_>,
     good: &[u8],
-    script: &str,
+    swept: &Swept,
     text: &str,
     rows: &str,
 ) -> bool {
     for passed in 0..CALLS {
         if let Ok(bytes) = good.to_vec(alloc) {
-            let (printed, found) = played(alloc, settings, bytes, passed, script);
+            let (printed, found) = played(alloc, settings, bytes, passed, swept);
             if is_as(printed.as_slice(), &found, text, rows) {
                 return true;
             }
@@ -142,29 +171,35 @@ fn is_given(
 
 /// Whether each run gives one of the outcomes, and each outcome is given by some run.
 fn holds(alloc: Global, settings: &Settings<'_>, good: &[u8], swept: &Swept) -> bool {
-    for (text, rows) in swept.1 {
-        if !is_given(alloc, settings, good, swept.0, text, rows) {
+    for (text, rows) in swept.outcomes {
+        if !is_given(alloc, settings, good, swept, text, rows) {
             return false;
         }
     }
     all_are_among(alloc, settings, good, swept)
 }
 
+/// Whether a sweep over what a run left holds.
+fn holds_over(
+    alloc: Global,
+    settings: &Settings<'_>,
+    good: &Option<MemDisk>,
+    swept: &Swept,
+) -> bool {
+    match good {
+        Some(device) => holds(alloc, settings, device.as_slice(), swept),
+        None => false,
+    }
+}
+
 #[test]
 fn a_refused_call_leaves_what_was_there(rt: HostRuntime) -> Result<(), Fail> {
-    let settings = settings(rt.alloc(), &["sqlsh", "run"])?;
-    assert!(rt;
-        holds(rt.alloc(), &settings, b"", &FLUSHED),
-        "pages written"
-    );
-    match left_by(rt.alloc(), &settings, FLUSHED.0) {
-        Some(device) => {
-            assert!(rt;
-                holds(rt.alloc(), &settings, device.as_slice(), &CHANGED),
-                "changes"
-            );
-        }
-        None => assert!(rt; false, "the device is not handed back"),
-    }
+    let alloc = rt.alloc();
+    let settings = settings(alloc, &["sqlsh", "run"])?;
+    assert!(rt; holds(alloc, &settings, b"", &FLUSHED), "pages written");
+    let left = left_by(alloc, &settings, FLUSHED.script);
+    assert!(rt; holds_over(alloc, &settings, &left, &CHANGED), "changes");
+    let sample = sample_device(alloc, &settings);
+    assert!(rt; holds_over(alloc, &settings, &sample, &INDEXED), "indexes");
     Ok(())
 }
