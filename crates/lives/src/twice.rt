@@ -8,9 +8,9 @@ ghost use Rattle.shell.specs.Runs.{HandsBack};
 ghost use Rattle.lives.specs.Twice.{RunsTwice};
 
 use disk::Disk;
-use life_laws::{reopened_runs_are_runs, stopped_scripts_are_runs};
+use life_laws::reopened_runs_are_runs;
 use paged::Paged;
-use session_laws::{databases_stay_good, scripts_are_runs};
+use session_laws::databases_stay_good;
 use shell::{EndedRun, Settings, run_to_end};
 use std::alloc::Global;
 use std::io::{Read, Write};
@@ -29,7 +29,8 @@ pub struct EndedRuns<D> {
 
 /// Does what `sqlsh run` does over the store on a device, and then once more over the device that is handed back, with another reader.
 ///
-/// Where a good database is saved on the device, the second run begins with the database that the first committed last, and all that both do is one run of the definitions.
+/// Where a good database is saved on the device, the second run begins with the database that the first committed last, and all that both do is one run of the definitions, whose calls
+/// are those of the two scripts, each with the reply that was printed.
 /// No reply is that the file is damaged, the store is opened unless memory or the device refuses, and closed unless the device does.
 pub fn run_twice<S: Store, A: Read, B: Read, W: Write>(
     alloc: Global,
@@ -44,8 +45,6 @@ pub fn run_twice<S: Store, A: Read, B: Read, W: Write>(
         (between (B.remaining second.old) (B.remaining second.new) mid (W.contents writer.new)) result.first result.second
         (λ left. HandsBack S.saved result.device left × IfSome left (IsGood rules.check)) }
 {
-    scripts_are_runs();
-    stopped_scripts_are_runs();
     reopened_runs_are_runs();
     let EndedRun {
         status: first_status,
