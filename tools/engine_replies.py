@@ -18,37 +18,37 @@ def listed(*rows):
 LONG = ", ".join(f"('{letter * 200}')" for letter in "abcdefghijklmnopqrstuvwxyzabcdefghijklmnopqrstuvwxyzabcdefgh")
 
 # The good files, each with the statements that are tried over it and over what is made of it, and their replies.
-T3 = listed("1|'x'", "NULL|'it''s'", "-5|NULL")
-T4 = listed("1|'x'", "NULL|'it''s'", "-5|NULL", "7|'n'")
+T_BEFORE = listed("1|'x'", "NULL|'it''s'", "-5|NULL")
+T_AFTER = listed("1|'x'", "NULL|'it''s'", "-5|NULL", "7|'n'")
 PLAIN = [
-    ("SELECT A, B FROM T;", T3),
+    ("SELECT A, B FROM T;", T_BEFORE),
     ("INSERT INTO T VALUES (7, 'n');", ONE),
-    ("SELECT A, B FROM T;", T4),
+    ("SELECT A, B FROM T;", T_AFTER),
     ("CREATE TABLE U (X VARCHAR(255));", DONE),
     ("INSERT INTO U VALUES ('x');", ONE),
     (f"INSERT INTO U VALUES {LONG};", "00000 60"),
     ("SELECT COUNT(*) FROM U;", listed("61")),
     ("ROLLBACK;", DONE),
-    ("SELECT A, B FROM T;", T3),
+    ("SELECT A, B FROM T;", T_BEFORE),
 ]
 D = [str(number * number) for number in range(12)]
-D12 = listed(*D)
-D13 = listed(*D, "-1")
+D_BEFORE = listed(*D)
+D_AFTER = listed(*D, "-1")
 DEEP = [
-    ("SELECT N FROM D;", D12),
+    ("SELECT N FROM D;", D_BEFORE),
     ("INSERT INTO D VALUES (-1);", ONE),
-    ("SELECT N FROM D;", D13),
+    ("SELECT N FROM D;", D_AFTER),
     ("CREATE TABLE U (X INTEGER);", DONE),
     ("INSERT INTO U VALUES (1);", ONE),
     ("DROP TABLE D;", DONE),
     ("SELECT X FROM U;", listed("1")),
     ("ROLLBACK;", DONE),
-    ("SELECT N FROM D;", D12),
+    ("SELECT N FROM D;", D_BEFORE),
 ]
-K3 = listed("5|'ab'|7", "-1|NULL|7", "6|'ab'|NULL")
-K2 = listed("5|'ab'|7", "6|'ab'|NULL")
+K_BEFORE = listed("5|'ab'|7", "-1|NULL|7", "6|'ab'|NULL")
+K_WITHOUT_ONE = listed("5|'ab'|7", "6|'ab'|NULL")
 INDEXED = [
-    ("SELECT A, B, C FROM K;", K3),
+    ("SELECT A, B, C FROM K;", K_BEFORE),
     ("UPDATE K SET C = 4 WHERE A = 7;", NONE),
     ("INSERT INTO K VALUES (8, 'cd', 9);", ONE),
     ("UPDATE K SET C = 3 WHERE A = 5;", ONE),
@@ -59,7 +59,7 @@ INDEXED = [
     ("DROP TABLE K;", DONE),
     ("INSERT INTO L VALUES (1);", ONE),
     ("ROLLBACK;", DONE),
-    ("SELECT A, B, C FROM K;", K3),
+    ("SELECT A, B, C FROM K;", K_BEFORE),
 ]
 EMPTY = [
     ("SELECT A FROM T;", NAME),
@@ -115,16 +115,16 @@ NO_ROWS = [listed(), GOOD, listed("7|'n'"), GOOD, GOOD, GOOD, GOOD, GOOD, listed
 LEFT = [X, MAYBE, X, GOOD, GOOD, X, GOOD, GOOD, X]
 RIGHT = [X, X, X, GOOD, GOOD, X, GOOD, GOOD, X]
 LINK = [X, GOOD, X, GOOD, GOOD, MAYBE, (GOOD, NAME), GOOD, X]
-MISSED = [MAYBE, MAYBE, (GOOD, D12, X), GOOD, GOOD, MAYBE, GOOD, GOOD, MAYBE]
+MISSED = [MAYBE, MAYBE, (GOOD, D_BEFORE, X), GOOD, GOOD, MAYBE, GOOD, GOOD, MAYBE]
 
 # Over "indexed": damage in the catalogue, or in one of the three indexes: INDEX_1 of the key A, INDEX_2 of B and C, INDEX_3 of C. In INDEX_2 and INDEX_3 an INSERT, an UPDATE, a DELETE
 # and a DROP TABLE meet the damage after their first write: the rows are the same before and after.
 SCHEMA = [X, X, X, X, X, X, X, X, X, X, GOOD, X]
-INDEX_1 = [GOOD, X, X, X, X, K3, X, GOOD, X, GOOD, GOOD, GOOD]
-INDEX_2 = [GOOD, GOOD, X, X, X, K3, X, GOOD, X, GOOD, GOOD, GOOD]
-INDEX_3 = [GOOD, GOOD, X, X, X, K3, X, X, X, GOOD, GOOD, GOOD]
+INDEX_1 = [GOOD, X, X, X, X, K_BEFORE, X, GOOD, X, GOOD, GOOD, GOOD]
+INDEX_2 = [GOOD, GOOD, X, X, X, K_BEFORE, X, GOOD, X, GOOD, GOOD, GOOD]
+INDEX_3 = [GOOD, GOOD, X, X, X, K_BEFORE, X, X, X, GOOD, GOOD, GOOD]
 # A condition, or a place, that no table has: each change of rows comes across it.
-RULE = [MAYBE, X, X, X, X, (K3, X), X, MAYBE, MAYBE, MAYBE, GOOD, MAYBE]
+RULE = [MAYBE, X, X, X, X, (K_BEFORE, X), X, MAYBE, MAYBE, MAYBE, GOOD, MAYBE]
 # What no statement here needs: whether it is found is open.
 UNUSED = [MAYBE] * 12
 
@@ -284,9 +284,9 @@ REPLIES = {
     "owner_negative": SCHEMA,
     "name_and_owner": UNUSED,
     "neither_name_nor_owner": [MAYBE, MAYBE, MAYBE, MAYBE, MAYBE, MAYBE, MAYBE, (NAME, X), MAYBE, MAYBE, GOOD, MAYBE],
-    "index_of_a_column_past_the_end": [MAYBE, MAYBE, X, X, X, (K3, X), X, MAYBE, MAYBE, MAYBE, GOOD, MAYBE],
+    "index_of_a_column_past_the_end": [MAYBE, MAYBE, X, X, X, (K_BEFORE, X), X, MAYBE, MAYBE, MAYBE, GOOD, MAYBE],
     "index_left_out": SCHEMA,
-    "index_at_a_table": [MAYBE, MAYBE, X, X, X, (K3, X), X, MAYBE, MAYBE, MAYBE, GOOD, MAYBE],
+    "index_at_a_table": [MAYBE, MAYBE, X, X, X, (K_BEFORE, X), X, MAYBE, MAYBE, MAYBE, GOOD, MAYBE],
     "index_at_an_index": UNUSED,
     "index_past_the_end": INDEX_3,
     "index_without_a_tree": [MAYBE, MAYBE, MAYBE, X, X, (ANSWERED, X), X, MAYBE, MAYBE, MAYBE, GOOD, MAYBE],
@@ -305,7 +305,7 @@ REPLIES = {
     "index_3_without_slots": INDEX_3,
     "index_3_with_a_key_past_its_cell": INDEX_3,
     "index_3_as_an_inner_page": INDEX_3,
-    "row_left_out": [K2, GOOD, GOOD, GOOD, X, GOOD, GOOD, GOOD, GOOD, GOOD, GOOD, K2],
+    "row_left_out": [K_WITHOUT_ONE, GOOD, GOOD, GOOD, X, GOOD, GOOD, GOOD, GOOD, GOOD, GOOD, K_WITHOUT_ONE],
     "table_of_no_rows_with_a_root": [GOOD, GOOD, GOOD, GOOD, GOOD, GOOD, GOOD, GOOD, GOOD, X, GOOD, GOOD],
 }
 
