@@ -24,30 +24,6 @@ fn has_ended(core: &mut Core<ListStore>, session: SessionId) -> bool {
     )
 }
 
-/// Whether the session stores a row in T.
-fn stores(core: &mut Core<ListStore>, session: SessionId) -> bool {
-    matches!(
-        core.step(session, b"INSERT INTO T VALUES (1)"),
-        Reply::Changed(1)
-    )
-}
-
-/// Whether the session finds so many rows in T.
-fn finds(core: &mut Core<ListStore>, session: SessionId, count: usize) -> bool {
-    match core.step(session, b"SELECT A FROM T") {
-        Reply::Rows(rows) => rows.len() == count,
-        _ => false,
-    }
-}
-
-/// Makes T in a session, and commits it.
-fn make_table(core: &mut Core<ListStore>, session: SessionId) -> bool {
-    matches!(
-        core.step(session, b"CREATE TABLE T (A INTEGER)"),
-        Reply::Done
-    ) && matches!(core.step(session, b"COMMIT"), Reply::Done)
-}
-
 #[test]
 fn an_ended_session_is_refused(rt: HostRuntime) -> Result<(), Fail> {
     let mut core = new_core(rt.alloc())?;
@@ -95,34 +71,5 @@ fn the_end_of_a_session_rolls_back(rt: HostRuntime) -> Result<(), Fail> {
     let second = core.new_session()?;
     let found = core.step(second, b"SELECT A FROM T");
     assert!(rt; matches!(found, Reply::Refused(Refusal::Invalid(Reason::Name))));
-    Ok(())
-}
-
-/// The writer's row is gone, and a session that could not write before writes at once.
-#[test]
-fn where_a_writer_has_ended_another_writes(rt: HostRuntime) -> Result<(), Fail> {
-    let mut core = new_core(rt.alloc())?;
-    let writer = core.new_session()?;
-    let other = core.new_session()?;
-    assert!(rt; make_table(&mut core, writer) && stores(&mut core, writer));
-    assert!(rt; !stores(&mut core, other));
-    core.end_session(writer);
-    assert!(rt; stores(&mut core, other) && finds(&mut core, other, 1));
-    Ok(())
-}
-
-/// What a session that has ended was reading, the next session of its number does not read.
-#[test]
-fn where_a_reader_has_ended_the_next_one_reads_the_newest(rt: HostRuntime) -> Result<(), Fail> {
-    let mut core = new_core(rt.alloc())?;
-    let writer = core.new_session()?;
-    let reader = core.new_session()?;
-    assert!(rt; make_table(&mut core, writer) && finds(&mut core, reader, 0));
-    assert!(rt; stores(&mut core, writer));
-    core.step(writer, b"COMMIT");
-    assert!(rt; finds(&mut core, reader, 0));
-    core.end_session(reader);
-    let next = core.new_session()?;
-    assert!(rt; next == reader && finds(&mut core, next, 1) && stores(&mut core, next));
     Ok(())
 }

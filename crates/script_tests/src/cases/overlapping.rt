@@ -1,7 +1,6 @@
 //! Several sessions: each sees what it found when its transaction began, and one of them writes at a time.
 
 use super::check;
-use std::alloc::{AllocError, Global};
 use std::test::Fail;
 
 #[test]
@@ -46,60 +45,4 @@ fn what_one_session_committed_the_next_one_sees(rt: HostRuntime) -> Result<(), F
     let printed =
         "00000\n00000 1\nERROR 42000 name\n00000\n1\n(1 rows)\n1\n(1 rows)\n00000\n1\n(1 rows)\n";
     check(&rt, script, printed, 1)
-}
-
-/// A script, and what it prints.
-#[derive(Drop)]
-struct Told {
-    script: String,
-    printed: String,
-}
-
-impl Told {
-    fn new(alloc: Global) -> Told {
-        Told {
-            script: String::new(alloc),
-            printed: String::new(alloc),
-        }
-    }
-
-    fn put(&mut self, script: &str, printed: &str) -> Result<(), AllocError> {
-        self.script.push_str(script)?;
-        self.printed.push_str(printed)
-    }
-
-    /// Each session but the first finds one row.
-    fn put_readers(&mut self, alloc: Global) -> Result<(), AllocError> {
-        for reader in 2..65u64 {
-            let query = format!(in alloc; "@{reader} SELECT A FROM T;")?;
-            self.put(query.as_str(), "7\n(1 rows)\n")?;
-        }
-        Ok(())
-    }
-
-    /// The first session commits a row a thousand times.
-    fn put_commits(&mut self) -> Result<(), AllocError> {
-        self.put("@1;", "")?;
-        for _ in 0..1000u64 {
-            self.put("INSERT INTO T VALUES (8); COMMIT;", "00000 1\n00000\n")?;
-        }
-        Ok(())
-    }
-}
-
-#[test]
-fn the_others_read_what_they_found_while_one_commits_a_thousand_times(
-    rt: HostRuntime,
-) -> Result<(), Fail> {
-    let alloc = rt.alloc();
-    let mut told = Told::new(alloc);
-    told.put(
-        "CREATE TABLE T (A INTEGER); INSERT INTO T VALUES (7); COMMIT;",
-        "00000\n00000 1\n00000\n",
-    )?;
-    told.put_readers(alloc)?;
-    told.put_commits()?;
-    told.put_readers(alloc)?;
-    told.put("@1 SELECT COUNT(*) FROM T;", "1001\n(1 rows)\n")?;
-    check(&rt, told.script.as_str(), told.printed.as_str(), 0)
 }
