@@ -16,6 +16,7 @@ mod query_depth;
 mod query_faults;
 mod query_table;
 mod refused;
+mod turns;
 mod values;
 
 use clap::Error;
