@@ -16,7 +16,6 @@ mod query_depth;
 mod query_faults;
 mod query_table;
 mod refused;
-mod turns;
 mod values;
 
 use clap::Error;

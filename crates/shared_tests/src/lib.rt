@@ -1,4 +1,4 @@
-//! Tests of scripts that run side by side: that they overlap, and what each is answered where their calls come in an order.
+//! Tests of several sessions of one core: in turns, and side by side on threads.
 #![tactic(auto)]
 
 #[cfg(test)]

@@ -1,6 +1,6 @@
 //! Two scripts meet, which only scripts on two threads can.
 
-use super::prints;
+use super::side_by_side::answer;
 use shared::Gate;
 use std::sync::atomic::{AtomicBool, Ordering};
 use std::test::Fail;
@@ -62,9 +62,9 @@ fn two_scripts_meet(rt: HostRuntime) -> Result<(), Fail> {
         first: Flag::new(),
         second: Flag::new(),
     };
-    let scripts = ["ROLLBACK;", "ROLLBACK;"];
-    let printed = "-- 1\n00000\n-- 2\n00000\n";
-    assert!(rt; prints(&rt, rt.alloc(), scripts, &flags, printed, 0));
+    let scripts: [&[&str]; 2] = [&["ROLLBACK"], &["ROLLBACK"]];
+    let printed = ["00000\n", "00000\n"];
+    assert!(rt; answer(&rt, rt.alloc(), scripts, &flags, printed));
     assert!(rt; flags.first.has_found() && flags.second.has_found());
     Ok(())
 }

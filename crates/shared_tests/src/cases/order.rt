@@ -1,9 +1,21 @@
 //! The calls of two scripts come in an order.
 
-use super::prints;
+use super::side_by_side::answer;
 use shared::Gate;
 use std::sync::{Condvar, Mutex, Wait};
 use std::test::Fail;
+
+/// The texts of the first script; the last one only tells that the one before it has ended.
+const FIRST: [&str; 5] = [
+    "CREATE TABLE T (A INTEGER)",
+    "COMMIT",
+    "INSERT INTO T VALUES (5)",
+    "ROLLBACK",
+    "ROLLBACK",
+];
+
+/// The texts of the second script.
+const SECOND: [&str; 2] = ["INSERT INTO T VALUES (6)", "INSERT INTO T VALUES (6)"];
 
 /// Lets the calls come in the order of their places. A call has ended when its script comes to its next one, so the first script has one more behind these.
 #[derive(Drop)]
@@ -63,12 +75,12 @@ fn place_of(script: usize, call: usize) -> usize {
 /// The second script may not store a row while the first has one that is not committed, and may once it is rolled back.
 #[test]
 fn one_script_writes_at_a_time(rt: HostRuntime) -> Result<(), Fail> {
-    let scripts = [
-        "CREATE TABLE T (A INTEGER); COMMIT; INSERT INTO T VALUES (5); ROLLBACK; ROLLBACK;",
-        "INSERT INTO T VALUES (6); INSERT INTO T VALUES (6);",
+    let scripts: [&[&str]; 2] = [&FIRST, &SECOND];
+    let printed = [
+        "00000\n00000\n00000 1\n00000\n00000\n",
+        "ERROR 40001\n00000 1\n",
     ];
-    let printed = "-- 1\n00000\n00000\n00000 1\n00000\n00000\n-- 2\nERROR 40001\n00000 1\n";
     let gate = InOrder::new(&rt);
-    assert!(rt; prints(&rt, rt.alloc(), scripts, &gate, printed, 1));
+    assert!(rt; answer(&rt, rt.alloc(), scripts, &gate, printed));
     Ok(())
 }

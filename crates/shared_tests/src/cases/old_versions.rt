@@ -1,0 +1,71 @@
+//! Sessions that read what they found while another one commits.
+
+use super::turns::Sessions;
+use list_store::{ListStore, Lists};
+use std::alloc::Global;
+use std::test::Fail;
+use store::Store;
+
+/// Whether a store has room for 64 sessions and no more, and the others read what they found while the first commits a row a thousand times.
+fn reads_on<S: Store>(alloc: Global, device: S::Device) -> bool {
+    match Sessions::<S>::new(alloc, device) {
+        Some(mut sessions) => {
+            all_begin(&mut sessions) && sessions.is_full() && others_read_on(&mut sessions)
+        }
+        None => false,
+    }
+}
+
+/// Whether 64 sessions begin.
+fn all_begin<S: Store>(sessions: &mut Sessions<S>) -> bool {
+    for place in 0..64usize {
+        if !sessions.begins(place) {
+            return false;
+        }
+    }
+    true
+}
+
+fn others_read_on<S: Store>(sessions: &mut Sessions<S>) -> bool {
+    sessions.says(0, "CREATE TABLE T (A INTEGER)", "00000\n")
+        && sessions.says(0, "INSERT INTO T VALUES (7)", "00000 1\n")
+        && sessions.says(0, "COMMIT", "00000\n")
+        && others_read(sessions)
+        && first_commits(sessions)
+        && others_read(sessions)
+        && sessions.says(0, "SELECT COUNT(*) FROM T", "1001\n(1 rows)\n")
+}
+
+/// Whether each session but the first finds one row.
+fn others_read<S: Store>(sessions: &mut Sessions<S>) -> bool {
+    for place in 1..64usize {
+        if !sessions.says(place, "SELECT A FROM T", "7\n(1 rows)\n") {
+            return false;
+        }
+    }
+    true
+}
+
+/// Whether the first session commits a row a thousand times.
+fn first_commits<S: Store>(sessions: &mut Sessions<S>) -> bool {
+    for _ in 0..1000u64 {
+        if !commits_a_row(sessions) {
+            return false;
+        }
+    }
+    true
+}
+
+fn commits_a_row<S: Store>(sessions: &mut Sessions<S>) -> bool {
+    sessions.says(0, "INSERT INTO T VALUES (8)", "00000 1\n")
+        && sessions.says(0, "COMMIT", "00000\n")
+}
+
+#[test]
+fn the_others_read_what_they_found_while_one_commits_a_thousand_times(
+    rt: HostRuntime,
+) -> Result<(), Fail> {
+    let alloc = rt.alloc();
+    assert!(rt; reads_on::<ListStore>(alloc, Lists::new(alloc)));
+    Ok(())
+}
