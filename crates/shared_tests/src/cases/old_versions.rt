@@ -1,6 +1,6 @@
 //! Sessions that read what they found while another one commits.
 
-use super::turns::Sessions;
+use super::turns::Seats;
 use list_store::{ListStore, Lists};
 use std::alloc::Global;
 use std::test::Fail;
@@ -8,38 +8,38 @@ use store::Store;
 
 /// Whether a store has room for 64 sessions and no more, and the others read what they found while the first commits a row a thousand times.
 fn reads_on<S: Store>(alloc: Global, device: S::Device) -> bool {
-    match Sessions::<S>::new(alloc, device) {
-        Some(mut sessions) => {
-            all_begin(&mut sessions) && sessions.is_full() && others_read_on(&mut sessions)
+    match Seats::<S>::new(alloc, device) {
+        Some(mut seats) => {
+            all_begin(&mut seats) && seats.is_full() && others_read_on(&mut seats)
         }
         None => false,
     }
 }
 
 /// Whether 64 sessions begin.
-fn all_begin<S: Store>(sessions: &mut Sessions<S>) -> bool {
+fn all_begin<S: Store>(seats: &mut Seats<S>) -> bool {
     for place in 0..64usize {
-        if !sessions.begins(place) {
+        if !seats.begins(place) {
             return false;
         }
     }
     true
 }
 
-fn others_read_on<S: Store>(sessions: &mut Sessions<S>) -> bool {
-    sessions.says(0, "CREATE TABLE T (A INTEGER)", "00000\n")
-        && sessions.says(0, "INSERT INTO T VALUES (7)", "00000 1\n")
-        && sessions.says(0, "COMMIT", "00000\n")
-        && others_read(sessions)
-        && first_commits(sessions)
-        && others_read(sessions)
-        && sessions.says(0, "SELECT COUNT(*) FROM T", "1001\n(1 rows)\n")
+fn others_read_on<S: Store>(seats: &mut Seats<S>) -> bool {
+    seats.says(0, "CREATE TABLE T (A INTEGER)", "00000\n")
+        && seats.says(0, "INSERT INTO T VALUES (7)", "00000 1\n")
+        && seats.says(0, "COMMIT", "00000\n")
+        && others_read(seats)
+        && first_commits(seats)
+        && others_read(seats)
+        && seats.says(0, "SELECT COUNT(*) FROM T", "1001\n(1 rows)\n")
 }
 
 /// Whether each session but the first finds one row.
-fn others_read<S: Store>(sessions: &mut Sessions<S>) -> bool {
+fn others_read<S: Store>(seats: &mut Seats<S>) -> bool {
     for place in 1..64usize {
-        if !sessions.says(place, "SELECT A FROM T", "7\n(1 rows)\n") {
+        if !seats.says(place, "SELECT A FROM T", "7\n(1 rows)\n") {
             return false;
         }
     }
@@ -47,18 +47,17 @@ fn others_read<S: Store>(sessions: &mut Sessions<S>) -> bool {
 }
 
 /// Whether the first session commits a row a thousand times.
-fn first_commits<S: Store>(sessions: &mut Sessions<S>) -> bool {
+fn first_commits<S: Store>(seats: &mut Seats<S>) -> bool {
     for _ in 0..1000u64 {
-        if !commits_a_row(sessions) {
+        if !commits_a_row(seats) {
             return false;
         }
     }
     true
 }
 
-fn commits_a_row<S: Store>(sessions: &mut Sessions<S>) -> bool {
-    sessions.says(0, "INSERT INTO T VALUES (8)", "00000 1\n")
-        && sessions.says(0, "COMMIT", "00000\n")
+fn commits_a_row<S: Store>(seats: &mut Seats<S>) -> bool {
+    seats.says(0, "INSERT INTO T VALUES (8)", "00000 1\n") && seats.says(0, "COMMIT", "00000\n")
 }
 
 #[test]

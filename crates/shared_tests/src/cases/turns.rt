@@ -21,17 +21,17 @@ pub(super) enum Turn {
 
 /// Sessions of a core, by their places, and what was printed of the last reply.
 #[derive(Drop)]
-pub(super) struct Sessions<S: Store> {
+pub(super) struct Seats<S: Store> {
     core: Core<S>,
     begun: Vec<SessionId>,
     printed: Vec<u8>,
 }
 
-impl<S: Store> Sessions<S> {
+impl<S: Store> Seats<S> {
     /// None yet, over a device.
-    pub(super) fn new(alloc: Global, device: S::Device) -> Option<Sessions<S>> {
+    pub(super) fn new(alloc: Global, device: S::Device) -> Option<Seats<S>> {
         match (opened::<S>(alloc, device), room(alloc), room(alloc)) {
-            (Ok(core), Ok(begun), Ok(printed)) => Some(Sessions {
+            (Ok(core), Ok(begun), Ok(printed)) => Some(Seats {
                 core,
                 begun,
                 printed,
@@ -126,15 +126,15 @@ pub(super) fn go(alloc: Global, turns: &[Turn]) -> bool {
 
 /// Whether all turns over a device go as they say.
 fn go_over<S: Store>(alloc: Global, device: S::Device, turns: &[Turn]) -> bool {
-    match Sessions::<S>::new(alloc, device) {
-        Some(mut sessions) => all_go(&mut sessions, turns),
+    match Seats::<S>::new(alloc, device) {
+        Some(mut seats) => all_go(&mut seats, turns),
         None => false,
     }
 }
 
-fn all_go<S: Store>(sessions: &mut Sessions<S>, turns: &[Turn]) -> bool {
+fn all_go<S: Store>(seats: &mut Seats<S>, turns: &[Turn]) -> bool {
     for turn in turns {
-        if !sessions.takes(turn) {
+        if !seats.takes(turn) {
             return false;
         }
     }
