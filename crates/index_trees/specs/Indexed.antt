@@ -59,6 +59,10 @@ pub record IndexWritten (old new : PageMap) (owned columns : List ℕ) (rows : L
 abbrev pub HoldsNoIndexIn : PageMap → ℕ → List ℕ → Type 0 → Type 0
 HoldsNoIndexIn pages root columns Whole = (owned : List ℕ) (rows : List stored.Entry) → HoldsIndex pages root owned columns rows → Whole → ⊥
 
+-- no index of rows with this one lies there in a space whose list of free pages is one
+abbrev pub HoldsNoRowIn : PageMap → ℕ → List ℕ → stored.Entry → Type 0 → Type 0
+HoldsNoRowIn pages root columns one Whole = (owned : List ℕ) (others rows : List stored.Entry) → HoldsIndex pages root owned columns rows → AreWith one others rows → Whole → ⊥
+
 -- Why a change of an index may be refused, with what is known where it was for damage and with the counts of refused device calls before and after: as a change of
 -- pages is, and where a row's key is too long.
 abbrev pub MayRefuse : (Fault → Type 0) → Type 0 → ℕ → ℕ → List ℕ → Row → IndexError → Type 0

@@ -8,6 +8,9 @@ use btree_read::{Entry, seek};
 use page_space::{Fault, PageReader};
 use std::alloc::Global;
 
+/// The least number that no row may have.
+pub(crate) const NUMBERS: u64 = 1 << 63;
+
 /// Whether no entry was found.
 fn is_absent(found: &Option<Entry>) -> bool
     ensures none { result ≡ true → found.now ≡ None }
@@ -38,8 +41,30 @@ fn ends_before<R: PageReader>(
     Ok(is_absent(&found))
 }
 
-/// The number of the next row of the tree at a root: 0 where there are no rows, else one more than the greatest number. A tree is
-/// read from its least key on, so the number is looked for twice as far each time, and by halves once no row is found there.
+/// The number of the next row of the tree at a root, and 2^63 where greater keys lie there, too. A tree is read from its least key
+/// on, so the number is looked for twice as far each time, and by halves once no row is found there.
+fn number_behind<R: PageReader>(space: &mut R, alloc: Global, root: u32) -> Result<u64, Fault>
+    ensures found { (owned : List ℕ) (rows : List stored.Entry) → HoldsRows (R.pages space.old) root owned rows → IfOk result (λ number. number ≡ stored.next_number rows) }
+    ensures same { R.pages space.new ≡ R.pages space.old }
+    ensures whole { R.is_whole space.old → R.is_whole space.new }
+    ensures refusal { IfErr result (ReadRefused (HoldsNoRows (R.pages space.old) root) (R.refused space.old) (R.refused space.new)) }
+    ensures rising { R.refused space.old ≤ R.refused space.new }
+    ensures follows { R.follows space.old space.new }
+{
+    let mut low: u64 = 0;
+    let mut high: u64 = NUMBERS;
+    'halved: while low < high {
+        let middle = (low + (high - low) / 2).min(2 * low);
+        if ends_before(space, alloc, root, middle)? {
+            high = middle;
+        } else {
+            low = middle + 1;
+        }
+    }
+    Ok(low)
+}
+
+/// The number of the next row of the tree at a root: 0 where there are no rows, else one more than the greatest number.
 ///
 /// Refused as `scan` is.
 pub fn next_number<R: PageReader>(space: &mut R, alloc: Global, root: u32) -> Result<u64, Fault>
@@ -50,15 +75,12 @@ pub fn next_number<R: PageReader>(space: &mut R, alloc: Global, root: u32) -> Re
     ensures rising { R.refused space.old ≤ R.refused space.new }
     ensures follows { R.follows space.old space.new }
 {
-    let mut low: u64 = 0;
-    let mut high: u64 = 1 << 63;
-    'halved: while low < high {
-        let middle = (low + (high - low) / 2).min(2 * low);
-        if ends_before(space, alloc, root, middle)? {
-            high = middle;
-        } else {
-            low = middle + 1;
-        }
+    let number = number_behind(space, alloc, root)?;
+    if number < NUMBERS {
+        return Ok(number);
     }
-    Ok(low)
+    if ends_before(space, alloc, root, number)? {
+        return Ok(number);
+    }
+    Err(Fault::Damaged)
 }

@@ -1,7 +1,7 @@
 use Rattle.std.proofs.Common.{◌≡◌, ℕ, ◌-◌, ◌^◌, ◌≤◌, List}
 use Rattle.store.specs.Contents as stored
 use Rattle.tablestore.specs.Held.{HoldsRows}
-use Rattle.tablestore.proofs.number.next_number.Given as goal
+use Rattle.tablestore.proofs.number.number_behind.Given as goal
 
 abbrev pub invariant-halved : goal.invariant-halved
 invariant-halved g l = record {
