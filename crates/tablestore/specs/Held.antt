@@ -27,10 +27,10 @@ pub record IsKept (e : stored.Entry) : Type 0 where
 abbrev pub AreKept : List stored.Entry → Type 0
 AreKept rows = AllByRecursion IsKept rows
 
--- the entry's key has the length of a row number's code, and this is a number that a row may have
+-- the entry's key is the code of this number, which a row may have
 pub record IsNumbered (entry : Entry) (number : ℕ) : Type 0 where
-  pub long : length entry.key ≡ 8
   pub below : number < 2 ^ 63
+  pub code : entry.key ≡ number_code number
 
 -- the tree at the root has just these rows
 pub record HoldsRows (pages : PageMap) (root : ℕ) (owned : List ℕ) (rows : List stored.Entry) : Type 0 where

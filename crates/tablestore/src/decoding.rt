@@ -1,5 +1,5 @@
 //! Rows from the entries of a tree.
-ghost use Rattle.std.specs.Prelude.{◌≡◌, ◌<◌, ◌^◌, List, ℕ, Option, Some, length, IfOk, IfSome};
+ghost use Rattle.std.specs.Prelude.{◌≡◌, ◌<◌, ◌^◌, List, ℕ, Option, Some, IfOk, IfSome};
 ghost use Rattle.std.specs.Option.{option_map};
 ghost use Rattle.sqlval.specs.Value.{Row as AnyRow};
 ghost use Rattle.sqlrecord.specs.Key.{number_code};
@@ -23,7 +23,7 @@ const KEY_BYTES: usize = 8;
 fn number_of(key: &[u8]) -> Option<u64>
     ensures kept { (n : ℕ) → n < 2 ^ 63 → key.now ≡ number_code n → result ≡ Some n }
     ensures below { IfSome result (λ n. n < 2 ^ 63) }
-    ensures long { IfSome result (λ _. length key.now ≡ 8) }
+    ensures code { IfSome result (λ n. key.now ≡ number_code n) }
 {
     if key.len() != KEY_BYTES {
         return None;
