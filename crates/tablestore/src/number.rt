@@ -2,7 +2,9 @@
 ghost use Rattle.std.specs.Prelude.{◌≡◌, ◌≤◌, ◌<◌, ◌^◌, ℕ, List, true, false, None, IsSome, IfOk, IfErr};
 ghost use Rattle.store.specs.Contents as stored;
 ghost use Rattle.page_space.specs.Space.{ReadRefused};
-ghost use Rattle.tablestore.specs.Held.{HoldsRows, HoldsNoRows};
+ghost use Rattle.btree_read.specs.declared.entry.Entry.{Entry as AnyEntry};
+ghost use Rattle.btree_read.specs.Tree.{IsTree};
+ghost use Rattle.tablestore.specs.Held.{HoldsRows, HoldsNoRows, ArePast};
 
 use btree_read::{Entry, seek};
 use page_space::{Fault, PageReader};
@@ -31,6 +33,7 @@ fn ends_before<R: PageReader>(
 ) -> Result<bool, Fault>
     ensures none { (owned : List ℕ) (rows : List stored.Entry) → HoldsRows (R.pages space.old) root owned rows → IfOk result (λ ends. ends ≡ true → stored.next_number rows ≤ number) }
     ensures some { (owned : List ℕ) (rows : List stored.Entry) → HoldsRows (R.pages space.old) root owned rows → IfOk result (λ ends. ends ≡ false → number < stored.next_number rows) }
+    ensures past { (owned : List ℕ) (entries : List AnyEntry) → IsTree (R.pages space.old) root owned entries → IfOk result (λ ends. ends ≡ true → ArePast entries number) }
     ensures same { R.pages space.new ≡ R.pages space.old }
     ensures whole { R.is_whole space.old → R.is_whole space.new }
     ensures refusal { IfErr result (ReadRefused (HoldsNoRows (R.pages space.old) root) (R.refused space.old) (R.refused space.new)) }
@@ -45,6 +48,7 @@ fn ends_before<R: PageReader>(
 /// on, so the number is looked for twice as far each time, and by halves once no row is found there.
 fn number_behind<R: PageReader>(space: &mut R, alloc: Global, root: u32) -> Result<u64, Fault>
     ensures found { (owned : List ℕ) (rows : List stored.Entry) → HoldsRows (R.pages space.old) root owned rows → IfOk result (λ number. number ≡ stored.next_number rows) }
+    ensures past { (owned : List ℕ) (entries : List AnyEntry) → IsTree (R.pages space.old) root owned entries → IfOk result (λ number. number < 2 ^ 63 → ArePast entries number) }
     ensures same { R.pages space.new ≡ R.pages space.old }
     ensures whole { R.is_whole space.old → R.is_whole space.new }
     ensures refusal { IfErr result (ReadRefused (HoldsNoRows (R.pages space.old) root) (R.refused space.old) (R.refused space.new)) }
@@ -64,11 +68,13 @@ fn number_behind<R: PageReader>(space: &mut R, alloc: Global, root: u32) -> Resu
     Ok(low)
 }
 
-/// The number of the next row of the tree at a root: 0 where there are no rows, else one more than the greatest number.
+/// The number of the next row of the tree at a root: 0 where there are no rows, else one more than the greatest number. Of whatever
+/// tree lies there, no key is the code of this number, or comes behind it.
 ///
 /// Refused as `scan` is.
 pub fn next_number<R: PageReader>(space: &mut R, alloc: Global, root: u32) -> Result<u64, Fault>
     ensures found { (owned : List ℕ) (rows : List stored.Entry) → HoldsRows (R.pages space.old) root owned rows → IfOk result (λ number. number ≡ stored.next_number rows) }
+    ensures past { (owned : List ℕ) (entries : List AnyEntry) → IsTree (R.pages space.old) root owned entries → IfOk result (ArePast entries) }
     ensures same { R.pages space.new ≡ R.pages space.old }
     ensures whole { R.is_whole space.old → R.is_whole space.new }
     ensures refusal { IfErr result (ReadRefused (HoldsNoRows (R.pages space.old) root) (R.refused space.old) (R.refused space.new)) }

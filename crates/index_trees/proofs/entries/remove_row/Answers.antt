@@ -1,7 +1,8 @@
-use Rattle.std.proofs.Common.{◌∙◌}
+use Rattle.std.proofs.Common.{IsSome, subst, ◌∙◌}
+use Rattle.btree_read.specs.Sorted.{get_of}
 use Rattle.btree.specs.Overfull.{IsNoTreeIn}
 use Rattle.index_trees.specs.Indexed.{HoldsNoRowIn}
-use Rattle.index_trees.proofs.EntryLemmas.{index_removed, index_absent}
+use Rattle.index_trees.proofs.EntryLemmas.{index_removed, index_absent, entry_was}
 use Rattle.index_trees.proofs.RefusalLemmas.{key_refused, space_refused}
 use Rattle.index_trees.proofs.entries.remove_row.Goals as goal
 
@@ -22,3 +23,8 @@ returns-in-Err-clause-refusal g c =
     space_refused (g.S.PageSpace.at_limit c.remove.new.space) (IsNoTreeIn (g.S.PageReader.pages c.args.space.now) c.args.root (g.S.PageReader.is_whole c.args.space.now))
     (HoldsNoRowIn (g.S.PageReader.pages c.args.space.now) c.args.root c.args.columns.now (c.args.number, c.args.row.now) (g.S.PageReader.is_whole c.args.space.now))
     _ _ c.in-Err.fault (λ none owned others rows held more whole. none owned held.entries held.tree whole) c.in-Err.ensures.refusal
+
+pub returns-in-Ok-Some-clause-there : goal.returns-in-Ok-Some-clause-there
+returns-in-Ok-Some-clause-there g c = λ owned entries tree.
+    let key = c.as_slice.ensures ∙ c.in_ok-code.ensures.code in
+    subst (λ k. IsSome (get_of k entries)) key (entry_was _ _ _ _ owned entries _ tree (rw c.in-Ok-Some.field-0-is at c.in-Ok-Some.ensures.removes owned entries tree))

@@ -11,5 +11,6 @@ halved-init g c = record {
   top = omega arith;
   order = omega arith;
   least = λ owned rows held. omega arith;
+  past = λ owned entries tree below. absurd (omega (arith, below));
   most = λ owned rows held. next_bounded rows held.kept;
 }
