@@ -7,7 +7,6 @@ ghost use Rattle.sqlrecord.specs.declared.kind.PageKind.TheVariants.{Inner as in
 ghost use Rattle.sqlrecord.specs.Page.{two_at, four_at, kind_byte, count_of, offset_of, length_of, cell_of, cells_of, lowest_of, key_length_of, key_of, IsCell, AreCells, HasHead, HasSlots, AreApart, IsApart, IsSound};
 
 use crate::{PAGE_SIZE, PageKind};
-use std::cmp::Ordering;
 
 /// The number in two bytes.
 pub(crate) fn two(bytes: &[u8], at: usize) -> usize
@@ -159,7 +158,19 @@ pub(crate) fn key_in(cell: &[u8]) -> &[u8]
 pub(crate) fn precedes(a: &[u8], b: &[u8]) -> bool
     ensures { result ≡ is_lt (byte_order a.now b.now) }
 {
-    a.cmp(b) == Ordering::Less
+    let mut ours = a;
+    let mut theirs = b;
+    'compared: while let Some((one, rest)) = ours.split_first() {
+        let Some((other, behind)) = theirs.split_first() else {
+            return false;
+        };
+        if one != other {
+            return one < other;
+        }
+        ours = rest;
+        theirs = behind;
+    }
+    !theirs.is_empty()
 }
 
 /// Whether each cell is formed as its kind asks, and the keys rise.
