@@ -1,9 +1,8 @@
 use Rattle.std.proofs.Common.{IsSome, subst, ◌∙◌}
 use Rattle.btree_read.specs.Sorted.{get_of}
-use Rattle.btree.specs.Overfull.{IsNoTreeIn}
 use Rattle.index_trees.specs.Indexed.{HoldsNoRowIn}
 use Rattle.index_trees.proofs.EntryLemmas.{index_removed, index_absent, entry_was}
-use Rattle.index_trees.proofs.RefusalLemmas.{key_refused, space_refused}
+use Rattle.index_trees.proofs.RefusalLemmas.{key_refused}
 use Rattle.index_trees.proofs.entries.remove_row.Goals as goal
 
 pub returns-in_err-code-clause-refusal : goal.returns-in_err-code-clause-refusal
@@ -17,12 +16,6 @@ returns-in-Ok-Some-clause-removed g c = λ owned others rows held more.
 pub returns-in-Ok-None-clause-refusal : goal.returns-in-Ok-None-clause-refusal
 returns-in-Ok-None-clause-refusal g c = λ owned others rows held more whole.
     index_absent _ _ owned c.args.columns.now _ others rows _ (c.as_slice.ensures ∙ c.in_ok-code.ensures.code) held more (rw c.in-Ok-None.field-0-is at c.in-Ok-None.ensures.removes owned held.entries held.tree).0
-
-pub returns-in-Err-clause-refusal : goal.returns-in-Err-clause-refusal
-returns-in-Err-clause-refusal g c =
-    space_refused (g.S.PageSpace.at_limit c.remove.new.space) (IsNoTreeIn (g.S.PageReader.pages c.args.space.now) c.args.root (g.S.PageReader.is_whole c.args.space.now))
-    (HoldsNoRowIn (g.S.PageReader.pages c.args.space.now) c.args.root c.args.columns.now (c.args.number, c.args.row.now) (g.S.PageReader.is_whole c.args.space.now))
-    _ _ c.in-Err.fault (λ none owned others rows held more whole. none owned held.entries held.tree whole) c.in-Err.ensures.refusal
 
 pub returns-in-Ok-Some-clause-there : goal.returns-in-Ok-Some-clause-there
 returns-in-Ok-Some-clause-there g c = λ owned entries tree.
