@@ -1,6 +1,6 @@
 //! Whether a page is sound.
 
-ghost use Rattle.std.specs.Prelude.{◌≡◌, ◌+◌, ◌*◌, ◌<◌, ◌≤◌, ◌↔◌, ◌^◌, ℕ, [], ◌∷◌, length, IsTrue, IsOk};
+ghost use Rattle.std.specs.Prelude.{◌≡◌, ◌+◌, ◌*◌, ◌<◌, ◌≤◌, ◌↔◌, ◌^◌, ℕ, [], ◌∷◌, length, true, IsTrue, IsOk, IfSome, IsNone};
 ghost use Rattle.std.specs.Ordering.{is_lt};
 ghost use Rattle.sqlrecord.specs.Key.{byte_order};
 ghost use Rattle.sqlrecord.specs.declared.kind.PageKind.TheVariants.{Inner as inner_kind};
@@ -43,23 +43,44 @@ fn has_head(page: &[u8], kind: PageKind) -> bool
     page[0] == byte_of(kind) && page[1] == 0 && two(page, 6) == 0 && four(page, 12) == 0
 }
 
-/// Whether the slots lie in the page, and each cell in it behind them.
-fn has_slots(page: &[u8]) -> bool
+/// What one walk over the slots of a page says of its cells.
+#[derive(Clone, Copy)]
+struct Places {
+    /// The lowest byte that a cell uses.
+    lowest: usize,
+    /// That each cell begins behind all those before it; where that is not so, they may overlap.
+    is_ascending: bool,
+}
+
+/// The places of a page's cells, where the slots lie in the page, and each cell in it behind them.
+fn places_of(page: &[u8]) -> Option<Places>
     requires { length page.now ≡ 4096 }
-    ensures { IsTrue result ↔ HasSlots page.now }
+    ensures slots { IfSome result (λ places. HasSlots page.now) }
+    ensures lowest { IfSome result (λ places. places.lowest ≡ lowest_of page.now (count_of page.now)) }
+    ensures apart { IfSome result (λ places. places.is_ascending ≡ true → IsApart page.now) }
+    ensures others { IsNone result → HasSlots page.now → ⊥ }
 {
     let count = two(page, 2);
     if 16 + 4 * count > PAGE_SIZE {
-        return false;
+        return None;
     }
+    let mut lowest = PAGE_SIZE;
+    let mut past = 0;
+    let mut is_ascending = true;
     for i in 0..count {
         let offset = two(page, 16 + 4 * i);
         let length = two(page, 18 + 4 * i);
         if offset < 16 + 4 * count || offset + length > PAGE_SIZE {
-            return false;
+            return None;
         }
+        lowest = lowest.min(offset);
+        is_ascending = is_ascending && past <= offset;
+        past = past.max(offset + length);
     }
-    true
+    Some(Places {
+        lowest,
+        is_ascending,
+    })
 }
 
 /// Where a cell begins and ends.
@@ -106,19 +127,6 @@ fn is_apart(page: &[u8]) -> bool
         past = past.max(end);
     }
     true
-}
-
-/// Whether the lowest byte used by a cell is as the page says.
-fn has_lowest(page: &[u8]) -> bool
-    requires size { length page.now ≡ 4096 }
-    requires slots { HasSlots page.now }
-    ensures { IsTrue result ↔ (two_at page.now 4 ≡ lowest_of page.now (count_of page.now)) }
-{
-    let mut lowest = PAGE_SIZE;
-    for i in 0..two(page, 2) {
-        lowest = lowest.min(two(page, 16 + 4 * i));
-    }
-    two(page, 4) == lowest
 }
 
 /// The cell of a slot.
@@ -180,14 +188,17 @@ fn has_cells(page: &[u8], kind: PageKind) -> bool
     requires slots { HasSlots page.now }
     ensures { IsTrue result ↔ AreCells kind (cells_of page.now) }
 {
+    let mut before: &[u8] = &[];
     for i in 0..two(page, 2) {
         let cell = cell_in(page, i);
         if !is_cell(cell, kind) {
             return false;
         }
-        if i > 0 && !precedes(key_in(cell_in(page, i - 1)), key_in(cell)) {
+        let key = key_in(cell);
+        if i > 0 && !precedes(before, key) {
             return false;
         }
+        before = key;
     }
     true
 }
@@ -197,9 +208,13 @@ pub(crate) fn is_sound(page: &[u8], kind: PageKind) -> bool
     requires { length page.now ≡ 4096 }
     ensures { IsTrue result ↔ IsSound page.now kind }
 {
-    has_head(page, kind)
-        && has_slots(page)
-        && is_apart(page)
-        && has_lowest(page)
-        && has_cells(page, kind)
+    match places_of(page) {
+        None => false,
+        Some(places) => {
+            has_head(page, kind)
+                && two(page, 4) == places.lowest
+                && (places.is_ascending || is_apart(page))
+                && has_cells(page, kind)
+        }
+    }
 }

@@ -1,4 +1,4 @@
-use Rattle.std.proofs.Common.{◌≡◌, ◌∙◌, ◌<◌, ap, true, false}
+use Rattle.std.proofs.Common.{◌≡◌, ◌∙◌, ◌+◌, ◌-◌, ◌<◌, ap, true, false, arith}
 use Rattle.sqlrecord.specs.Page.{count_of, key_of}
 use Rattle.sqlrecord.proofs.PageLemmas.{not_formed, not_rising}
 use Rattle.sqlrecord.proofs.sound.has_cells.Goals as goal
@@ -14,6 +14,6 @@ pub returns-then-not-precedes : goal.returns-then-not-precedes
 returns-then-not-precedes c =
     let within : c.loop-i.i < count_of c.args.page.now = rw c.two-i-end.ensures.value at c.loop-i-test.true in (
       λ wrong. absurd (let no : false ≡ true = wrong in cc no),
-      λ cells. absurd (not_rising c.args.page.now _ _ _ _ c.if-i-gt0.true within (c.key_in.ensures ∙ ap key_of c.cell_in.ensures) (c.key_in-then-i-gt0.ensures ∙ ap key_of c.cell_in-cell.ensures)
+      λ cells. absurd (not_rising c.args.page.now _ _ _ _ c.if-i-gt0.true within (c.loop-i.invariant.kept (c.loop-i.i - 1) (let one : c.loop-i.i - 1 + 1 ≡ c.loop-i.i = omega (arith, c.if-i-gt0.true) in one)) (c.key_in-key.ensures ∙ ap key_of c.cell_in-cell.ensures)
           (λ rises. let yes : c.precedes.result ≡ true = c.precedes.ensures ∙ rises in cc (yes, c.if-not-precedes.true)) cells),
     )
