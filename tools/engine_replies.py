@@ -47,6 +47,7 @@ DEEP = [
 ]
 K_BEFORE = listed("5|'ab'|7", "-1|NULL|7", "6|'ab'|NULL")
 K_WITHOUT_ONE = listed("5|'ab'|7", "6|'ab'|NULL")
+K_WITH_ONE = listed("5|'ab'|7", "-1|NULL|7", "6|'ab'|NULL", "8|'cd'|9")
 INDEXED = [
     ("SELECT A, B, C FROM K;", K_BEFORE),
     ("UPDATE K SET C = 4 WHERE A = 7;", NONE),
@@ -125,6 +126,9 @@ INDEX_2 = [GOOD, GOOD, X, X, X, K_BEFORE, X, GOOD, X, GOOD, GOOD, GOOD]
 INDEX_3 = [GOOD, GOOD, X, X, X, K_BEFORE, X, X, X, GOOD, GOOD, GOOD]
 # A condition, or a place, that no table has: each change of rows comes across it.
 RULE = [MAYBE, X, X, X, X, (K_BEFORE, X), X, MAYBE, MAYBE, MAYBE, GOOD, MAYBE]
+# An index whose tree has no entries of its rows: whatever gives up a row comes across it. LEFT_ALONE: of columns that an UPDATE does not change.
+NO_ENTRIES = [MAYBE, MAYBE, MAYBE, X, X, (K_BEFORE, K_WITH_ONE, X), X, MAYBE, MAYBE, MAYBE, GOOD, MAYBE]
+LEFT_ALONE = [MAYBE, MAYBE, MAYBE, MAYBE, X, (ANSWERED, X), X, MAYBE, MAYBE, MAYBE, GOOD, MAYBE]
 # What no statement here needs: whether it is found is open.
 UNUSED = [MAYBE] * 12
 
@@ -280,16 +284,16 @@ REPLIES = {
     "owner_past_the_end": UNUSED,
     "owner_is_a_check": UNUSED,
     "owner_is_not_null": UNUSED,
-    "owner_of_other_columns": UNUSED,
+    "owner_of_other_columns": LEFT_ALONE,
     "owner_negative": SCHEMA,
     "name_and_owner": UNUSED,
     "neither_name_nor_owner": [MAYBE, MAYBE, MAYBE, MAYBE, MAYBE, MAYBE, MAYBE, (NAME, X), MAYBE, MAYBE, GOOD, MAYBE],
     "index_of_a_column_past_the_end": [MAYBE, MAYBE, X, X, X, (K_BEFORE, X), X, MAYBE, MAYBE, MAYBE, GOOD, MAYBE],
     "index_left_out": SCHEMA,
     "index_at_a_table": [MAYBE, MAYBE, X, X, X, (K_BEFORE, X), X, MAYBE, MAYBE, MAYBE, GOOD, MAYBE],
-    "index_at_an_index": UNUSED,
+    "index_at_an_index": NO_ENTRIES,
     "index_past_the_end": INDEX_3,
-    "index_without_a_tree": [MAYBE, MAYBE, MAYBE, X, X, (ANSWERED, X), X, MAYBE, MAYBE, MAYBE, GOOD, MAYBE],
+    "index_without_a_tree": NO_ENTRIES,
     "entry_left_out": [GOOD, GOOD, GOOD, GOOD, (NONE, X), listed("5|'ab'|3", "-1|NULL|7", "6|'ab'|NULL", "8|'cd'|9"), X, GOOD, GOOD, GOOD, GOOD, GOOD],
     "entry_of_no_row": [GOOD, X, GOOD, GOOD, GOOD, GOOD, GOOD, GOOD, GOOD, GOOD, GOOD, GOOD],
     "entry_of_another_value": [GOOD, GOOD, GOOD, GOOD, GOOD, GOOD, X, GOOD, GOOD, GOOD, GOOD, GOOD],
@@ -312,8 +316,6 @@ REPLIES = {
 # What the engine answers otherwise today, and why: each of these is to be mended, and to leave this list then.
 PLACES = "the places of columns in a constraint or an index are not compared with the columns of the table"
 TEXTS = "the text of a CHECK that cannot be read counts as want of memory"
-ENTRIES = "an entry that is not there is passed over where an index gives it up"
-KEYS = "of a key in a table's tree the last 8 bytes are taken for the row number, however long it is"
 KNOWN = {
     "column_of_a_constraint_past_the_end": PLACES,
     "index_of_a_column_past_the_end": PLACES,
@@ -325,14 +327,4 @@ KNOWN = {
     "check_of_no_column": TEXTS,
     "check_that_is_no_condition": TEXTS,
     "check_with_a_subquery": TEXTS,
-    "key_that_owns_two": ENTRIES,
-    "index_without_a_tree": ENTRIES,
-    "entry_left_out": ENTRIES,
-    "entry_of_another_value": ENTRIES,
-    "entry_of_another_row": ENTRIES,
-    "key_of_601_bytes": KEYS,
-    "row_number_of_9_bytes": KEYS,
-    "row_number_2_to_63": KEYS,
-    "root_of_a_table_is_the_catalogue": KEYS,
-    "index_at_a_table": KEYS,
 }

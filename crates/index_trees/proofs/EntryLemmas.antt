@@ -185,6 +185,17 @@ index_absent old root owned columns one others rows key is held more none =
     let there = stands_found held.entries (index_entry columns one) (root_ascends old root owned held.entries held.tree) (held.each one more.there) in
     let bad : Some [] ≡ None = sym there ∙ ap (λ k. get_of k held.entries) (sym is) ∙ none in absurd (cc)
 
+stands_between : (before after : List Entry) (x : Entry) → Stands x (before ++ x ∷ after)
+stands_between [] after x = inl refl
+stands_between (e ∷ before) after x = inr (stands_between before after x)
+
+-- what was taken out was there
+pub entry_was : (old new : PageMap) (root top : ℕ) (owned : List ℕ) (entries : List Entry) (key : Key) → IsTree old root owned entries → IsRemoved old new owned entries key top → IsSome (get_of key entries)
+entry_was old new root top owned entries key tree w =
+    let x : Entry = record { key = key; value = w.less.value } in
+    let at : Stands x entries = subst (Stands x) (sym w.less.parts) (stands_between w.less.before w.less.after x) in
+    rw (stands_found entries x (root_ascends old root owned entries tree) at) refl
+
 -- ---- laws
 
 pub index_of_rows : (pages : PageMap) (root : ℕ) (owned columns : List ℕ) (rows others : List stored.Entry) → ((row : stored.Entry) → IsRow row rows → IsRow row others) → ((row : stored.Entry) → IsRow row others → IsRow row rows)

@@ -9,6 +9,7 @@ use Rattle.page_space.specs.Space.{PageMap, ChangeRefused}
 use Rattle.page_space.specs.declared.fault.Fault.{Fault}
 use Rattle.btree_read.specs.declared.entry.Entry.{Entry}
 use Rattle.btree_read.specs.Lists.{Has}
+use Rattle.btree_read.specs.Sorted.{get_of}
 use Rattle.btree_read.specs.Tree.{IsTree}
 use Rattle.index_trees.specs.declared.error.IndexError.{IndexError}
 use Rattle.index_trees.specs.declared.error.IndexError.TheVariants.{Space, Key}
@@ -58,6 +59,14 @@ pub record IndexWritten (old new : PageMap) (owned columns : List ℕ) (rows : L
 -- no index lies there in a space whose list of free pages is one
 abbrev pub HoldsNoIndexIn : PageMap → ℕ → List ℕ → Type 0 → Type 0
 HoldsNoIndexIn pages root columns Whole = (owned : List ℕ) (rows : List stored.Entry) → HoldsIndex pages root owned columns rows → Whole → ⊥
+
+-- no index of rows with this one lies there in a space whose list of free pages is one
+abbrev pub HoldsNoRowIn : PageMap → ℕ → List ℕ → stored.Entry → Type 0 → Type 0
+HoldsNoRowIn pages root columns one Whole = (owned : List ℕ) (others rows : List stored.Entry) → HoldsIndex pages root owned columns rows → AreWith one others rows → Whole → ⊥
+
+-- whatever tree lies at the root has the row's entry
+abbrev pub HasEntry : PageMap → ℕ → List ℕ → stored.Entry → Type 0
+HasEntry pages root columns one = (owned : List ℕ) (entries : List Entry) → IsTree pages root owned entries → IsSome (get_of (index_entry columns one).key entries)
 
 -- Why a change of an index may be refused, with what is known where it was for damage and with the counts of refused device calls before and after: as a change of
 -- pages is, and where a row's key is too long.

@@ -5,7 +5,7 @@ ghost use Rattle.sqlval.specs.CodedLength.{key_length};
 ghost use Rattle.sqlval.specs.Matching.{key_of as key_of_row};
 ghost use Rattle.store.specs.Contents as stored;
 ghost use Rattle.sqlrecord.specs.Key.{index_key_code};
-ghost use Rattle.index_trees.specs.Indexed.{HoldsIndex, AreWith, IndexWritten, HoldsNoIndexIn, MayRefuse};
+ghost use Rattle.index_trees.specs.Indexed.{HoldsIndex, AreWith, IndexWritten, HoldsNoIndexIn, HoldsNoRowIn, HasEntry, MayRefuse};
 ghost use Rattle.index_trees.specs.Refused.{IsOfKey};
 
 use crate::IndexError;
@@ -92,7 +92,8 @@ pub fn add_row<S: PageSpace>(
 /// Takes the entry of a row out of the index at a root over these columns, and answers the root; 0
 /// where it was the only one.
 ///
-/// Refused as `add_row` is.
+/// Refused as `add_row` is, and as damaged where the tree has no such entry: so only where no index of rows with this one
+/// lies there, or the list of free pages is none.
 pub fn remove_row<S: PageSpace>(
     space: &mut S,
     alloc: Global,
@@ -103,15 +104,16 @@ pub fn remove_row<S: PageSpace>(
 ) -> Result<u32, IndexError>
     ensures removed { (owned : List ℕ) (others rows : List stored.Entry) → HoldsIndex (S.pages space.old) root owned columns.now rows → AreWith (number, row.now) others rows
         → IfOk result (IndexWritten (S.pages space.old) (S.pages space.new) owned columns.now others) }
+    ensures there { OnOk result (HasEntry (S.pages space.old) root columns.now (number, row.now)) }
     ensures whole { OnOk result (S.is_whole space.old → S.is_whole space.new) }
-    ensures refusal { IfErr result (MayRefuse (S.at_limit space.new) (HoldsNoIndexIn (S.pages space.old) root columns.now (S.is_whole space.old)) (S.refused space.old) (S.refused space.new) columns.now row.now) }
+    ensures refusal { IfErr result (MayRefuse (S.at_limit space.new) (HoldsNoRowIn (S.pages space.old) root columns.now (number, row.now) (S.is_whole space.old)) (S.refused space.old) (S.refused space.new) columns.now row.now) }
     ensures rising { S.refused space.old ≤ S.refused space.new }
     ensures follows { S.follows space.old space.new }
 {
     let code = code_of(alloc, row, columns, number)?;
     match remove(space, alloc, root, code.as_slice()) {
         Ok(Some(top)) => Ok(top),
-        Ok(None) => Ok(root),
+        Ok(None) => Err(IndexError::Space(Fault::Damaged)),
         Err(fault) => Err(IndexError::Space(fault)),
     }
 }

@@ -1,3 +1,4 @@
+pub mod KeyLemmas
 pub mod DecodeLemmas
 pub mod NumberLemmas
 pub mod AppendLemmas

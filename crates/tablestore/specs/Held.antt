@@ -1,5 +1,5 @@
 -- Rows by their numbers, as the entries of a tree. Our own choice.
-use Rattle.std.specs.Prelude.{◌≡◌, ℕ, ◌<◌, ◌≤◌, ◌^◌, List, length, map, Result, Ok, Err}
+use Rattle.std.specs.Prelude.{◌≡◌, ℕ, ◌<◌, ◌≤◌, ◌^◌, List, length, map, None, Result, Ok, Err}
 use Rattle.std.specs.List.{AllByRecursion}
 use Rattle.store.specs.Contents as stored
 use Rattle.sqlrecord.specs.declared.error.DecodeError.{DecodeError}
@@ -9,6 +9,8 @@ use Rattle.sqlrecord.specs.Key.{number_code}
 use Rattle.sqlrecord.specs.Row.{row_code}
 use Rattle.page_space.specs.Space.{PageMap}
 use Rattle.btree_read.specs.declared.entry.Entry.{Entry}
+use Rattle.btree_read.specs.declared.entry.Start.TheVariants.{At}
+use Rattle.btree_read.specs.Sorted.{first_from}
 use Rattle.btree_read.specs.Tree.{IsTree}
 
 -- a row's number in 8 bytes, and its code
@@ -26,6 +28,15 @@ pub record IsKept (e : stored.Entry) : Type 0 where
 
 abbrev pub AreKept : List stored.Entry → Type 0
 AreKept rows = AllByRecursion IsKept rows
+
+-- the entry's key is the code of this number, which a row may have
+pub record IsNumbered (entry : Entry) (number : ℕ) : Type 0 where
+  pub below : number < 2 ^ 63
+  pub code : entry.key ≡ number_code number
+
+-- no key of these is the code of the number, or comes behind it
+abbrev pub ArePast : List Entry → ℕ → Type 0
+ArePast entries number = first_from At (number_code number) entries ≡ None
 
 -- the tree at the root has just these rows
 pub record HoldsRows (pages : PageMap) (root : ℕ) (owned : List ℕ) (rows : List stored.Entry) : Type 0 where

@@ -14,16 +14,13 @@ ghost use Rattle.tablestore.specs.Held.{HoldsRows};
 ghost use Rattle.tablestore.specs.Appended.{RowsWritten, HoldsNoRowsIn, MayRefuse, MayRefuseRow, NumbersEnd, IsOfRow};
 
 use crate::AppendError;
-use crate::number::next_number;
+use crate::number::{NUMBERS, next_number};
 use btree::insert;
 use denote::Row;
 use items::Items;
 use page_space::{Fault, PageSpace};
 use sqlrecord::{EncodeError, encode_row};
 use std::alloc::Global;
-
-/// The least number that no row may have.
-const NUMBERS: u64 = 1 << 63;
 
 /// The code of a row.
 fn code_of(alloc: Global, row: &Row) -> Result<Items<u8>, AppendError>

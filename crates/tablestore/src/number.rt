@@ -2,11 +2,16 @@
 ghost use Rattle.std.specs.Prelude.{◌≡◌, ◌≤◌, ◌<◌, ◌^◌, ℕ, List, true, false, None, IsSome, IfOk, IfErr};
 ghost use Rattle.store.specs.Contents as stored;
 ghost use Rattle.page_space.specs.Space.{ReadRefused};
-ghost use Rattle.tablestore.specs.Held.{HoldsRows, HoldsNoRows};
+ghost use Rattle.btree_read.specs.declared.entry.Entry.{Entry as AnyEntry};
+ghost use Rattle.btree_read.specs.Tree.{IsTree};
+ghost use Rattle.tablestore.specs.Held.{HoldsRows, HoldsNoRows, ArePast};
 
 use btree_read::{Entry, seek};
 use page_space::{Fault, PageReader};
 use std::alloc::Global;
+
+/// The least number that no row may have.
+pub(crate) const NUMBERS: u64 = 1 << 63;
 
 /// Whether no entry was found.
 fn is_absent(found: &Option<Entry>) -> bool
@@ -28,6 +33,7 @@ fn ends_before<R: PageReader>(
 ) -> Result<bool, Fault>
     ensures none { (owned : List ℕ) (rows : List stored.Entry) → HoldsRows (R.pages space.old) root owned rows → IfOk result (λ ends. ends ≡ true → stored.next_number rows ≤ number) }
     ensures some { (owned : List ℕ) (rows : List stored.Entry) → HoldsRows (R.pages space.old) root owned rows → IfOk result (λ ends. ends ≡ false → number < stored.next_number rows) }
+    ensures past { (owned : List ℕ) (entries : List AnyEntry) → IsTree (R.pages space.old) root owned entries → IfOk result (λ ends. ends ≡ true → ArePast entries number) }
     ensures same { R.pages space.new ≡ R.pages space.old }
     ensures whole { R.is_whole space.old → R.is_whole space.new }
     ensures refusal { IfErr result (ReadRefused (HoldsNoRows (R.pages space.old) root) (R.refused space.old) (R.refused space.new)) }
@@ -38,12 +44,11 @@ fn ends_before<R: PageReader>(
     Ok(is_absent(&found))
 }
 
-/// The number of the next row of the tree at a root: 0 where there are no rows, else one more than the greatest number. A tree is
-/// read from its least key on, so the number is looked for twice as far each time, and by halves once no row is found there.
-///
-/// Refused as `scan` is.
-pub fn next_number<R: PageReader>(space: &mut R, alloc: Global, root: u32) -> Result<u64, Fault>
+/// The number of the next row of the tree at a root, and 2^63 where greater keys lie there, too. A tree is read from its least key
+/// on, so the number is looked for twice as far each time, and by halves once no row is found there.
+fn number_behind<R: PageReader>(space: &mut R, alloc: Global, root: u32) -> Result<u64, Fault>
     ensures found { (owned : List ℕ) (rows : List stored.Entry) → HoldsRows (R.pages space.old) root owned rows → IfOk result (λ number. number ≡ stored.next_number rows) }
+    ensures past { (owned : List ℕ) (entries : List AnyEntry) → IsTree (R.pages space.old) root owned entries → IfOk result (λ number. number < 2 ^ 63 → ArePast entries number) }
     ensures same { R.pages space.new ≡ R.pages space.old }
     ensures whole { R.is_whole space.old → R.is_whole space.new }
     ensures refusal { IfErr result (ReadRefused (HoldsNoRows (R.pages space.old) root) (R.refused space.old) (R.refused space.new)) }
@@ -51,7 +56,7 @@ pub fn next_number<R: PageReader>(space: &mut R, alloc: Global, root: u32) -> Re
     ensures follows { R.follows space.old space.new }
 {
     let mut low: u64 = 0;
-    let mut high: u64 = 1 << 63;
+    let mut high: u64 = NUMBERS;
     'halved: while low < high {
         let middle = (low + (high - low) / 2).min(2 * low);
         if ends_before(space, alloc, root, middle)? {
@@ -61,4 +66,27 @@ pub fn next_number<R: PageReader>(space: &mut R, alloc: Global, root: u32) -> Re
         }
     }
     Ok(low)
+}
+
+/// The number of the next row of the tree at a root: 0 where there are no rows, else one more than the greatest number. Of whatever
+/// tree lies there, no key is the code of this number, or comes behind it.
+///
+/// Refused as `scan` is.
+pub fn next_number<R: PageReader>(space: &mut R, alloc: Global, root: u32) -> Result<u64, Fault>
+    ensures found { (owned : List ℕ) (rows : List stored.Entry) → HoldsRows (R.pages space.old) root owned rows → IfOk result (λ number. number ≡ stored.next_number rows) }
+    ensures past { (owned : List ℕ) (entries : List AnyEntry) → IsTree (R.pages space.old) root owned entries → IfOk result (ArePast entries) }
+    ensures same { R.pages space.new ≡ R.pages space.old }
+    ensures whole { R.is_whole space.old → R.is_whole space.new }
+    ensures refusal { IfErr result (ReadRefused (HoldsNoRows (R.pages space.old) root) (R.refused space.old) (R.refused space.new)) }
+    ensures rising { R.refused space.old ≤ R.refused space.new }
+    ensures follows { R.follows space.old space.new }
+{
+    let number = number_behind(space, alloc, root)?;
+    if number < NUMBERS {
+        return Ok(number);
+    }
+    if ends_before(space, alloc, root, number)? {
+        return Ok(number);
+    }
+    Err(Fault::Damaged)
 }

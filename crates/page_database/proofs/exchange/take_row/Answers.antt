@@ -1,5 +1,5 @@
 use Rattle.store.specs.View.{entry_of}
-use Rattle.index_trees.specs.Indexed.{HoldsNoIndexIn}
+use Rattle.index_trees.specs.Indexed.{HoldsNoRowIn}
 use Rattle.page_database.specs.Exchanged.{HasTaken}
 use Rattle.page_database.proofs.SmallLemmas.{held_is_short}
 use Rattle.page_database.proofs.IndexLemmas.{taken_none, with_taken}
@@ -17,9 +17,9 @@ returns-in-Err-clause-limits g c = removal_reaches c.in-Err.error c.of_removal.r
 
 pub returns-in-Err-clause-refusal : goal.returns-in-Err-clause-refusal
 returns-in-Err-clause-refusal g c =
-    removal_refused c.in-Err.error c.of_removal.result (g.S.PageSpace.at_limit c.remove_row.new.space) (HoldsNoIndexIn (g.S.PageReader.pages c.args.space.now) c.args.root c.args.columns.now (g.S.PageReader.is_whole c.args.space.now))
+    removal_refused c.in-Err.error c.of_removal.result (g.S.PageSpace.at_limit c.remove_row.new.space) (HoldsNoRowIn (g.S.PageReader.pages c.args.space.now) c.args.root c.args.columns.now (entry_of c.in-Some.found) (g.S.PageReader.is_whole c.args.space.now))
     (HasTaken (g.S.PageReader.pages c.args.space.now) c.args.root c.args.columns.now c.args.taken.now → g.S.PageReader.is_whole c.args.space.now → ⊥)
     (g.S.PageReader.refused c.args.space.now) (g.S.PageReader.refused c.remove_row.new.space) c.args.columns.now c.in-Some.found.row c.of_removal.ensures
-    (λ none h whole. none h.owned h.held h.index whole)
+    (λ none h whole. none h.owned h.left h.held h.index (with_taken (g.S.PageReader.pages c.args.space.now) c.args.root c.args.columns.now c.args.taken.now c.in-Some.found c.in-Some.is h) whole)
     (λ long h whole. held_is_short (g.S.PageReader.pages c.args.space.now) c.args.root h.owned c.args.columns.now h.held (entry_of c.in-Some.found) h.index
     (with_taken (g.S.PageReader.pages c.args.space.now) c.args.root c.args.columns.now c.args.taken.now c.in-Some.found c.in-Some.is h).there long) c.in-Err.ensures.refusal

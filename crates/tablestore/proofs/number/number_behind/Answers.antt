@@ -1,6 +1,6 @@
 use Rattle.std.proofs.Common.{refl, arith}
 use Rattle.tablestore.proofs.NumberLemmas.{next_bounded}
-use Rattle.tablestore.proofs.number.next_number.Goals as goal
+use Rattle.tablestore.proofs.number.number_behind.Goals as goal
 
 pub halved-init : goal.halved-init
 halved-init g c = record {
@@ -11,5 +11,6 @@ halved-init g c = record {
   top = omega arith;
   order = omega arith;
   least = λ owned rows held. omega arith;
+  past = λ owned entries tree below. absurd (omega (arith, below));
   most = λ owned rows held. next_bounded rows held.kept;
 }

@@ -1,7 +1,9 @@
-use Rattle.std.proofs.Common.{◌≡◌, ℕ, ◌-◌, ◌^◌, ◌≤◌, List}
+use Rattle.std.proofs.Common.{◌≡◌, ℕ, ◌-◌, ◌^◌, ◌<◌, ◌≤◌, List}
 use Rattle.store.specs.Contents as stored
-use Rattle.tablestore.specs.Held.{HoldsRows}
-use Rattle.tablestore.proofs.number.next_number.Given as goal
+use Rattle.btree_read.specs.declared.entry.Entry.{Entry}
+use Rattle.btree_read.specs.Tree.{IsTree}
+use Rattle.tablestore.specs.Held.{HoldsRows, ArePast}
+use Rattle.tablestore.proofs.number.number_behind.Given as goal
 
 abbrev pub invariant-halved : goal.invariant-halved
 invariant-halved g l = record {
@@ -12,6 +14,7 @@ invariant-halved g l = record {
   top : l.high ≤ 2 ^ 63;
   order : l.low ≤ l.high;
   least : (owned : List ℕ) (rows : List stored.Entry) → HoldsRows (g.R.PageReader.pages l.fn.space) l.root owned rows → l.low ≤ stored.next_number rows;
+  past : (owned : List ℕ) (entries : List Entry) → IsTree (g.R.PageReader.pages l.fn.space) l.root owned entries → l.high < 2 ^ 63 → ArePast entries l.high;
   most : (owned : List ℕ) (rows : List stored.Entry) → HoldsRows (g.R.PageReader.pages l.fn.space) l.root owned rows → stored.next_number rows ≤ l.high;
 }
 

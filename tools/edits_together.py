@@ -1,0 +1,196 @@
+#!/usr/bin/env python3
+"""Tries wrong bodies in groups: edits of different functions by one check, each judged by the goals of its own function.
+
+  tools/edits_together.py [--outside] CRATE ..    tries the edits of must-fail/ and wrong-bodies/ of these crates, or of
+                                                  wrong-bodies/ alone, over the work that `rt check` kept in the crate's
+                                                  out/; so each crate has to be proved first. Prints a line for each edit;
+                                                  the last line is 'N refused, M not refused'
+
+Much quicker than ./wrong-bodies, which tries one edit at a time, and as strict: an edit counts as refused where a goal of
+its function stays open whose line does not only say that a proof file names what the edit took away. What is not told
+apart in a group (a function that calls another edited one, an edit of no function) is tried again with the rest, and at
+last by itself. GROUP=N in the environment tries N edits at a time, 16 where it is not given.
+"""
+import os
+import re
+import runpy
+import shutil
+import sys
+import tempfile
+
+TOP = os.path.dirname(os.path.dirname(os.path.realpath(__file__)))
+FOLDERS = ("must-fail", "wrong-bodies")
+FUNCTION = re.compile(r"^(\s*)(?:pub(?:\([a-z]+\))? )?(?:const )?(?:unsafe )?fn (\w+)")
+# What the toolchain says where an edit took away what a proof file names.
+TOOK_A_NAME = re.compile(r"(note: )?(\./)?proofs/.*(has no field|is not in scope|has no `|was not admitted)")
+IN_CODE = re.compile(r"(?:note: )?(?:\./)?(src/\S+?):(\d+):\d+: (.*)")
+IN_PROOF = re.compile(r"(?:note: )?(?:\./)?proofs/(\S+?):\d+:\d+: (.*)")
+
+
+class Function:
+    """A function of a file, with the lines that it takes."""
+
+    def __init__(self, name, first, last):
+        self.name, self.first, self.last = name, first, last
+
+
+def functions_of(text):
+    """The functions of a text, each from its head to the brace that ends its body."""
+    lines, found = text.split("\n"), []
+    for at, line in enumerate(lines):
+        head = FUNCTION.match(line)
+        if head:
+            ends = (it for it in range(at, len(lines)) if lines[it] == head[1] + "}" or lines[it].endswith("{}"))
+            found.append(Function(head[2], at + 1, next(ends, at) + 1))
+    return found
+
+
+class Edit:
+    """An edit, and the one function that it changes, where it changes one."""
+
+    def __init__(self, path, folder):
+        self.path, self.name, self.pairs, file, old = path, os.path.basename(path), [], "", ""
+        with open(path, encoding="utf-8") as it:
+            for line in it.read().split("\n"):
+                if line.startswith("file: "):
+                    file = line[len("file: "):].strip()
+                elif line.startswith("old: "):
+                    old = line[len("old: "):]
+                elif line.startswith("new:"):
+                    new = line[len("new:"):]
+                    self.pairs.append((file, old, new[1:] if new.startswith(" ") else new))
+        places = {self.place(folder, *pair) for pair in self.pairs}
+        self.file, self.first, self.last, self.function = places.pop() if len(places) == 1 else ("", 0, 0, "")
+
+    @staticmethod
+    def place(folder, file, old, _new):
+        """The function in which the old text stands."""
+        with open("%s/%s" % (folder, file), encoding="utf-8") as it:
+            text = it.read()
+        line = text[:max(text.find(old), 0)].count("\n") + 1
+        within = [it for it in functions_of(text) if it.first <= line <= it.last]
+        if not file.startswith("src/") or not within:
+            return "", 0, 0, ""
+        return file, within[-1].first, within[-1].last, within[-1].name
+
+    def applied(self, texts, folder):
+        """The texts with this edit too, or None where an old text does not stand there once."""
+        made = dict(texts)
+        for file, old, new in self.pairs:
+            if file not in made:
+                with open("%s/%s" % (folder, file), encoding="utf-8") as it:
+                    made[file] = it.read()
+            if made[file].count(old) != 1:
+                return None
+            made[file] = made[file].replace(old, new)
+        return made
+
+    def told(self, output):
+        """The lines of a check that say that something of this edit's function is not proved."""
+        module = [it for it in self.file[len("src/"):-len(".rt")].split("/") if it not in ("lib", "main", "mod")]
+        found = []
+        for line in output.split("\n"):
+            code, proof = IN_CODE.match(line), IN_PROOF.match(line)
+            if code:
+                is_goal = line.startswith("note: ") or code[3].startswith("error")
+                if is_goal and code[1] == self.file and self.first <= int(code[2]) <= self.last:
+                    found.append(line)
+            elif proof:
+                parts = proof[1].split("/")
+                if any(it.startswith("+") for it in parts):
+                    # the proofs of a cycle stand in one file, each goal under the name of its function
+                    if re.search(r"`(?:[\w+-]*-)?%s-" % re.escape(self.function), proof[2]):
+                        found.append(line)
+                elif self.function in parts and set(module) <= set(parts):
+                    found.append(line)
+        return found
+
+
+class Trial:
+    """The edits of one crate, tried over the work that its check kept."""
+
+    def __init__(self, toolchain, crate, folders):
+        self.toolchain, self.crate, self.verdicts = toolchain, crate, {}
+        self.folder, self.kept = crate.folder, crate.folder + "/out/incremental"
+        paths = ("%s/%s" % (crate.folder, it) for it in folders)
+        self.edits = [Edit("%s/%s" % (at, name), crate.folder) for at in paths if os.path.isdir(at) for name in sorted(os.listdir(at)) if name.endswith(".edit")]
+
+    def over_kept(self, call):
+        """What the call gives over a copy of the kept work."""
+        room = tempfile.mkdtemp(prefix="edits-")
+        try:
+            self.toolchain["linked"](self.kept, room + "/kept")
+            return call(room + "/kept")
+        finally:
+            shutil.rmtree(room, ignore_errors=True)
+
+    def say(self, edit, refused, why):
+        self.verdicts[edit.name] = refused
+        print("%s/%s: %s: %s" % (self.crate.name, edit.name, "refused" if refused else "NOT REFUSED", why[:200]), flush=True)
+
+    def group(self, left, most):
+        """Edits of different functions, with the texts that they make together."""
+        chosen, texts, taken = [], {}, set()
+        for edit in left:
+            key = edit.file, edit.first
+            made = None if key in taken or len(chosen) == most else edit.applied(texts, self.folder)
+            if made is not None:
+                chosen, texts, taken = [*chosen, edit], made, {*taken, key}
+        return chosen, texts
+
+    def try_group(self, edits, texts):
+        """Judges those of the edits that one check tells apart."""
+        ran = self.over_kept(lambda kept: self.toolchain["checked"](self.crate, texts, ["--jobs", "1"], kept))
+        if not ran.stdout.rstrip("\n").split("\n")[-1].startswith("logic="):
+            return
+        for edit in edits:
+            goal = next((it for it in edit.told(ran.stdout) if not TOOK_A_NAME.match(it)), None)
+            if goal:
+                self.say(edit, True, goal)
+
+    def try_alone(self, edit):
+        kind, said = self.over_kept(lambda kept: self.toolchain["must_fail"](self.crate, edit.path, ["--jobs", "1"], kept))
+        self.say(edit, kind == "refused" and "only because a proof file names" not in said, said)
+
+    def run(self, most):
+        left = [it for it in self.edits if it.file]
+        while left:
+            chosen, texts = self.group(left, most)
+            if len(chosen) < 2:
+                break
+            before = len(self.verdicts)
+            self.try_group(chosen, texts)
+            left = [it for it in left if it.name not in self.verdicts]
+            if len(self.verdicts) == before:
+                most = len(chosen) // 2
+            else:
+                # those that were not told apart go first next time
+                left.sort(key=lambda it: it not in chosen)
+        for edit in self.edits:
+            if edit.name not in self.verdicts:
+                self.try_alone(edit)
+
+
+def main(words):
+    folders = FOLDERS[1:] if "--outside" in words else FOLDERS
+    names = [it for it in words if not it.startswith("-")]
+    if not names or any(it in ("-h", "--help") for it in words):
+        print(__doc__, end="")
+        return 0 if words else 2
+    toolchain = runpy.run_path(os.path.realpath(shutil.which("rt")), run_name="toolchain")
+    os.chdir(TOP)
+    crates = {it.name: it for it in toolchain["rtlib"].crates_below(TOP)}
+    verdicts = []
+    for name in names:
+        if name not in crates or not os.path.isdir(crates[name].folder + "/out/incremental"):
+            print("%s: there is no such crate, or `rt check` has not proved it yet" % name, file=sys.stderr)
+            return 2
+        trial = Trial(toolchain, crates[name], folders)
+        trial.run(int(os.environ.get("GROUP", "16")))
+        verdicts += trial.verdicts.values()
+    print("%d refused, %d not refused" % (sum(verdicts), len(verdicts) - sum(verdicts)))
+    return 0 if all(verdicts) else 1
+
+
+if __name__ == "__main__":
+    sys.exit(main(sys.argv[1:]))
