@@ -1,9 +1,8 @@
 //! Scripts side by side over no tables.
 
-use engine::Sql;
+use engine::{Core, Sql};
 use list_store::{ListStore, Lists};
 use replies::print_reply;
-use sessions::{Changes, Core, Language};
 use shared::{Answers, Gate, run_scripts};
 use std::alloc::{AllocError, Global};
 use std::sync::Wait;
@@ -20,30 +19,16 @@ pub(super) fn answer<G: Gate + Sync, R: Threads + Wait + Sync>(
 ) -> bool {
     match both(alloc, scripts[0], scripts[1]) {
         Ok(scripts) => {
-            answer_over::<ListStore, Sql, G, R>(
-                rt,
-                alloc,
-                Sql,
-                Lists::new(alloc),
-                &scripts,
-                gate,
-                printed,
-            )
+            answer_over::<ListStore, G, R>(rt, alloc, Lists::new(alloc), &scripts, gate, printed)
         }
         Err(_) => false,
     }
 }
 
 /// The same over a device.
-fn answer_over<
-    S: Store + Send,
-    L: Language + Changes<S> + Send,
-    G: Gate + Sync,
-    R: Threads + Wait + Sync,
->(
+fn answer_over<S: Store + Send, G: Gate + Sync, R: Threads + Wait + Sync>(
     rt: &R,
     alloc: Global,
-    language: L,
     device: S::Device,
     scripts: &[Vec<Vec<u8>>],
     gate: &G,
@@ -52,7 +37,7 @@ fn answer_over<
 where
     S::Device: Send,
 {
-    match Core::<S, L>::open(alloc, language, device, 256) {
+    match Core::<S>::open(alloc, Sql, device, 256) {
         Ok(core) => match run_scripts(rt, alloc, core, scripts, gate) {
             Ok((_core, answers)) => are_printed(alloc, answers.as_slice(), printed),
             Err(_) => false,

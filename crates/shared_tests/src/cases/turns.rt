@@ -1,10 +1,10 @@
 //! Turns of several sessions over no tables.
 
-use engine::Sql;
+use engine::{Core, Sql};
 use list_store::{ListStore, Lists};
 use refusals::{Limit, Refusal};
 use replies::{Reply, print_reply};
-use sessions::{Changes, Core, Language, Refused, SessionId};
+use sessions::{Refused, SessionId};
 use std::alloc::{AllocError, Global};
 use store::Store;
 
@@ -21,13 +21,25 @@ pub(super) enum Turn {
 
 /// Sessions of a core, by their places, and what was printed of the last reply.
 #[derive(Drop)]
-pub(super) struct Seats<S: Store, L: Language + Changes<S>> {
-    core: Core<S, L>,
+pub(super) struct Seats<S: Store> {
+    core: Core<S>,
     begun: Vec<SessionId>,
     printed: Vec<u8>,
 }
 
-impl<S: Store, L: Language + Changes<S>> Seats<S, L> {
+impl<S: Store> Seats<S> {
+    /// None yet, over a device.
+    pub(super) fn new(alloc: Global, device: S::Device) -> Option<Seats<S>> {
+        match (opened::<S>(alloc, device), room(alloc), room(alloc)) {
+            (Ok(core), Ok(begun), Ok(printed)) => Some(Seats {
+                core,
+                begun,
+                printed,
+            }),
+            _ => None,
+        }
+    }
+
     /// Whether a session begins at this place.
     pub(super) fn begins(&mut self, place: usize) -> bool {
         match self.core.new_session() {
@@ -80,28 +92,8 @@ impl<S: Store, L: Language + Changes<S>> Seats<S, L> {
     }
 }
 
-/// No session yet, over a device.
-pub(super) fn seats_over<S: Store, L: Language + Changes<S> + Copy>(
-    alloc: Global,
-    language: L,
-    device: S::Device,
-) -> Option<Seats<S, L>> {
-    match (opened(alloc, language, device), room(alloc), room(alloc)) {
-        (Ok(core), Ok(begun), Ok(printed)) => Some(Seats {
-            core,
-            begun,
-            printed,
-        }),
-        _ => None,
-    }
-}
-
 /// The reply of a statement, or, where memory was wanting, of the same statement given again.
-fn step_again<S: Store, L: Language + Changes<S>>(
-    core: &mut Core<S, L>,
-    session: SessionId,
-    text: &[u8],
-) -> Reply {
+fn step_again<S: Store>(core: &mut Core<S>, session: SessionId, text: &[u8]) -> Reply {
     match core.step(session, text) {
         Reply::Refused(Refusal::Memory) => core.step(session, text),
         reply => reply,
@@ -109,16 +101,12 @@ fn step_again<S: Store, L: Language + Changes<S>>(
 }
 
 /// A core over a device, which is opened again where that was refused.
-fn opened<S: Store, L: Language + Changes<S> + Copy>(
-    alloc: Global,
-    language: L,
-    device: S::Device,
-) -> Result<Core<S, L>, Refused<S::Device>> {
-    match Core::open(alloc, language, device, 256) {
+fn opened<S: Store>(alloc: Global, device: S::Device) -> Result<Core<S>, Refused<S::Device>> {
+    match Core::open(alloc, Sql, device, 256) {
         Ok(core) => Ok(core),
         Err(back) => {
             let Refused { refusal: _, value } = back;
-            Core::open(alloc, language, value, 256)
+            Core::open(alloc, Sql, value, 256)
         }
     }
 }
@@ -133,23 +121,18 @@ fn room<T: Drop>(alloc: Global) -> Result<Vec<T>, AllocError> {
 
 /// Whether all turns over no tables go as they say.
 pub(super) fn go(alloc: Global, turns: &[Turn]) -> bool {
-    go_over::<ListStore, Sql>(alloc, Sql, Lists::new(alloc), turns)
+    go_over::<ListStore>(alloc, Lists::new(alloc), turns)
 }
 
 /// Whether all turns over a device go as they say.
-fn go_over<S: Store, L: Language + Changes<S> + Copy>(
-    alloc: Global,
-    language: L,
-    device: S::Device,
-    turns: &[Turn],
-) -> bool {
-    match seats_over::<S, L>(alloc, language, device) {
+fn go_over<S: Store>(alloc: Global, device: S::Device, turns: &[Turn]) -> bool {
+    match Seats::<S>::new(alloc, device) {
         Some(mut seats) => all_go(&mut seats, turns),
         None => false,
     }
 }
 
-fn all_go<S: Store, L: Language + Changes<S>>(seats: &mut Seats<S, L>, turns: &[Turn]) -> bool {
+fn all_go<S: Store>(seats: &mut Seats<S>, turns: &[Turn]) -> bool {
     for turn in turns {
         if !seats.takes(turn) {
             return false;
