@@ -1,6 +1,6 @@
 -- Tables and databases, and when they are good (ISO/IEC 9075:1992, 4.8 to 4.10, 11.3 to 11.9).
 use Rattle.std.specs.Prelude.{ℕ, ◌≡◌, Bool, true, false, ◌||◌, List, [], ◌∷◌, filter, map, Option, Some, None, Ok, Err}
-use Rattle.std.specs.List.{list_any, list_all, filter_map}
+use Rattle.std.specs.List.{All, list_any, list_all, filter_map}
 use Rattle.std.specs.Cmp.Lexicographic.{pointwise}
 use Rattle.std.specs.FinMap.{FinMap, get}
 use Rattle.sqlval.specs.declared.schema.Column.{Column}
@@ -14,7 +14,10 @@ use Rattle.sqlval.specs.Comparison.{text_order}
 use Rattle.sqlval.specs.Matching.{key_of, matches}
 use Rattle.sqlval.specs.Storing.{fits_column}
 use Rattle.sqlval.specs.Value.{Row, is_null}
+use Rattle.ast.specs.Nesting.{IsNestedWithin}
 use Rattle.typing.specs.declared.typed.Condition.{Condition}
+use Rattle.typing.specs.Check.{ReadsCheck}
+use Rattle.typing.specs.Kept.{kept_texts}
 use Rattle.denote.specs.Evaluation.{Evaluation}
 use Rattle.denote.specs.Bag.{Permutes}
 use Rattle.denote.specs.Meaning.{truth_at}
@@ -115,9 +118,21 @@ broken_not_nulls constraints rows = map (λ c. c.name) (filter (λ c. breaks_not
 abbrev pub fits_columns : List Column → Row → Bool
 fits_columns columns row = pointwise (λ value column. fits_column value column.column_type) row columns
 
+-- The text of a CHECK can be read, in the table with this name and these columns: it stands for a condition, and its parentheses nest at most 64 deep.
+pub record IsReadable (name : Name) (columns : List Column) (text : List ℕ) : Type 0 where
+  pub condition : Condition
+  pub reads : ReadsCheck name columns text condition
+  pub nested : IsNestedWithin 64 reads.kinds
+
+-- the texts of all CHECKs among these constraints can be read
+abbrev pub AreReadable : Name → List Column → List Constraint → Type 0
+AreReadable name columns constraints = All (IsReadable name columns) (kept_texts constraints)
+
+-- The rows fit the columns and violate nothing, and the table's CHECKs can be read.
 pub record IsGoodTable (reading : CheckReading) (name : Name) (table : Table) : Type 0 where
   pub fitting : list_all (fits_columns table.columns) table.rows ≡ true
   pub unviolated : violated_by reading name table ≡ []
+  pub readable : AreReadable name table.columns table.constraints
 
 abbrev pub IsGood : CheckReading → Database → Type 0
 IsGood reading db = (name : Name) (table : Table) → get db name ≡ Some table → IsGoodTable reading name table
