@@ -1,1 +1,4 @@
 pub mod OneCondition
+pub mod Spelled
+pub mod Readable
+pub mod Inside
