@@ -29,12 +29,13 @@ use Rattle.denote.specs.Evaluation.{Evaluation, ◌>>=◌, given, unless, adding
 use Rattle.denote.specs.Expression.{cell}
 use Rattle.denote.specs.StoredRow.{given_for, value_for, row_with, row_faults, admitted, inserted_row, key_faults}
 use Rattle.denote.specs.Meaning.{Tables, value_of, query_outcome}
-use Rattle.denote.specs.Database.{Name, IndexDeclaration, Table, Database, rows_in, CheckReading, checks_of, violated_by, fits_columns, IsGoodTable, IsGood}
+use Rattle.denote.specs.Database.{Name, IndexDeclaration, Table, Database, rows_in, CheckReading, checks_of, violated_by, fits_columns, AreReadable, IsGoodTable, IsGood}
 use Rattle.denote.specs.Change.{inserted_rows, is_touched, assigned, updated_if, updated_rows, deleted_rows, Changed, Makes, Raises, Violates, unless_violated, with_rows, unless_raised, insert_into, update_in, delete_from, created, index_on, without_index, on_table, changed}
 use Rattle.operator_laws.proofs.Permuting.{Permutes-refl}
 use Rattle.operator_laws.specs.Same.{Every}
 use Rattle.laws.proofs.Maps.{is_name, is_name-equal, found-insert, found-remove, found-mapped}
 use Rattle.laws.proofs.Tables.{violated_by-same, nothing-violated}
+use Rattle.laws.specs.Changed.{HasReadableChecks}
 
 -- ---- evaluations whose values have a property
 
@@ -260,6 +261,7 @@ module _ (reading : CheckReading) where
   good-indexes name table indexes h = record {
     fitting = h.fitting;
     unviolated = violated_by-same reading name (record table { indexes = indexes }) table refl refl (Permutes-refl table.rows) ∙ h.unviolated;
+    readable = h.readable;
   }
 
   good-mapped : (db : Database) (index : Name) → IsGood reading db → IsGood reading (from_entries (map (λ e. (e.0, without_index index e.1)) (entries db)))
@@ -276,13 +278,13 @@ module _ (reading : CheckReading) where
   MakesGood (Raises faults) = Unit {0}
   MakesGood (Violates names) = Unit {0}
 
-  with_rows-good : (db : Database) (name : Name) (table : Table) (rows : List Row) (count : ℕ) → IsGood reading db
+  with_rows-good : (db : Database) (name : Name) (table : Table) (rows : List Row) (count : ℕ) → IsGood reading db → AreReadable name table.columns table.constraints
       → Every (λ r. fits_columns table.columns r ≡ true) rows → MakesGood (with_rows reading db name table rows count)
-  with_rows-good db name table rows count good h = at (violated_by reading name (record table { rows = rows })) refl
+  with_rows-good db name table rows count good readable h = at (violated_by reading name (record table { rows = rows })) refl
     where
       at : (names : List Name) → violated_by reading name (record table { rows = rows }) ≡ names
           → MakesGood (unless_violated names (insert db name (record table { rows = rows })) count)
-      at [] e = good-insert db name (record table { rows = rows }) good (record { fitting = all-of_every (fits_columns table.columns) rows h; unviolated = e })
+      at [] e = good-insert db name (record table { rows = rows }) good (record { fitting = all-of_every (fits_columns table.columns) rows h; unviolated = e; readable = readable })
       at (violated ∷ names) e = tt
 
   raised-good : {A : Type 0} (P : A → Type 0) (x : Evaluation A) (made : A → Changed) → IfValue P x → ((a : A) → P a → MakesGood (made a))
@@ -294,30 +296,30 @@ module _ (reading : CheckReading) where
   every-append P [] ys h k = k
   every-append P (x ∷ xs) ys h k = (h.0, every-append P xs ys h.1 k)
 
-  insert-good : (db : Database) (i : Insert) (table : Table) → IsGood reading db → Every (λ r. fits_columns table.columns r ≡ true) table.rows
-      → MakesGood (insert_into reading db i table)
+  rows-fit : (name : Name) (table : Table) → IsGoodTable reading name table → Every (λ r. fits_columns table.columns r ≡ true) table.rows
+  rows-fit name table h = every-of_all (fits_columns table.columns) table.rows h.fitting
+
+  insert-good : (db : Database) (i : Insert) (table : Table) → IsGood reading db → IsGoodTable reading i.table table → MakesGood (insert_into reading db i table)
   insert-good db i table good h =
       raised-good (Every (λ r. fits_columns table.columns r ≡ true)) (inserted_rows (checks_of reading i.table table) (rows_in db) table i.columns i.source)
       (λ rows. with_rows reading db i.table table (table.rows ++ rows) (length rows))
       (inserted_rows-fit (checks_of reading i.table table) (rows_in db) table i.columns i.source)
-      (λ rows k. with_rows-good db i.table table (table.rows ++ rows) (length rows) good
-      (every-append (λ r. fits_columns table.columns r ≡ true) table.rows rows h k))
+      (λ rows k. with_rows-good db i.table table (table.rows ++ rows) (length rows) good h.readable
+      (every-append (λ r. fits_columns table.columns r ≡ true) table.rows rows (rows-fit i.table table h) k))
 
-  update-good : (db : Database) (u : Update) (table : Table) → IsGood reading db → Every (λ r. fits_columns table.columns r ≡ true) table.rows
-      → MakesGood (update_in reading db u table)
+  update-good : (db : Database) (u : Update) (table : Table) → IsGood reading db → IsGoodTable reading u.table table → MakesGood (update_in reading db u table)
   update-good db u table good h =
       raised-good (Every (λ (r : Bool × Row). fits_columns table.columns r.1 ≡ true)) (updated_rows (checks_of reading u.table table) (rows_in db) table u)
       (λ rows. with_rows reading db u.table table (map (λ r. r.1) rows) (count_by (λ r. r.0) rows))
-      (updated_rows-fit (checks_of reading u.table table) (rows_in db) table u h)
-      (λ rows k. with_rows-good db u.table table (map (λ r. r.1) rows) (count_by (λ r. r.0) rows) good
+      (updated_rows-fit (checks_of reading u.table table) (rows_in db) table u (rows-fit u.table table h))
+      (λ rows k. with_rows-good db u.table table (map (λ r. r.1) rows) (count_by (λ r. r.0) rows) good h.readable
       (Every-map (λ (r : Bool × Row). fits_columns table.columns r.1 ≡ true) (λ r. fits_columns table.columns r ≡ true) (λ r. r.1) rows k (λ r l. l)))
 
-  delete-good : (db : Database) (d : Delete) (table : Table) → IsGood reading db → Every (λ r. fits_columns table.columns r ≡ true) table.rows
-      → MakesGood (delete_from reading db d table)
+  delete-good : (db : Database) (d : Delete) (table : Table) → IsGood reading db → IsGoodTable reading d.table table → MakesGood (delete_from reading db d table)
   delete-good db d table good h =
       raised-good (Every (λ (r : Bool × Row). fits_columns table.columns r.1 ≡ true)) (deleted_rows (rows_in db) table d)
-      (λ rows. with_rows reading db d.table table (map (λ r. r.1) (filter (λ r. not r.0) rows)) (count_by (λ r. r.0) rows)) (deleted_rows-fit (rows_in db) table d h)
-      (λ rows k. with_rows-good db d.table table (map (λ r. r.1) (filter (λ r. not r.0) rows)) (count_by (λ r. r.0) rows) good
+      (λ rows. with_rows reading db d.table table (map (λ r. r.1) (filter (λ r. not r.0) rows)) (count_by (λ r. r.0) rows)) (deleted_rows-fit (rows_in db) table d (rows-fit d.table table h))
+      (λ rows k. with_rows-good db d.table table (map (λ r. r.1) (filter (λ r. not r.0) rows)) (count_by (λ r. r.0) rows) good h.readable
       (Every-map (λ (r : Bool × Row). fits_columns table.columns r.1 ≡ true) (λ r. fits_columns table.columns r ≡ true) (λ r. r.1) (filter (λ r. not r.0) rows)
       (Every-filter (λ (r : Bool × Row). fits_columns table.columns r.1 ≡ true) (λ r. not r.0) rows k) (λ r l. l)))
 
@@ -338,21 +340,18 @@ module _ (reading : CheckReading) where
       at None e = good
       at (Some table) e = h table (good name table e)
 
-  rows-fit : (name : Name) (table : Table) → IsGoodTable reading name table → Every (λ r. fits_columns table.columns r ≡ true) table.rows
-  rows-fit name table h = every-of_all (fits_columns table.columns) table.rows h.fitting
+  changed-makes_good : (db : Database) (change : Change) → HasReadableChecks change → IsGood reading db → MakesGood (changed reading db change)
+  changed-makes_good db (does.CreateTable c) readable good = good-insert db c.name (created c) good
+      (record { fitting = refl; unviolated = nothing-violated reading c.name (created c) refl; readable = readable })
+  changed-makes_good db (does.DropTable name) readable good = good-remove db name good
+  changed-makes_good db (does.CreateIndex c) readable good = on_table-good db c.table (index_on db c) good (λ table h. index-good db c table good h)
+  changed-makes_good db (does.DropIndex name) readable good = good-mapped db name good
+  changed-makes_good db (does.Insert i) readable good = on_table-good db i.table (insert_into reading db i) good
+      (λ table h. insert-good db i table good h)
+  changed-makes_good db (does.Update u) readable good = on_table-good db u.table (update_in reading db u) good
+      (λ table h. update-good db u table good h)
+  changed-makes_good db (does.Delete d) readable good = on_table-good db d.table (delete_from reading db d) good
+      (λ table h. delete-good db d table good h)
 
-  changed-makes_good : (db : Database) (change : Change) → IsGood reading db → MakesGood (changed reading db change)
-  changed-makes_good db (does.CreateTable c) good = good-insert db c.name (created c) good
-      (record { fitting = refl; unviolated = nothing-violated reading c.name (created c) refl })
-  changed-makes_good db (does.DropTable name) good = good-remove db name good
-  changed-makes_good db (does.CreateIndex c) good = on_table-good db c.table (index_on db c) good (λ table h. index-good db c table good h)
-  changed-makes_good db (does.DropIndex name) good = good-mapped db name good
-  changed-makes_good db (does.Insert i) good = on_table-good db i.table (insert_into reading db i) good
-      (λ table h. insert-good db i table good (rows-fit i.table table h))
-  changed-makes_good db (does.Update u) good = on_table-good db u.table (update_in reading db u) good
-      (λ table h. update-good db u table good (rows-fit u.table table h))
-  changed-makes_good db (does.Delete d) good = on_table-good db d.table (delete_from reading db d) good
-      (λ table h. delete-good db d table good (rows-fit d.table table h))
-
-  pub changed-good : (db new : Database) (change : Change) (count : Option ℕ) → IsGood reading db → changed reading db change ≡ Makes new count → IsGood reading new
-  changed-good db new change count good e = subst MakesGood e (changed-makes_good db change good)
+  pub changed-good : (db new : Database) (change : Change) (count : Option ℕ) → HasReadableChecks change → IsGood reading db → changed reading db change ≡ Makes new count → IsGood reading new
+  changed-good db new change count readable good e = subst MakesGood e (changed-makes_good db change readable good)

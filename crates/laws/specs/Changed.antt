@@ -3,7 +3,9 @@ use Rattle.std.specs.Prelude.{◌≡◌, List}
 use Rattle.sqlval.specs.Value.{Row}
 use Rattle.denote.specs.Bag.{Permutes, HasSame}
 use Rattle.denote.specs.Meaning.{Tables}
-use Rattle.denote.specs.Database.{Name, Table, Database, IsSameDatabase}
+use Rattle.typing.specs.declared.statement.Change.{Change}
+use Rattle.typing.specs.declared.statement.Change.TheVariants as does
+use Rattle.denote.specs.Database.{Name, Table, Database, AreReadable, IsSameDatabase}
 use Rattle.denote.specs.Change.{Changed, Makes, Raises, Violates}
 
 -- the same rows under each name
@@ -31,3 +33,8 @@ abbrev pub after : Database → Changed → Database
 after db (Makes new count) = new
 after db (Raises faults) = db
 after db (Violates names) = db
+
+-- the CHECKs of the table that a CREATE TABLE makes can be read; no other change makes any
+abbrev pub HasReadableChecks : Change → Type 0
+HasReadableChecks (does.CreateTable c) = AreReadable c.name c.columns c.constraints
+HasReadableChecks _ = Unit {0}
