@@ -124,7 +124,7 @@ impl<D: Disk> Disk for FaultyDisk<D> {
         ensures refuses { RefusesNext self.old → RefusesOne result self.old self.new }
         ensures passes { (RefusesNext self.old → ⊥) → PassesOn D.refused D.told result self.old self.new }
         ensures kept { RefusesNext self.old → tears_of self.old ≡ false → inner_of self.new ≡ inner_of self.old }
-        ensures half { RefusesNext self.old → tears_of self.old ≡ true → IsTrue D.is_honest → IsHalfWritten at from.now (D.bytes (inner_of self.old)) (D.bytes (inner_of self.new)) }
+        ensures half { RefusesNext self.old → tears_of self.old ≡ true → IsTrue D.is_honest → IsHalfWritten at from.now (D.bytes (inner_of self.old)) (D.bytes (inner_of self.new)) (D.refused (inner_of self.old)) (D.refused (inner_of self.new)) }
     {
         if let Err(refusal) = pass(&mut self.waiting, &mut self.refused) {
             if self.tears {
