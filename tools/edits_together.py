@@ -9,7 +9,9 @@
 Much quicker than ./wrong-bodies, which tries one edit at a time, and as strict: an edit counts as refused where a goal of
 its function stays open whose line does not only say that a proof file names what the edit took away. What is not told
 apart in a group (a function that calls another edited one, an edit of no function) is tried again with the rest, and at
-last by itself. GROUP=N in the environment tries N edits at a time, 16 where it is not given.
+last by itself. All checks of a crate work over one copy of what was kept; nothing counts where the crate as it stands is
+not proved over that copy at the end. After each crate its line for docs/WRONG_BODIES.md is printed.
+GROUP=N in the environment tries N edits at a time, 16 where it is not given.
 """
 import os
 import re
@@ -17,6 +19,7 @@ import runpy
 import shutil
 import sys
 import tempfile
+import time
 
 TOP = os.path.dirname(os.path.dirname(os.path.realpath(__file__)))
 FOLDERS = ("must-fail", "wrong-bodies")
@@ -111,18 +114,9 @@ class Trial:
 
     def __init__(self, toolchain, crate, folders):
         self.toolchain, self.crate, self.verdicts = toolchain, crate, {}
-        self.folder, self.kept = crate.folder, crate.folder + "/out/incremental"
+        self.folder, self.kept = crate.folder, ""
         paths = ("%s/%s" % (crate.folder, it) for it in folders)
         self.edits = [Edit("%s/%s" % (at, name), crate.folder) for at in paths if os.path.isdir(at) for name in sorted(os.listdir(at)) if name.endswith(".edit")]
-
-    def over_kept(self, call):
-        """What the call gives over a copy of the kept work."""
-        room = tempfile.mkdtemp(prefix="edits-")
-        try:
-            self.toolchain["linked"](self.kept, room + "/kept")
-            return call(room + "/kept")
-        finally:
-            shutil.rmtree(room, ignore_errors=True)
 
     def say(self, edit, refused, why):
         self.verdicts[edit.name] = refused
@@ -140,7 +134,7 @@ class Trial:
 
     def try_group(self, edits, texts):
         """Judges those of the edits that one check tells apart."""
-        ran = self.over_kept(lambda kept: self.toolchain["checked"](self.crate, texts, ["--jobs", "1"], kept))
+        ran = self.toolchain["checked"](self.crate, texts, ["--jobs", "1"], self.kept)
         if not ran.stdout.rstrip("\n").split("\n")[-1].startswith("logic="):
             return
         for edit in edits:
@@ -149,10 +143,24 @@ class Trial:
                 self.say(edit, True, goal)
 
     def try_alone(self, edit):
-        kind, said = self.over_kept(lambda kept: self.toolchain["must_fail"](self.crate, edit.path, ["--jobs", "1"], kept))
-        self.say(edit, kind == "refused" and "only because a proof file names" not in said, said)
+        is_refused, said = self.toolchain["must_fail"](self.crate, edit.path, ["--jobs", "1"], self.kept)
+        self.say(edit, is_refused and "only because a proof file names" not in said, said)
 
     def run(self, most):
+        """Tries all edits over a copy of the kept work, over which the crate itself has to be proved at the end."""
+        with tempfile.TemporaryDirectory(prefix="edits-") as room:
+            self.kept = shutil.copytree(self.folder + "/out/incremental", room + "/kept")
+            self.try_edits(most)
+            if self.toolchain["checked"](self.crate, {}, ["--jobs", "1"], self.kept).returncode:
+                print("%s: is not proved over that work as it stands, so nothing was tried" % self.crate.name, flush=True)
+                self.verdicts = {name: False for name in self.verdicts}
+
+    def line(self, seconds):
+        """The crate's line in the table of wrong bodies."""
+        counts = [sum("/%s/" % folder in it.path for it in self.edits) for folder in FOLDERS]
+        return "| %s | %d | %d | %d | %s | %d |" % (self.crate.name, *counts, sum(self.verdicts.values()), time.strftime("%F"), round(seconds))
+
+    def try_edits(self, most):
         left = [it for it in self.edits if it.file]
         while left:
             chosen, texts = self.group(left, most)
@@ -185,8 +193,9 @@ def main(words):
         if name not in crates or not os.path.isdir(crates[name].folder + "/out/incremental"):
             print("%s: there is no such crate, or `rt check` has not proved it yet" % name, file=sys.stderr)
             return 2
-        trial = Trial(toolchain, crates[name], folders)
+        trial, begun = Trial(toolchain, crates[name], folders), time.monotonic()
         trial.run(int(os.environ.get("GROUP", "16")))
+        print(trial.line(time.monotonic() - begun), flush=True)
         verdicts += trial.verdicts.values()
     print("%d refused, %d not refused" % (sum(verdicts), len(verdicts) - sum(verdicts)))
     return 0 if all(verdicts) else 1

@@ -2,3 +2,4 @@ pub mod OneCondition
 pub mod Spelled
 pub mod Readable
 pub mod Inside
+pub mod Places

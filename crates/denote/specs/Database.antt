@@ -1,5 +1,5 @@
 -- Tables and databases, and when they are good (ISO/IEC 9075:1992, 4.8 to 4.10, 11.3 to 11.9).
-use Rattle.std.specs.Prelude.{ℕ, ◌≡◌, Bool, true, false, ◌||◌, List, [], ◌∷◌, filter, map, Option, Some, None, Ok, Err}
+use Rattle.std.specs.Prelude.{ℕ, ◌≡◌, Bool, true, false, ◌||◌, nat_lt, List, [], ◌∷◌, length, filter, map, flat_map, Option, Some, None, Ok, Err}
 use Rattle.std.specs.List.{All, list_any, list_all, filter_map}
 use Rattle.std.specs.Cmp.Lexicographic.{pointwise}
 use Rattle.std.specs.FinMap.{FinMap, get}
@@ -128,11 +128,34 @@ pub record IsReadable (name : Name) (columns : List Column) (text : List ℕ) : 
 abbrev pub AreReadable : Name → List Column → List Constraint → Type 0
 AreReadable name columns constraints = All (IsReadable name columns) (kept_texts constraints)
 
--- The rows fit the columns and violate nothing, and the table's CHECKs can be read.
+-- the columns that a rule names by their places; a CHECK names its columns in its text
+abbrev pub columns_named : Rule → List ℕ
+columns_named (NotNull column) = column ∷ []
+columns_named (PrimaryKey columns) = columns
+columns_named (Unique columns) = columns
+columns_named (Check text) = []
+
+abbrev pub constraint_columns : List Constraint → List ℕ
+constraint_columns constraints = flat_map (λ c. columns_named c.rule) constraints
+
+abbrev pub index_columns : List IndexDeclaration → List ℕ
+index_columns indexes = flat_map (λ index. index.columns) indexes
+
+-- whether these are places of so many columns
+abbrev pub are_places : ℕ → List ℕ → Bool
+are_places count places = list_all (λ place. nat_lt place count) places
+
+-- the columns that constraints and indexes name are columns of the table
+pub record NamesItsColumns (table : Table) : Type 0 where
+  pub in_constraints : are_places (length table.columns) (constraint_columns table.constraints) ≡ true
+  pub in_indexes : are_places (length table.columns) (index_columns table.indexes) ≡ true
+
+-- The rows fit the columns and violate nothing, the table's CHECKs can be read, and what its constraints and indexes name are its columns.
 pub record IsGoodTable (reading : CheckReading) (name : Name) (table : Table) : Type 0 where
   pub fitting : list_all (fits_columns table.columns) table.rows ≡ true
   pub unviolated : violated_by reading name table ≡ []
   pub readable : AreReadable name table.columns table.constraints
+  pub named : NamesItsColumns table
 
 abbrev pub IsGood : CheckReading → Database → Type 0
 IsGood reading db = (name : Name) (table : Table) → get db name ≡ Some table → IsGoodTable reading name table

@@ -10,7 +10,7 @@ use Rattle.ast.specs.declared.statement.Statement.TheVariants as asks
 use Rattle.typing.specs.declared.statement.Change.{Change}
 use Rattle.typing.specs.declared.statement.Typed.TheVariants as does
 use Rattle.denote.specs.Database.{Name, IsGood}
-use Rattle.laws.specs.Changed.{HasReadableChecks}
+use Rattle.laws.specs.Changed.{DeclaresRightly}
 use Rattle.statement_reading.specs.Reading.{IsRead}
 use Rattle.replies.specs.declared.reply.Reply.{Reply}
 use Rattle.session_definitions.specs.Effect.{Effect}
@@ -20,7 +20,7 @@ use Rattle.session_definitions.specs.Step.{Withholds, Replies}
 use Rattle.session_definitions.specs.Transactions.{active, with_cursor, without_cursor}
 use Rattle.session_definitions.specs.World.{Transaction, Session}
 use Rattle.session_laws.proofs.GoodDatabases.{accepted_good}
-use Rattle.session_laws.proofs.ReadableChecks.{KeepsReadable}
+use Rattle.session_laws.proofs.Declarations.{DeclareRightly}
 
 module _ (rules : Rules) where
   abbrev pub IsGoodTransaction : Transaction → Type 0
@@ -55,14 +55,14 @@ module _ (rules : Rules) where
     explains_good x (Explains.wrong refusal why r) = nothing r.leaves_all
     explains_good x (Explains.shows query lines m is e) = becomes t good e
 
-    changes_good : (x : Statement) → ((change : Change) → Means rules t.working x (does.Change change) → HasReadableChecks change) → Changes rules session t obstacle x reply effect → LeavesGood effect
-    changes_good x readable (Changes.reads_only o r) = nothing r.leaves_all
-    changes_good x readable (Changes.has_cursor o r) = nothing r.leaves_all
-    changes_good x readable (Changes.overtaken o is e) = rw e tt
-    changes_good x readable (Changes.wrong refusal o why r) = nothing r.leaves_all
-    changes_good x readable (Changes.makes change db count o m a is e) = rw e (good.0, accepted_good rules.check t.working db change count (readable change m) good.1 a)
-    changes_good x readable (Changes.raises change fault o m f r) = nothing r.leaves_all
-    changes_good x readable (Changes.violates change name o m f r) = nothing r.leaves_all
+    changes_good : (x : Statement) → ((change : Change) → Means rules t.working x (does.Change change) → DeclaresRightly t.working change) → Changes rules session t obstacle x reply effect → LeavesGood effect
+    changes_good x rightly (Changes.reads_only o r) = nothing r.leaves_all
+    changes_good x rightly (Changes.has_cursor o r) = nothing r.leaves_all
+    changes_good x rightly (Changes.overtaken o is e) = rw e tt
+    changes_good x rightly (Changes.wrong refusal o why r) = nothing r.leaves_all
+    changes_good x rightly (Changes.makes change db count o m a is e) = rw e (good.0, accepted_good rules.check t.working db change count (rightly change m) good.1 a)
+    changes_good x rightly (Changes.raises change fault o m f r) = nothing r.leaves_all
+    changes_good x rightly (Changes.violates change name o m f r) = nothing r.leaves_all
 
     ends_good : (u : Option Transaction) → IsGoodIfAny u → Ends u reply effect → LeavesGood effect
     ends_good None is h = nothing h.1
@@ -106,7 +106,7 @@ module _ (rules : Rules) where
     closes_good None is name r = nothing r.leaves_all
     closes_good (Some u) is name h = closes_in_good u is name h
 
-    carried_out_good : KeepsReadable rules → (text : Bytes) (x : Statement) → IsRead text x → CarriesOut rules session t obstacle x reply effect → LeavesGood effect
+    carried_out_good : DeclareRightly rules → (text : Bytes) (x : Statement) → IsRead text x → CarriesOut rules session t obstacle x reply effect → LeavesGood effect
     carried_out_good keeps text (asks.Query x) read h = queries_good x h
     carried_out_good keeps text (asks.Explain x) read h = explains_good x h
     carried_out_good keeps text (asks.CreateTable x) read h = changes_good (asks.CreateTable x) (λ change m. keeps text (asks.CreateTable x) t.working change read m) h
@@ -130,7 +130,7 @@ module _ (rules : Rules) where
     withholds_good text (Withholds.closes refusal u name reserved read has is says e) =
         becomes (without_cursor u name) (subst IsGoodIfAny has own) e
 
-    pub replies_good : KeepsReadable rules → (text : Bytes) → Replies rules session t obstacle text reply effect → LeavesGood effect
+    pub replies_good : DeclareRightly rules → (text : Bytes) → Replies rules session t obstacle text reply effect → LeavesGood effect
     replies_good keeps text (Replies.unread refusal why r) = nothing r.leaves_all
     replies_good keeps text (Replies.carried_out x read h) = carried_out_good keeps text x read h
     replies_good keeps text (Replies.withheld h) = withholds_good text h

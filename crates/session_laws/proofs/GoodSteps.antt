@@ -20,7 +20,7 @@ use Rattle.session_definitions.specs.Transactions.{starting, begun, obstacle}
 use Rattle.session_definitions.specs.World.{Transaction, Session, World, is_writer, new_session, new_world, with_session}
 use Rattle.session_laws.proofs.Effects.{left_as, others_stay, own_session}
 use Rattle.session_laws.proofs.GoodReplies.{IsGoodTransaction, IsGoodIfAny, LeavesGood, replies_good}
-use Rattle.session_laws.proofs.ReadableChecks.{KeepsReadable}
+use Rattle.session_laws.proofs.Declarations.{DeclareRightly}
 use Rattle.session_laws.proofs.Maps.{get_here, get_there, get_gone, get_left}
 use Rattle.session_laws.proofs.SoundSteps.{same_Some}
 
@@ -89,13 +89,13 @@ module _ (rules : Rules) where
         each k x t is u (inr ne) = good.transactions k x t (sym (others_stay w s session e k ne) ∙ is) u
 
   -- the effect of a call leaves what is good
-  call_leaves_good : KeepsReadable rules → (old : World) (s : ℕ) (text : Bytes) (reply : Reply) (effect : Effect) (new : World) → IsGoodWorld rules.check old
+  call_leaves_good : DeclareRightly rules → (old : World) (s : ℕ) (text : Bytes) (reply : Reply) (effect : Effect) (new : World) → IsGoodWorld rules.check old
       → Call rules old s text reply effect new → LeavesGood rules effect
   call_leaves_good keeps old s text reply effect new good call =
       replies_good rules call.session (begun old call.session) (obstacle old s call.session) reply effect
       (own_good old s call.session good call.stands) (begun_good old s call.session good call.stands) keeps text call.replies
 
-  good_call : KeepsReadable rules → (old : World) (s : ℕ) (text : Bytes) (reply : Reply) (effect : Effect) (new : World) → IsGoodWorld rules.check old
+  good_call : DeclareRightly rules → (old : World) (s : ℕ) (text : Bytes) (reply : Reply) (effect : Effect) (new : World) → IsGoodWorld rules.check old
       → Call rules old s text reply effect new → IsGoodWorld rules.check new
   good_call keeps old s text reply effect new good call =
       subst (IsGoodWorld rules.check) (sym call.leaves)
@@ -143,7 +143,7 @@ module _ (rules : Rules) where
   good_flushed old (Ok left) new good h = subst (IsGoodWorld rules.check) (sym h) good
   good_flushed old (Err refusal) new good h = subst (IsGoodWorld rules.check) (sym h.1) good
 
-  good_event : KeepsReadable rules → (old : World) (event : Event) (new : World) → IsGoodWorld rules.check old → Happens rules old event new → IsGoodWorld rules.check new
+  good_event : DeclareRightly rules → (old : World) (event : Event) (new : World) → IsGoodWorld rules.check old → Happens rules old event new → IsGoodWorld rules.check new
   good_event keeps old (Event.Makes made) new good h = good_made_or_not old made new good h
   good_event keeps old (Event.Calls s text reply effect) new good h = good_call keeps old s text reply effect new good h
   good_event keeps old (Event.Drops s) new good h = good_drops old s new good h
@@ -154,7 +154,7 @@ module _ (rules : Rules) where
 
   -- ---- runs
 
-  pub good_run : KeepsReadable rules → (start end : World) (moments : List Moment) → IsGoodWorld rules.check start → Run rules start moments end → IsGoodWorld rules.check end
+  pub good_run : DeclareRightly rules → (start end : World) (moments : List Moment) → IsGoodWorld rules.check start → Run rules start moments end → IsGoodWorld rules.check end
   good_run keeps start end [] good run = subst (IsGoodWorld rules.check) (sym run) good
   good_run keeps start end (moment ∷ earlier) good run =
       good_event keeps moment.before moment.event end (good_run keeps start moment.before earlier good run.0) run.1
@@ -164,7 +164,7 @@ module _ (rules : Rules) where
   one_more true dbs db h k = All-push (IsGood rules.check) dbs db h k
   one_more false dbs db h k = h
 
-  good_lengthened : KeepsReadable rules → (old : World) (event : Event) (new : World) (dbs : List Database) → IsGoodWorld rules.check old → Happens rules old event new
+  good_lengthened : DeclareRightly rules → (old : World) (event : Event) (new : World) (dbs : List Database) → IsGoodWorld rules.check old → Happens rules old event new
       → All (IsGood rules.check) dbs → All (IsGood rules.check) (lengthened old event dbs)
   good_lengthened keeps old (Event.Calls s text reply (Effect.Commits t)) new dbs good h k =
       one_more (is_writer old s) dbs t.working k (call_leaves_good keeps old s text reply (Effect.Commits t) new good h)
@@ -178,7 +178,7 @@ module _ (rules : Rules) where
   good_lengthened keeps old (Event.FailsToClose refusal) new dbs good h k = k
   good_lengthened keeps old Event.Reopens new dbs good h k = All-cons (IsGood rules.check) old.last [] good.last (All-nil (IsGood rules.check))
 
-  pub good_history : KeepsReadable rules → (start end : World) (moments : List Moment) → IsGoodWorld rules.check start → Run rules start moments end
+  pub good_history : DeclareRightly rules → (start end : World) (moments : List Moment) → IsGoodWorld rules.check start → Run rules start moments end
       → All (IsGood rules.check) (history start moments)
   good_history keeps start end [] good run = All-cons (IsGood rules.check) start.last [] good.last (All-nil (IsGood rules.check))
   good_history keeps start end (moment ∷ earlier) good run =
