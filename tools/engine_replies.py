@@ -314,11 +314,8 @@ REPLIES = {
 }
 
 # What the engine answers otherwise today, and why: each of these is to be mended, and to leave this list then.
-PLACES = "the places of columns in a constraint or an index are not compared with the columns of the table"
 TEXTS = "the text of a CHECK that cannot be read counts as want of memory"
 KNOWN = {
-    "column_of_a_constraint_past_the_end": PLACES,
-    "index_of_a_column_past_the_end": PLACES,
     "check_without_a_text": TEXTS,
     "check_with_an_open_string": TEXTS,
     "check_with_an_open_parenthesis": TEXTS,

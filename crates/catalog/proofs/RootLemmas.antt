@@ -70,7 +70,7 @@ root_written (Ok next) a b owned before behind t top root name r small named is 
       now_owned = w.now_owned;
       holds = record {
         tree = subst (IsTree b next w.now_owned) (root_put a top owned before behind t root held.tree) stored;
-        range = each_around IsTable before behind t (with_root root t) (λ h. record { root = small; columns = h.columns; constraints = h.constraints; indexes = h.indexes }) held.range;
+        range = each_around IsTable before behind t (with_root root t) (λ h. record { root = small; columns = h.columns; constraints = h.constraints; indexes = h.indexes; constraints_over = h.constraints_over; indexes_over = h.indexes_over }) held.range;
         coded = subst AreCoded (sym (schema_around before behind (with_root root t)))
             (each_around IsCoded (schema_records before) (others_of t behind) (table_record t.name t.root) (table_record t.name root) (λ h. subst IsCoded one coded) (subst AreCoded (schema_around before behind t) held.coded));
       };

@@ -1,7 +1,7 @@
 -- The records of a table, and of the tables behind it.
 use Rattle.std.proofs.Common.{◌≡◌, ℕ, ◌≤◌, List, [], ◌∷◌, ◌++◌, map, length, refl, sym, ap, ◌∙◌, arith, append_assoc, subst}
 use Rattle.std.proofs.lemmas.List.{length-append}
-use Rattle.std.specs.List.{enumerate_from}
+use Rattle.std.specs.List.{AllByRecursion, enumerate_from}
 use Rattle.sqlval.specs.declared.schema.Table.{Table}
 use Rattle.sqlval.specs.declared.schema.Column.{Column}
 use Rattle.sqlval.specs.declared.schema.Constraint.{Constraint}
@@ -110,3 +110,9 @@ pub table_is : (t : Table) (name : List ℕ) (columns : List Column) (constraint
     → name ≡ t.name → columns ≡ t.columns → constraints ≡ t.constraints → indexes ≡ t.indexes → root ≡ t.root
     → record { name = name; columns = columns; constraints = constraints; indexes = indexes; root = root } ≡ t
 table_is t name columns constraints indexes root a b c d e = rw (a, b, c, d, e) refl
+
+-- parts that are those of a table name only its columns, where the table does
+pub all_over : {A : Type 0} (Over : ℕ → A → Type 0) (count : ℕ) (columns own : List Column) (slice given parts : List A) → count ≡ length columns → columns ≡ own → slice ≡ given → given ≡ parts
+    → AllByRecursion (Over (length own)) parts → AllByRecursion (Over count) slice
+all_over Over count columns own slice given parts is_count is_own is_given is_parts all =
+    subst (λ (n : ℕ). AllByRecursion (Over n) slice) (sym (is_count ∙ ap length is_own)) (subst (AllByRecursion (Over (length own))) (sym (is_given ∙ is_parts)) all)

@@ -1,5 +1,6 @@
--- Schemas that the program can hold: its numbers have their types' ranges, and the n of VARCHAR(n) is not 0. Our own choice.
-use Rattle.std.specs.Prelude.{ℕ, ◌<◌, ◌^◌, List}
+-- Schemas that the program can hold: its numbers have their types' ranges, the n of VARCHAR(n) is not 0, and the places of a table's constraints and indexes are
+-- those of its columns. Our own choice.
+use Rattle.std.specs.Prelude.{ℕ, ◌<◌, ◌^◌, List, [], ◌∷◌, length}
 use Rattle.std.specs.List.{AllByRecursion}
 use Rattle.sqlval.specs.declared.storing.ColumnType.{ColumnType}
 use Rattle.sqlval.specs.declared.storing.ColumnType.TheVariants.{Integer, Varchar}
@@ -31,6 +32,24 @@ IsRule (Check text) = Unit {0}
 abbrev pub IsConstraint : Constraint → Type 0
 IsConstraint constraint = IsRule constraint.rule
 
+-- places of columns, where there are so many
+abbrev pub AreAmong : ℕ → List ℕ → Type 0
+AreAmong count places = AllByRecursion (λ place. place < count) places
+
+-- the columns that a rule names by their places
+abbrev pub places_of : Rule → List ℕ
+places_of (NotNull column) = column ∷ []
+places_of (PrimaryKey columns) = columns
+places_of (Unique columns) = columns
+places_of (Check text) = []
+
+-- a constraint and an index of a table with so many columns
+abbrev pub IsConstraintOver : ℕ → Constraint → Type 0
+IsConstraintOver count constraint = AreAmong count (places_of constraint.rule)
+
+abbrev pub IsIndexOver : ℕ → Index → Type 0
+IsIndexOver count index = AreAmong count index.columns
+
 -- a page's number has 32 bits
 pub record IsIndex (index : Index) : Type 0 where
   pub root : index.root < 2 ^ 32
@@ -41,6 +60,8 @@ pub record IsTable (t : Table) : Type 0 where
   pub columns : AllByRecursion IsColumn t.columns
   pub constraints : AllByRecursion IsConstraint t.constraints
   pub indexes : AllByRecursion IsIndex t.indexes
+  pub constraints_over : AllByRecursion (IsConstraintOver (length t.columns)) t.constraints
+  pub indexes_over : AllByRecursion (IsIndexOver (length t.columns)) t.indexes
 
 abbrev pub AreTables : List Table → Type 0
 AreTables tables = AllByRecursion IsTable tables

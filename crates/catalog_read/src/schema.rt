@@ -7,6 +7,7 @@ ghost use Rattle.catalog_read.specs.Given.{Gives, GivesFront};
 ghost use Rattle.catalog_read.specs.Keepable.{IsTable, AreTables};
 ghost use Rattle.catalog_read.specs.Rows.{EndsTable, IsNoSchema};
 
+use crate::columns::{are_constraints_over, are_indexes_over};
 use crate::error::ReadError;
 use crate::key::key_in;
 use crate::parts::page_of;
@@ -49,6 +50,12 @@ fn table_first<'a>(
     let (columns, rest) = columns_first(alloc, name, behind)?;
     let (constraints, rest) = constraints_first(alloc, name, rest)?;
     let (indexes, rest) = indexes_first(alloc, name, rest)?;
+    if !are_constraints_over(columns.len(), constraints.as_slice()) {
+        return Err(ReadError::Damaged);
+    }
+    if !are_indexes_over(columns.len(), indexes.as_slice()) {
+        return Err(ReadError::Damaged);
+    }
     let name = name.copy(alloc)?;
     let table = Table {
         name,

@@ -1,1 +1,5 @@
 pub mod OneCondition
+pub mod Spelled
+pub mod Readable
+pub mod Inside
+pub mod Places

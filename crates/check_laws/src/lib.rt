@@ -1,6 +1,6 @@
-//! A law of the texts that are kept of CHECKs. Nothing of it runs.
+//! Laws of what a CREATE TABLE or a CREATE INDEX keeps: texts of CHECKs, and places of columns. Nothing of it runs.
 #![tactic(auto)]
 
 mod laws;
 
-pub use laws::a_check_is_one_condition;
+pub use laws::{a_check_is_one_condition, declared_columns_are_there, kept_checks_can_be_read};

@@ -1,6 +1,6 @@
 -- Tables and databases, and when they are good (ISO/IEC 9075:1992, 4.8 to 4.10, 11.3 to 11.9).
-use Rattle.std.specs.Prelude.{ℕ, ◌≡◌, Bool, true, false, ◌||◌, List, [], ◌∷◌, filter, map, Option, Some, None, Ok, Err}
-use Rattle.std.specs.List.{list_any, list_all, filter_map}
+use Rattle.std.specs.Prelude.{ℕ, ◌≡◌, Bool, true, false, ◌||◌, nat_lt, List, [], ◌∷◌, length, filter, map, flat_map, Option, Some, None, Ok, Err}
+use Rattle.std.specs.List.{All, list_any, list_all, filter_map}
 use Rattle.std.specs.Cmp.Lexicographic.{pointwise}
 use Rattle.std.specs.FinMap.{FinMap, get}
 use Rattle.sqlval.specs.declared.schema.Column.{Column}
@@ -14,7 +14,10 @@ use Rattle.sqlval.specs.Comparison.{text_order}
 use Rattle.sqlval.specs.Matching.{key_of, matches}
 use Rattle.sqlval.specs.Storing.{fits_column}
 use Rattle.sqlval.specs.Value.{Row, is_null}
+use Rattle.ast.specs.Nesting.{IsNestedWithin}
 use Rattle.typing.specs.declared.typed.Condition.{Condition}
+use Rattle.typing.specs.Check.{ReadsCheck}
+use Rattle.typing.specs.Kept.{kept_texts}
 use Rattle.denote.specs.Evaluation.{Evaluation}
 use Rattle.denote.specs.Bag.{Permutes}
 use Rattle.denote.specs.Meaning.{truth_at}
@@ -115,9 +118,44 @@ broken_not_nulls constraints rows = map (λ c. c.name) (filter (λ c. breaks_not
 abbrev pub fits_columns : List Column → Row → Bool
 fits_columns columns row = pointwise (λ value column. fits_column value column.column_type) row columns
 
+-- The text of a CHECK can be read, in the table with this name and these columns: it stands for a condition, and its parentheses nest at most 64 deep.
+pub record IsReadable (name : Name) (columns : List Column) (text : List ℕ) : Type 0 where
+  pub condition : Condition
+  pub reads : ReadsCheck name columns text condition
+  pub nested : IsNestedWithin 64 reads.kinds
+
+-- the texts of all CHECKs among these constraints can be read
+abbrev pub AreReadable : Name → List Column → List Constraint → Type 0
+AreReadable name columns constraints = All (IsReadable name columns) (kept_texts constraints)
+
+-- the columns that a rule names by their places; a CHECK names its columns in its text
+abbrev pub columns_named : Rule → List ℕ
+columns_named (NotNull column) = column ∷ []
+columns_named (PrimaryKey columns) = columns
+columns_named (Unique columns) = columns
+columns_named (Check text) = []
+
+abbrev pub constraint_columns : List Constraint → List ℕ
+constraint_columns constraints = flat_map (λ c. columns_named c.rule) constraints
+
+abbrev pub index_columns : List IndexDeclaration → List ℕ
+index_columns indexes = flat_map (λ index. index.columns) indexes
+
+-- whether these are places of so many columns
+abbrev pub are_places : ℕ → List ℕ → Bool
+are_places count places = list_all (λ place. nat_lt place count) places
+
+-- the columns that constraints and indexes name are columns of the table
+pub record NamesItsColumns (table : Table) : Type 0 where
+  pub in_constraints : are_places (length table.columns) (constraint_columns table.constraints) ≡ true
+  pub in_indexes : are_places (length table.columns) (index_columns table.indexes) ≡ true
+
+-- The rows fit the columns and violate nothing, the table's CHECKs can be read, and what its constraints and indexes name are its columns.
 pub record IsGoodTable (reading : CheckReading) (name : Name) (table : Table) : Type 0 where
   pub fitting : list_all (fits_columns table.columns) table.rows ≡ true
   pub unviolated : violated_by reading name table ≡ []
+  pub readable : AreReadable name table.columns table.constraints
+  pub named : NamesItsColumns table
 
 abbrev pub IsGood : CheckReading → Database → Type 0
 IsGood reading db = (name : Name) (table : Table) → get db name ≡ Some table → IsGoodTable reading name table

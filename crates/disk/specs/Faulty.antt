@@ -49,6 +49,7 @@ pub record PassesOn {D T : Type 0} (refused : D → ℕ) (told : D → DiskError
   pub count : CountsRefusal result (refused old.inner) (refused new.inner)
   pub cause : IfErr result (told new.inner)
 
--- the first half of these bytes went out and no others, or the inner device refused that write too
-abbrev pub IsHalfWritten : ℕ → List ℕ → List ℕ → List ℕ → Type 0
-IsHalfWritten at bytes old new = let half = take (length bytes / 2) bytes in (new ≡ overwritten old at half) ⊎ IsTorn at (length half) old new
+-- the first half of these bytes went out and no others; or the inner device refused that write too, and counted it
+abbrev pub IsHalfWritten : ℕ → List ℕ → List ℕ → List ℕ → ℕ → ℕ → Type 0
+IsHalfWritten at bytes old new before after =
+    let half = take (length bytes / 2) bytes in (new ≡ overwritten old at half) ⊎ (HasRisen before after × IsTorn at (length half) old new)

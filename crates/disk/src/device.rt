@@ -9,8 +9,9 @@ use crate::DiskError;
 ///
 /// Its contract is what is known of a device: always, that each refused call raises the count of
 /// refused calls and no other call does, that each sync raises the count of syncs and nothing else
-/// does, and that a cause is one that the device told; of an honest one, what each call gives and
-/// leaves; and of one that always reads, that it does.
+/// does, that a sync settles what was written, which reading leaves so, and that a cause is one that
+/// the device told; of an honest one, what each call gives and leaves; and of one that always reads,
+/// that it does.
 /// Offsets and lengths are in bytes.
 pub trait Disk {
     /// Whether it gives back what was last written. Each law on bytes holds of an honest device alone.
@@ -29,6 +30,10 @@ pub trait Disk {
     /// How many times it was synced. The count stays at 2^64 - 1 once it is there.
     ghost synced: { Self → ℕ };
 
+    /// Whether it was synced, and nothing was to be written since. So a layer above can promise that it
+    /// syncs behind its last write.
+    ghost settled: { Self → Type 0 };
+
     /// Whether this may be the cause that it told for the last call that it refused. So a layer above
     /// that promises such a cause has not made one up.
     ghost told: { Self → Cause → Type 0 };
@@ -40,7 +45,8 @@ pub trait Disk {
         ensures same { IsTrue is_honest → bytes self.new ≡ bytes self.old }
         ensures count { CountsRefusal result (refused self.old) (refused self.new) }
         ensures cause { IfErr result (told self.new) }
-        ensures synced { synced self.new ≡ synced self.old };
+        ensures synced { synced self.new ≡ synced self.old }
+        ensures settled { settled self.old → settled self.new };
 
     /// Fills `into` with the bytes from `at` on. A range that does not lie within the device is
     /// refused. After a refusal `into` may hold anything.
@@ -50,7 +56,8 @@ pub trait Disk {
         ensures same { IsTrue is_honest → bytes self.new ≡ bytes self.old }
         ensures count { CountsRefusal result (refused self.old) (refused self.new) }
         ensures cause { IfErr result (told self.new) }
-        ensures synced { synced self.new ≡ synced self.old };
+        ensures synced { synced self.new ≡ synced self.old }
+        ensures settled { settled self.old → settled self.new };
 
     /// Writes these bytes from `at` on, and lengthens the device where they go past its end. A
     /// refused write may leave any bytes in its range, and changes none outside.
@@ -75,5 +82,6 @@ pub trait Disk {
         ensures same { IsTrue is_honest → bytes self.new ≡ bytes self.old }
         ensures count { CountsRefusal result (refused self.old) (refused self.new) }
         ensures cause { IfErr result (told self.new) }
-        ensures synced { CountsSync result (synced self.old) (synced self.new) };
+        ensures synced { CountsSync result (synced self.old) (synced self.new) }
+        ensures settles { OnOk result (settled self.new) };
 }

@@ -85,6 +85,8 @@ impl<D: Disk> Disk for FaultyDisk<D> {
 
     ghost synced = { λ f. D.synced f.inner };
 
+    ghost settled = { λ f. D.settled f.inner };
+
     ghost told = { λ f cause. IsTold D.told f cause };
 
     fn len(&mut self) -> Result<u64, DiskError>
@@ -93,6 +95,7 @@ impl<D: Disk> Disk for FaultyDisk<D> {
         ensures count { CountsRefusal result (all_refusals D.refused self.old) (all_refusals D.refused self.new) }
         ensures cause { IfErr result (IsTold D.told self.new) }
         ensures synced { D.synced (inner_of self.new) ≡ D.synced (inner_of self.old) }
+        ensures settled { D.settled (inner_of self.old) → D.settled (inner_of self.new) }
         ensures refuses { RefusesNext self.old → RefusesOne result self.old self.new }
         ensures passes { (RefusesNext self.old → ⊥) → PassesOn D.refused D.told result self.old self.new }
         ensures kept { RefusesNext self.old → inner_of self.new ≡ inner_of self.old }
@@ -107,6 +110,7 @@ impl<D: Disk> Disk for FaultyDisk<D> {
         ensures count { CountsRefusal result (all_refusals D.refused self.old) (all_refusals D.refused self.new) }
         ensures cause { IfErr result (IsTold D.told self.new) }
         ensures synced { D.synced (inner_of self.new) ≡ D.synced (inner_of self.old) }
+        ensures settled { D.settled (inner_of self.old) → D.settled (inner_of self.new) }
         ensures refuses { RefusesNext self.old → RefusesOne result self.old self.new }
         ensures passes { (RefusesNext self.old → ⊥) → PassesOn D.refused D.told result self.old self.new }
         ensures kept { RefusesNext self.old → inner_of self.new ≡ inner_of self.old }
@@ -124,7 +128,7 @@ impl<D: Disk> Disk for FaultyDisk<D> {
         ensures refuses { RefusesNext self.old → RefusesOne result self.old self.new }
         ensures passes { (RefusesNext self.old → ⊥) → PassesOn D.refused D.told result self.old self.new }
         ensures kept { RefusesNext self.old → tears_of self.old ≡ false → inner_of self.new ≡ inner_of self.old }
-        ensures half { RefusesNext self.old → tears_of self.old ≡ true → IsTrue D.is_honest → IsHalfWritten at from.now (D.bytes (inner_of self.old)) (D.bytes (inner_of self.new)) }
+        ensures half { RefusesNext self.old → tears_of self.old ≡ true → IsTrue D.is_honest → IsHalfWritten at from.now (D.bytes (inner_of self.old)) (D.bytes (inner_of self.new)) (D.refused (inner_of self.old)) (D.refused (inner_of self.new)) }
     {
         if let Err(refusal) = pass(&mut self.waiting, &mut self.refused) {
             if self.tears {
@@ -154,6 +158,7 @@ impl<D: Disk> Disk for FaultyDisk<D> {
         ensures count { CountsRefusal result (all_refusals D.refused self.old) (all_refusals D.refused self.new) }
         ensures cause { IfErr result (IsTold D.told self.new) }
         ensures synced { CountsSync result (D.synced (inner_of self.old)) (D.synced (inner_of self.new)) }
+        ensures settles { OnOk result (D.settled (inner_of self.new)) }
         ensures refuses { RefusesNext self.old → RefusesOne result self.old self.new }
         ensures passes { (RefusesNext self.old → ⊥) → PassesOn D.refused D.told result self.old self.new }
         ensures kept { RefusesNext self.old → inner_of self.new ≡ inner_of self.old }

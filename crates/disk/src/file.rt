@@ -1,4 +1,4 @@
-ghost use Rattle.std.specs.Prelude.{◌≡◌, [], false, is_ok, IfOk, IfErr};
+ghost use Rattle.std.specs.Prelude.{◌≡◌, [], true, false, is_ok, IfOk, IfErr};
 ghost use Rattle.disk.specs.Refused.{CountsRefusal};
 ghost use Rattle.disk.specs.Causes.{IsSystem};
 
@@ -19,6 +19,7 @@ pub struct FileDisk {
     file: File,
     refused: u64,
     synced: u64,
+    settled: bool,
 }
 
 impl Model for FileDisk {
@@ -26,25 +27,26 @@ impl Model for FileDisk {
 
     ghost Value = { Counts };
 
-    ghost view = { λ d. record { refused = d.refused; synced = d.synced } };
+    ghost view = { λ d. record { refused = d.refused; synced = d.synced; settled = d.settled } };
 }
 
 impl FileDisk {
     /// The device over an open file.
     pub fn new(file: File) -> FileDisk
-        ensures { result ≡ record { refused = 0; synced = 0 } }
+        ensures { result ≡ record { refused = 0; synced = 0; settled = false } }
     {
         FileDisk {
             file,
             refused: 0,
             synced: 0,
+            settled: false,
         }
     }
 
     /// Opens the file at this path to read and write, and makes it where there is none. Refused where
     /// the system does not open it so, and where another process has it open as a device.
     pub fn open<R: Files<File = File>>(rt: &R, path: &str) -> Result<FileDisk, DiskError>
-        ensures fresh { IfOk result (λ disk. disk ≡ record { refused = 0; synced = 0 }) }
+        ensures fresh { IfOk result (λ disk. disk ≡ record { refused = 0; synced = 0; settled = false }) }
         ensures cause { IfErr result IsSystem }
     {
         let mut options = OpenOptions::new();
@@ -87,6 +89,8 @@ impl Disk for FileDisk {
 
     ghost synced = { λ d. d.synced };
 
+    ghost settled = { λ d. d.settled ≡ true };
+
     ghost told = { λ _ cause. IsSystem cause };
 
     fn len(&mut self) -> Result<u64, DiskError> {
@@ -98,16 +102,19 @@ impl Disk for FileDisk {
     }
 
     fn write_at(&mut self, at: u64, from: &[u8]) -> Result<(), DiskError> {
+        self.settled = false;
         counted(&mut self.refused, self.file.write_all_at(from, at))
     }
 
     fn set_len(&mut self, len: u64) -> Result<(), DiskError> {
+        self.settled = false;
         counted(&mut self.refused, self.file.set_len(len))
     }
 
     fn sync(&mut self) -> Result<(), DiskError> {
         counted(&mut self.refused, self.file.sync_all())?;
         self.synced = self.synced.saturating_add(1);
+        self.settled = true;
         Ok(())
     }
 }

@@ -1,4 +1,4 @@
-ghost use Rattle.std.specs.Prelude.{◌≡◌, ◌+◌, ◌-◌, ◌++◌, take, drop, replicate, ◌<◌, ◌≤◌, ◌↔◌, [], true, length, IsOk, IfErr, OnOk, OnErr};
+ghost use Rattle.std.specs.Prelude.{◌≡◌, ◌+◌, ◌-◌, ◌++◌, take, drop, replicate, ◌<◌, ◌≤◌, ◌↔◌, [], true, false, length, IsOk, IfErr, OnOk, OnErr};
 ghost use Rattle.disk.specs.Causes.{IsOfMemory};
 ghost use Rattle.disk.specs.Contents.{Holds, overwritten, resized};
 ghost use Rattle.disk.specs.Refused.{CountsRefusal, HasRisen};
@@ -13,6 +13,7 @@ pub struct MemDisk {
     bytes: Vec<u8>,
     refused: u64,
     synced: u64,
+    settled: bool,
 }
 
 impl Model for MemDisk {
@@ -20,25 +21,26 @@ impl Model for MemDisk {
 
     ghost Value = { Held };
 
-    ghost view = { λ d. record { bytes = d.bytes.items; refused = d.refused; synced = d.synced } };
+    ghost view = { λ d. record { bytes = d.bytes.items; refused = d.refused; synced = d.synced; settled = d.settled } };
 }
 
 impl MemDisk {
     /// An empty device.
     pub fn new(alloc: Global) -> MemDisk
-        ensures { result ≡ record { bytes = []; refused = 0; synced = 0 } }
+        ensures { result ≡ record { bytes = []; refused = 0; synced = 0; settled = false } }
     {
         MemDisk::from_bytes(Vec::new(alloc))
     }
 
     /// A device that holds these bytes.
     pub fn from_bytes(bytes: Vec<u8>) -> MemDisk
-        ensures { result ≡ record { bytes = bytes.items; refused = 0; synced = 0 } }
+        ensures { result ≡ record { bytes = bytes.items; refused = 0; synced = 0; settled = false } }
     {
         MemDisk {
             bytes,
             refused: 0,
             synced: 0,
+            settled: false,
         }
     }
 
@@ -100,6 +102,8 @@ impl Disk for MemDisk {
 
     ghost synced = { λ d. d.synced };
 
+    ghost settled = { λ d. d.settled ≡ true };
+
     ghost told = { λ _ cause. IsOfMemory cause };
 
     /// Never refused.
@@ -118,6 +122,7 @@ impl Disk for MemDisk {
         ensures same { self.new.bytes ≡ self.old.bytes }
         ensures count { CountsRefusal result self.old.refused self.new.refused }
         ensures synced { self.new.synced ≡ self.old.synced }
+        ensures settled { self.new.settled ≡ self.old.settled }
     {
         let len = self.bytes.len();
         let at = at as usize;
@@ -136,6 +141,7 @@ impl Disk for MemDisk {
         ensures count { CountsRefusal result self.old.refused self.new.refused }
         ensures synced { self.new.synced ≡ self.old.synced }
     {
+        self.settled = false;
         match overwrite(&mut self.bytes, at as usize, from) {
             Ok(()) => Ok(()),
             Err(_) => refuse(&mut self.refused, DiskError::Memory),
@@ -150,6 +156,7 @@ impl Disk for MemDisk {
         ensures count { CountsRefusal result self.old.refused self.new.refused }
         ensures synced { self.new.synced ≡ self.old.synced }
     {
+        self.settled = false;
         match self.bytes.resize(len as usize, 0) {
             Ok(()) => Ok(()),
             Err(_) => refuse(&mut self.refused, DiskError::Memory),
@@ -162,9 +169,11 @@ impl Disk for MemDisk {
         ensures same { self.new.bytes ≡ self.old.bytes }
         ensures count { self.new.refused ≡ self.old.refused }
         ensures synced { HasRisen self.old.synced self.new.synced }
+        ensures settles { self.new.settled ≡ true }
     {
         // There is no medium beneath it.
         self.synced = self.synced.saturating_add(1);
+        self.settled = true;
         Ok(())
     }
 }

@@ -29,12 +29,14 @@ use Rattle.denote.specs.Evaluation.{Evaluation, ◌>>=◌, given, unless, adding
 use Rattle.denote.specs.Expression.{cell}
 use Rattle.denote.specs.StoredRow.{given_for, value_for, row_with, row_faults, admitted, inserted_row, key_faults}
 use Rattle.denote.specs.Meaning.{Tables, value_of, query_outcome}
-use Rattle.denote.specs.Database.{Name, IndexDeclaration, Table, Database, rows_in, CheckReading, checks_of, violated_by, fits_columns, IsGoodTable, IsGood}
+use Rattle.denote.specs.Database.{Name, IndexDeclaration, Table, Database, rows_in, CheckReading, checks_of, violated_by, fits_columns, index_columns, are_places, IsGoodTable, IsGood}
 use Rattle.denote.specs.Change.{inserted_rows, is_touched, assigned, updated_if, updated_rows, deleted_rows, Changed, Makes, Raises, Violates, unless_violated, with_rows, unless_raised, insert_into, update_in, delete_from, created, index_on, without_index, on_table, changed}
 use Rattle.operator_laws.proofs.Permuting.{Permutes-refl}
 use Rattle.operator_laws.specs.Same.{Every}
 use Rattle.laws.proofs.Maps.{is_name, is_name-equal, found-insert, found-remove, found-mapped}
+use Rattle.laws.proofs.Places.{places-filtered, places-owned, places-pushed}
 use Rattle.laws.proofs.Tables.{violated_by-same, nothing-violated}
+use Rattle.laws.specs.Changed.{DeclaresRightly}
 
 -- ---- evaluations whose values have a property
 
@@ -254,12 +256,14 @@ module _ (reading : CheckReading) where
       at true f = absurd (cc)
       at false f = good other table f
 
-  -- indexes do not matter
+  -- but for the columns that they name indexes do not matter
   good-indexes : (name : Name) (table : Table) (indexes : List IndexDeclaration) → IsGoodTable reading name table
-      → IsGoodTable reading name (record table { indexes = indexes })
-  good-indexes name table indexes h = record {
+      → are_places (length table.columns) (index_columns indexes) ≡ true → IsGoodTable reading name (record table { indexes = indexes })
+  good-indexes name table indexes h places = record {
     fitting = h.fitting;
     unviolated = violated_by-same reading name (record table { indexes = indexes }) table refl refl (Permutes-refl table.rows) ∙ h.unviolated;
+    readable = h.readable;
+    named = record { in_constraints = h.named.in_constraints; in_indexes = places };
   }
 
   good-mapped : (db : Database) (index : Name) → IsGood reading db → IsGood reading (from_entries (map (λ e. (e.0, without_index index e.1)) (entries db)))
@@ -268,7 +272,8 @@ module _ (reading : CheckReading) where
       at : (found : Option Table) → get db other ≡ found → option_map (without_index index) found ≡ Some table → IsGoodTable reading other table
       at None is f = absurd (cc)
       at (Some t) is f = subst (λ (u : Table). IsGoodTable reading other u) (same_some (without_index index t) table f)
-          (good-indexes other t (filter (λ i. not (is_named index i.name)) t.indexes) (good other t is))
+          (good-indexes other t (filter (λ i. not (is_named index i.name)) t.indexes) (good other t is)
+          (places-filtered (length t.columns) (λ i. not (is_named index i.name)) t.indexes (good other t is).named.in_indexes))
 
   -- what makes a database makes a good one
   abbrev MakesGood : Changed → Type 0
@@ -276,13 +281,18 @@ module _ (reading : CheckReading) where
   MakesGood (Raises faults) = Unit {0}
   MakesGood (Violates names) = Unit {0}
 
-  with_rows-good : (db : Database) (name : Name) (table : Table) (rows : List Row) (count : ℕ) → IsGood reading db
+  with_rows-good : (db : Database) (name : Name) (table : Table) (rows : List Row) (count : ℕ) → IsGood reading db → IsGoodTable reading name table
       → Every (λ r. fits_columns table.columns r ≡ true) rows → MakesGood (with_rows reading db name table rows count)
-  with_rows-good db name table rows count good h = at (violated_by reading name (record table { rows = rows })) refl
+  with_rows-good db name table rows count good was h = at (violated_by reading name (record table { rows = rows })) refl
     where
       at : (names : List Name) → violated_by reading name (record table { rows = rows }) ≡ names
           → MakesGood (unless_violated names (insert db name (record table { rows = rows })) count)
-      at [] e = good-insert db name (record table { rows = rows }) good (record { fitting = all-of_every (fits_columns table.columns) rows h; unviolated = e })
+      at [] e = good-insert db name (record table { rows = rows }) good (record {
+        fitting = all-of_every (fits_columns table.columns) rows h;
+        unviolated = e;
+        readable = was.readable;
+        named = record { in_constraints = was.named.in_constraints; in_indexes = was.named.in_indexes };
+      })
       at (violated ∷ names) e = tt
 
   raised-good : {A : Type 0} (P : A → Type 0) (x : Evaluation A) (made : A → Changed) → IfValue P x → ((a : A) → P a → MakesGood (made a))
@@ -294,65 +304,70 @@ module _ (reading : CheckReading) where
   every-append P [] ys h k = k
   every-append P (x ∷ xs) ys h k = (h.0, every-append P xs ys h.1 k)
 
-  insert-good : (db : Database) (i : Insert) (table : Table) → IsGood reading db → Every (λ r. fits_columns table.columns r ≡ true) table.rows
-      → MakesGood (insert_into reading db i table)
+  rows-fit : (name : Name) (table : Table) → IsGoodTable reading name table → Every (λ r. fits_columns table.columns r ≡ true) table.rows
+  rows-fit name table h = every-of_all (fits_columns table.columns) table.rows h.fitting
+
+  insert-good : (db : Database) (i : Insert) (table : Table) → IsGood reading db → IsGoodTable reading i.table table → MakesGood (insert_into reading db i table)
   insert-good db i table good h =
       raised-good (Every (λ r. fits_columns table.columns r ≡ true)) (inserted_rows (checks_of reading i.table table) (rows_in db) table i.columns i.source)
       (λ rows. with_rows reading db i.table table (table.rows ++ rows) (length rows))
       (inserted_rows-fit (checks_of reading i.table table) (rows_in db) table i.columns i.source)
-      (λ rows k. with_rows-good db i.table table (table.rows ++ rows) (length rows) good
-      (every-append (λ r. fits_columns table.columns r ≡ true) table.rows rows h k))
+      (λ rows k. with_rows-good db i.table table (table.rows ++ rows) (length rows) good h
+      (every-append (λ r. fits_columns table.columns r ≡ true) table.rows rows (rows-fit i.table table h) k))
 
-  update-good : (db : Database) (u : Update) (table : Table) → IsGood reading db → Every (λ r. fits_columns table.columns r ≡ true) table.rows
-      → MakesGood (update_in reading db u table)
+  update-good : (db : Database) (u : Update) (table : Table) → IsGood reading db → IsGoodTable reading u.table table → MakesGood (update_in reading db u table)
   update-good db u table good h =
       raised-good (Every (λ (r : Bool × Row). fits_columns table.columns r.1 ≡ true)) (updated_rows (checks_of reading u.table table) (rows_in db) table u)
       (λ rows. with_rows reading db u.table table (map (λ r. r.1) rows) (count_by (λ r. r.0) rows))
-      (updated_rows-fit (checks_of reading u.table table) (rows_in db) table u h)
-      (λ rows k. with_rows-good db u.table table (map (λ r. r.1) rows) (count_by (λ r. r.0) rows) good
+      (updated_rows-fit (checks_of reading u.table table) (rows_in db) table u (rows-fit u.table table h))
+      (λ rows k. with_rows-good db u.table table (map (λ r. r.1) rows) (count_by (λ r. r.0) rows) good h
       (Every-map (λ (r : Bool × Row). fits_columns table.columns r.1 ≡ true) (λ r. fits_columns table.columns r ≡ true) (λ r. r.1) rows k (λ r l. l)))
 
-  delete-good : (db : Database) (d : Delete) (table : Table) → IsGood reading db → Every (λ r. fits_columns table.columns r ≡ true) table.rows
-      → MakesGood (delete_from reading db d table)
+  delete-good : (db : Database) (d : Delete) (table : Table) → IsGood reading db → IsGoodTable reading d.table table → MakesGood (delete_from reading db d table)
   delete-good db d table good h =
       raised-good (Every (λ (r : Bool × Row). fits_columns table.columns r.1 ≡ true)) (deleted_rows (rows_in db) table d)
-      (λ rows. with_rows reading db d.table table (map (λ r. r.1) (filter (λ r. not r.0) rows)) (count_by (λ r. r.0) rows)) (deleted_rows-fit (rows_in db) table d h)
-      (λ rows k. with_rows-good db d.table table (map (λ r. r.1) (filter (λ r. not r.0) rows)) (count_by (λ r. r.0) rows) good
+      (λ rows. with_rows reading db d.table table (map (λ r. r.1) (filter (λ r. not r.0) rows)) (count_by (λ r. r.0) rows)) (deleted_rows-fit (rows_in db) table d (rows-fit d.table table h))
+      (λ rows k. with_rows-good db d.table table (map (λ r. r.1) (filter (λ r. not r.0) rows)) (count_by (λ r. r.0) rows) good h
       (Every-map (λ (r : Bool × Row). fits_columns table.columns r.1 ≡ true) (λ r. fits_columns table.columns r ≡ true) (λ r. r.1) (filter (λ r. not r.0) rows)
       (Every-filter (λ (r : Bool × Row). fits_columns table.columns r.1 ≡ true) (λ r. not r.0) rows k) (λ r l. l)))
 
-  index-good : (db : Database) (c : CreateIndex) (table : Table) → IsGood reading db → IsGoodTable reading c.table table → MakesGood (index_on db c table)
-  index-good db c table good h =
-      raised-good (λ (i : IndexDeclaration). Unit {0})
+  index-good : (db : Database) (c : CreateIndex) (table : Table) → IsGood reading db → IsGoodTable reading c.table table → are_places (length table.columns) c.columns ≡ true
+      → MakesGood (index_on db c table)
+  index-good db c table good h places =
+      raised-good (λ (i : IndexDeclaration). are_places (length table.columns) i.columns ≡ true)
       (unless (flat_map (λ row. key_faults row c.columns) table.rows) (record { name = Some c.name; columns = c.columns }))
       (λ index. Makes (insert db c.table (record table { indexes = table.indexes ++ index ∷ [] })) None)
-      (IfValue-any (unless (flat_map (λ row. key_faults row c.columns) table.rows) (record { name = Some c.name; columns = c.columns })))
-      (λ index k. good-insert db c.table (record table { indexes = table.indexes ++ index ∷ [] }) good (good-indexes c.table table (table.indexes ++ index ∷ []) h))
+      (IfValue-unless (λ (i : IndexDeclaration). are_places (length table.columns) i.columns ≡ true) (flat_map (λ row. key_faults row c.columns) table.rows)
+      (record { name = Some c.name; columns = c.columns }) places)
+      (λ index k. good-insert db c.table (record table { indexes = table.indexes ++ index ∷ [] }) good (good-indexes c.table table (table.indexes ++ index ∷ []) h
+      (places-pushed (length table.columns) table.indexes index h.named.in_indexes k)))
 
   -- a change of the table of this name
   on_table-good : (db : Database) (name : Name) (change : Table → Changed) → IsGood reading db
-      → ((table : Table) → IsGoodTable reading name table → MakesGood (change table)) → MakesGood (on_table db (get db name) change)
+      → ((table : Table) → get db name ≡ Some table → IsGoodTable reading name table → MakesGood (change table)) → MakesGood (on_table db (get db name) change)
   on_table-good db name change good h = at (get db name) refl
     where
       at : (found : Option Table) → get db name ≡ found → MakesGood (on_table db found change)
       at None e = good
-      at (Some table) e = h table (good name table e)
+      at (Some table) e = h table e (good name table e)
 
-  rows-fit : (name : Name) (table : Table) → IsGoodTable reading name table → Every (λ r. fits_columns table.columns r ≡ true) table.rows
-  rows-fit name table h = every-of_all (fits_columns table.columns) table.rows h.fitting
+  changed-makes_good : (db : Database) (change : Change) → DeclaresRightly db change → IsGood reading db → MakesGood (changed reading db change)
+  changed-makes_good db (does.CreateTable c) rightly good = good-insert db c.name (created c) good
+      (record {
+        fitting = refl;
+        unviolated = nothing-violated reading c.name (created c) refl;
+        readable = rightly.0;
+        named = record { in_constraints = rightly.1; in_indexes = places-owned (length c.columns) c.constraints rightly.1 };
+      })
+  changed-makes_good db (does.DropTable name) rightly good = good-remove db name good
+  changed-makes_good db (does.CreateIndex c) rightly good = on_table-good db c.table (index_on db c) good (λ table is h. index-good db c table good h (rightly table is))
+  changed-makes_good db (does.DropIndex name) rightly good = good-mapped db name good
+  changed-makes_good db (does.Insert i) rightly good = on_table-good db i.table (insert_into reading db i) good
+      (λ table is h. insert-good db i table good h)
+  changed-makes_good db (does.Update u) rightly good = on_table-good db u.table (update_in reading db u) good
+      (λ table is h. update-good db u table good h)
+  changed-makes_good db (does.Delete d) rightly good = on_table-good db d.table (delete_from reading db d) good
+      (λ table is h. delete-good db d table good h)
 
-  changed-makes_good : (db : Database) (change : Change) → IsGood reading db → MakesGood (changed reading db change)
-  changed-makes_good db (does.CreateTable c) good = good-insert db c.name (created c) good
-      (record { fitting = refl; unviolated = nothing-violated reading c.name (created c) refl })
-  changed-makes_good db (does.DropTable name) good = good-remove db name good
-  changed-makes_good db (does.CreateIndex c) good = on_table-good db c.table (index_on db c) good (λ table h. index-good db c table good h)
-  changed-makes_good db (does.DropIndex name) good = good-mapped db name good
-  changed-makes_good db (does.Insert i) good = on_table-good db i.table (insert_into reading db i) good
-      (λ table h. insert-good db i table good (rows-fit i.table table h))
-  changed-makes_good db (does.Update u) good = on_table-good db u.table (update_in reading db u) good
-      (λ table h. update-good db u table good (rows-fit u.table table h))
-  changed-makes_good db (does.Delete d) good = on_table-good db d.table (delete_from reading db d) good
-      (λ table h. delete-good db d table good (rows-fit d.table table h))
-
-  pub changed-good : (db new : Database) (change : Change) (count : Option ℕ) → IsGood reading db → changed reading db change ≡ Makes new count → IsGood reading new
-  changed-good db new change count good e = subst MakesGood e (changed-makes_good db change good)
+  pub changed-good : (db new : Database) (change : Change) (count : Option ℕ) → DeclaresRightly db change → IsGood reading db → changed reading db change ≡ Makes new count → IsGood reading new
+  changed-good db new change count rightly good e = subst MakesGood e (changed-makes_good db change rightly good)

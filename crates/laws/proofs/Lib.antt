@@ -1,4 +1,5 @@
 pub mod ChangedLemmas
+pub mod Places
 pub mod Good
 pub mod Maps
 pub mod Sound

@@ -6,18 +6,20 @@ ghost use Rattle.std.specs.List.{list_all};
 ghost use Rattle.sqlval.specs.Value.{Row};
 ghost use Rattle.typing.specs.declared.statement.Change.{Change};
 ghost use Rattle.denote.specs.declared.fault.Fault.{Fault};
-ghost use Rattle.denote.specs.Database.{Name, Table, Database, CheckReading, violated_by, fits_columns, IsGood, IsSameDatabase};
+ghost use Rattle.denote.specs.Database.{Name, Table, Database, CheckReading, violated_by, fits_columns, AreReadable, NamesItsColumns, IsGood, IsSameDatabase};
 ghost use Rattle.denote.specs.Change.{Makes, changed, IsAccepted, IsRaised, IsNamed};
-ghost use Rattle.laws.specs.Changed.{after, with_table_rows};
+ghost use Rattle.laws.specs.Changed.{DeclaresRightly, after, with_table_rows};
 
-/// A change of a good database makes a good database.
+/// A change of a good database makes a good database, where what it declares is right: the CHECKs of a table that it creates can be read, and constraints and indexes name columns
+/// of their table.
 pub fn changes_keep_databases_good()
-    ensures { (reading : CheckReading) (db new : Database) (change : Change) (count : Option ℕ) → IsGood reading db → changed reading db change ≡ Makes new count → IsGood reading new }
+    ensures { (reading : CheckReading) (db new : Database) (change : Change) (count : Option ℕ) → DeclaresRightly db change → IsGood reading db → changed reading db change ≡ Makes new count → IsGood reading new }
 {}
 
-/// A would-be database, a good one in which a table has other rows, is good where these fit their columns and violate nothing.
+/// A would-be database, a good one in which a table has other rows, is good where these fit their columns and violate nothing, and what the table declares is right: its CHECKs can
+/// be read, and its constraints and indexes name columns of it.
 pub fn what_violates_nothing_is_good()
-    ensures { (reading : CheckReading) (db : Database) (name : Name) (table : Table) (rows : List Row) → IsGood reading db → list_all (fits_columns table.columns) rows ≡ true → violated_by reading name (with_table_rows table rows) ≡ [] → IsGood reading (insert db name (with_table_rows table rows)) }
+    ensures { (reading : CheckReading) (db : Database) (name : Name) (table : Table) (rows : List Row) → IsGood reading db → list_all (fits_columns table.columns) rows ≡ true → violated_by reading name (with_table_rows table rows) ≡ [] → AreReadable name table.columns table.constraints → NamesItsColumns table → IsGood reading (insert db name (with_table_rows table rows)) }
 {}
 
 /// A change that is refused, by a fault or by a constraint, leaves the database as it was, and is not accepted too; one that is accepted

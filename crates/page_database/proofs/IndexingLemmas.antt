@@ -1,5 +1,5 @@
 -- An index made over the rows of a table.
-use Rattle.std.proofs.Common.{◌≡◌, ℕ, List, [], ◌∷◌, ◌++◌, map, Option, None, Result, Ok, Err, IfOk, refl, sym, ap, subst, ◌∙◌, ◌<◌, append_assoc, arith}
+use Rattle.std.proofs.Common.{◌≡◌, ℕ, List, [], ◌∷◌, ◌++◌, map, length, Option, None, Result, Ok, Err, IfOk, refl, sym, ap, subst, ◌∙◌, ◌<◌, append_assoc, arith}
 use Rattle.std.proofs.lemmas.List.{map-append}
 use Rattle.std.specs.List.{AllByRecursion}
 use Rattle.sqlval.specs.declared.schema.Index.{Index}
@@ -13,7 +13,7 @@ use Rattle.store.specs.View.{AreEntries}
 use Rattle.store.specs.declared.rows.NumberedRow.{NumberedRow}
 use Rattle.page_space.specs.Space.{PageMap}
 use Rattle.btree_read.proofs.ListLemmas.{each_append, each_left, each_right}
-use Rattle.catalog_read.specs.Keepable.{ArePlaces, IsIndex, IsTable}
+use Rattle.catalog_read.specs.Keepable.{ArePlaces, AreAmong, IsIndex, IsIndexOver, IsTable}
 use Rattle.tablestore.specs.Held.{HoldsRows}
 use Rattle.index_trees.specs.Indexed.{HoldsIndex, IndexWritten}
 use Rattle.page_tables.specs.Held.{stored_of}
@@ -70,14 +70,16 @@ module _ (old mid : PageMap) (root : ℕ) (table : Table) (index : Index) (top :
   abbrev pub to_put_index : HasTable mid root table
   to_put_index = record { owned = h.holds.owned; front = declared_of h.before; back = declared_of h.behind; others = its_others; trees = with_it }
 
-  pub range_indexed : IsBounded mid → ArePlaces index.columns → IsTable (table_indexed table index top)
-  range_indexed bounded places =
+  pub range_indexed : IsBounded mid → ArePlaces index.columns → AreAmong (length table.columns) index.columns → IsTable (table_indexed table index top)
+  range_indexed bounded places among =
       let was : IsTable table = (each_right IsTable (declared_of h.before) (table ∷ declared_of h.behind) (schema_held mid root table to_put_index).range).0 in
       record {
         root = was.root;
         columns = was.columns;
         constraints = was.constraints;
         indexes = each_append IsIndex table.indexes (with_root top index ∷ []) was.indexes (record { root = small_root mid top w.now_owned w.holds.entries bounded w.holds.tree; columns = places }, tt);
+        constraints_over = was.constraints_over;
+        indexes_over = each_append (IsIndexOver (length table.columns)) table.indexes (with_root top index ∷ []) was.indexes_over (among, tt);
       }
 
   abbrev pub now_with : TableAt

@@ -15,3 +15,4 @@ pub mod CreateLemmas
 pub mod NumberLemmas
 pub mod ChangeLemmas
 pub mod UnindexLemmas
+pub mod KeptLemmas

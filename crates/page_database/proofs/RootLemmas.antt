@@ -14,7 +14,7 @@ use Rattle.btree_read.specs.Lists.{Has}
 use Rattle.btree_read.specs.Nodes.{Node}
 use Rattle.btree_read.specs.Tree.{Tree, page_of, nodes_of, pages_in, IsTree}
 use Rattle.btree.proofs.LawLemmas.{tree_used}
-use Rattle.catalog_read.specs.Keepable.{IsIndex, IsTable}
+use Rattle.catalog_read.specs.Keepable.{IsIndex, IsIndexOver, IsTable}
 use Rattle.page_database.specs.Trees.{TreeAt, Lies}
 use Rattle.page_database.specs.Held.{IndexAt, indexes_declared, trees_of_indexes}
 use Rattle.page_database.specs.Exchanged.{with_root, root_put, with_roots}
@@ -122,3 +122,9 @@ range_roots pages (r ∷ roots) (x ∷ indexes) (f ∷ its) rows bounded e range
       record { root = subst (λ (y : Index). y.root < 2 ^ 32) named below; columns = range.0.columns },
       range_roots pages roots indexes its rows bounded rest range.1 lies.1,
     )
+
+-- and still over the columns of their table
+pub over_roots : (count : ℕ) (roots : List ℕ) (indexes : List Index) → AllByRecursion (IsIndexOver count) indexes → AllByRecursion (IsIndexOver count) (with_roots roots indexes)
+over_roots count [] indexes over = over
+over_roots count (r ∷ roots) [] over = tt
+over_roots count (r ∷ roots) (x ∷ indexes) over = (over.0, over_roots count roots indexes over.1)

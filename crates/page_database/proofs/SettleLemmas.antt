@@ -1,5 +1,5 @@
 -- The indexes of a table follow its rows, and the schema its roots.
-use Rattle.std.proofs.Common.{◌≡◌, ℕ, ◌<◌, ◌^◌, List, [], ◌∷◌, ◌++◌, map, Option, Some, None, IsSome, Result, Ok, Err, IfOk, refl, sym, ap, subst, ◌∙◌, append_assoc}
+use Rattle.std.proofs.Common.{◌≡◌, ℕ, ◌<◌, ◌^◌, List, [], ◌∷◌, ◌++◌, map, length, Option, Some, None, IsSome, Result, Ok, Err, IfOk, refl, sym, ap, subst, ◌∙◌, append_assoc}
 use Rattle.std.specs.List.{AllByRecursion}
 use Rattle.sqlval.specs.declared.schema.Index.{Index}
 use Rattle.sqlval.specs.declared.schema.Table.{Table}
@@ -8,7 +8,7 @@ use Rattle.store.specs.Contents.{Entry, StoredTable}
 use Rattle.page_space.specs.Space.{PageMap}
 use Rattle.btree_read.specs.Lists.{Apart}
 use Rattle.btree_read.proofs.ListLemmas.{each_append, each_left, each_right}
-use Rattle.catalog_read.specs.Keepable.{IsIndex, IsTable}
+use Rattle.catalog_read.specs.Keepable.{IsIndex, IsIndexOver, IsTable}
 use Rattle.catalog.specs.Held.{HoldsSchema}
 use Rattle.catalog.specs.Changed.{SchemaWritten}
 use Rattle.index_trees.specs.Indexed.{HoldsIndex}
@@ -22,7 +22,7 @@ use Rattle.page_database.proofs.TreeLemmas.{first_changed, pages_append}
 use Rattle.page_database.specs.Named.{table_named}
 use Rattle.page_tables.proofs.SchemaLemmas.{names_differ}
 use Rattle.page_database.proofs.NameLemmas.{named_itself}
-use Rattle.page_database.proofs.RootLemmas.{IsBounded, rows_root, range_roots, same_declared}
+use Rattle.page_database.proofs.RootLemmas.{IsBounded, rows_root, range_roots, over_roots, same_declared}
 
 -- ---- the schema
 
@@ -115,6 +115,8 @@ module _ (old : PageMap) (root : ℕ) (table : Table) (rows_root_at : ℕ) (exch
           columns = was.columns;
           constraints = was.constraints;
           indexes = range_roots mid roots table.indexes w.its h.rows bounded w.declared was.indexes (each_left (Lies mid) (trees_of_indexes h.rows w.its) h.behind its.1);
+          constraints_over = was.constraints_over;
+          indexes_over = over_roots (length table.columns) roots table.indexes was.indexes_over;
         }
 
     abbrev pub now_at : TableAt

@@ -27,7 +27,7 @@ use Rattle.btree_read.specs.Tree.{IsTree}
 use Rattle.btree_read.proofs.ListLemmas.{each_right, has_either}
 use Rattle.btree.proofs.GrowLemmas.{has_or_not}
 use Rattle.btree_remove.specs.Dropped.{AreDropped}
-use Rattle.catalog_read.specs.Keepable.{IsIndex, IsTable}
+use Rattle.catalog_read.specs.Keepable.{IsIndex, IsIndexOver, IsTable}
 use Rattle.index_trees.specs.Indexed.{HoldsIndex}
 use Rattle.page_tables.specs.Held as plain
 use Rattle.page_tables.proofs.NameLemmas.{contents-get}
@@ -62,18 +62,25 @@ declared_kept name (i ∷ its) = by (is_named name i.declared.name) (declared_ke
 pub declared_without : (name : Name) (t : TableAt) → declared_at (without_at name t) ≡ table_without name (declared_at t)
 declared_without name t = λ i. record { name = t.name; columns = t.columns; constraints = t.constraints; indexes = declared_kept name t.indexes i; root = t.root }
 
-range_kept : (name : Name) (indexes : List Index) → AllByRecursion IsIndex indexes → AllByRecursion IsIndex (without_named name indexes)
-range_kept name [] h = tt
-range_kept name (i ∷ indexes) h = by (is_named name i.name) (range_kept name indexes h.1)
+range_kept : (P : Index → Type 0) (name : Name) (indexes : List Index) → AllByRecursion P indexes → AllByRecursion P (without_named name indexes)
+range_kept P name [] h = tt
+range_kept P name (i ∷ indexes) h = by (is_named name i.name) (range_kept P name indexes h.1)
   where
-    by : (b : Bool) → AllByRecursion IsIndex (without_named name indexes) → AllByRecursion IsIndex (if not b then i ∷ without_named name indexes else without_named name indexes)
+    by : (b : Bool) → AllByRecursion P (without_named name indexes) → AllByRecursion P (if not b then i ∷ without_named name indexes else without_named name indexes)
     by true again = again
     by false again = (h.0, again)
 
 pub range_without : (pages : PageMap) (root : ℕ) (table : Table) (name : Name) → HasTable pages root table → IsTable (table_without name table)
 range_without pages root table name h =
     let was : IsTable table = (each_right IsTable h.front (table ∷ h.back) (schema_held pages root table h).range).0 in
-    record { root = was.root; columns = was.columns; constraints = was.constraints; indexes = range_kept name table.indexes was.indexes }
+    record {
+      root = was.root;
+      columns = was.columns;
+      constraints = was.constraints;
+      indexes = range_kept IsIndex name table.indexes was.indexes;
+      constraints_over = was.constraints_over;
+      indexes_over = range_kept (IsIndexOver (length table.columns)) name table.indexes was.indexes_over;
+    }
 
 -- no index has the name
 none_named : (name : Name) (its : List IndexAt) (from : ℕ) → position_from (λ (i : Index). is_named name i.name) from (indexes_declared its) ≡ None → (kept_at name its ≡ its) × (named_at name its ≡ [])

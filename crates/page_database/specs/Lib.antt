@@ -7,3 +7,4 @@ pub mod Causes
 pub mod Indexed
 pub mod Dropped
 pub mod Unindexed
+pub mod Kept

@@ -9,6 +9,7 @@ ghost use Rattle.page_database.specs.Exchanged.{HasLongKeyIn, IsOpen, HasTaken, 
 
 use crate::DatabaseError;
 use crate::error::{of_index, of_removal};
+use crate::kept::is_put_back;
 use denote::Row;
 use index_trees::{add_row, remove_row};
 use page_space::PageSpace;
@@ -70,7 +71,7 @@ fn add_one<S: PageSpace>(
 }
 
 /// The number at a place, 0 behind the last.
-fn number_at(numbers: &[u64], at: usize) -> u64
+pub(crate) fn number_at(numbers: &[u64], at: usize) -> u64
     ensures { result ≡ slice_index_or numbers.now at 0 }
 {
     match numbers.get(at) {
@@ -102,8 +103,8 @@ fn add_rows<S: PageSpace>(
     Ok(top)
 }
 
-/// Exchanges rows in the index at a root over these columns, and answers the root.
-pub(crate) fn exchange_rows<S: PageSpace>(
+/// Takes a row out of the index at a root over these columns, puts others into it, and answers the root.
+fn take_and_put<S: PageSpace>(
     space: &mut S,
     alloc: Global,
     root: u32,
@@ -121,4 +122,26 @@ pub(crate) fn exchange_rows<S: PageSpace>(
         Ok(top) => add_rows(space, alloc, top, columns, &exchange.put),
         Err(error) => Err(error),
     }
+}
+
+/// Exchanges rows in the index at a root over these columns, and answers the root. Where one row is put in place of one of its
+/// number that has the same values there, the index has its entry already.
+pub(crate) fn exchange_rows<S: PageSpace>(
+    space: &mut S,
+    alloc: Global,
+    root: u32,
+    columns: &[usize],
+    exchange: &Exchange,
+) -> Result<u32, DatabaseError>
+    ensures exchanged { (h : IsExchangeable (S.pages space.old) root columns.now exchange.now) → IfOk result (IndexWritten (S.pages space.old) (S.pages space.new) h.owned columns.now (h.left ++ h.more)) }
+    ensures limits { IfErr result (Reaches ⊥ (HasLongKeyIn columns.now exchange.now.put.rows) ⊥) }
+    ensures whole { OnOk result (S.is_whole space.old → S.is_whole space.new) }
+    ensures refusal { IfErr result (SpaceRefused (S.at_limit space.new) (IsExchangeable (S.pages space.old) root columns.now exchange.now → S.is_whole space.old → ⊥) (S.refused space.old) (S.refused space.new)) }
+    ensures rising { S.refused space.old ≤ S.refused space.new }
+    ensures follows { S.follows space.old space.new }
+{
+    if is_put_back(columns, exchange) {
+        return Ok(root);
+    }
+    take_and_put(space, alloc, root, columns, exchange)
 }

@@ -1,12 +1,12 @@
 //! An index of a table made, over the rows that are there.
-ghost use Rattle.std.specs.Prelude.{◌≡◌, ◌≤◌, ◌∷◌, [], ℕ, List, IfOk, IfErr, OnOk};
+ghost use Rattle.std.specs.Prelude.{◌≡◌, ◌≤◌, ◌∷◌, [], ℕ, List, length, IfOk, IfErr, OnOk};
 ghost use Rattle.std.specs.FinMap.{get};
 ghost use Rattle.denote.specs.SchemaOf.{index_of};
 ghost use Rattle.store.specs.Contents as stored;
 ghost use Rattle.store.specs.Errors.{HasLongKey};
 ghost use Rattle.store.specs.Indexes.{entries_of};
 ghost use Rattle.tablestore.specs.Held.{HoldsRows};
-ghost use Rattle.catalog_read.specs.Keepable.{ArePlaces, IsTable};
+ghost use Rattle.catalog_read.specs.Keepable.{ArePlaces, AreAmong, IsTable};
 ghost use Rattle.index_trees.specs.Indexed.{IndexWritten};
 ghost use Rattle.page_database.specs.Held.{TableAt, HoldsDatabase, contents_of};
 ghost use Rattle.page_database.specs.Changed.{DatabaseWritten, HoldsNoDatabaseIn, SpaceRefused, Reaches, ReachesNone, IsOfMemory};
@@ -17,6 +17,7 @@ use crate::DatabaseError;
 use crate::exchange::{Exchange, exchange_rows};
 use crate::naming::find_table;
 use crate::settling::put_table;
+use catalog_read::are_among;
 use items::Text;
 use page_space::{Fault, PageSpace};
 use sqlval::{Index, Table};
@@ -107,7 +108,29 @@ fn put_index<S: PageSpace>(
     }
 }
 
-/// Makes an index of a table, and answers the schema's root.
+/// Makes an index of a table over columns of it, and answers the schema's root.
+fn index_on<S: PageSpace>(
+    space: &mut S,
+    alloc: Global,
+    root: u32,
+    table: &Table,
+    index: Index,
+) -> Result<u32, DatabaseError>
+    ensures indexed { (h : IsTableOf (S.pages space.old) root table.now) → ArePlaces index.columns → AreAmong (length table.now.columns) index.columns → IfOk result (IndexMade (S.pages space.new) h.before h.at h.behind index) }
+    ensures limits { (h : IsTableOf (S.pages space.old) root table.now) → IfErr result (Reaches ⊥ (HasLongKey (index_of index ∷ []) (stored.rows_of h.at.rows)) ⊥) }
+    ensures whole { OnOk result (S.is_whole space.old → S.is_whole space.new) }
+    ensures refusal { IfErr result (SpaceRefused (S.at_limit space.new) (IsTableOf (S.pages space.old) root table.now → S.is_whole space.old → ⊥) (S.refused space.old) (S.refused space.new)) }
+    ensures rising { S.refused space.old ≤ S.refused space.new }
+    ensures follows { S.follows space.old space.new }
+{
+    match filled(space, alloc, table.root, index.columns.as_slice()) {
+        Ok(top) => put_index(space, alloc, root, table, index, top),
+        Err(error) => Err(error),
+    }
+}
+
+/// Makes an index of a table, and answers the schema's root. Refused as want of memory where it names a place that is none of the
+/// table's columns: no typed statement does.
 fn create_on<S: PageSpace>(
     space: &mut S,
     alloc: Global,
@@ -122,10 +145,10 @@ fn create_on<S: PageSpace>(
     ensures rising { S.refused space.old ≤ S.refused space.new }
     ensures follows { S.follows space.old space.new }
 {
-    match filled(space, alloc, table.root, index.columns.as_slice()) {
-        Ok(top) => put_index(space, alloc, root, table, index, top),
-        Err(error) => Err(error),
+    if !are_among(table.columns.len(), index.columns.as_slice()) {
+        return Err(DatabaseError::Space(Fault::Memory));
     }
+    index_on(space, alloc, root, table, index)
 }
 
 /// Makes an index of the table of a name, over the rows that are there, and answers the root. Where no table has the name, all
@@ -133,7 +156,8 @@ fn create_on<S: PageSpace>(
 ///
 /// Refused for want of memory, where the device refuses a call, at the limits of pages, as damaged only where no database is
 /// held there or the list of free pages is none, where a row's key takes more than 600 bytes with its number, and where a
-/// record of the schema is too long. After a refusal nothing is said of the pages but what every call of the space keeps.
+/// record of the schema is too long; as want of memory also where the index names a place that is none of the table's columns,
+/// which no typed statement does. After a refusal nothing is said of the pages but what every call of the space keeps.
 pub fn create_index<S: PageSpace>(
     space: &mut S,
     alloc: Global,

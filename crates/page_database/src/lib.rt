@@ -7,6 +7,7 @@ mod error;
 mod exchange;
 mod indexes;
 mod indexing;
+mod kept;
 mod laws;
 mod naming;
 mod numbering;

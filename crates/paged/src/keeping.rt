@@ -3,6 +3,7 @@ ghost use Rattle.std.specs.Prelude.{◌≡◌, ◌<◌, ◌^◌, IsTrue};
 ghost use Rattle.std.specs.List.{AllByRecursion};
 ghost use Rattle.catalog_read.specs.Keepable.{ArePlaces, IsColumn, IsRule, IsConstraint, IsIndex, IsTable};
 
+use catalog_read::{are_constraints_over, are_indexes_over};
 use sqlval::{Column, ColumnType, Constraint, Index, Rule, Table};
 
 /// Places are numbers of 64 bits.
@@ -78,7 +79,8 @@ fn are_new(indexes: &[Index]) -> bool
     true
 }
 
-/// Whether a table can be kept: no column is VARCHAR(0), which no text declares, and no index has a tree yet. All else is of a table by its types.
+/// Whether a table can be kept: no column is VARCHAR(0), its constraints and indexes name only places of its columns, and no index has a tree yet. No text declares
+/// another one. All else is of a table by its types.
 pub(crate) fn is_kept(table: &Table) -> bool
     ensures kept { IsTrue result → IsTable table.now }
     ensures new { IsTrue result → AllByRecursion (λ index. index.root ≡ 0) table.now.indexes }
@@ -86,6 +88,12 @@ pub(crate) fn is_kept(table: &Table) -> bool
     let _root = table.root;
     are_constraints(table.constraints.as_slice());
     are_indexes(table.indexes.as_slice());
+    if !are_constraints_over(table.columns.len(), table.constraints.as_slice()) {
+        return false;
+    }
+    if !are_indexes_over(table.columns.len(), table.indexes.as_slice()) {
+        return false;
+    }
     if !are_new(table.indexes.as_slice()) {
         return false;
     }

@@ -8,16 +8,18 @@ use Rattle.algebra.specs.declared.tree.Tree.{Tree}
 use Rattle.algebra.specs.Listing.{tree_listing, reply_of}
 use Rattle.algebra.specs.Translated.{tree_of_ordered}
 use Rattle.denote.specs.declared.fault.Fault.{Fault}
+use Rattle.denote.specs.declared.fault.Fault.TheVariants as raised
 use Rattle.denote.specs.Answer.{Answers}
 use Rattle.denote.specs.Database.{Database, rows_in}
 use Rattle.denote.specs.Meaning.{Tables}
 use Rattle.denote.specs.Outcome.{Outcome, OrderedOutcome}
 use Rattle.denote.specs.Query.{denotes}
-use Rattle.session_definitions.specs.Refusals.{IsReserved}
+use Rattle.session_definitions.specs.Refusals.{IsReserved, refusal_of}
 use Rattle.store.specs.Contents.{Contents, database_of}
 use Rattle.executor.specs.declared.listed.Listed.{Listed}
 use Rattle.executor.specs.Reply.{outcome_of}
 use Rattle.query_answers.specs.Refused.{MayRefuse}
+use Rattle.transactions.specs.Refused.{TellsNoLimit}
 use Rattle.tree_tables.specs.TablesRead.{Agree, tables_in_tree}
 use Rattle.query_answers.specs.Answered.{rows_found, IsTreeOf, RefusesAs}
 
@@ -41,7 +43,19 @@ rows_answer reply rows o is answers = subst (λ (r : Result (List Row) Fault). A
 
 pub fault_answers : (reply : Result (List Row) Fault) (refusal : Refusal) (o : OrderedOutcome) → RefusesAs reply refusal → Answers reply o → MayRefuse o.unordered.faults refusal
 fault_answers reply refusal o (inl memory) answers = inl (subst IsReserved (sym memory) tt)
-fault_answers reply refusal o (inr raised) answers = inr (raised.0, raised.1, subst (λ (r : Result (List Row) Fault). Answers r o) raised.2 answers)
+fault_answers reply refusal o (inr named) answers = inr (named.0, named.1, subst (λ (r : Result (List Row) Fault). Answers r o) named.2 answers)
+
+-- no fault is a limit of what a store counts
+fault_tells : (fault : Fault) → TellsNoLimit (refusal_of fault)
+fault_tells raised.ManyRows = tt
+fault_tells raised.TextTooLong = tt
+fault_tells raised.OutOfRange = tt
+fault_tells raised.DivisionByZero = tt
+fault_tells raised.Record = tt
+fault_tells raised.Key = tt
+
+pub raised_tells : (fault : Fault) (refusal : Refusal) → refusal ≡ refusal_of fault → TellsNoLimit refusal
+raised_tells fault refusal is = subst TellsNoLimit (sym is) (fault_tells fault)
 
 -- ---- as clauses of a call
 

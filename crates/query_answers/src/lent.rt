@@ -4,6 +4,7 @@ ghost use Rattle.refusals.specs.declared.refusal.Refusal.TheVariants.{Disk};
 ghost use Rattle.session_definitions.specs.Refusals.{IsReserved};
 ghost use Rattle.store.specs.Errors.{HasRisen};
 ghost use Rattle.tree_tables.specs.TablesRead.{Agree};
+ghost use Rattle.transactions.specs.Refused.{TellsNoLimit};
 ghost use Rattle.query_answers.specs.Answered.{rows_found};
 ghost use Rattle.query_answers.specs.Lent.{rows_lent, rows_under, is_lent, newly_read, IsLending};
 
@@ -69,6 +70,7 @@ fn read_table<R: Reading>(alloc: Global, reading: &mut R, name: &Text) -> Result
     ensures rows { R.is_sound reading.old → IfOk result (λ table. table.rows ≡ rows_found (R.shows reading.old).contents name.now) }
     ensures read { R.is_sound reading.old → IfOk result (λ _. (R.shows reading.new).read ≤ (R.shows reading.old).read + length (rows_found (R.shows reading.old).contents name.now)) }
     ensures refused { IfErr result (λ refusal. R.is_sound reading.old → IsReserved refusal) }
+    ensures limits { IfErr result TellsNoLimit }
     ensures counts { IfErr result (λ refusal. refusal ≡ Disk → HasRisen (R.shows reading.old).refused (R.shows reading.new).refused) }
     ensures follows { R.follows reading.old reading.new }
 {
@@ -93,6 +95,7 @@ fn lend<R: Reading>(
         → IsLending tables.new (rows_found (R.shows reading.old).contents) (names ++ name.now ∷ [])) }
     ensures read { R.is_sound reading.old → OnOk result ((R.shows reading.new).read ≤ (R.shows reading.old).read + newly_read tables.old (rows_found (R.shows reading.old).contents) name.now) }
     ensures refused { IfErr result (λ refusal. R.is_sound reading.old → IsReserved refusal) }
+    ensures limits { IfErr result TellsNoLimit }
     ensures counts { IfErr result (λ refusal. refusal ≡ Disk → HasRisen (R.shows reading.old).refused (R.shows reading.new).refused) }
     ensures follows { R.follows reading.old reading.new }
 {
@@ -115,6 +118,7 @@ pub fn lent_tables<R: Reading>(
     ensures lent { R.is_sound reading.old → IfOk result (λ lent. Agree (rows_lent lent.tables) (rows_found (R.shows reading.old).contents) names.now) }
     ensures read { R.is_sound reading.old → IfOk result (λ _. (R.shows reading.new).read ≤ (R.shows reading.old).read + rows_under (rows_found (R.shows reading.old).contents) names.now) }
     ensures refused { IfErr result (λ refusal. R.is_sound reading.old → IsReserved refusal) }
+    ensures limits { IfErr result TellsNoLimit }
     ensures counts { IfErr result (λ refusal. refusal ≡ Disk → HasRisen (R.shows reading.old).refused (R.shows reading.new).refused) }
     ensures follows { R.follows reading.old reading.new }
 {

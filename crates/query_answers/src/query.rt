@@ -12,6 +12,7 @@ ghost use Rattle.denote.specs.Outcome.{Outcome};
 ghost use Rattle.executor.specs.Reply.{Lists, outcome_of};
 ghost use Rattle.session_definitions.specs.Refusals.{IsReserved};
 ghost use Rattle.tree_tables.specs.TablesRead.{tables_in_tree};
+ghost use Rattle.transactions.specs.Refused.{TellsNoLimit};
 ghost use Rattle.query_answers.specs.Lent.{rows_under};
 ghost use Rattle.query_answers.specs.Answered.{IsTreeOf, RefusesAs, rows_found};
 
@@ -43,6 +44,7 @@ pub fn run_all<R: Reading>(alloc: Global, reading: &mut R, plan: &Tree) -> Resul
     ensures lists { R.is_sound reading.old → IfOk result (λ listed. outcome_of listed ≡ tree_listing (rows_found (R.shows reading.old).contents) plan.now []) }
     ensures read { R.is_sound reading.old → IfOk result (λ _. (R.shows reading.new).read ≤ (R.shows reading.old).read + rows_under (rows_found (R.shows reading.old).contents) (tables_in_tree plan.now)) }
     ensures refused { IfErr result (λ refusal. R.is_sound reading.old → IsReserved refusal) }
+    ensures limits { IfErr result TellsNoLimit }
     ensures counts { IfErr result (λ refusal. refusal ≡ Disk → HasRisen (R.shows reading.old).refused (R.shows reading.new).refused) }
     ensures follows { R.follows reading.old reading.new }
 {
@@ -73,6 +75,7 @@ fn unstopped(listed: Result<Listed, Stop>) -> Result<Listed, Refusal>
 pub fn answer<R: Reading>(alloc: Global, reading: &mut R, tree: &Tree) -> Result<Rows, Refusal>
     ensures answers { IfOk result (λ rows. R.is_sound reading.old → (ordered : Asked) → IsTreeOf ordered tree.now → Answers (Ok rows) (denotes (database_of (R.shows reading.old).contents) ordered)) }
     ensures refused { IfErr result (λ refusal. R.is_sound reading.old → (ordered : Asked) → IsTreeOf ordered tree.now → MayRefuse (denotes (database_of (R.shows reading.old).contents) ordered).unordered.faults refusal) }
+    ensures limits { IfErr result TellsNoLimit }
     ensures counts { IfErr result (λ refusal. refusal ≡ Disk → HasRisen (R.shows reading.old).refused (R.shows reading.new).refused) }
     ensures follows { R.follows reading.old reading.new }
 {
@@ -88,6 +91,7 @@ fn shown(listed: Listed) -> Result<Rows, Refusal>
     ensures rows { IfOk result (λ rows. reply_of (outcome_of listed) ≡ Ok rows) }
     ensures refused { IfErr result (RefusesAs (reply_of (outcome_of listed))) }
     ensures stored { IfErr result (λ refusal. refusal ≢ Disk) }
+    ensures limits { IfErr result TellsNoLimit }
 {
     match listed.fault {
         None => Ok(listed.rows),

@@ -6,6 +6,7 @@ ghost use Rattle.store.specs.Errors.{HasRisen};
 ghost use Rattle.algebra.specs.Described.{described_in};
 ghost use Rattle.algebra.specs.Translated.{tree_of_expression};
 ghost use Rattle.tree_tables.specs.TablesRead.{Agree};
+ghost use Rattle.transactions.specs.Refused.{TellsNoLimit};
 ghost use Rattle.query_answers.specs.Answered.{rows_found};
 ghost use Rattle.query_answers.specs.Lent.{rows_lent};
 ghost use Rattle.query_answers.specs.Sources.{AreTreesOf, tables_in_row, tables_in_rows};
@@ -77,6 +78,7 @@ pub fn tables_for_sources<R: Reading>(
 ) -> Result<LentTables, Refusal>
     ensures lent { R.is_sound reading.old → IfOk result (λ lent. Agree (rows_lent lent.tables) (rows_found (R.shows reading.old).contents) (tables_in_rows trees.now)) }
     ensures refused { IfErr result (λ refusal. R.is_sound reading.old → IsReserved refusal) }
+    ensures limits { IfErr result TellsNoLimit }
     ensures counts { IfErr result (λ refusal. refusal ≡ Disk → HasRisen (R.shows reading.old).refused (R.shows reading.new).refused) }
     ensures follows { R.follows reading.old reading.new }
 {

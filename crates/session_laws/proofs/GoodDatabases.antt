@@ -1,14 +1,16 @@
 -- A change that is accepted makes a good database of a good one.
-use Rattle.std.proofs.Common.{◌≡◌, refl, ap, sym, ◌∙◌, subst, ℕ, List, Option, Some, None}
+use Rattle.std.proofs.Common.{◌≡◌, refl, ap, sym, ◌∙◌, subst, ℕ, true, List, length, Option, Some, None}
 use Rattle.std.specs.List.{list_all}
 use Rattle.std.specs.FinMap.{get}
 use Rattle.sqlval.specs.declared.schema.Column.{Column}
+use Rattle.sqlval.specs.declared.schema.Constraint.{Constraint}
 use Rattle.typing.specs.declared.statement.Change.{Change}
 use Rattle.denote.specs.Change.{Changed, Makes, Raises, Violates, changed, IsAccepted}
-use Rattle.denote.specs.Database.{Name, Table, Database, CheckReading, fits_columns, IsGoodTable, IsGood, IsSameTable, AreSame, IsSameDatabase}
+use Rattle.denote.specs.Database.{Name, Table, Database, CheckReading, fits_columns, IndexDeclaration, AreReadable, are_places, constraint_columns, index_columns, IsGoodTable, IsGood, IsSameTable, AreSame, IsSameDatabase}
 use Rattle.laws.proofs.Good.{changed-good}
 use Rattle.operator_laws.proofs.Orders.{list_all-permutes}
 use Rattle.laws.proofs.Tables.{violated_by-same}
+use Rattle.laws.specs.Changed.{DeclaresRightly}
 
 module _ (reading : CheckReading) where
   same_table : (name : Name) (t u : Table) → IsSameTable t u → IsGoodTable reading name t → IsGoodTable reading name u
@@ -16,6 +18,14 @@ module _ (reading : CheckReading) where
     fitting = ap (λ (columns : List Column). list_all (fits_columns columns) u.rows) (sym same.columns)
         ∙ sym (list_all-permutes (fits_columns t.columns) t.rows u.rows same.rows) ∙ good.fitting;
     unviolated = sym (violated_by-same reading name t u same.columns same.constraints same.rows) ∙ good.unviolated;
+    readable = subst (λ (columns : List Column). AreReadable name columns u.constraints) same.columns
+        (subst (λ (constraints : List Constraint). AreReadable name t.columns constraints) same.constraints good.readable);
+    named = record {
+      in_constraints = subst (λ (columns : List Column). are_places (length columns) (constraint_columns u.constraints) ≡ true) same.columns
+          (subst (λ (constraints : List Constraint). are_places (length t.columns) (constraint_columns constraints) ≡ true) same.constraints good.named.in_constraints);
+      in_indexes = subst (λ (columns : List Column). are_places (length columns) (index_columns u.indexes) ≡ true) same.columns
+          (subst (λ (indexes : List IndexDeclaration). are_places (length t.columns) (index_columns indexes) ≡ true) same.indexes good.named.in_indexes);
+    };
   }
 
   -- the order of rows does not matter
@@ -26,11 +36,11 @@ module _ (reading : CheckReading) where
       at None e h = absurd h
       at (Some t) e h = same_table name t table h (good name t e)
 
-  pub accepted_good : (db new : Database) (change : Change) (count : Option ℕ) → IsGood reading db → IsAccepted (changed reading db change) new count
+  pub accepted_good : (db new : Database) (change : Change) (count : Option ℕ) → DeclaresRightly db change → IsGood reading db → IsAccepted (changed reading db change) new count
       → IsGood reading new
-  accepted_good db new change count good accepted = at (changed reading db change) refl accepted
+  accepted_good db new change count rightly good accepted = at (changed reading db change) refl accepted
     where
       at : (c : Changed) → changed reading db change ≡ c → IsAccepted c new count → IsGood reading new
-      at (Makes made n) e h = same_database made new h.0 (changed-good reading db made change n good e)
+      at (Makes made n) e h = same_database made new h.0 (changed-good reading db made change n rightly good e)
       at (Raises faults) e h = absurd h
       at (Violates names) e h = absurd h

@@ -7,15 +7,20 @@ use Rattle.ast.specs.declared.statement.DeclareCursor.{DeclareCursor}
 use Rattle.ast.specs.declared.statement.OrderedQuery.{OrderedQuery}
 use Rattle.ast.specs.declared.statement.Statement.{Statement}
 use Rattle.ast.specs.declared.statement.Statement.TheVariants as asks
+use Rattle.typing.specs.declared.statement.Change.{Change}
+use Rattle.typing.specs.declared.statement.Typed.TheVariants as does
 use Rattle.denote.specs.Database.{Name, IsGood}
+use Rattle.laws.specs.Changed.{DeclaresRightly}
+use Rattle.statement_reading.specs.Reading.{IsRead}
 use Rattle.replies.specs.declared.reply.Reply.{Reply}
 use Rattle.session_definitions.specs.Effect.{Effect}
-use Rattle.session_definitions.specs.Rules.{Rules}
+use Rattle.session_definitions.specs.Rules.{Rules, Means}
 use Rattle.session_definitions.specs.Statements.{Queries, Explains, Changes, Ends, Undoes, SetsMode, Declares, Opens, FetchesIn, Fetches, ClosesIn, Closes, CarriesOut}
 use Rattle.session_definitions.specs.Step.{Withholds, Replies}
 use Rattle.session_definitions.specs.Transactions.{active, with_cursor, without_cursor}
 use Rattle.session_definitions.specs.World.{Transaction, Session}
 use Rattle.session_laws.proofs.GoodDatabases.{accepted_good}
+use Rattle.session_laws.proofs.Declarations.{DeclareRightly}
 
 module _ (rules : Rules) where
   abbrev pub IsGoodTransaction : Transaction → Type 0
@@ -50,14 +55,14 @@ module _ (rules : Rules) where
     explains_good x (Explains.wrong refusal why r) = nothing r.leaves_all
     explains_good x (Explains.shows query lines m is e) = becomes t good e
 
-    changes_good : (x : Statement) → Changes rules session t obstacle x reply effect → LeavesGood effect
-    changes_good x (Changes.reads_only o r) = nothing r.leaves_all
-    changes_good x (Changes.has_cursor o r) = nothing r.leaves_all
-    changes_good x (Changes.overtaken o is e) = rw e tt
-    changes_good x (Changes.wrong refusal o why r) = nothing r.leaves_all
-    changes_good x (Changes.makes change db count o m a is e) = rw e (good.0, accepted_good rules.check t.working db change count good.1 a)
-    changes_good x (Changes.raises change fault o m f r) = nothing r.leaves_all
-    changes_good x (Changes.violates change name o m f r) = nothing r.leaves_all
+    changes_good : (x : Statement) → ((change : Change) → Means rules t.working x (does.Change change) → DeclaresRightly t.working change) → Changes rules session t obstacle x reply effect → LeavesGood effect
+    changes_good x rightly (Changes.reads_only o r) = nothing r.leaves_all
+    changes_good x rightly (Changes.has_cursor o r) = nothing r.leaves_all
+    changes_good x rightly (Changes.overtaken o is e) = rw e tt
+    changes_good x rightly (Changes.wrong refusal o why r) = nothing r.leaves_all
+    changes_good x rightly (Changes.makes change db count o m a is e) = rw e (good.0, accepted_good rules.check t.working db change count (rightly change m) good.1 a)
+    changes_good x rightly (Changes.raises change fault o m f r) = nothing r.leaves_all
+    changes_good x rightly (Changes.violates change name o m f r) = nothing r.leaves_all
 
     ends_good : (u : Option Transaction) → IsGoodIfAny u → Ends u reply effect → LeavesGood effect
     ends_good None is h = nothing h.1
@@ -101,23 +106,23 @@ module _ (rules : Rules) where
     closes_good None is name r = nothing r.leaves_all
     closes_good (Some u) is name h = closes_in_good u is name h
 
-    carried_out_good : (x : Statement) → CarriesOut rules session t obstacle x reply effect → LeavesGood effect
-    carried_out_good (asks.Query x) h = queries_good x h
-    carried_out_good (asks.Explain x) h = explains_good x h
-    carried_out_good (asks.CreateTable x) h = changes_good (asks.CreateTable x) h
-    carried_out_good (asks.DropTable x) h = changes_good (asks.DropTable x) h
-    carried_out_good (asks.CreateIndex x) h = changes_good (asks.CreateIndex x) h
-    carried_out_good (asks.DropIndex x) h = changes_good (asks.DropIndex x) h
-    carried_out_good (asks.Insert x) h = changes_good (asks.Insert x) h
-    carried_out_good (asks.Update x) h = changes_good (asks.Update x) h
-    carried_out_good (asks.Delete x) h = changes_good (asks.Delete x) h
-    carried_out_good (asks.Commit work) h = ends_good session.transaction own h
-    carried_out_good (asks.Rollback work) h = undoes_good session.transaction h
-    carried_out_good (asks.SetTransaction mode) h = sets_good session.transaction mode h
-    carried_out_good (asks.DeclareCursor x) h = declares_good x h
-    carried_out_good (asks.OpenCursor name) h = opens_good name h
-    carried_out_good (asks.Fetch name) h = fetches_good session.transaction own name h
-    carried_out_good (asks.CloseCursor name) h = closes_good session.transaction own name h
+    carried_out_good : DeclareRightly rules → (text : Bytes) (x : Statement) → IsRead text x → CarriesOut rules session t obstacle x reply effect → LeavesGood effect
+    carried_out_good keeps text (asks.Query x) read h = queries_good x h
+    carried_out_good keeps text (asks.Explain x) read h = explains_good x h
+    carried_out_good keeps text (asks.CreateTable x) read h = changes_good (asks.CreateTable x) (λ change m. keeps text (asks.CreateTable x) t.working change read m) h
+    carried_out_good keeps text (asks.DropTable x) read h = changes_good (asks.DropTable x) (λ change m. keeps text (asks.DropTable x) t.working change read m) h
+    carried_out_good keeps text (asks.CreateIndex x) read h = changes_good (asks.CreateIndex x) (λ change m. keeps text (asks.CreateIndex x) t.working change read m) h
+    carried_out_good keeps text (asks.DropIndex x) read h = changes_good (asks.DropIndex x) (λ change m. keeps text (asks.DropIndex x) t.working change read m) h
+    carried_out_good keeps text (asks.Insert x) read h = changes_good (asks.Insert x) (λ change m. keeps text (asks.Insert x) t.working change read m) h
+    carried_out_good keeps text (asks.Update x) read h = changes_good (asks.Update x) (λ change m. keeps text (asks.Update x) t.working change read m) h
+    carried_out_good keeps text (asks.Delete x) read h = changes_good (asks.Delete x) (λ change m. keeps text (asks.Delete x) t.working change read m) h
+    carried_out_good keeps text (asks.Commit work) read h = ends_good session.transaction own h
+    carried_out_good keeps text (asks.Rollback work) read h = undoes_good session.transaction h
+    carried_out_good keeps text (asks.SetTransaction mode) read h = sets_good session.transaction mode h
+    carried_out_good keeps text (asks.DeclareCursor x) read h = declares_good x h
+    carried_out_good keeps text (asks.OpenCursor name) read h = opens_good name h
+    carried_out_good keeps text (asks.Fetch name) read h = fetches_good session.transaction own name h
+    carried_out_good keeps text (asks.CloseCursor name) read h = closes_good session.transaction own name h
 
     withholds_good : (text : Bytes) → Withholds session text reply effect → LeavesGood effect
     withholds_good text (Withholds.of_memory other r) = nothing r.leaves_all
@@ -125,7 +130,7 @@ module _ (rules : Rules) where
     withholds_good text (Withholds.closes refusal u name reserved read has is says e) =
         becomes (without_cursor u name) (subst IsGoodIfAny has own) e
 
-    pub replies_good : (text : Bytes) → Replies rules session t obstacle text reply effect → LeavesGood effect
-    replies_good text (Replies.unread refusal why r) = nothing r.leaves_all
-    replies_good text (Replies.carried_out x read h) = carried_out_good x h
-    replies_good text (Replies.withheld h) = withholds_good text h
+    pub replies_good : DeclareRightly rules → (text : Bytes) → Replies rules session t obstacle text reply effect → LeavesGood effect
+    replies_good keeps text (Replies.unread refusal why r) = nothing r.leaves_all
+    replies_good keeps text (Replies.carried_out x read h) = carried_out_good keeps text x read h
+    replies_good keeps text (Replies.withheld h) = withholds_good text h

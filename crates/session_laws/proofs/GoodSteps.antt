@@ -13,13 +13,14 @@ use Rattle.denote.specs.Database.{Database, IsGood, CheckReading}
 use Rattle.replies.specs.declared.reply.Reply.{Reply}
 use Rattle.session_definitions.specs.Effect.{Effect, after}
 use Rattle.session_definitions.specs.Rules.{Rules}
-use Rattle.session_definitions.specs.Run.{Event, MakesSession, FlushesPages, Happens, without_session, Moment, Run, lengthened, history}
+use Rattle.session_definitions.specs.Run.{Event, MakesSession, DropsSession, FlushesPages, Happens, without_session, Moment, Run, lengthened, history}
 use Rattle.session_laws.specs.Sound.{IsGoodWorld}
 use Rattle.session_definitions.specs.Step.{Call}
 use Rattle.session_definitions.specs.Transactions.{starting, begun, obstacle}
 use Rattle.session_definitions.specs.World.{Transaction, Session, World, is_writer, new_session, new_world, with_session}
 use Rattle.session_laws.proofs.Effects.{left_as, others_stay, own_session}
 use Rattle.session_laws.proofs.GoodReplies.{IsGoodTransaction, IsGoodIfAny, LeavesGood, replies_good}
+use Rattle.session_laws.proofs.Declarations.{DeclareRightly}
 use Rattle.session_laws.proofs.Maps.{get_here, get_there, get_gone, get_left}
 use Rattle.session_laws.proofs.SoundSteps.{same_Some}
 
@@ -88,17 +89,17 @@ module _ (rules : Rules) where
         each k x t is u (inr ne) = good.transactions k x t (sym (others_stay w s session e k ne) ∙ is) u
 
   -- the effect of a call leaves what is good
-  call_leaves_good : (old : World) (s : ℕ) (text : Bytes) (reply : Reply) (effect : Effect) (new : World) → IsGoodWorld rules.check old
+  call_leaves_good : DeclareRightly rules → (old : World) (s : ℕ) (text : Bytes) (reply : Reply) (effect : Effect) (new : World) → IsGoodWorld rules.check old
       → Call rules old s text reply effect new → LeavesGood rules effect
-  call_leaves_good old s text reply effect new good call =
+  call_leaves_good keeps old s text reply effect new good call =
       replies_good rules call.session (begun old call.session) (obstacle old s call.session) reply effect
-      (own_good old s call.session good call.stands) (begun_good old s call.session good call.stands) text call.replies
+      (own_good old s call.session good call.stands) (begun_good old s call.session good call.stands) keeps text call.replies
 
-  good_call : (old : World) (s : ℕ) (text : Bytes) (reply : Reply) (effect : Effect) (new : World) → IsGoodWorld rules.check old
+  good_call : DeclareRightly rules → (old : World) (s : ℕ) (text : Bytes) (reply : Reply) (effect : Effect) (new : World) → IsGoodWorld rules.check old
       → Call rules old s text reply effect new → IsGoodWorld rules.check new
-  good_call old s text reply effect new good call =
+  good_call keeps old s text reply effect new good call =
       subst (IsGoodWorld rules.check) (sym call.leaves)
-      (good_after old s call.session good call.stands effect (call_leaves_good old s text reply effect new good call))
+      (good_after old s call.session good call.stands effect (call_leaves_good keeps old s text reply effect new good call))
 
   -- ---- other events
 
@@ -129,7 +130,10 @@ module _ (rules : Rules) where
           let none : None ≡ Some x = sym (get_gone old.sessions s) ∙ own in absurd (cc)
       each k x t is u (inr ne) = good.transactions k x t (sym (get_left old.sessions s k ne) ∙ is) u
 
-  good_made_or_not : (old : World) (made : Result ℕ Refusal) (new : World) → IsGoodWorld rules.check old → MakesSession old made new
+  pub good_drops : (old : World) (s : ℕ) (new : World) → IsGoodWorld rules.check old → DropsSession old s new → IsGoodWorld rules.check new
+  good_drops old s new good h = subst (IsGoodWorld rules.check) (sym h.leaves) (good_dropped old s good)
+
+  pub good_made_or_not : (old : World) (made : Result ℕ Refusal) (new : World) → IsGoodWorld rules.check old → MakesSession old made new
       → IsGoodWorld rules.check new
   good_made_or_not old (Ok s) new good h = subst (IsGoodWorld rules.check) (sym h.2) (good_made old s good)
   good_made_or_not old (Err refusal) new good h = subst (IsGoodWorld rules.check) (sym h.1) good
@@ -139,44 +143,44 @@ module _ (rules : Rules) where
   good_flushed old (Ok left) new good h = subst (IsGoodWorld rules.check) (sym h) good
   good_flushed old (Err refusal) new good h = subst (IsGoodWorld rules.check) (sym h.1) good
 
-  good_event : (old : World) (event : Event) (new : World) → IsGoodWorld rules.check old → Happens rules old event new → IsGoodWorld rules.check new
-  good_event old (Event.Makes made) new good h = good_made_or_not old made new good h
-  good_event old (Event.Calls s text reply effect) new good h = good_call old s text reply effect new good h
-  good_event old (Event.Drops s) new good h = subst (IsGoodWorld rules.check) (sym h.leaves) (good_dropped old s good)
-  good_event old (Event.Flushes left) new good h = good_flushed old left new good h
-  good_event old (Event.FailsToClose refusal) new good h =
+  good_event : DeclareRightly rules → (old : World) (event : Event) (new : World) → IsGoodWorld rules.check old → Happens rules old event new → IsGoodWorld rules.check new
+  good_event keeps old (Event.Makes made) new good h = good_made_or_not old made new good h
+  good_event keeps old (Event.Calls s text reply effect) new good h = good_call keeps old s text reply effect new good h
+  good_event keeps old (Event.Drops s) new good h = good_drops old s new good h
+  good_event keeps old (Event.Flushes left) new good h = good_flushed old left new good h
+  good_event keeps old (Event.FailsToClose refusal) new good h =
       subst (IsGoodWorld rules.check) (sym h.1) (good_alone rules.check old.commits old.last good.last)
-  good_event old Event.Reopens new good h = subst (IsGoodWorld rules.check) (sym h) (good_alone rules.check 0 old.last good.last)
+  good_event keeps old Event.Reopens new good h = subst (IsGoodWorld rules.check) (sym h) (good_alone rules.check 0 old.last good.last)
 
   -- ---- runs
 
-  pub good_run : (start end : World) (moments : List Moment) → IsGoodWorld rules.check start → Run rules start moments end → IsGoodWorld rules.check end
-  good_run start end [] good run = subst (IsGoodWorld rules.check) (sym run) good
-  good_run start end (moment ∷ earlier) good run =
-      good_event moment.before moment.event end (good_run start moment.before earlier good run.0) run.1
+  pub good_run : DeclareRightly rules → (start end : World) (moments : List Moment) → IsGoodWorld rules.check start → Run rules start moments end → IsGoodWorld rules.check end
+  good_run keeps start end [] good run = subst (IsGoodWorld rules.check) (sym run) good
+  good_run keeps start end (moment ∷ earlier) good run =
+      good_event keeps moment.before moment.event end (good_run keeps start moment.before earlier good run.0) run.1
 
   one_more : (b : Bool) (dbs : List Database) (db : Database) → All (IsGood rules.check) dbs → IsGood rules.check db
       → All (IsGood rules.check) (cond b (dbs ++ db ∷ []) dbs)
   one_more true dbs db h k = All-push (IsGood rules.check) dbs db h k
   one_more false dbs db h k = h
 
-  good_lengthened : (old : World) (event : Event) (new : World) (dbs : List Database) → IsGoodWorld rules.check old → Happens rules old event new
+  good_lengthened : DeclareRightly rules → (old : World) (event : Event) (new : World) (dbs : List Database) → IsGoodWorld rules.check old → Happens rules old event new
       → All (IsGood rules.check) dbs → All (IsGood rules.check) (lengthened old event dbs)
-  good_lengthened old (Event.Calls s text reply (Effect.Commits t)) new dbs good h k =
-      one_more (is_writer old s) dbs t.working k (call_leaves_good old s text reply (Effect.Commits t) new good h)
-  good_lengthened old (Event.Calls s text reply Effect.Nothing) new dbs good h k = k
-  good_lengthened old (Event.Calls s text reply (Effect.Becomes session)) new dbs good h k = k
-  good_lengthened old (Event.Calls s text reply (Effect.Writes session)) new dbs good h k = k
-  good_lengthened old (Event.Calls s text reply Effect.RollsBack) new dbs good h k = k
-  good_lengthened old (Event.Makes made) new dbs good h k = k
-  good_lengthened old (Event.Drops s) new dbs good h k = k
-  good_lengthened old (Event.Flushes left) new dbs good h k = k
-  good_lengthened old (Event.FailsToClose refusal) new dbs good h k = k
-  good_lengthened old Event.Reopens new dbs good h k = All-cons (IsGood rules.check) old.last [] good.last (All-nil (IsGood rules.check))
+  good_lengthened keeps old (Event.Calls s text reply (Effect.Commits t)) new dbs good h k =
+      one_more (is_writer old s) dbs t.working k (call_leaves_good keeps old s text reply (Effect.Commits t) new good h)
+  good_lengthened keeps old (Event.Calls s text reply Effect.Nothing) new dbs good h k = k
+  good_lengthened keeps old (Event.Calls s text reply (Effect.Becomes session)) new dbs good h k = k
+  good_lengthened keeps old (Event.Calls s text reply (Effect.Writes session)) new dbs good h k = k
+  good_lengthened keeps old (Event.Calls s text reply Effect.RollsBack) new dbs good h k = k
+  good_lengthened keeps old (Event.Makes made) new dbs good h k = k
+  good_lengthened keeps old (Event.Drops s) new dbs good h k = k
+  good_lengthened keeps old (Event.Flushes left) new dbs good h k = k
+  good_lengthened keeps old (Event.FailsToClose refusal) new dbs good h k = k
+  good_lengthened keeps old Event.Reopens new dbs good h k = All-cons (IsGood rules.check) old.last [] good.last (All-nil (IsGood rules.check))
 
-  pub good_history : (start end : World) (moments : List Moment) → IsGoodWorld rules.check start → Run rules start moments end
+  pub good_history : DeclareRightly rules → (start end : World) (moments : List Moment) → IsGoodWorld rules.check start → Run rules start moments end
       → All (IsGood rules.check) (history start moments)
-  good_history start end [] good run = All-cons (IsGood rules.check) start.last [] good.last (All-nil (IsGood rules.check))
-  good_history start end (moment ∷ earlier) good run =
-      good_lengthened moment.before moment.event end (history start earlier) (good_run start moment.before earlier good run.0) run.1
-      (good_history start moment.before earlier good run.0)
+  good_history keeps start end [] good run = All-cons (IsGood rules.check) start.last [] good.last (All-nil (IsGood rules.check))
+  good_history keeps start end (moment ∷ earlier) good run =
+      good_lengthened keeps moment.before moment.event end (history start earlier) (good_run keeps start moment.before earlier good run.0) run.1
+      (good_history keeps start moment.before earlier good run.0)

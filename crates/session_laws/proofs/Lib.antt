@@ -10,6 +10,7 @@ pub mod Series
 pub mod Serializable
 pub mod Live
 pub mod Played
+pub mod Declarations
 pub mod GoodDatabases
 pub mod GoodReplies
 pub mod GoodSteps

@@ -8,13 +8,15 @@ ghost use Rattle.denote.specs.Database.{Database, CheckReading, IsGood};
 ghost use Rattle.replies.specs.declared.reply.Reply.{Reply};
 ghost use Rattle.replies.specs.declared.reply.Reply.TheVariants as says;
 ghost use Rattle.session_laws.specs.Left.{IsFetch, LeavesAlmostAll};
-ghost use Rattle.session_definitions.specs.Rules.{Rules};
+ghost use Rattle.session_definitions.specs.Rules.{Rules, AreRules};
 ghost use Rattle.session_definitions.specs.Run.{Event, Happens, MakesSession, DropsSession, Moment, Run, history};
 ghost use Rattle.session_definitions.specs.Script.{IsPlayed};
 ghost use Rattle.session_definitions.specs.Serial.{Committed, transactions, IsWriter, IsSerializable};
 ghost use Rattle.session_laws.specs.Sound.{IsSound, IsGoodWorld};
 ghost use Rattle.session_definitions.specs.Step.{Step};
 ghost use Rattle.session_definitions.specs.World.{World, is_live, new_world, opened};
+
+use check_laws::{declared_columns_are_there, kept_checks_can_be_read};
 
 /// A refused call leaves the world as it was; but a serialization failure has rolled back the session's transaction, and a FETCH
 /// has closed its cursor.
@@ -43,17 +45,20 @@ pub fn worlds_stay_sound()
     ensures run { (rules : Rules) (db : Database) (moments : List Moment) (end : World) → Run rules (opened db) moments end → IsSound end }
 {}
 
-/// In every world of a run that begins with good databases all databases are good: the last committed one, and of each session with a
+/// In every world of a run, by the rules of names and types, that begins with good databases all databases are good: the last committed one, and of each session with a
 /// transaction the one that it found and its working one. So is each database of the history. A new world begins so, and so does a
 /// good database that was opened.
 pub fn databases_stay_good()
     ensures new_world { (reading : CheckReading) → IsGoodWorld reading new_world }
     ensures opened { (reading : CheckReading) (db : Database) → IsGood reading db → IsGoodWorld reading (opened db) }
-    ensures run { (rules : Rules) (start end : World) (moments : List Moment) → IsGoodWorld rules.check start → Run rules start moments end
+    ensures run { (rules : Rules) (start end : World) (moments : List Moment) → AreRules rules → IsGoodWorld rules.check start → Run rules start moments end
         → IsGoodWorld rules.check end }
-    ensures committed { (rules : Rules) (start end : World) (moments : List Moment) → IsGoodWorld rules.check start → Run rules start moments end
+    ensures committed { (rules : Rules) (start end : World) (moments : List Moment) → AreRules rules → IsGoodWorld rules.check start → Run rules start moments end
         → All (IsGood rules.check) (history start moments) }
-{}
+{
+    kept_checks_can_be_read();
+    declared_columns_are_there();
+}
 
 /// The committed databases of a run form one list, whose last one is the last committed; each is made from the one before by one
 /// transaction, which found the one and, run alone, makes the other.

@@ -1,8 +1,8 @@
 //! Whether a page is sound.
 
-ghost use Rattle.std.specs.Prelude.{◌≡◌, ◌+◌, ◌*◌, ◌<◌, ◌≤◌, ◌↔◌, ◌^◌, ℕ, [], ◌∷◌, length, true, IsTrue, IsOk, IfSome, IsNone};
+ghost use Rattle.std.specs.Prelude.{◌≡◌, ◌+◌, ◌*◌, ◌<◌, ◌≤◌, ◌↔◌, ◌^◌, ℕ, [], ◌∷◌, length, take, true, IsTrue, IsOk, IfSome, IsNone};
 ghost use Rattle.std.specs.Ordering.{is_lt};
-ghost use Rattle.sqlrecord.specs.Key.{byte_order};
+ghost use Rattle.sqlrecord.specs.Key.{byte_order, number_code};
 ghost use Rattle.sqlrecord.specs.declared.kind.PageKind.TheVariants.{Inner as inner_kind};
 ghost use Rattle.sqlrecord.specs.Page.{two_at, four_at, kind_byte, count_of, offset_of, length_of, cell_of, cells_of, lowest_of, key_length_of, key_of, IsCell, AreCells, HasHead, HasSlots, AreApart, IsApart, IsSound};
 
@@ -162,8 +162,18 @@ pub(crate) fn key_in(cell: &[u8]) -> &[u8]
     &cell[2..2 + two(cell, 0)]
 }
 
-/// Whether a key comes before another.
-pub(crate) fn precedes(a: &[u8], b: &[u8]) -> bool
+/// The number that the first eight bytes are, the highest first.
+fn eight(bytes: &[u8]) -> u64
+    requires { 8 ≤ length bytes.now }
+    ensures { number_code result ≡ take 8 bytes.now }
+{
+    u64::from_be_bytes([
+        bytes[0], bytes[1], bytes[2], bytes[3], bytes[4], bytes[5], bytes[6], bytes[7],
+    ])
+}
+
+/// Whether bytes come before others, one compared after another.
+fn precedes_by_bytes(a: &[u8], b: &[u8]) -> bool
     ensures { result ≡ is_lt (byte_order a.now b.now) }
 {
     let mut ours = a;
@@ -179,6 +189,27 @@ pub(crate) fn precedes(a: &[u8], b: &[u8]) -> bool
         theirs = behind;
     }
     !theirs.is_empty()
+}
+
+/// Whether a key comes before another. While both have eight bytes more, these are compared as numbers.
+pub(crate) fn precedes(a: &[u8], b: &[u8]) -> bool
+    ensures { result ≡ is_lt (byte_order a.now b.now) }
+{
+    let mut ours = a;
+    let mut theirs = b;
+    'eights: while ours.len().min(theirs.len()) >= 8 {
+        let one = eight(ours);
+        let other = eight(theirs);
+        if one < other {
+            return true;
+        }
+        if other < one {
+            return false;
+        }
+        ours = &ours[8..];
+        theirs = &theirs[8..];
+    }
+    precedes_by_bytes(ours, theirs)
 }
 
 /// Whether each cell is formed as its kind asks, and the keys rise.

@@ -71,10 +71,10 @@ ChangingReaches counted limit.Pages = counted limit.Pages
 ChangingReaches counted limit.Private = counted limit.Private
 ChangingReaches counted limit.Kept = ⊥
 
--- a commit reaches what the store counts, or the greatest number of commits
+-- A commit reaches the limit of old pages that are kept, or the greatest number of commits. It takes no page.
 abbrev pub CommittingReaches : (StoreLimit → Type 0) → ℕ → StoreLimit → Type 0
 CommittingReaches counted commits limit.Record = ⊥
 CommittingReaches counted commits limit.Key = ⊥
-CommittingReaches counted commits limit.Pages = counted limit.Pages ⊎ (2 ^ 64 ≤ commits + 1)
-CommittingReaches counted commits limit.Private = counted limit.Private
+CommittingReaches counted commits limit.Pages = 2 ^ 64 ≤ commits + 1
+CommittingReaches counted commits limit.Private = ⊥
 CommittingReaches counted commits limit.Kept = counted limit.Kept

@@ -47,7 +47,7 @@ pub trait Store: Drop {
     /// How many rows were read.
     ghost read: { Self → ℕ };
 
-    /// That a limit of what the store counts, its pages, is reached by some change of its newest version.
+    /// That the change that was refused last reached a limit of what the store counts, its pages.
     ghost counted: { Self → Limit → Type 0 };
 
     /// The schema that is ready to be lent.
@@ -62,6 +62,9 @@ pub trait Store: Drop {
     /// That a device gives back what was written, and that this database was saved on it.
     ghost saved: { Self.Device → Database → Type 0 };
 
+    /// That a device is empty, or holds what has the form of a store's tables: no other one is opened.
+    ghost readable: { Self.Device → Type 0 };
+
     /// The store on a device, with room for so many pages in memory. A refusal hands the device back, saved as it was.
     fn open(
         alloc: Global,
@@ -71,6 +74,8 @@ pub trait Store: Drop {
         requires { (16 ≤ frames) × (frames ≤ 4096) }
         ensures room { IfOk result (λ store. room store ≡ frames) }
         ensures opened { IfOk result (λ store. (db : Database) → saved device db → is_sound store × IsOpened db (shows store)) }
+        ensures readable { IfOk result (λ store. readable device) }
+        ensures counts { IfOk result (λ store. calls_refused device ≤ refused store) }
         ensures left { IfErr result (λ back. (db : Database) → saved device db → saved back.value db) }
         ensures refused { IfErr result (λ back. MayFail ((db : Database) × saved device db) (calls_refused device) (calls_refused back.value) Never back.error) };
 
@@ -113,6 +118,7 @@ pub trait Store: Drop {
     fn end(&mut self, reader: u64)
         ensures shows { shows self.new ≡ ended (shows self.old) reader }
         ensures prepared { prepared self.new ≡ prepared self.old }
+        ensures unwritten { unwritten self.new ≡ unwritten self.old }
         ensures sound { is_sound self.old → is_sound self.new }
         ensures counts { refused self.old ≤ refused self.new };
 
@@ -142,6 +148,7 @@ pub trait Store: Drop {
     /// Drops the changes. Takes no memory.
     fn discard(&mut self)
         ensures shows { shows self.new ≡ discarded (shows self.old) }
+        ensures unwritten { unwritten self.new ≡ unwritten self.old }
         ensures sound { is_sound self.old → is_sound self.new }
         ensures counts { refused self.old ≤ refused self.new };
 
@@ -162,7 +169,7 @@ pub trait Store: Drop {
         ensures shows { is_sound self.old → OnOk result (shows self.new ≡ working_on (shows self.old) (with_table (shows self.old).working table)) }
         ensures undone { OnErr result (shows self.new ≡ undone (shows self.old)) }
         ensures sound { is_sound self.old → is_sound self.new }
-        ensures refused { IfErr result (MayFail (is_sound self.old) (refused self.old) (refused self.new) (ChangingReaches (counted self.old))) }
+        ensures refused { IfErr result (MayFail (is_sound self.old) (refused self.old) (refused self.new) (ChangingReaches (counted self.new))) }
         ensures counts { refused self.old ≤ refused self.new };
 
     /// The table of this name goes, with its indexes.
@@ -170,7 +177,7 @@ pub trait Store: Drop {
         ensures shows { is_sound self.old → OnOk result (shows self.new ≡ working_on (shows self.old) (without_table (shows self.old).working name.now)) }
         ensures undone { OnErr result (shows self.new ≡ undone (shows self.old)) }
         ensures sound { is_sound self.old → is_sound self.new }
-        ensures refused { IfErr result (MayFail (is_sound self.old) (refused self.old) (refused self.new) (ChangingReaches (counted self.old))) }
+        ensures refused { IfErr result (MayFail (is_sound self.old) (refused self.old) (refused self.new) (ChangingReaches (counted self.new))) }
         ensures counts { refused self.old ≤ refused self.new };
 
     /// A new index of a table, over the rows that are there.
@@ -178,7 +185,7 @@ pub trait Store: Drop {
         ensures shows { is_sound self.old → OnOk result (shows self.new ≡ working_on (shows self.old) (indexed (shows self.old).working name.now index)) }
         ensures undone { OnErr result (shows self.new ≡ undone (shows self.old)) }
         ensures sound { is_sound self.old → is_sound self.new }
-        ensures refused { IfErr result (MayFail (is_sound self.old) (refused self.old) (refused self.new) (IndexingReaches (counted self.old) (rows_of (entries_of (get (shows self.old).working name.now))) (index_of index))) }
+        ensures refused { IfErr result (MayFail (is_sound self.old) (refused self.old) (refused self.new) (IndexingReaches (counted self.new) (rows_of (entries_of (get (shows self.old).working name.now))) (index_of index))) }
         ensures counts { refused self.old ≤ refused self.new };
 
     /// The index of this name goes.
@@ -186,7 +193,7 @@ pub trait Store: Drop {
         ensures shows { is_sound self.old → OnOk result (shows self.new ≡ working_on (shows self.old) (unindexed (shows self.old).working name.now)) }
         ensures undone { OnErr result (shows self.new ≡ undone (shows self.old)) }
         ensures sound { is_sound self.old → is_sound self.new }
-        ensures refused { IfErr result (MayFail (is_sound self.old) (refused self.old) (refused self.new) (ChangingReaches (counted self.old))) }
+        ensures refused { IfErr result (MayFail (is_sound self.old) (refused self.old) (refused self.new) (ChangingReaches (counted self.new))) }
         ensures counts { refused self.old ≤ refused self.new };
 
     /// Puts rows at the end of a table, numbered on from its greatest number.
@@ -194,7 +201,7 @@ pub trait Store: Drop {
         ensures shows { is_sound self.old → OnOk result (shows self.new ≡ working_on (shows self.old) (appended (shows self.old).working name.now rows)) }
         ensures undone { OnErr result (shows self.new ≡ undone (shows self.old)) }
         ensures sound { is_sound self.old → is_sound self.new }
-        ensures refused { IfErr result (MayFail (is_sound self.old) (refused self.old) (refused self.new) (StoringReaches (counted self.old) (get (shows self.old).working name.now) rows)) }
+        ensures refused { IfErr result (MayFail (is_sound self.old) (refused self.old) (refused self.new) (StoringReaches (counted self.new) (get (shows self.old).working name.now) rows)) }
         ensures counts { refused self.old ≤ refused self.new };
 
     /// Puts a row in place of the one of this number, if there is one.
@@ -202,7 +209,7 @@ pub trait Store: Drop {
         ensures shows { is_sound self.old → OnOk result (shows self.new ≡ working_on (shows self.old) (replaced (shows self.old).working name.now number row)) }
         ensures undone { OnErr result (shows self.new ≡ undone (shows self.old)) }
         ensures sound { is_sound self.old → is_sound self.new }
-        ensures refused { IfErr result (MayFail (is_sound self.old) (refused self.old) (refused self.new) (StoringReaches (counted self.old) (get (shows self.old).working name.now) (row ∷ []))) }
+        ensures refused { IfErr result (MayFail (is_sound self.old) (refused self.old) (refused self.new) (StoringReaches (counted self.new) (get (shows self.old).working name.now) (row ∷ []))) }
         ensures counts { refused self.old ≤ refused self.new };
 
     /// Removes the row of this number, if there is one.
@@ -210,7 +217,7 @@ pub trait Store: Drop {
         ensures shows { is_sound self.old → OnOk result (shows self.new ≡ working_on (shows self.old) (deleted (shows self.old).working name.now number)) }
         ensures undone { OnErr result (shows self.new ≡ undone (shows self.old)) }
         ensures sound { is_sound self.old → is_sound self.new }
-        ensures refused { IfErr result (MayFail (is_sound self.old) (refused self.old) (refused self.new) (ChangingReaches (counted self.old))) }
+        ensures refused { IfErr result (MayFail (is_sound self.old) (refused self.old) (refused self.new) (ChangingReaches (counted self.new))) }
         ensures counts { refused self.old ≤ refused self.new };
 
     /// All rows of a table of a version, in the order of their numbers.

@@ -10,7 +10,8 @@ ghost use Rattle.session_definitions.specs.Run.{without_session};
 ghost use Rattle.statement_reading.specs.Rollback.{IsRollback};
 ghost use Rattle.transactions.specs.Moves.{Moves};
 ghost use Rattle.transactions.specs.Orderly.{IsOrderly};
-ghost use Rattle.transactions.specs.Refused.{Counts};
+ghost use Rattle.store.specs.Errors.{CommittingReaches};
+ghost use Rattle.transactions.specs.Refused.{Counts, IfRefused, TellsReached};
 ghost use Rattle.transactions.specs.Shown.{Slots, slot_at, shown};
 
 use crate::refusal::refusal_of;
@@ -30,6 +31,7 @@ pub fn commit<S: Store>(
         → Moves rules session text result (S.shows store.old) writer.old mode.old (S.shows store.new) writer.new mode.new }
     ensures sound { S.is_sound store.old → S.is_sound store.new }
     ensures refused { Counts result (S.refused store.old) (S.refused store.new) }
+    ensures limits { IfRefused result (TellsReached (CommittingReaches (S.counted store.old) (S.shows store.old).commits)) }
     ensures counts { S.refused store.old ≤ S.refused store.new }
 {
     if store.number(session).is_none() {

@@ -6,6 +6,7 @@ use Rattle.std.proofs.lemmas.List.Folds.{list_all-append}
 use Rattle.refusals.specs.declared.reason.Reason.{Reason}
 use Rattle.refusals.specs.declared.limit.Limit.{Limit}
 use Rattle.refusals.specs.declared.refusal.Refusal.{Refusal}
+use Rattle.refusals.specs.declared.refusal.Refusal.TheVariants.{Exceeded}
 use Rattle.typing.specs.Finding.{Finding, reasons_in, ◌>>=◌, also, before, each, invalid, exceeded, misplaced}
 use Rattle.typing.specs.Table.{as_found, at_most, distinct_found, are_distinct, is_new}
 use Rattle.type_laws.specs.Reasons.{is_reason, AreReasons, IsReasoned}
@@ -21,8 +22,8 @@ cons_nil x xs e = absurd (omega (arith, ap length e))
 pub faulty : {A : Type 0} {reason : Reason} → IsReasoned {A = A} (invalid reason)
 faulty = record { err = record { some = cons_nil _ _; each = refl } }
 
-pub limited : {A : Type 0} {limit : Limit} → IsReasoned {A = A} (exceeded limit)
-limited = record { err = record { some = cons_nil _ _; each = refl } }
+pub limited : {A : Type 0} (limit : Limit) → is_reason (Exceeded limit) ≡ true → IsReasoned {A = A} (exceeded limit)
+limited limit written = record { err = record { some = cons_nil _ _; each = rw written refl } }
 
 -- ---- lists of reasons
 
@@ -80,8 +81,8 @@ either false h k = k
 
 -- ---- names and counts
 
-pub counted : (most : ℕ) (limit : Limit) (count : ℕ) → IsReasoned (at_most most limit count)
-counted most limit count = either (nat_le count most) found limited
+pub counted : (most : ℕ) (limit : Limit) → is_reason (Exceeded limit) ≡ true → (count : ℕ) → IsReasoned (at_most most limit count)
+counted most limit written count = either (nat_le count most) found (limited limit written)
 
 pub distinct : (names : List (List ℕ)) → IsReasoned (distinct_found names)
 distinct names = either (are_distinct names) found faulty

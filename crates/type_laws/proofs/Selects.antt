@@ -1,5 +1,5 @@
 -- FROMs, SELECTs and set operators find with reasons, where their parts do.
-use Rattle.std.proofs.Common.{ℕ, Bool, true, false, List, [], ◌∷◌, ◌++◌, map, length, Ok, Option, Some, None}
+use Rattle.std.proofs.Common.{refl, ℕ, Bool, true, false, List, [], ◌∷◌, ◌++◌, map, length, Ok, Option, Some, None}
 use Rattle.std.specs.Prelude.{◌==◌, ◌+◌, nat_le, ◌&&◌}
 use Rattle.std.specs.Cmp.Lexicographic.{pointwise}
 use Rattle.std.specs.List.{AllByRecursion}
@@ -94,7 +94,7 @@ all_columns-safe [] = tt
 all_columns-safe (frame ∷ outer) = columns_from-safe frame.key frame.columns 0
 
 limited-safe : (items : List (Finding ShownItem)) → AllByRecursion IsReasoned items → IsReasoned (limited items)
-limited-safe items h = goes_on (beside (counted 256 limit.Columns (length items)) (all items h)) (λ p. found)
+limited-safe items h = goes_on (beside (counted 256 limit.Columns refl (length items)) (all items h)) (λ p. found)
 
 abbrev pub IfItems : Option (List (Part ShownItem)) → Type 0
 IfItems None = Unit {0}
@@ -136,7 +136,7 @@ settled-safe select outer columns h =
 
 pub clauses-safe : (select : Clauses) → AreSafe select → IsSafeQuery (clauses_found select)
 clauses-safe select h outer =
-    goes_on (beside (beside (counted 8 limit.Tables (length select.from.names)) (distinct select.from.names))
+    goes_on (beside (beside (counted 8 limit.Tables refl (length select.from.names)) (distinct select.from.names))
     (beside (h.from.source outer) (goes_on (h.from.columns outer) (λ columns. settled-safe select outer columns h)))) (λ p. found)
 
 -- ---- set operators

@@ -1,5 +1,5 @@
 -- Every statement finds with reasons.
-use Rattle.std.proofs.Common.{ℕ, List, [], ◌∷◌, map, length, Ok, Err, Option, Some, None}
+use Rattle.std.proofs.Common.{refl, ℕ, List, [], ◌∷◌, map, length, Ok, Err, Option, Some, None}
 use Rattle.std.specs.Prelude.{◌==◌, ◌+◌, ◌&&◌, nat_le, is_none, not, filter}
 use Rattle.std.specs.List.{AllByRecursion, zip}
 use Rattle.sqlval.specs.declared.schema.Column.{Column}
@@ -127,8 +127,8 @@ module _ (k : Known) where
 
   index-safe : (tree : CreateIndex) → IsReasoned (index_found k tree)
   index-safe tree =
-      goes_on (beside (beside (new (k.has_index tree.index)) (beside (counted 4 limit.KeyColumns (length tree.columns)) (distinct tree.columns)))
-      (goes_on (table-safe tree.table) (λ table. beside (counted 7 limit.Indexes table.indexes) (mapped_any _ (λ name. there (place_in table.columns name)) tree.columns)))) (λ p. found)
+      goes_on (beside (beside (new (k.has_index tree.index)) (beside (counted 4 limit.KeyColumns refl (length tree.columns)) (distinct tree.columns)))
+      (goes_on (table-safe tree.table) (λ table. beside (counted 7 limit.Indexes refl table.indexes) (mapped_any _ (λ name. there (place_in table.columns name)) tree.columns)))) (λ p. found)
 
   dropped_index-safe : (name : List ℕ) → IsReasoned (dropped_index k name)
   dropped_index-safe name = either (k.has_index name) found faulty
@@ -151,11 +151,11 @@ column-safe : (definition : ColumnDefinition) → IsReasoned (column_found defin
 column-safe definition = goes_on (type-safe definition.type_name) (λ t. found)
 
 columns-safe : (columns : List ColumnDefinition) → IsReasoned (columns_found columns)
-columns-safe columns = goes_on (beside (beside (counted 32 limit.Columns (length columns)) (distinct (map (λ definition. definition.column) columns))) (mapped_any column_found column-safe columns)) (λ p. found)
+columns-safe columns = goes_on (beside (beside (counted 32 limit.Columns refl (length columns)) (distinct (map (λ definition. definition.column) columns))) (mapped_any column_found column-safe columns)) (λ p. found)
 
 check-safe : (frame : Frame) (tree : Condition) → IsReasoned (check_rule frame tree)
 check-safe frame tree =
-    goes_on (beside (counted 800 limit.Check (length (printed tree))) ((conditions-safe nothing_known tree).found (record { scope = frame ∷ []; clause = Checked }))) (λ p. found)
+    goes_on (beside (counted 800 limit.Check refl (length (printed tree))) ((conditions-safe nothing_known tree).found (record { scope = frame ∷ []; clause = Checked }))) (λ p. found)
 
 abbrev IsSafeRule : Declared → Type 0
 IsSafeRule declared = IsReasoned declared.rule
@@ -167,7 +167,7 @@ column_rule-safe frame place name column_rule.Unique = found
 column_rule-safe frame place name (column_rule.Check condition) = check-safe frame condition
 
 key_places-safe : (columns : List ColumnDefinition) (names : List (List ℕ)) → IsReasoned (key_places columns names)
-key_places-safe columns names = goes_on (beside (beside (counted 4 limit.KeyColumns (length names)) (distinct names)) (mapped_any _ (λ name. there _) names)) (λ p. found)
+key_places-safe columns names = goes_on (beside (beside (counted 4 limit.KeyColumns refl (length names)) (distinct names)) (mapped_any _ (λ name. there _) names)) (λ p. found)
 
 table_rule-safe : (frame : Frame) (columns : List ColumnDefinition) (name : Option (List ℕ)) (r : TableRule) → IsSafeRule (table_rule_of frame columns name r)
 table_rule-safe frame columns name (table_rule.PrimaryKey names) = goes_on (key_places-safe columns names) (λ places. found)
@@ -189,8 +189,8 @@ one_key-safe declared = either (nat_le (length (filter (λ c. c.is_primary_key) 
 
 allowed-safe : (declared : List Declared) → IsReasoned (are_allowed declared)
 allowed-safe declared =
-    goes_on (beside (beside (counted 32 limit.Constraints (length declared)) (distinct (names_from 1 declared)))
-    (beside (counted 8 limit.Indexes (length (filter (λ c. c.owns_index) declared))) (one_key-safe declared))) (λ p. found)
+    goes_on (beside (beside (counted 32 limit.Constraints refl (length declared)) (distinct (names_from 1 declared)))
+    (beside (counted 8 limit.Indexes refl (length (filter (λ c. c.owns_index) declared))) (one_key-safe declared))) (λ p. found)
 
 constraints-safe : (declared : List Declared) → AllByRecursion IsSafeRule declared → IsReasoned (constraints_found declared)
 constraints-safe declared h = goes_on (beside (allowed-safe declared) (mapped IsSafeRule (λ c. c.rule) (λ c g. g) declared h)) (λ p. found)

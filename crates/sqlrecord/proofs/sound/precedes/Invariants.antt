@@ -4,8 +4,8 @@ use Rattle.sqlrecord.specs.Key.{byte_order}
 use Rattle.sqlrecord.proofs.sound.precedes.Given as goal
 
 -- what is left of both decides
-abbrev pub invariant-compared : goal.invariant-compared
-invariant-compared l = is_lt (byte_order l.ours l.theirs) ≡ is_lt (byte_order l.fn.a l.fn.b)
+abbrev pub invariant-eights : goal.invariant-eights
+invariant-eights l = is_lt (byte_order l.ours l.theirs) ≡ is_lt (byte_order l.fn.a l.fn.b)
 
-abbrev pub decreases-compared : goal.decreases-compared
-decreases-compared l = length l.ours
+abbrev pub decreases-eights : goal.decreases-eights
+decreases-eights l = length l.ours

@@ -2,7 +2,7 @@ use Rattle.std.proofs.Common.{◌≡◌, not, refl, sym, ap, ◌∙◌}
 use Rattle.store.specs.Stored.{Stored, ended, committed}
 use Rattle.transactions.proofs.Orders.{writer_is, same}
 use Rattle.transactions.proofs.Steps.{commits_as_writer, commits_as_reader, commits_idle, nothing_moves, withholds}
-use Rattle.transactions.proofs.Tests.{none_is, some_is, reserved}
+use Rattle.transactions.proofs.Tests.{none_is, some_is, reserved, tells_reached}
 use Rattle.transactions.proofs.ending.commit.Goals as goal
 
 pub returns-then-is_none-clause-moves : goal.returns-then-is_none-clause-moves
@@ -27,3 +27,6 @@ pub returns-clause-moves : goal.returns-clause-moves
 returns-clause-moves g c = λ rules text work read other sound order.
     let active = some_is _ _ c.number.ensures (c.is_none.ensures ∙ ap not c.if-is_none.false) in
     commits_as_reader rules _ text work _ _ _ active.0 _ order (sym c.is_writer.ensures ∙ c.if-is_writer.false) active.1 read c.end-2.ensures.shows
+
+pub returns-in-Err-clause-limits : goal.returns-in-Err-clause-limits
+returns-in-Err-clause-limits g c = tells_reached _ _ _ _ _ _ c.refusal_of.ensures (rw c.in-Err.is at c.commit.ensures.refused)

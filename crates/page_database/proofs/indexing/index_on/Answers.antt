@@ -11,15 +11,15 @@ use Rattle.page_database.specs.Indexed.{table_indexed, IndexMade}
 use Rattle.page_database.proofs.DatabaseLemmas.{rows_of_it}
 use Rattle.page_database.proofs.IndexingLemmas.{to_put_index, range_indexed, index_made, long_one}
 use Rattle.page_database.proofs.RefusalLemmas.{later, refused_later, reaches, reaches_so}
-use Rattle.page_database.proofs.indexing.create_on.Goals as goal
+use Rattle.page_database.proofs.indexing.index_on.Goals as goal
 
 pub returns-in-Ok-clause-indexed : goal.returns-in-Ok-clause-indexed
-returns-in-Ok-clause-indexed g c = λ h places.
+returns-in-Ok-clause-indexed g c = λ h places among.
     let w = subst (λ (cs : List ℕ). IndexWritten (g.S.PageReader.pages c.args.space.now) (g.S.PageReader.pages c.filled.new.space) [] cs h.at.rows c.in-Ok.top) c.as_slice.ensures (c.in-Ok.ensures.filled h.at.owned h.at.rows (rows_of_it (g.S.PageReader.pages c.args.space.now) c.args.root c.args.table.now h)) in
     let p = to_put_index (g.S.PageReader.pages c.args.space.now) (g.S.PageReader.pages c.filled.new.space) c.args.root c.args.table.now c.args.index c.in-Ok.top h w in
     if_ok (TablePut (g.S.PageReader.pages c.put_index.new.space) p.front (table_indexed c.args.table.now c.args.index c.in-Ok.top) p.back p.others) (IndexMade (g.S.PageReader.pages c.put_index.new.space) h.before h.at h.behind c.args.index) c.put_index.result
     (λ now put. index_made (g.S.PageReader.pages c.args.space.now) (g.S.PageReader.pages c.filled.new.space) c.args.root c.args.table.now c.args.index c.in-Ok.top h w (g.S.PageReader.pages c.put_index.new.space) now put)
-    (c.put_index.ensures.put p (range_indexed (g.S.PageReader.pages c.args.space.now) (g.S.PageReader.pages c.filled.new.space) c.args.root c.args.table.now c.args.index c.in-Ok.top h w (λ n i. g.met.S.PageReader.bounded _ n i) places))
+    (c.put_index.ensures.put p (range_indexed (g.S.PageReader.pages c.args.space.now) (g.S.PageReader.pages c.filled.new.space) c.args.root c.args.table.now c.args.index c.in-Ok.top h w (λ n i. g.met.S.PageReader.bounded _ n i) places among))
 
 pub returns-in-Ok-clause-limits : goal.returns-in-Ok-clause-limits
 returns-in-Ok-clause-limits g c = λ h. reaches_so c.put_index.result ⊥ ⊥ ⊥ ⊥ (HasLongKey (index_of c.args.index ∷ []) (rows_of h.at.rows)) ⊥ (λ none. none) (λ none. absurd none) (λ none. none) c.put_index.ensures.limits
