@@ -159,7 +159,7 @@ counted_weaker sound other version settled limit.Key f h = h
 pub commit_fails : (sound : Type 0) (counted : StoreLimit → Type 0) (last k n : ℕ) (error : PoolError) → IsRefused (last ≡ 2 ^ 64 - 1) ⊥ k n error → MayFail sound k n (CommittingReaches counted last) (of_pool error)
 commit_fails sound counted last k n pool.Memory h = tt
 commit_fails sound counted last k n (pool.Device cause) h = has_risen k k n (omega arith) h
-commit_fails sound counted last k n pool.Pages h = inr (top last (2 ^ 64) (omega arith) h)
+commit_fails sound counted last k n pool.Pages h = top last (2 ^ 64) (omega arith) h
   where
     top : (last most : ℕ) → 0 < most → last ≡ most - 1 → most ≤ last + 1
     top last most some e = omega (arith, some, e)
