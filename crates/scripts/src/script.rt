@@ -16,6 +16,7 @@ ghost use Rattle.scripts.specs.Playing.{AfterTurn, AreLive, FindsNone, FindsSess
 use refusals::{Reason, Refusal};
 use replies::{Reply, print_reply};
 use script_pieces::{Cutter, Request};
+use session_laws::databases_stay_good;
 use sessions::{Changes, Core, Language, SessionId};
 use std::alloc::Global;
 use std::io;
@@ -360,6 +361,7 @@ impl Sessions {
         ensures kept { (rules : Rules) → AreRules rules → IsKept S.is_sound S.shows rules.check self.old.standing core.old → IsKept S.is_sound S.shows rules.check self.new.standing core.new }
         ensures counts { S.refused (store_of core.old) ≤ S.refused (store_of core.new) }
     {
+        databases_stay_good();
         match self.session(core) {
             Ok(session) => core.step(session, text),
             Err(refusal) => Reply::Refused(refusal),
