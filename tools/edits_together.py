@@ -4,7 +4,8 @@
   tools/edits_together.py [--outside] CRATE ..    tries the edits of must-fail/ and wrong-bodies/ of these crates, or of
                                                   wrong-bodies/ alone, over the work that `rt check` kept in the crate's
                                                   out/; so each crate has to be proved first. Prints a line for each edit;
-                                                  the last line is 'N refused, M not refused'
+                                                  the last line is 'N refused, M not refused'. CRATE/NAME,NAME tries these
+                                                  edits of the crate alone
 
 Much quicker than ./wrong-bodies, which tries one edit at a time, and as strict: an edit counts as refused where a goal of
 its function stays open whose line does not only say that a proof file names what the edit took away. What is not told
@@ -43,7 +44,7 @@ def functions_of(text):
     for at, line in enumerate(lines):
         head = FUNCTION.match(line)
         if head:
-            ends = (it for it in range(at, len(lines)) if lines[it] == head[1] + "}" or lines[it].endswith("{}"))
+            ends = (it for it in range(at, len(lines)) if lines[it] in (head[1] + "}", head[1] + "{}") or it == at and line.endswith("{}"))
             found.append(Function(head[2], at + 1, next(ends, at) + 1))
     return found
 
@@ -88,6 +89,11 @@ class Edit:
             made[file] = made[file].replace(old, new)
         return made
 
+    def faults(self, output):
+        """The lines of a check that say that the compiler, the borrow checker or the reader of contracts refuses this edit's function."""
+        codes = filter(None, map(IN_CODE.match, output.split("\n")))
+        return [it[0] for it in codes if it[3].startswith("error") and it[1] == self.file and self.first <= int(it[2]) <= self.last]
+
     def told(self, output):
         """The lines of a check that say that something of this edit's function is not proved."""
         module = [it for it in self.file[len("src/"):-len(".rt")].split("/") if it not in ("lib", "main", "mod")]
@@ -112,11 +118,12 @@ class Edit:
 class Trial:
     """The edits of one crate, tried over the work that its check kept."""
 
-    def __init__(self, toolchain, crate, folders):
+    def __init__(self, toolchain, crate, folders, wanted):
         self.toolchain, self.crate, self.verdicts = toolchain, crate, {}
         self.folder, self.kept = crate.folder, ""
         paths = ("%s/%s" % (crate.folder, it) for it in folders)
-        self.edits = [Edit("%s/%s" % (at, name), crate.folder) for at in paths if os.path.isdir(at) for name in sorted(os.listdir(at)) if name.endswith(".edit")]
+        files = ("%s/%s" % (at, name) for at in paths if os.path.isdir(at) for name in sorted(os.listdir(at)) if name.endswith(".edit"))
+        self.edits = [Edit(it, crate.folder) for it in files if not wanted or os.path.basename(it)[:-len(".edit")] in wanted]
 
     def say(self, edit, refused, why):
         self.verdicts[edit.name] = refused
@@ -136,6 +143,9 @@ class Trial:
         """Judges those of the edits that one check tells apart."""
         ran = self.toolchain["checked"](self.crate, texts, ["--jobs", "1"], self.kept)
         if not ran.stdout.rstrip("\n").split("\n")[-1].startswith("logic="):
+            for edit in edits:
+                for fault in edit.faults(ran.stdout)[:1]:
+                    self.say(edit, False, "it did not reach the prover: " + fault)
             return
         for edit in edits:
             goal = next((it for it in edit.told(ran.stdout) if not TOOK_A_NAME.match(it)), None)
@@ -189,13 +199,15 @@ def main(words):
     os.chdir(TOP)
     crates = {it.name: it for it in toolchain["rtlib"].crates_below(TOP)}
     verdicts = []
-    for name in names:
+    for word in names:
+        name, _, some = word.partition("/")
         if name not in crates or not os.path.isdir(crates[name].folder + "/out/incremental"):
             print("%s: there is no such crate, or `rt check` has not proved it yet" % name, file=sys.stderr)
             return 2
-        trial, begun = Trial(toolchain, crates[name], folders), time.monotonic()
+        trial, begun = Trial(toolchain, crates[name], folders, some.split(",") if some else []), time.monotonic()
         trial.run(int(os.environ.get("GROUP", "16")))
-        print(trial.line(time.monotonic() - begun), flush=True)
+        if not some:
+            print(trial.line(time.monotonic() - begun), flush=True)
         verdicts += trial.verdicts.values()
     print("%d refused, %d not refused" % (sum(verdicts), len(verdicts) - sum(verdicts)))
     return 0 if all(verdicts) else 1

@@ -34,7 +34,12 @@ fn rows_of(alloc: Global, numbers: &[i64]) -> Result<Rows, AllocError> {
 }
 
 impl RefusingReading {
-    pub fn new(refused_call: u64) -> RefusingReading {
+    /// A reading whose device refuses this call, counted from 1. No call was made yet.
+    pub fn new(refused_call: u64) -> RefusingReading
+        ensures call { result.refused_call ≡ refused_call }
+        ensures calls { result.calls ≡ 0 }
+        ensures counts { (result.refused ≡ 0) × (result.read ≡ 0) }
+    {
         RefusingReading {
             calls: 0,
             refused_call,

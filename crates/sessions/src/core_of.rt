@@ -167,8 +167,8 @@ impl<S: Store, L: Language + Changes<S>> Core<S, L> {
         }
     }
 
-    /// A core without sessions over the database that was saved on a device, with room for so many pages in memory. A refusal hands the device back, saved as it was; where a
-    /// database was saved on it, it is want of memory or the device, as of a flush.
+    /// A core without sessions over the database that was saved on a device, with room for so many pages in memory. A device that cannot be read as a store's is refused. A refusal hands
+    /// the device back, saved as it was; where a database was saved on it, it is want of memory or the device, as of a flush.
     pub fn open(
         alloc: Global,
         language: L,
@@ -179,6 +179,8 @@ impl<S: Store, L: Language + Changes<S>> Core<S, L> {
         ensures room { IfOk result (λ core. S.room core.store ≡ frames) }
         ensures opened { IfOk result (λ core. (db : Database) → S.saved device db → IsSound S.is_sound S.shows core × (world_of S.shows core ≡ opened db)) }
         ensures empty { IfOk result (λ core. (k : ℕ) → is_live (world_of S.shows core) k ≡ false) }
+        ensures readable { IfOk result (λ core. S.readable device) }
+        ensures counts { IfOk result (λ core. S.calls_refused device ≤ S.refused core.store) }
         ensures left { IfErr result (λ back. (db : Database) → S.saved device db → S.saved back.value db) }
         ensures refused { IfErr result (λ back. (db : Database) → S.saved device db → IsReserved back.refusal) }
         ensures stops { IfErr result (λ back. (db : Database) → S.saved device db → StopsFlush back.refusal) }

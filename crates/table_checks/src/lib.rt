@@ -5,4 +5,4 @@ mod decided;
 mod reading;
 
 pub use decided::TableChecks;
-pub use reading::table_checks;
+pub use reading::{CheckFault, table_checks};

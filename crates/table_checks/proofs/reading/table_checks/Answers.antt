@@ -11,5 +11,5 @@ pub returns-clause-decides : goal.returns-clause-decides
 returns-clause-decides c = λ reading is_reading. record {
   described = described_in c.args.schema.now;
   names = described_named c.args.schema.now;
-  are = (rw c.as_slice.ensures at c.in_ok-trees.ensures) ∙ ap (λ conditions. map (tree_of_condition (described_in c.args.schema.now)) conditions) (c.in_ok-conditions.ensures reading is_reading);
+  are = (rw c.as_slice.ensures at c.in_ok-trees.ensures) ∙ ap (λ conditions. map (tree_of_condition (described_in c.args.schema.now)) conditions) (c.in_ok-conditions.ensures.rules reading is_reading);
 }
