@@ -275,7 +275,8 @@ REPLIES = {
     "check_with_an_open_parenthesis": RULE,
     "check_with_a_character_of_no_token": RULE,
     "unique_that_owns_nothing": UNUSED,
-    "key_that_owns_two": [GOOD, GOOD, MAYBE, X, X, (ANSWERED, X), X, (NAME, X), MAYBE, GOOD, GOOD, GOOD],
+    # The second one is of A, which the first UPDATE leaves alone.
+    "key_that_owns_two": [GOOD, GOOD, MAYBE, MAYBE, X, (ANSWERED, X), X, (NAME, X), MAYBE, GOOD, GOOD, GOOD],
     "check_that_does_not_type": RULE,
     "check_of_no_column": RULE,
     "check_that_is_no_condition": RULE,
