@@ -2,10 +2,10 @@
 ghost use Rattle.std.specs.Prelude.{◌≡◌, ◌≤◌, [], IsTrue, IfOk, IfErr};
 ghost use Rattle.denote.specs.Database.{Database};
 ghost use Rattle.store.specs.Errors.{MayFail, Never};
-ghost use Rattle.pool.specs.Versions.{versions_of};
+ghost use Rattle.pool.specs.Versions.{versions_of, device_of};
 ghost use Rattle.page_versions.specs.Opened.{Begins};
 ghost use Rattle.page_versions.specs.Refusals.{of_open};
-ghost use Rattle.page_versions.specs.Saved.{IsSaved};
+ghost use Rattle.page_versions.specs.Saved.{IsSaved, IsEmptyOrWhole};
 
 use disk::Disk;
 use page_contents::contents_are_read;
@@ -22,6 +22,7 @@ fn new_pool<D: Disk>(alloc: Global, device: D, frames: u32) -> Result<Pool<D>, R
     requires most { frames ≤ 4096 }
     requires empty { IsTrue D.is_honest → D.bytes device ≡ [] }
     ensures begins { IfOk result (λ pool. Begins D.is_honest (D.bytes device) (versions_of pool)) }
+    ensures device { IfOk result (λ pool. device_of pool ≡ device) }
     ensures left { IfErr result (λ back. back.value ≡ device) }
     ensures refused { IfErr result (λ back. back.error ≡ StoreError.Memory) }
 {
@@ -53,6 +54,8 @@ fn old_pool<D: Disk>(alloc: Global, device: D, frames: u32) -> Result<Pool<D>, R
     requires most { frames ≤ 4096 }
     requires some { IsTrue D.is_honest → D.bytes device ≡ [] → ⊥ }
     ensures begins { IfOk result (λ pool. Begins D.is_honest (D.bytes device) (versions_of pool)) }
+    ensures readable { IfOk result (λ _. IsEmptyOrWhole D.is_honest (D.bytes device)) }
+    ensures counts { IfOk result (λ pool. D.refused device ≤ D.refused (device_of pool)) }
     ensures left { IfErr result (λ back. IsTrue D.is_honest → D.bytes back.value ≡ D.bytes device) }
     ensures refused { IfErr result (λ back. MayFail ((db : Database) × IsSaved D.is_honest (D.bytes device) db) (D.refused device) (D.refused back.value) Never back.error) }
 {
@@ -70,6 +73,8 @@ pub fn pool_over<D: Disk>(alloc: Global, mut device: D, frames: u32) -> Result<P
     requires least { 16 ≤ frames }
     requires most { frames ≤ 4096 }
     ensures begins { IfOk result (λ pool. Begins D.is_honest (D.bytes device) (versions_of pool)) }
+    ensures readable { IfOk result (λ _. IsEmptyOrWhole D.is_honest (D.bytes device)) }
+    ensures counts { IfOk result (λ pool. D.refused device ≤ D.refused (device_of pool)) }
     ensures left { IfErr result (λ back. IsTrue D.is_honest → D.bytes back.value ≡ D.bytes device) }
     ensures refused { IfErr result (λ back. MayFail ((db : Database) × IsSaved D.is_honest (D.bytes device) db) (D.refused device) (D.refused back.value) Never back.error) }
 {

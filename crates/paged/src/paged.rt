@@ -76,7 +76,7 @@ impl<D: Disk + Drop> Store for Paged<D> {
     ghost use Rattle.pool.specs.Versions.{versions_of, device_of, unwritten_of};
     ghost use Rattle.overlay.specs.Changes.{settled_of};
     ghost use Rattle.page_versions.specs.Refusals.{IsCounted};
-    ghost use Rattle.page_versions.specs.Saved.{IsSaved};
+    ghost use Rattle.page_versions.specs.Saved.{IsSaved, IsEmptyOrWhole};
     ghost use Rattle.paged.specs.Store.{shown_of, sound_of};
     ghost use Rattle.paged.specs.SeenLemmas.{rises_seen};
 
@@ -101,6 +101,8 @@ impl<D: Disk + Drop> Store for Paged<D> {
     ghost room = { λ s. s.frames };
 
     ghost saved = { λ device db. IsSaved D.is_honest (D.bytes device) db };
+
+    ghost readable = { λ device. IsEmptyOrWhole D.is_honest (D.bytes device) };
 
     ghost numbers_rise = { λ s view name table sound found. rises_seen _ _ _ _ _ view name table sound found };
 

@@ -12,3 +12,6 @@ returns-in-Ok-clause-begins g c =
 
 pub returns-in-Err-clause-left : goal.returns-in-Err-clause-left
 returns-in-Err-clause-left g c = c.into_disk.ensures ∙ ap disk_of c.in-Err.ensures.left ∙ c.over-file.ensures
+
+pub returns-in-Ok-clause-device : goal.returns-in-Ok-clause-device
+returns-in-Ok-clause-device g c = c.in-Ok.ensures.device ∙ c.over-file.ensures

@@ -1,4 +1,4 @@
-use Rattle.std.proofs.Common.{ap, sym, refl, ◌∙◌, length}
+use Rattle.std.proofs.Common.{ap, sym, refl, ◌∙◌, length, inr, le_of_eq}
 use Rattle.pagefile.specs.File.{disk_of}
 use Rattle.pool.specs.Versions.{versions_of}
 use Rattle.page_versions.proofs.OpenLemmas.{old_begins, open_refused}
@@ -17,3 +17,9 @@ pub returns-in-Err-clause-refused : goal.returns-in-Err-clause-refused
 returns-in-Err-clause-refused g c =
     let e = c.in-Err.ensures in
     rw c.of_open.ensures (open_refused g.D.Disk.is_honest (g.D.Disk.bytes c.args.device) (g.D.Disk.refused c.args.device) (g.D.Disk.refused c.in-Err.refused.disk) c.in-Err.refused.cause c.requires.some e.count e.damaged)
+
+pub returns-in-Ok-clause-readable : goal.returns-in-Ok-clause-readable
+returns-in-Ok-clause-readable g c = λ honest. inr (c.in-Ok.header, c.in-Ok.ensures.whole honest)
+
+pub returns-in-Ok-clause-counts : goal.returns-in-Ok-clause-counts
+returns-in-Ok-clause-counts g c = le_of_eq (sym (ap g.D.Disk.refused c.new.ensures.device ∙ c.in-Ok.ensures.count))
