@@ -1,5 +1,5 @@
 -- What opening a device gives.
-use Rattle.std.proofs.Common.{◌≡◌, ◌≢◌, ◌∙◌, ℕ, ◌+◌, ◌*◌, ◌==◌, ◌<◌, ◌≤◌, [], ◌∷◌, Bool, true, false, List, length, Option, Some, None, Result, Ok, Err, IfOk, IfErr, IsTrue, IsSome, refl, sym, ap, subst, arith, ◌⊎◌, inl, inr, le_of_eq}
+use Rattle.std.proofs.Common.{◌≡◌, ◌≢◌, ◌∙◌, ℕ, ◌+◌, ◌*◌, ◌==◌, ◌<◌, ◌≤◌, [], ◌∷◌, Bool, true, false, List, length, Option, Some, None, Result, Ok, Err, IfOk, IfErr, IsTrue, IsSome, refl, sym, ap, subst, arith, ◌⊎◌, inl, inr}
 use Rattle.std.specs.Prelude.{nat_le}
 use Rattle.std.specs.Option.{is_some}
 use Rattle.std.specs.FinMap.{empty}
@@ -26,9 +26,9 @@ use Rattle.overlay.proofs.LayerLemmas.{only_apart}
 use Rattle.page_database.specs.Held as database
 use Rattle.page_database.proofs.DatabaseLemmas.{as_tables}
 use Rattle.page_versions.specs.Databases.{nothing, root_of, contents_in, IsDatabase}
-use Rattle.page_versions.specs.Opened.{Begins}
+use Rattle.page_versions.specs.Opened.{Begins, IsReadable}
 use Rattle.page_versions.specs.Refusals.{of_open}
-use Rattle.page_versions.specs.Saved.{HoldsDatabase, IsSaved, IsEmptyOrWhole}
+use Rattle.page_versions.specs.Saved.{HoldsDatabase, IsSaved}
 use Rattle.page_versions.proofs.HeldLemmas.{TheyAreRead, TheyRise, is_database}
 use Rattle.page_versions.proofs.RefusalLemmas.{fail_weaker}
 
@@ -145,6 +145,10 @@ pub empty_of : (xs : List ℕ) → length xs ≡ 0 → xs ≡ []
 empty_of [] e = refl
 empty_of (x ∷ xs) e = absurd (omega (arith, e))
 
+-- a count that stays does not fall
+pub no_less : (k m n : ℕ) → m ≡ k → n ≡ m → k ≤ n
+no_less k m n first second = omega (arith, first, second)
+
 -- ---- refusals
 
 pub open_refused : (honest : Bool) (bytes : List ℕ) (k n : ℕ) (cause : OpenError) → (IsTrue honest → bytes ≡ [] → ⊥) → file.IsCounted cause k n → (cause ≡ opening.Damaged → IsTrue honest → file.IsDamaged bytes)
@@ -166,6 +170,20 @@ module _ {A E : Type 0} (result : Result A E) (honest : Bool) (now bytes : List 
     where
       by : (r : Result A E) → IfOk r (λ a. Begins honest now (v a)) → IfOk r (λ a. Begins honest bytes (v a))
       by (Ok a) h = begins_from honest now bytes (v a) same h
+      by (Err e) h = h
+
+  pub readable_after : IfOk result (λ a. IsReadable honest now) → IfOk result (λ a. IsReadable honest bytes)
+  readable_after h = by result h
+    where
+      by : (r : Result A E) → IfOk r (λ a. IsReadable honest now) → IfOk r (λ a. IsReadable honest bytes)
+      by (Ok a) h = λ device. subst (λ (f : List ℕ). (f ≡ []) ⊎ ((header : FileHeader) × file.IsWhole f header)) (same device) (h device)
+      by (Err e) h = h
+
+  pub counts_after : (count : A → ℕ) (k m : ℕ) → m ≡ k → IfOk result (λ a. m ≤ count a) → IfOk result (λ a. k ≤ count a)
+  counts_after count k m is h = by result h
+    where
+      by : (r : Result A E) → IfOk r (λ a. m ≤ count a) → IfOk r (λ a. k ≤ count a)
+      by (Ok a) h = subst (λ (n : ℕ). n ≤ count a) is h
       by (Err e) h = h
 
   pub left_after : (left : E → List ℕ) → IfErr result (λ e. IsTrue honest → left e ≡ now) → IfErr result (λ e. IsTrue honest → left e ≡ bytes)
@@ -191,24 +209,3 @@ left_same (Err e) honest bytes_of value device h = λ _. ap bytes_of h
 pub memory_fails : {A E : Type 0} (result : Result A E) (sound : Type 0) (k : ℕ) (count : E → ℕ) (error : E → StoreError) → IfErr result (λ e. error e ≡ refused.Memory) → IfErr result (λ e. MayFail sound k (count e) Never (error e))
 memory_fails (Ok a) sound k count error h = h
 memory_fails (Err e) sound k count error h = subst (λ (x : StoreError). MayFail sound k (count e) Never x) (sym h) tt
-
--- ---- what was opened
-
-pub empty_after : {A E : Type 0} (result : Result A E) (honest : Bool) (bytes : List ℕ) → (IsTrue honest → bytes ≡ []) → IfOk result (λ a. IsEmptyOrWhole honest bytes)
-empty_after (Ok a) honest bytes h = λ device. inl (h device)
-empty_after (Err e) honest bytes h = tt
-
-pub whole_after : {A E : Type 0} (result : Result A E) (honest : Bool) (now bytes : List ℕ) → (IsTrue honest → now ≡ bytes) → IfOk result (λ a. IsEmptyOrWhole honest now)
-    → IfOk result (λ a. IsEmptyOrWhole honest bytes)
-whole_after (Ok a) honest now bytes same h = λ device. subst (λ (bytes : List ℕ). (bytes ≡ []) ⊎ ((header : FileHeader) × file.IsWhole bytes header)) (same device) (h device)
-whole_after (Err e) honest now bytes same h = h
-
--- how many calls the device has refused goes on
-pub counts_same : {A E D : Type 0} (result : Result A E) (device_in : A → D) (refused : D → ℕ) (old mid : D) → refused mid ≡ refused old → IfOk result (λ a. device_in a ≡ mid)
-    → IfOk result (λ a. refused old ≤ refused (device_in a))
-counts_same (Ok a) device_in refused old mid is h = le_of_eq (sym (ap refused h ∙ is))
-counts_same (Err e) device_in refused old mid is h = h
-
-pub counts_after : {A E : Type 0} (result : Result A E) (count : A → ℕ) (k m : ℕ) → m ≡ k → IfOk result (λ a. m ≤ count a) → IfOk result (λ a. k ≤ count a)
-counts_after (Ok a) count k m is h = subst (λ n. n ≤ count a) is h
-counts_after (Err e) count k m is h = h

@@ -18,7 +18,3 @@ pub record HoldsDatabase (file : List ℕ) (db : Database) : Type 0 where
 -- the device gives back what was written, and it is empty, or a file that is this database; the empty one is the database without tables
 abbrev pub IsSaved : Bool → List ℕ → Database → Type 0
 IsSaved honest bytes db = IsTrue honest × (((bytes ≡ []) × (db ≡ empty)) ⊎ HoldsDatabase bytes db)
-
--- where it gives back what was written, a device is empty, or a whole file
-abbrev pub IsEmptyOrWhole : Bool → List ℕ → Type 0
-IsEmptyOrWhole honest bytes = IsTrue honest → (bytes ≡ []) ⊎ ((header : FileHeader) × IsWhole bytes header)
