@@ -60,11 +60,13 @@ fn run_asked<R: Files<File = File> + Input, W: Write>(
     match settings.file {
         Some(path) => {
             let device = FileDisk::open(rt, path);
-            run_over_pages(alloc, settings, device, &mut reader, writer).status
+            let ended = run_over_pages(alloc, settings, device, &mut reader, writer);
+            ended.status
         }
         None => {
-            let device = Ok(MemDisk::new(alloc));
-            run_over_pages(alloc, settings, device, &mut reader, writer).status
+            let device: Result<MemDisk, DiskError> = Ok(MemDisk::new(alloc));
+            let ended = run_over_pages(alloc, settings, device, &mut reader, writer);
+            ended.status
         }
     }
 }
