@@ -82,7 +82,7 @@ pub rows_refused : (version written fresh settled : PageMap) (header : FileHeade
 rows_refused version written fresh settled header k m n name rows (change.Space fault.Memory) says less numbers h = tt
 rows_refused version written fresh settled header k m n name rows (change.Space fault.Disk) says less numbers h = has_risen k m n less h
 rows_refused version written fresh settled header k m n name rows (change.Space fault.Damaged) says less numbers h = λ d. h d.tables (held_at version written header says d) d.whole
-rows_refused version written fresh settled header k m n name rows (change.Space fault.Pages) says less numbers h = (fresh, h)
+rows_refused version written fresh settled header k m n name rows (change.Space fault.Pages) says less numbers h = tt
 rows_refused version written fresh settled header k m n name rows (change.Space fault.Private) says less numbers h = (fresh, h)
 rows_refused version written fresh settled header k m n name rows change.Record says less numbers h = numbers
 rows_refused version written fresh settled header k m n name rows change.Key says less numbers h = tt
@@ -104,7 +104,7 @@ pub table_refused : (version written fresh settled : PageMap) (header : FileHead
 table_refused version written fresh settled header k m n (change.Space fault.Memory) says less h = tt
 table_refused version written fresh settled header k m n (change.Space fault.Disk) says less h = has_risen k m n less h
 table_refused version written fresh settled header k m n (change.Space fault.Damaged) says less h = λ d. h d.tables (held_at version written header says d) d.whole
-table_refused version written fresh settled header k m n (change.Space fault.Pages) says less h = (fresh, h)
+table_refused version written fresh settled header k m n (change.Space fault.Pages) says less h = tt
 table_refused version written fresh settled header k m n (change.Space fault.Private) says less h = (fresh, h)
 table_refused version written fresh settled header k m n change.Record says less h = tt
 table_refused version written fresh settled header k m n change.Key says less h = tt

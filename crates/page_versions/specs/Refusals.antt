@@ -43,21 +43,22 @@ of_change change.Key = refused.Memory
 of_change change.Number = refused.Memory
 of_change change.Schema = refused.Memory
 
--- Which indexes there are, and which numbers rows have, is not known over a device that is not honest, so that a key is too long or the numbers of rows end counts as want of memory; so does that a record of a schema is too long.
+-- Which indexes there are, and which numbers rows have, is not known over a device that is not honest, so that a key is too long counts as want of memory; so does that a record of a schema is too long. That the numbers of rows end is told by the limit of pages.
 abbrev pub of_rows : DatabaseError → StoreError
 of_rows (change.Space f) = of_fault f
 of_rows change.Record = refused.Exceeded limit.Record
 of_rows change.Key = refused.Memory
-of_rows change.Number = refused.Memory
+of_rows change.Number = refused.Exceeded limit.Pages
 of_rows change.Schema = refused.Memory
 
 -- with some pages written since the mark, the pages are at the limit that a fault names
 abbrev pub IsReached : PageMap → PageMap → Fault → Type 0
 IsReached version settled f = (fresh : PageMap) × AtLimit (over (over fresh settled) version 0) (size_of (over fresh settled)) f
 
--- a limit of the pages is reached by some change behind the mark
+-- The limit of private pages is reached by some change behind the mark. The limit of pages also tells that the numbers of rows end, which is not known over a device that is not
+-- honest: so nothing is said of when it is reached.
 abbrev pub IsCounted : PageMap → PageMap → StoreLimit → Type 0
-IsCounted version settled limit.Pages = IsReached version settled fault.Pages
+IsCounted version settled limit.Pages = Unit {0}
 IsCounted version settled limit.Private = IsReached version settled fault.Private
 IsCounted version settled limit.Kept = ⊥
 IsCounted version settled limit.Record = ⊥

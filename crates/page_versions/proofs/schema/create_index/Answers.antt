@@ -33,7 +33,7 @@ returns-in-Err-put_root-clause-refused g c =
     (ap (λ (v : Versions). v.pages c.args.at) c.read_header.ensures.versions) (ap (λ (v : Versions). v.pages c.args.at) c.index_from.ensures.versions) (λ tables h. c.in-Ok-index_from.ensures.indexed tables h c.requires) c.in-Ok-index_from.ensures.whole
     (fresh_of c.put_root.new.changes) (settled_of c.put_root.new.changes) (settled_of c.args.changes.now) (ChangingReaches (IsCounted ((versions_of c.args.pool.now).pages c.args.at) (settled_of c.args.changes.now)))
     (g.D.Disk.refused (device_of c.args.pool.now)) (g.D.Disk.refused (device_of c.index_from.new.pool)) (g.D.Disk.refused (device_of c.put_root.new.pool)) c.in-Err-put_root.fault c.of_fault.result c.of_fault.ensures
-    (let a = c.read_header.ensures.rising in let b = c.index_from.ensures.rising in omega (arith, a, b)) (c.put_root.ensures.settled ∙ c.index_from.ensures.settled) (λ r. r) (λ r. r) c.in-Err-put_root.ensures.refusal
+    (let a = c.read_header.ensures.rising in let b = c.index_from.ensures.rising in omega (arith, a, b)) (c.put_root.ensures.settled ∙ c.index_from.ensures.settled) (λ r. tt) (λ r. r) c.in-Err-put_root.ensures.refusal
 
 pub returns-in-Err-index_from-clause-versions : goal.returns-in-Err-index_from-clause-versions
 returns-in-Err-index_from-clause-versions g c = c.index_from.ensures.versions ∙ c.read_header.ensures.versions

@@ -33,7 +33,7 @@ returns-in-Err-put_root-clause-refused g c =
     (ap (λ (v : Versions). v.pages c.args.at) c.read_header.ensures.versions) (ap (λ (v : Versions). v.pages c.args.at) c.create_from.ensures.versions) (λ tables h. c.in-Ok-create_from.ensures.created tables h c.requires.range) c.in-Ok-create_from.ensures.whole
     (fresh_of c.put_root.new.changes) (settled_of c.put_root.new.changes) (settled_of c.args.changes.now) (ChangingReaches (IsCounted ((versions_of c.args.pool.now).pages c.args.at) (settled_of c.args.changes.now)))
     (g.D.Disk.refused (device_of c.args.pool.now)) (g.D.Disk.refused (device_of c.create_from.new.pool)) (g.D.Disk.refused (device_of c.put_root.new.pool)) c.in-Err-put_root.fault c.of_fault.result c.of_fault.ensures
-    (let a = c.read_header.ensures.rising in let b = c.create_from.ensures.rising in omega (arith, a, b)) (c.put_root.ensures.settled ∙ c.create_from.ensures.settled) (λ r. r) (λ r. r) c.in-Err-put_root.ensures.refusal
+    (let a = c.read_header.ensures.rising in let b = c.create_from.ensures.rising in omega (arith, a, b)) (c.put_root.ensures.settled ∙ c.create_from.ensures.settled) (λ r. tt) (λ r. r) c.in-Err-put_root.ensures.refusal
 
 pub returns-in-Err-create_from-clause-versions : goal.returns-in-Err-create_from-clause-versions
 returns-in-Err-create_from-clause-versions g c = c.create_from.ensures.versions ∙ c.read_header.ensures.versions

@@ -33,7 +33,7 @@ returns-in-Err-put_root-clause-refused g c =
     (ap (λ (v : Versions). v.pages c.args.at) c.read_header.ensures.versions) (ap (λ (v : Versions). v.pages c.args.at) c.drop_from.ensures.versions) c.in-Ok-drop_from.ensures.dropped c.in-Ok-drop_from.ensures.whole
     (fresh_of c.put_root.new.changes) (settled_of c.put_root.new.changes) (settled_of c.args.changes.now) (ChangingReaches (IsCounted ((versions_of c.args.pool.now).pages c.args.at) (settled_of c.args.changes.now)))
     (g.D.Disk.refused (device_of c.args.pool.now)) (g.D.Disk.refused (device_of c.drop_from.new.pool)) (g.D.Disk.refused (device_of c.put_root.new.pool)) c.in-Err-put_root.fault c.of_fault.result c.of_fault.ensures
-    (let a = c.read_header.ensures.rising in let b = c.drop_from.ensures.rising in omega (arith, a, b)) (c.put_root.ensures.settled ∙ c.drop_from.ensures.settled) (λ r. r) (λ r. r) c.in-Err-put_root.ensures.refusal
+    (let a = c.read_header.ensures.rising in let b = c.drop_from.ensures.rising in omega (arith, a, b)) (c.put_root.ensures.settled ∙ c.drop_from.ensures.settled) (λ r. tt) (λ r. r) c.in-Err-put_root.ensures.refusal
 
 pub returns-in-Err-drop_from-clause-versions : goal.returns-in-Err-drop_from-clause-versions
 returns-in-Err-drop_from-clause-versions g c = c.drop_from.ensures.versions ∙ c.read_header.ensures.versions
