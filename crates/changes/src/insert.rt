@@ -28,7 +28,7 @@ use table_checks::TableChecks;
 use typing::{Insert, InsertSource};
 
 /// INSERT of VALUES or of a query. All its rows are evaluated before the first is stored. A name that does not stand, which the rules of names exclude, is refused as for want of
-/// memory.
+/// memory; a CHECK whose text cannot be read is `Damaged`.
 pub(crate) fn insert<S: Store>(
     alloc: Global,
     store: &mut S,
@@ -46,7 +46,7 @@ pub(crate) fn insert<S: Store>(
 {
     let checks = match named_checks(alloc, store.schema(), &insert.table) {
         Ok(checks) => checks,
-        Err(_) => return Err(Refusal::Memory),
+        Err(refusal) => return Err(refusal),
     };
     match rows_of(alloc, store, insert, &checks) {
         Ok(rows) => insert_rows(alloc, store, insert, rows, &checks),

@@ -1,30 +1,50 @@
 //! The CHECKs of the table that a change names.
-ghost use Rattle.std.specs.Prelude.{◌≡◌, Some, IfOk};
+ghost use Rattle.std.specs.Prelude.{◌≡◌, ◌⊎◌, Some, IfOk, IfErr};
 ghost use Rattle.std.specs.FinMap.{get};
+ghost use Rattle.refusals.specs.declared.refusal.Refusal.TheVariants.{Damaged, Memory};
 ghost use Rattle.typing.specs.Check.{IsCheckReading};
-ghost use Rattle.denote.specs.Database.{Database, Table, CheckReading};
+ghost use Rattle.denote.specs.Database.{Database, Table, CheckReading, IsGood};
 ghost use Rattle.denote.specs.SchemaOf.{IsSchemaOf};
 ghost use Rattle.table_checks.specs.Conditions.{AreOfSome};
+ghost use Rattle.table_checks.specs.declared.reading.CheckFault.TheVariants as fault_of_checks;
 ghost use Rattle.row_changes.specs.Checked.{AreChecksFor};
 
 use constraint_checks::table_named;
 use items::Text;
+use refusals::Refusal;
 use sqlval::Schema;
-use std::alloc::{AllocError, Global};
-use table_checks::{TableChecks, table_checks};
+use std::alloc::Global;
+use table_checks::{CheckFault, TableChecks, table_checks};
 
-/// The CHECKs of the table of this name. Refuses for want of memory; a name that no table has is refused as for that.
+/// The CHECKs of the table of this name. Refuses for want of memory; a name that no table has is refused as for that. A text that cannot be
+/// read is `Damaged`: a good database has none.
 pub(crate) fn named_checks(
     alloc: Global,
     schema: &Schema,
     name: &Text,
-) -> Result<TableChecks, AllocError>
+) -> Result<TableChecks, Refusal>
     ensures there { IfOk result (λ _. (db : Database) → IsSchemaOf schema.now db → (table : Table) × (get db name.now ≡ Some table)) }
     ensures some { IfOk result (λ checks. AreOfSome checks.conditions) }
     ensures decides { IfOk result (λ checks. (reading : CheckReading) (db : Database) → IsCheckReading reading → IsSchemaOf schema.now db → AreChecksFor reading db name.now checks.conditions) }
+    ensures refused { IfErr result (λ refusal. (refusal ≡ Memory) ⊎ (refusal ≡ Damaged)) }
+    ensures good { IfErr result (λ refusal. (reading : CheckReading) (db : Database) → IsSchemaOf schema.now db → IsGood reading db → refusal ≡ Memory) }
 {
     match table_named(schema, name) {
-        Some(table) => table_checks(alloc, schema, table),
-        None => Err(AllocError),
+        Some(table) => match table_checks(alloc, schema, table) {
+            Ok(checks) => Ok(checks),
+            Err(fault) => Err(refusal_of(fault)),
+        },
+        None => Err(Refusal::Memory),
+    }
+}
+
+/// The refusal that says why CHECKs are not read.
+fn refusal_of(fault: CheckFault) -> Refusal
+    ensures memory { fault ≡ fault_of_checks.Memory → result ≡ Memory }
+    ensures damaged { fault ≡ fault_of_checks.Unreadable → result ≡ Damaged }
+{
+    match fault {
+        CheckFault::Memory => Refusal::Memory,
+        CheckFault::Unreadable => Refusal::Damaged,
     }
 }

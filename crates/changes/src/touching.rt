@@ -19,7 +19,7 @@ use std::alloc::Global;
 use store::Store;
 use typing::{Delete, Update};
 
-/// UPDATE. A name that does not stand, which the rules of names exclude, is refused as for want of memory.
+/// UPDATE. A name that does not stand, which the rules of names exclude, is refused as for want of memory; a CHECK whose text cannot be read is `Damaged`.
 pub(crate) fn update<S: Store>(
     alloc: Global,
     store: &mut S,
@@ -28,7 +28,7 @@ pub(crate) fn update<S: Store>(
     ensures changes { IfOk result (λ reply. (reading : CheckReading) → IsCheckReading reading → S.is_sound store.old → IsSchemaOf (S.prepared store.old) (database_of (S.shows store.old).working)
         → IsGood reading (database_of (S.shows store.old).working) → HasChanged reading (S.shows store.old) (does.Update update.now) reply (S.shows store.new)) }
     ensures refused { IfErr result (λ refusal. (reading : CheckReading) → IsCheckReading reading → S.is_sound store.old → IsSchemaOf (S.prepared store.old) (database_of (S.shows store.old).working)
-        → RefusesChange reading (database_of (S.shows store.old).working) (does.Update update.now) refusal) }
+        → IsGood reading (database_of (S.shows store.old).working) → RefusesChange reading (database_of (S.shows store.old).working) (does.Update update.now) refusal) }
     ensures accepted { IfOk result (λ reply. IfRefused reply (λ refusal. ⊥)) }
     ensures device { IfErr result (λ refusal. refusal ≡ Disk → HasRisen (S.refused store.old) (S.refused store.new)) }
     ensures same { S.is_sound store.old → OnErr result (SameButMark (S.shows store.old) (S.shows store.new)) }
@@ -37,11 +37,11 @@ pub(crate) fn update<S: Store>(
 {
     match named_checks(alloc, store.schema(), &update.table) {
         Ok(checks) => update_rows(alloc, store, update, checks.conditions.as_slice(), &checks),
-        Err(_) => Err(Refusal::Memory),
+        Err(refusal) => Err(refusal),
     }
 }
 
-/// DELETE. A name that does not stand, which the rules of names exclude, is refused as for want of memory.
+/// DELETE. A name that does not stand, which the rules of names exclude, is refused as for want of memory; a CHECK whose text cannot be read is `Damaged`.
 pub(crate) fn delete<S: Store>(
     alloc: Global,
     store: &mut S,
@@ -50,7 +50,7 @@ pub(crate) fn delete<S: Store>(
     ensures changes { IfOk result (λ reply. (reading : CheckReading) → IsCheckReading reading → S.is_sound store.old → IsSchemaOf (S.prepared store.old) (database_of (S.shows store.old).working)
         → IsGood reading (database_of (S.shows store.old).working) → HasChanged reading (S.shows store.old) (does.Delete delete.now) reply (S.shows store.new)) }
     ensures refused { IfErr result (λ refusal. (reading : CheckReading) → IsCheckReading reading → S.is_sound store.old → IsSchemaOf (S.prepared store.old) (database_of (S.shows store.old).working)
-        → RefusesChange reading (database_of (S.shows store.old).working) (does.Delete delete.now) refusal) }
+        → IsGood reading (database_of (S.shows store.old).working) → RefusesChange reading (database_of (S.shows store.old).working) (does.Delete delete.now) refusal) }
     ensures accepted { IfOk result (λ reply. IfRefused reply (λ refusal. ⊥)) }
     ensures device { IfErr result (λ refusal. refusal ≡ Disk → HasRisen (S.refused store.old) (S.refused store.new)) }
     ensures same { S.is_sound store.old → OnErr result (SameButMark (S.shows store.old) (S.shows store.new)) }
@@ -59,6 +59,6 @@ pub(crate) fn delete<S: Store>(
 {
     match named_checks(alloc, store.schema(), &delete.table) {
         Ok(checks) => delete_rows(alloc, store, delete, &checks),
-        Err(_) => Err(Refusal::Memory),
+        Err(refusal) => Err(refusal),
     }
 }

@@ -1,5 +1,5 @@
 -- Where something is said of a table to which rows come or have come.
-use Rattle.std.proofs.Common.{◌≡◌, ◌∙◌, refl, sym, ap, ℕ, ◌+◌, ◌*◌, ◌<◌, ◌≤◌, Bool, true, false, cond, ◌&&◌, ◌||◌, List, [], ◌∷◌, map, length, min, is_some, Option, Some, None, arith}
+use Rattle.std.proofs.Common.{◌≡◌, ◌∙◌, refl, sym, ap, subst, ℕ, ◌+◌, ◌-◌, ◌*◌, ◌^◌, ◌<◌, ◌≤◌, Bool, true, false, cond, ◌&&◌, ◌||◌, List, [], ◌∷◌, map, length, min, is_some, Option, Some, None, arith}
 use Rattle.std.specs.Prelude.{filter, nat_lt, slice_get}
 use Rattle.std.specs.List.{list_any, list_all, cons_option, position_from}
 use Rattle.std.specs.Option.{option_map}
@@ -11,7 +11,7 @@ use Rattle.denote.specs.SchemaOf.{index_of}
 use Rattle.store.specs.Contents.{Entry, StoredTable}
 use Rattle.store.specs.declared.rows.NumberedRow.{NumberedRow}
 use Rattle.store.specs.Indexes.{entry_after, is_after}
-use Rattle.store.specs.View.{IsEntry}
+use Rattle.store.specs.View.{IsEntry, entry_of}
 use Rattle.constraint_checks.specs.declared.foreseen.Foreseen.{Foreseen}
 use Rattle.constraint_checks.specs.declared.foreseen.Foreseen.TheVariants.{Fits, Violates, Open}
 use Rattle.constraint_checks.specs.Foreseen.{same_columns, columns_of_key, place_of, key_over, keys_asked, is_met, met_in, foreseen_at, foreseen_by, Foretells, IsSaid, is_over, has_many_more}
@@ -66,7 +66,7 @@ module _ (own : ℕ) (table : Option StoredTable) (rows : List Row) (indexes : L
       by (Some columns) over rest = at columns (place_of columns indexes) refl over rest
 
 -- a row number above eight times so many is found
-pub many-found : (count number : ℕ) (entries : List Entry) → number ≤ count * 8 → has_many_more count entries ≡ true → is_some (entry_after (Some number) entries) ≡ true
+many-found : (count number : ℕ) (entries : List Entry) → number ≤ count * 8 → has_many_more count entries ≡ true → is_some (entry_after (Some number) entries) ≡ true
 many-found count number entries below e = by (filter (λ (e : Entry). is_after (Some number) e.0) entries) (more-counts 0 (length (filter (λ (e : Entry). is_after (Some number) e.0) entries)) (any-filtered (λ (e : Entry). nat_lt number e.0) entries ∙ wider entries e))
   where
     next : (a b : ℕ) → number ≤ a → nat_lt a b ≡ true → nat_lt number b ≡ true
@@ -92,10 +92,39 @@ many-found count number entries below e = by (filter (λ (e : Entry). is_after (
     by [] e = absurd (omega (arith, e))
     by (x ∷ es) e = refl
 
--- and what is given for it is something
-pub given-found : (found : Option NumberedRow) (entry : Option Entry) → IsEntry found entry → is_some entry ≡ true → is_some found ≡ true
-given-found None entry is some = ap is_some is ∙ some
-given-found (Some row) entry is some = refl
+-- what comes first of those that pass is one of all, and passes
+taken : (p : Entry → Bool) (entries : List Entry) (e : Entry) → slice_get (filter p entries) 0 ≡ Some e → (p e ≡ true) × ((q : Entry → Bool) → q e ≡ true → list_any q entries ≡ true)
+taken p [] e is = absurd (cc)
+taken p (x ∷ es) e is = by (p x) refl (taken p es e) is
+  where
+    by : (b : Bool) → p x ≡ b → (slice_get (filter p es) 0 ≡ Some e → (p e ≡ true) × ((q : Entry → Bool) → q e ≡ true → list_any q es ≡ true))
+        → slice_get (cond b (x ∷ filter p es) (filter p es)) 0 ≡ Some e → (p e ≡ true) × ((q : Entry → Bool) → q e ≡ true → (q x || list_any q es) ≡ true)
+    by true passes rest is = let same : x ≡ e = cc in (subst (λ (y : Entry). p y ≡ true) same passes, λ q h. ap (λ b. b || list_any q es) (subst (λ (y : Entry). q y ≡ true) (sym same) h))
+    by false fails rest is = ((rest is).0, λ q h. second (q x) ((rest is).1 q h))
+      where
+        second : (a : Bool) → {b : Bool} → b ≡ true → (a || b) ≡ true
+        second true is = refl
+        second false is = is
+
+-- a number of so many bits above a bound that stays within them is above the bound that does not
+within : (top m n r : ℕ) → n ≡ min m (top - 1) → r < top → n < r → m < r
+within top m n r is fits above = omega (arith, is, fits, above)
+
+-- so the row that is found is above eight times so many
+pub few-found : (count number : ℕ) (row : NumberedRow) (entries : List Entry) → number ≡ min (count * 8) (2 ^ 64 - 1) → row.number < 2 ^ 64 → IsEntry (Some row) (entry_after (Some number) entries)
+    → nat_lt number row.number ≡ has_many_more count entries
+few-found count number row entries is fits found =
+    let first = taken (λ (e : Entry). is_after (Some number) e.0) entries (entry_of row) (sym found) in
+    let above = within (2 ^ 64) (count * 8) number row.number is fits (more-counts number row.number first.0) in
+    first.0 ∙ sym (first.1 (λ (e : Entry). nat_lt (count * 8) e.0) (counts-more (count * 8) row.number above))
+
+-- and where none is found there is none
+pub none-found : (count number : ℕ) (entries : List Entry) → number ≤ count * 8 → IsEntry None (entry_after (Some number) entries) → false ≡ has_many_more count entries
+none-found count number entries below found = by (has_many_more count entries) refl
+  where
+    by : (b : Bool) → has_many_more count entries ≡ b → false ≡ b
+    by true many = let bad : false ≡ true = ap is_some found ∙ many-found count number entries below many in absurd (cc)
+    by false few = refl
 
 pub below-min : (n a b : ℕ) → n ≡ min a b → n ≤ a
 below-min n a b e = grind (arith, e)

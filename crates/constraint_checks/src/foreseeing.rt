@@ -1,5 +1,5 @@
 //! The constraints of a table to which rows come or have come, by looking their keys up.
-ghost use Rattle.std.specs.Prelude.{◌≡◌, ◌≤◌, true, List, [], ◌++◌, Some, IfOk, IfErr, Contains, length};
+ghost use Rattle.std.specs.Prelude.{◌≡◌, ◌≤◌, ◌<◌, ◌^◌, nat_lt, true, List, [], ◌++◌, Some, IfOk, IfErr, Contains, length};
 ghost use Rattle.std.specs.FinMap.{get};
 ghost use Rattle.refusals.specs.declared.refusal.Refusal.TheVariants.{Memory, Disk};
 ghost use Rattle.sqlval.specs.Value.{Row as AnyRow};
@@ -12,6 +12,7 @@ ghost use Rattle.store.specs.Contents.{StoredTable, database_of};
 ghost use Rattle.store.specs.Errors.{HasRisen};
 ghost use Rattle.store.specs.Indexes.{entries_of, sought};
 ghost use Rattle.store.specs.View.{table_named as found_as};
+ghost use Rattle.transactions.specs.Refused.{TellsNoLimit};
 ghost use Rattle.constraint_checks.specs.Foreseen.{Comes, Foretells, IsSaid, are_more, foreseen_by, has_key_indexes, has_many_more, is_met, met_in, with_more};
 
 use crate::checks::Checks;
@@ -48,6 +49,7 @@ pub fn foresee<S: Store, C: Checks>(
         → has_key_indexes table ≡ true → IsSaid foreseen) }
     ensures shows { S.shows store.new ≡ S.shows store.old }
     ensures refused { IfErr result (λ refusal. S.is_sound store.old → IsReserved refusal) }
+    ensures limits { IfErr result TellsNoLimit }
     ensures device { IfErr result (λ refusal. refusal ≡ Disk → HasRisen (S.refused store.old) (S.refused store.new)) }
     ensures sound { S.is_sound store.old → S.is_sound store.new }
     ensures counts { S.refused store.old ≤ S.refused store.new }
@@ -76,6 +78,7 @@ pub fn look_again<S: Store, C: Checks>(
     ensures said { IfOk result (λ foreseen. (table : StoredTable) → S.is_sound store.old → get (S.shows store.old).working name.now ≡ Some table → has_key_indexes table ≡ true → IsSaid foreseen) }
     ensures shows { S.shows store.new ≡ S.shows store.old }
     ensures refused { IfErr result (λ refusal. S.is_sound store.old → IsReserved refusal) }
+    ensures limits { IfErr result TellsNoLimit }
     ensures device { IfErr result (λ refusal. refusal ≡ Disk → HasRisen (S.refused store.old) (S.refused store.new)) }
     ensures sound { S.is_sound store.old → S.is_sound store.new }
     ensures counts { S.refused store.old ≤ S.refused store.new }
@@ -90,18 +93,28 @@ pub fn are_few<S: Store>(
     name: &Text,
     count: usize,
 ) -> Result<bool, Refusal>
-    ensures few { S.is_sound store.old → IfOk result (λ few. has_many_more count (entries_of (get (S.shows store.old).working name.now)) ≡ true → few ≡ true) }
+    ensures few { S.is_sound store.old → IfOk result (λ few. few ≡ has_many_more count (entries_of (get (S.shows store.old).working name.now))) }
     ensures shows { S.shows store.new ≡ S.shows store.old }
     ensures refused { IfErr result (λ refusal. S.is_sound store.old → IsReserved refusal) }
+    ensures limits { IfErr result TellsNoLimit }
     ensures device { IfErr result (λ refusal. refusal ≡ Disk → HasRisen (S.refused store.old) (S.refused store.new)) }
     ensures sound { S.is_sound store.old → S.is_sound store.new }
     ensures counts { S.refused store.old ≤ S.refused store.new }
 {
     let number = (count as u64).saturating_mul(MANY_TIMES);
     match store.next(alloc, View::Working, name, Some(number)) {
-        Ok(found) => Ok(found.is_some()),
+        Ok(Some(row)) => Ok(is_above(row.number, number)),
+        Ok(None) => Ok(false),
         Err(error) => Err(refusal_of(error)),
     }
+}
+
+/// Whether a row number is above a bound. It is one of 64 bits.
+fn is_above(number: u64, bound: u64) -> bool
+    ensures above { result ≡ nat_lt bound number }
+    ensures fits { number < 2 ^ 64 }
+{
+    bound < number
 }
 
 /// What can be said of a table to which few rows come or have come: `own` is how many of the rows that a key finds are the row itself, none before it comes and one after.
@@ -119,6 +132,7 @@ fn look_up<S: Store, C: Checks>(
     ensures said { IfOk result (λ foreseen. (table : StoredTable) → S.is_sound store.old → get (S.shows store.old).working name.now ≡ Some table → has_key_indexes table ≡ true → IsSaid foreseen) }
     ensures shows { S.shows store.new ≡ S.shows store.old }
     ensures refused { IfErr result (λ refusal. S.is_sound store.old → IsReserved refusal) }
+    ensures limits { IfErr result TellsNoLimit }
     ensures device { IfErr result (λ refusal. refusal ≡ Disk → HasRisen (S.refused store.old) (S.refused store.new)) }
     ensures sound { S.is_sound store.old → S.is_sound store.new }
     ensures counts { S.refused store.old ≤ S.refused store.new }
@@ -179,6 +193,7 @@ fn looked_up<S: Store>(
     ensures found { S.is_sound store.old → IfOk result (λ foreseen. foreseen ≡ foreseen_by (met_in own (get (S.shows store.old).working name.now) rows.now) keys) }
     ensures shows { S.shows store.new ≡ S.shows store.old }
     ensures refused { IfErr result (λ refusal. S.is_sound store.old → IsReserved refusal) }
+    ensures limits { IfErr result TellsNoLimit }
     ensures device { IfErr result (λ refusal. refusal ≡ Disk → HasRisen (S.refused store.old) (S.refused store.new)) }
     ensures sound { S.is_sound store.old → S.is_sound store.new }
     ensures counts { S.refused store.old ≤ S.refused store.new }
@@ -201,6 +216,7 @@ fn first_met<R: Reading>(
 ) -> Result<Foreseen, Refusal>
     ensures found { R.is_sound reading.old → IfOk result (λ foreseen. foreseen ≡ foreseen_by (met_in own (found_as (R.shows reading.old) name.now) rows.now) keys) }
     ensures refused { IfErr result (λ refusal. R.is_sound reading.old → IsReserved refusal) }
+    ensures limits { IfErr result TellsNoLimit }
     ensures counts { IfErr result (λ refusal. refusal ≡ Disk → HasRisen (R.shows reading.old).refused (R.shows reading.new).refused) }
     ensures follows { R.follows reading.old reading.new }
 {
@@ -234,6 +250,7 @@ fn is_met<R: Reading>(
 ) -> Result<bool, Refusal>
     ensures found { R.is_sound reading.old → IfOk result (λ met. met ≡ is_met own (found_as (R.shows reading.old) name.now) place columns.now rows.now) }
     ensures refused { IfErr result (λ refusal. R.is_sound reading.old → IsReserved refusal) }
+    ensures limits { IfErr result TellsNoLimit }
     ensures counts { IfErr result (λ refusal. refusal ≡ Disk → HasRisen (R.shows reading.old).refused (R.shows reading.new).refused) }
     ensures follows { R.follows reading.old reading.new }
 {
@@ -258,6 +275,7 @@ fn has_twin<R: Reading>(
 ) -> Result<bool, Refusal>
     ensures found { R.is_sound reading.old → IfOk result (λ found. found ≡ are_more own (sought (found_as (R.shows reading.old) name.now) place (key_of columns.now row.now))) }
     ensures refused { IfErr result (λ refusal. R.is_sound reading.old → IsReserved refusal) }
+    ensures limits { IfErr result TellsNoLimit }
     ensures counts { IfErr result (λ refusal. refusal ≡ Disk → HasRisen (R.shows reading.old).refused (R.shows reading.new).refused) }
     ensures follows { R.follows reading.old reading.new }
 {

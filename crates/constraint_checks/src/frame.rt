@@ -7,6 +7,7 @@ ghost use Rattle.session_definitions.specs.Refusals.{IsReserved};
 ghost use Rattle.store.specs.Contents.{database_of};
 ghost use Rattle.store.specs.Errors.{HasRisen};
 ghost use Rattle.store.specs.Stored.{SameButMark, marked_now, undone};
+ghost use Rattle.transactions.specs.Refused.{TellsNoLimit};
 ghost use Rattle.constraint_checks.specs.Settled.{Decided, Holds, Breaks};
 
 use crate::checks::Checks;
@@ -26,6 +27,7 @@ pub fn begin<S: Store>(store: &mut S) -> Result<(), Refusal>
     ensures same { OnErr result (SameButMark (S.shows store.old) (S.shows store.new)) }
     ensures prepared { S.prepared store.new ≡ S.prepared store.old }
     ensures refused { IfErr result (λ refusal. S.is_sound store.old → IsReserved refusal) }
+    ensures limits { IfErr result TellsNoLimit }
     ensures device { IfErr result (λ refusal. refusal ≡ Disk → HasRisen (S.refused store.old) (S.refused store.new)) }
     ensures sound { S.is_sound store.old → S.is_sound store.new }
     ensures counts { S.refused store.old ≤ S.refused store.new }
@@ -50,6 +52,7 @@ pub fn settle<S: Store, C: Checks>(
     ensures undone { OnErr result (S.shows store.new ≡ undone (S.shows store.old)) }
     ensures refused { IfErr result (λ refusal. (reading : CheckReading) → S.is_sound store.old → Decided (C.decides checks.now reading) (database_of (S.shows store.old).working) name.now
         → Breaks reading (database_of (S.shows store.old).working) name.now refusal) }
+    ensures limits { IfErr result TellsNoLimit }
     ensures device { IfErr result (λ refusal. refusal ≡ Disk → HasRisen (S.refused store.old) (S.refused store.new)) }
     ensures sound { S.is_sound store.old → S.is_sound store.new }
     ensures counts { S.refused store.old ≤ S.refused store.new }
@@ -82,6 +85,7 @@ pub fn settle_unless<S: Store, C: Checks>(
     ensures undone { OnErr result (S.shows store.new ≡ undone (S.shows store.old)) }
     ensures refused { IfErr result (λ refusal. (reading : CheckReading) → S.is_sound store.old → Decided (C.decides checks.now reading) (database_of (S.shows store.old).working) name.now
         → Breaks reading (database_of (S.shows store.old).working) name.now refusal) }
+    ensures limits { IfErr result TellsNoLimit }
     ensures device { IfErr result (λ refusal. refusal ≡ Disk → HasRisen (S.refused store.old) (S.refused store.new)) }
     ensures sound { S.is_sound store.old → S.is_sound store.new }
     ensures counts { S.refused store.old ≤ S.refused store.new }
@@ -107,6 +111,7 @@ fn violation<S: Store, C: Checks>(
         (λ constraint. (table : TableOf) × (get (database_of (S.shows store.old).working) name.now ≡ Some table) × Contains (violated_by reading name.now table) constraint)) }
     ensures shows { S.shows store.new ≡ S.shows store.old }
     ensures refused { IfErr result (λ refusal. S.is_sound store.old → IsReserved refusal) }
+    ensures limits { IfErr result TellsNoLimit }
     ensures device { IfErr result (λ refusal. refusal ≡ Disk → HasRisen (S.refused store.old) (S.refused store.new)) }
     ensures sound { S.is_sound store.old → S.is_sound store.new }
     ensures counts { S.refused store.old ≤ S.refused store.new }

@@ -5,6 +5,7 @@ ghost use Rattle.denote.specs.Database.{CheckReading};
 ghost use Rattle.store.specs.Contents.{database_of};
 ghost use Rattle.store.specs.Errors.{HasRisen};
 ghost use Rattle.store.specs.Stored.{undone};
+ghost use Rattle.transactions.specs.Refused.{TellsNoLimit};
 ghost use Rattle.constraint_checks.specs.Settled.{AreAmong, Breaks, Decided, Holds, OthersHold};
 
 use crate::checks::Checks;
@@ -33,6 +34,7 @@ pub fn settle_rows<S: Store, C: Checks>(
     ensures undone { OnErr result (S.shows store.new ≡ undone (S.shows store.old)) }
     ensures refused { IfErr result (λ refusal. (reading : CheckReading) → S.is_sound store.old → Decided (C.decides checks.now reading) (database_of (S.shows store.old).working) name.now
         → AreAmong (database_of (S.shows store.old).working) name.now rows.now → Breaks reading (database_of (S.shows store.old).working) name.now refusal) }
+    ensures limits { IfErr result TellsNoLimit }
     ensures device { IfErr result (λ refusal. refusal ≡ Disk → HasRisen (S.refused store.old) (S.refused store.new)) }
     ensures sound { S.is_sound store.old → S.is_sound store.new }
     ensures counts { S.refused store.old ≤ S.refused store.new }

@@ -38,7 +38,7 @@ fn check<D: Disk + Drop>(
     let alloc: Global = rt.alloc();
     let mut reader = script.as_bytes();
     let mut writer = Vec::new(alloc);
-    let found = run_over_pages(alloc, settings, device, &mut reader, &mut writer);
+    let found = run_over_pages(alloc, settings, device, &mut reader, &mut writer).status;
     let text = String::from_utf8(writer)?;
     assert!(rt; text.as_str() == printed, "{script} printed {text}");
     assert!(rt; found == status, "{script} ended with {found}");

@@ -1,2 +1,3 @@
+pub mod Scripted
 pub mod OneRun
 pub mod Continued

@@ -1,60 +1,79 @@
 -- What runs over a store do is a run of the definitions.
 use Rattle.std.proofs.Common.{◌≡◌, ◌⊎◌, ℕ, List, [], ◌∷◌, ◌++◌, Option, Some, None, refl, inl, inr}
-use Rattle.refusals.specs.declared.refusal.Refusal.TheVariants.{Disk}
 use Rattle.denote.specs.Database.{Database}
 use Rattle.session_definitions.specs.Rules.{Rules}
-use Rattle.session_definitions.specs.Run.{Event, Moment, Run, without_sessions}
-use Rattle.session_definitions.specs.Script.{IsPlayed, IsStopped}
+use Rattle.session_definitions.specs.Run.{Moment, Run, without_sessions}
 use Rattle.session_definitions.specs.World.{World, opened}
 use Rattle.life_laws.specs.Reopening.{reopening}
 use Rattle.scripts.specs.declared.script.ScriptFault.TheVariants.{Memory, Reader, Writer}
 use Rattle.scripts.specs.Played.{Streams}
-use Rattle.shell.specs.Runs.{CarriesOut, Runs}
-use Rattle.lives.specs.Twice.{GoesOn, IsOneRun, RunsTwice}
+use Rattle.shell.specs.Runs.{CarriesOut, Left, Runs}
+use Rattle.lives.specs.Twice.{BothDo, Does, IsLeft, IsOneRun, Leads, RunDoes, RunsTwice, closing}
+use Rattle.lives.proofs.Scripted.{Led, scripted}
 
--- some events lead from one world to the other
-abbrev pub Leads : Rules → World → World → Type 0
-Leads rules start end = (moments : List Moment) × Run rules start moments end
-
--- they lead to a world whose last database is left, or nothing is
-abbrev pub Leaves : Rules → World → (Option Database → Type 0) → Type 0
-Leaves rules start left = (moments : List Moment) × (end : World) × Run rules start moments end × (left (Some end.last) ⊎ left None)
+-- a run to a world whose last database is left, or after which nothing is
+record Goes (rules : Rules) (start : World) (left : Left → Type 0) (means : List Moment → Type 0) : Type 0 where
+  pub moments : List Moment
+  pub end : World
+  pub run : Run rules start moments end
+  pub meaning : means moments
+  pub kept : IsLeft left end.last
 
 module _ (rules : Rules)
-    (played : (old new : World) (pieces : List (List ℕ)) (printed : List ℕ) → IsPlayed rules old pieces printed new → Leads rules old new)
-    (stopped : (old new : World) (pieces : List (List ℕ)) (written : List ℕ) → IsStopped rules old pieces written new → Leads rules old new)
     (reopened : (start mid end : World) (first second : List Moment) → Run rules start first mid → Run rules (opened mid.last) second end
     → Run rules start (second ++ reopening mid ∷ first) end) where
-  carried_out : (streams : Streams) (old : World) (status : ℕ) (new : World) → CarriesOut rules streams old status new → Leads rules old new
-  carried_out streams old status new (CarriesOut.whole refused all undamaged is) = played old new all.printed.pieces all.printed.printed all.printed.played
-  carried_out streams old status new (CarriesOut.early Memory mid some undamaged told is) = ([], some.world)
-  carried_out streams old status new (CarriesOut.early (Reader error) mid some undamaged told is) = played old new some.pieces some.printed some.played
-  carried_out streams old status new (CarriesOut.early (Writer error) mid some undamaged told is) = stopped old new some.pieces some.written some.stopped
+  carried_out : (streams : Streams) (old : World) (status : ℕ) (new : World) (h : CarriesOut rules streams old status new) → Led rules old new (Does rules streams old status new h)
+  carried_out streams old status new (CarriesOut.whole refused all undamaged is) =
+      let p = all.printed.played in scripted rules old all.printed.pieces p.replies p.scene new p.carried_out p.ended
+  carried_out streams old status new (CarriesOut.early Memory mid some undamaged told is) = record { moments = []; run = some.world; meaning = refl }
+  carried_out streams old status new (CarriesOut.early (Reader error) mid some undamaged told is) =
+      let p = some.played in scripted rules old some.pieces p.replies p.scene new p.carried_out p.ended
+  carried_out streams old status new (CarriesOut.early (Writer error) mid some undamaged told is) =
+      let p = some.stopped in scripted rules old p.done p.replies p.scene new p.carried_out p.ended
 
-  of_close : (old end : World) (left : Option Database → Type 0) → Leads rules old end → left (Some end.last) → Leaves rules old left
-  of_close old end left (moments, run) kept = (moments, end, run, inl kept)
+  runs : (old : World) (streams : Streams) (status : ℕ) (left : Left → Type 0) (h : Runs rules old streams status left)
+      → Goes rules old left (RunDoes rules old streams status left h)
+  runs old streams status left (Runs.not_opened refusal stops unread told is kept) = record { moments = []; end = old; run = refl; meaning = refl; kept = inl (refusal, kept) }
+  runs old streams status left (Runs.closed end carried kept) =
+      let script = carried_out streams old status end carried in
+      record { moments = script.moments; end = end; run = script.run; meaning = script.meaning; kept = inr (inl kept) }
+  runs old streams status left (Runs.not_closed before mid end carried told is none) =
+      let script = carried_out _ old before end carried in record {
+        moments = closing end ∷ script.moments;
+        end = without_sessions end;
+        run = (script.run, (refl, refl));
+        meaning = (script.moments, script.meaning, refl);
+        kept = inr (inr none);
+      }
 
-  of_refused_close : (old end : World) (left : Option Database → Type 0) → Leads rules old end → left None → Leaves rules old left
-  of_refused_close old end left (moments, run) none =
-      (record { before = end; event = Event.FailsToClose Disk } ∷ moments, without_sessions end, (run, (refl, refl)), inr none)
+  one_run : (db : Database) (first second : Streams) (one : ℕ) (two : Option ℕ) (middle left : Left → Type 0) (h : Runs rules (opened db) first one (Leads rules second two middle left))
+      → IsOneRun rules db left (BothDo rules db first second one two middle left h)
+  one_run db first second one two middle left (Runs.not_opened refusal stops unread told is kept) =
+      let later = runs (opened db) second kept.0.0 left kept.0.2 in record {
+        moments = later.moments ++ reopening (opened db) ∷ [];
+        end = later.end;
+        run = reopened (opened db) (opened db) later.end [] later.moments refl later.run;
+        does = (later.moments, later.meaning, refl);
+        kept = later.kept;
+      }
+  one_run db first second one two middle left (Runs.closed end carried kept) =
+      let script = carried_out first (opened db) one end carried in
+      let later = runs (opened end.last) second kept.0.0 left kept.0.2 in record {
+        moments = later.moments ++ reopening end ∷ script.moments;
+        end = later.end;
+        run = reopened (opened db) end later.end script.moments later.moments script.run later.run;
+        does = (script.moments, later.moments, script.meaning, later.meaning, refl);
+        kept = later.kept;
+      }
+  one_run db first second one two middle left (Runs.not_closed before mid end carried told is none) =
+      let script = carried_out _ (opened db) before end carried in record {
+        moments = closing end ∷ script.moments;
+        end = without_sessions end;
+        run = (script.run, (refl, refl));
+        does = (script.moments, script.meaning, refl);
+        kept = inr (inr none.0.3);
+      }
 
-  runs : (old : World) (streams : Streams) (status : ℕ) (left : Option Database → Type 0) → Runs rules old streams status left → Leaves rules old left
-  runs old streams status left (Runs.not_opened refusal stops unread told is kept) = ([], old, refl, inl kept)
-  runs old streams status left (Runs.closed end carried kept) = of_close old end left (carried_out streams old status end carried) kept
-  runs old streams status left (Runs.not_closed before mid end carried told is none) = of_refused_close old end left (carried_out _ old before end carried) none
-
-  and_then : (db : Database) (mid : World) (first : List Moment) (left : Option Database → Type 0) → Run rules (opened db) first mid → Leaves rules (opened mid.last) left
-      → IsOneRun rules db left
-  and_then db mid first left run (second, end, later, kept) = (second ++ reopening mid ∷ first, end, reopened (opened db) mid end first second run later, kept)
-
-  goes_on : (db : Database) (second : Streams) (two : Option ℕ) (left : Option Database → Type 0) → Leaves rules (opened db) (GoesOn rules second two left) → IsOneRun rules db left
-  goes_on db second two left (moments, mid, run, inl (status, is, again)) = and_then db mid moments left run (runs (opened mid.last) second status left again)
-  goes_on db second two left (moments, mid, run, inr none) = (moments, mid, run, inr none.3)
-
-  one_run : (db : Database) (first second : Streams) (one : ℕ) (two : Option ℕ) (left : Option Database → Type 0) → Runs rules (opened db) first one (GoesOn rules second two left)
-      → IsOneRun rules db left
-  one_run db first second one two left h = goes_on db second two left (runs (opened db) first one (GoesOn rules second two left) h)
-
-  pub together : (db : Database) (first second : Streams) (one : ℕ) (two : Option ℕ) (left : Option Database → Type 0) → Runs rules (opened db) first one (GoesOn rules second two left)
-      → RunsTwice rules db first second one two left
-  together db first second one two left h = record { both = h; together = one_run db first second one two left h }
+  pub together : (db : Database) (first second : Streams) (one : ℕ) (two : Option ℕ) (middle left : Left → Type 0) → Runs rules (opened db) first one (Leads rules second two middle left)
+      → RunsTwice rules db first second one two middle left
+  together db first second one two middle left h = record { both = h; together = one_run db first second one two middle left h }

@@ -1,16 +1,18 @@
 //! Two runs over one device.
-ghost use Rattle.std.specs.Prelude.{◌≡◌, ℕ, [], List, Option, IsTrue, IfSome};
+ghost use Rattle.std.specs.Prelude.{◌≡◌, ℕ, [], List, Option, IsTrue};
 ghost use Rattle.std.specs.FinMap.{empty};
 ghost use Rattle.denote.specs.Database.{Database, IsGood};
 ghost use Rattle.session_definitions.specs.Rules.{Rules, AreRules};
 ghost use Rattle.scripts.specs.Played.{between};
-ghost use Rattle.shell.specs.Runs.{HandsBack};
-ghost use Rattle.lives.specs.Twice.{RunsTwice};
+ghost use Rattle.scripts.specs.Settled.{store_of};
+ghost use Rattle.shell.specs.Runs.{HandsBack, Leaves};
+ghost use Rattle.lives.specs.Twice.{RunsTwice, calls_from};
 
 use disk::Disk;
-use life_laws::{reopened_runs_are_runs, stopped_scripts_are_runs};
+use engine::Core;
+use life_laws::reopened_runs_are_runs;
 use paged::Paged;
-use session_laws::{databases_stay_good, scripts_are_runs};
+use session_laws::databases_stay_good;
 use shell::{EndedRun, Settings, run_to_end};
 use std::alloc::Global;
 use std::io::{Read, Write};
@@ -18,19 +20,23 @@ use store::Store;
 
 /// How two runs over one device ended.
 #[derive(Drop)]
-pub struct EndedRuns<D> {
+pub struct EndedRuns<S: Store> {
     /// The exit status of the first.
     pub first: u8,
     /// The exit status of the second; none where the store could not be closed after the first.
     pub second: Option<u8>,
     /// The device; none where the store could not be closed.
-    pub device: Option<D>,
+    pub device: Option<S::Device>,
+    /// The core whose store could not be closed.
+    pub unclosed: Option<Core<S>>,
 }
 
 /// Does what `sqlsh run` does over the store on a device, and then once more over the device that is handed back, with another reader.
 ///
-/// Where a good database is saved on the device, the second run begins with the database that the first committed last, and all that both do is one run of the definitions.
-/// No reply is that the file is damaged, the store is opened unless memory or the device refuses, and closed unless the device does.
+/// Where a good database is saved on the device, the second run begins with the database that the first committed last, and all that both do is one run of the definitions, whose calls
+/// are those of the two scripts, each with the reply that was printed.
+/// No reply is that the file is damaged, the store is opened unless memory or the device refuses, and closed unless the device does: the device that is handed back, or the core that was not
+/// closed, has then counted a refused call.
 pub fn run_twice<S: Store, A: Read, B: Read, W: Write>(
     alloc: Global,
     settings: &Settings<'_>,
@@ -38,18 +44,18 @@ pub fn run_twice<S: Store, A: Read, B: Read, W: Write>(
     first: &mut A,
     second: &mut B,
     writer: &mut W,
-) -> EndedRuns<S::Device>
+) -> EndedRuns<S>
     ensures { (rules : Rules) (db : Database) → AreRules rules → S.saved device db → IsGood rules.check db
-        → (mid : Option (List ℕ)) × RunsTwice rules db (between (A.remaining first.old) (A.remaining first.new) (W.contents writer.old) mid)
+        → (mid : Option (List ℕ)) × (again : Option S.Device) × RunsTwice rules db (between (A.remaining first.old) (A.remaining first.new) (W.contents writer.old) mid)
         (between (B.remaining second.old) (B.remaining second.new) mid (W.contents writer.new)) result.first result.second
-        (λ left. HandsBack S.saved result.device left × IfSome left (IsGood rules.check)) }
+        (HandsBack S.saved S.calls_refused (λ core. S.refused (store_of core)) (S.calls_refused device) again result.unclosed)
+        (Leaves S.saved S.calls_refused (λ core. S.refused (store_of core)) rules.check (calls_from S.calls_refused device again) result.device result.unclosed) }
 {
-    scripts_are_runs();
-    stopped_scripts_are_runs();
     reopened_runs_are_runs();
     let EndedRun {
         status: first_status,
         device,
+        unclosed,
     } = run_to_end::<S, A, W>(alloc, settings, device, first, writer);
     match device {
         Some(device) => {
@@ -58,12 +64,14 @@ pub fn run_twice<S: Store, A: Read, B: Read, W: Write>(
                 first: first_status,
                 second: Some(again.status),
                 device: again.device,
+                unclosed: again.unclosed,
             }
         }
         None => EndedRuns {
             first: first_status,
             second: None,
             device: None,
+            unclosed,
         },
     }
 }
@@ -78,15 +86,17 @@ pub fn run_twice_over_pages<D: Disk + Drop, A: Read, B: Read, W: Write>(
     first: &mut A,
     second: &mut B,
     writer: &mut W,
-) -> EndedRuns<D>
+) -> EndedRuns<Paged<D>>
     ensures saved { (rules : Rules) (db : Database) → AreRules rules → ⟦<Paged<D> as Store>⟧.saved device db → IsGood rules.check db
-        → (mid : Option (List ℕ)) × RunsTwice rules db (between (A.remaining first.old) (A.remaining first.new) (W.contents writer.old) mid)
+        → (mid : Option (List ℕ)) × (again : Option D) × RunsTwice rules db (between (A.remaining first.old) (A.remaining first.new) (W.contents writer.old) mid)
         (between (B.remaining second.old) (B.remaining second.new) mid (W.contents writer.new)) result.first result.second
-        (λ left. HandsBack ⟦<Paged<D> as Store>⟧.saved result.device left × IfSome left (IsGood rules.check)) }
+        (HandsBack ⟦<Paged<D> as Store>⟧.saved D.refused (λ core. ⟦<Paged<D> as Store>⟧.refused (store_of core)) (D.refused device) again result.unclosed)
+        (Leaves ⟦<Paged<D> as Store>⟧.saved D.refused (λ core. ⟦<Paged<D> as Store>⟧.refused (store_of core)) rules.check (calls_from D.refused device again) result.device result.unclosed) }
     ensures new { (rules : Rules) → AreRules rules → IsTrue D.is_honest → D.bytes device ≡ []
-        → (mid : Option (List ℕ)) × RunsTwice rules empty (between (A.remaining first.old) (A.remaining first.new) (W.contents writer.old) mid)
+        → (mid : Option (List ℕ)) × (again : Option D) × RunsTwice rules empty (between (A.remaining first.old) (A.remaining first.new) (W.contents writer.old) mid)
         (between (B.remaining second.old) (B.remaining second.new) mid (W.contents writer.new)) result.first result.second
-        (λ left. HandsBack ⟦<Paged<D> as Store>⟧.saved result.device left × IfSome left (IsGood rules.check)) }
+        (HandsBack ⟦<Paged<D> as Store>⟧.saved D.refused (λ core. ⟦<Paged<D> as Store>⟧.refused (store_of core)) (D.refused device) again result.unclosed)
+        (Leaves ⟦<Paged<D> as Store>⟧.saved D.refused (λ core. ⟦<Paged<D> as Store>⟧.refused (store_of core)) rules.check (calls_from D.refused device again) result.device result.unclosed) }
 {
     databases_stay_good();
     run_twice::<Paged<D>, A, B, W>(alloc, settings, device, first, second, writer)

@@ -5,6 +5,7 @@ ghost use Rattle.algebra.specs.Listing.{tree_listing};
 ghost use Rattle.executor.specs.Reply.{outcome_of};
 ghost use Rattle.session_definitions.specs.Refusals.{IsReserved};
 ghost use Rattle.store.specs.Errors.{HasRisen};
+ghost use Rattle.transactions.specs.Refused.{TellsNoLimit};
 ghost use Rattle.tree_tables.specs.TablesRead.{tables_in_tree};
 ghost use Rattle.query_answers.specs.Answered.{rows_found};
 ghost use Rattle.query_answers.specs.Lent.{rows_under};
@@ -51,6 +52,7 @@ pub fn open_plan<R: Reading>(
     ensures counted { IfOk result (λ opened. opened.rows_read ≡ (R.shows reading.new).read - (R.shows reading.old).read) }
     ensures read { R.is_sound reading.old → IfOk result (λ opened. opened.rows_read ≤ rows_under (rows_found (R.shows reading.old).contents) (tables_in_tree plan.now)) }
     ensures refused { IfErr result (λ refusal. R.is_sound reading.old → IsReserved refusal) }
+    ensures limits { IfErr result TellsNoLimit }
     ensures counts { IfErr result (λ refusal. refusal ≡ Disk → HasRisen (R.shows reading.old).refused (R.shows reading.new).refused) }
     ensures follows { R.follows reading.old reading.new }
 {

@@ -26,7 +26,7 @@ use Rattle.overlay.proofs.LayerLemmas.{only_apart}
 use Rattle.page_database.specs.Held as database
 use Rattle.page_database.proofs.DatabaseLemmas.{as_tables}
 use Rattle.page_versions.specs.Databases.{nothing, root_of, contents_in, IsDatabase}
-use Rattle.page_versions.specs.Opened.{Begins}
+use Rattle.page_versions.specs.Opened.{Begins, IsReadable}
 use Rattle.page_versions.specs.Refusals.{of_open}
 use Rattle.page_versions.specs.Saved.{HoldsDatabase, IsSaved}
 use Rattle.page_versions.proofs.HeldLemmas.{TheyAreRead, TheyRise, is_database}
@@ -145,6 +145,10 @@ pub empty_of : (xs : List ℕ) → length xs ≡ 0 → xs ≡ []
 empty_of [] e = refl
 empty_of (x ∷ xs) e = absurd (omega (arith, e))
 
+-- a count that stays does not fall
+pub no_less : (k m n : ℕ) → m ≡ k → n ≡ m → k ≤ n
+no_less k m n first second = omega (arith, first, second)
+
 -- ---- refusals
 
 pub open_refused : (honest : Bool) (bytes : List ℕ) (k n : ℕ) (cause : OpenError) → (IsTrue honest → bytes ≡ [] → ⊥) → file.IsCounted cause k n → (cause ≡ opening.Damaged → IsTrue honest → file.IsDamaged bytes)
@@ -166,6 +170,20 @@ module _ {A E : Type 0} (result : Result A E) (honest : Bool) (now bytes : List 
     where
       by : (r : Result A E) → IfOk r (λ a. Begins honest now (v a)) → IfOk r (λ a. Begins honest bytes (v a))
       by (Ok a) h = begins_from honest now bytes (v a) same h
+      by (Err e) h = h
+
+  pub readable_after : IfOk result (λ a. IsReadable honest now) → IfOk result (λ a. IsReadable honest bytes)
+  readable_after h = by result h
+    where
+      by : (r : Result A E) → IfOk r (λ a. IsReadable honest now) → IfOk r (λ a. IsReadable honest bytes)
+      by (Ok a) h = λ device. subst (λ (f : List ℕ). (f ≡ []) ⊎ ((header : FileHeader) × file.IsWhole f header)) (same device) (h device)
+      by (Err e) h = h
+
+  pub counts_after : (count : A → ℕ) (k m : ℕ) → m ≡ k → IfOk result (λ a. m ≤ count a) → IfOk result (λ a. k ≤ count a)
+  counts_after count k m is h = by result h
+    where
+      by : (r : Result A E) → IfOk r (λ a. m ≤ count a) → IfOk r (λ a. k ≤ count a)
+      by (Ok a) h = subst (λ (n : ℕ). n ≤ count a) is h
       by (Err e) h = h
 
   pub left_after : (left : E → List ℕ) → IfErr result (λ e. IsTrue honest → left e ≡ now) → IfErr result (λ e. IsTrue honest → left e ≡ bytes)

@@ -10,7 +10,7 @@ use Rattle.store.specs.declared.error.StoreError.{StoreError}
 use Rattle.store.specs.declared.error.StoreError.TheVariants as refused
 use Rattle.store.specs.declared.error.StoreLimit.{StoreLimit}
 use Rattle.store.specs.declared.error.StoreLimit.TheVariants as limit
-use Rattle.store.specs.Contents.{next_number, Contents}
+use Rattle.store.specs.Contents.{StoredTable}
 use Rattle.store.specs.Errors.{HasRisen, MayFail, Never, StoringReaches, ChangingReaches, CommittingReaches}
 use Rattle.store.specs.Indexes.{entries_of}
 use Rattle.pagefile.specs.declared.header.FileHeader.{FileHeader}
@@ -78,25 +78,16 @@ tables_fail version written header reached k m n f says less h =
 pub rows_refused : (version written fresh settled : PageMap) (header : FileHeader) (k m n : ℕ) (name : Name) (rows : List Row) (error : DatabaseError)
     → ((first : List ℕ) → over written version 0 ≡ Some first → IsHeader first header) → k ≤ m → NumberingReaches (in_use version written) header.catalog_root name rows error
     → SpaceRefused (AtLimit (over (over fresh settled) version 0) (size_of (over fresh settled))) (HoldsNoDatabaseIn (in_use version written) header.catalog_root (IsWhole (over written version))) m n error
-    → MayFail (IsDatabase version written) k n (RowsReach (IsCounted (IsDatabase version written) version settled) (get (contents_in version written) name) rows) (of_rows error)
+    → MayFail (IsDatabase version written) k n (RowsReach (IsCounted version settled) rows) (of_rows error)
 rows_refused version written fresh settled header k m n name rows (change.Space fault.Memory) says less numbers h = tt
 rows_refused version written fresh settled header k m n name rows (change.Space fault.Disk) says less numbers h = has_risen k m n less h
 rows_refused version written fresh settled header k m n name rows (change.Space fault.Damaged) says less numbers h = λ d. h d.tables (held_at version written header says d) d.whole
-rows_refused version written fresh settled header k m n name rows (change.Space fault.Pages) says less numbers h = inl (inr (fresh, h))
-rows_refused version written fresh settled header k m n name rows (change.Space fault.Private) says less numbers h = inr (fresh, h)
+rows_refused version written fresh settled header k m n name rows (change.Space fault.Pages) says less numbers h = (fresh, h)
+rows_refused version written fresh settled header k m n name rows (change.Space fault.Private) says less numbers h = (fresh, h)
 rows_refused version written fresh settled header k m n name rows change.Record says less numbers h = numbers
 rows_refused version written fresh settled header k m n name rows change.Key says less numbers h = tt
 rows_refused version written fresh settled header k m n name rows change.Schema says less numbers h = tt
-rows_refused version written fresh settled header k m n name rows change.Number says less numbers h =
-    by (next_number (entries_of (get (contents_in version written) name)) + length rows) (2 ^ 63)
-    (λ d. subst (λ (c : Contents). 2 ^ 63 < next_number (entries_of (get c name)) + length rows) (sym d.read) (numbers d.tables (held_at version written header says d)))
-  where
-    by : (all top : ℕ) → (IsDatabase version written → top < all) → ((IsDatabase version written → ⊥) ⊎ IsReached version settled fault.Pages) ⊎ (top < all)
-    by all top above = which (cases_lt top all)
-      where
-        which : (top < all) ⊎ (all ≤ top) → ((IsDatabase version written → ⊥) ⊎ IsReached version settled fault.Pages) ⊎ (top < all)
-        which (inl more) = inr more
-        which (inr most) = inl (inl (λ d. let more = above d in omega (arith, more, most)))
+rows_refused version written fresh settled header k m n name rows change.Number says less numbers h = tt
 
 -- where no number is given, none is refused
 pub as_numbering : (pages : PageMap) (root : ℕ) (name : Name) (rows : List Row) (error : DatabaseError) → StoringReachesIn pages root name rows error → NumberingReaches pages root name rows error
@@ -109,12 +100,12 @@ as_numbering pages root name rows change.Schema h = tt
 pub table_refused : (version written fresh settled : PageMap) (header : FileHeader) (k m n : ℕ) (error : DatabaseError)
     → ((first : List ℕ) → over written version 0 ≡ Some first → IsHeader first header) → k ≤ m
     → SpaceRefused (AtLimit (over (over fresh settled) version 0) (size_of (over fresh settled))) (HoldsNoDatabaseIn (in_use version written) header.catalog_root (IsWhole (over written version))) m n error
-    → MayFail (IsDatabase version written) k n (ChangingReaches (IsCounted (IsDatabase version written) version settled)) (of_change error)
+    → MayFail (IsDatabase version written) k n (ChangingReaches (IsCounted version settled)) (of_change error)
 table_refused version written fresh settled header k m n (change.Space fault.Memory) says less h = tt
 table_refused version written fresh settled header k m n (change.Space fault.Disk) says less h = has_risen k m n less h
 table_refused version written fresh settled header k m n (change.Space fault.Damaged) says less h = λ d. h d.tables (held_at version written header says d) d.whole
-table_refused version written fresh settled header k m n (change.Space fault.Pages) says less h = inr (fresh, h)
-table_refused version written fresh settled header k m n (change.Space fault.Private) says less h = inr (fresh, h)
+table_refused version written fresh settled header k m n (change.Space fault.Pages) says less h = (fresh, h)
+table_refused version written fresh settled header k m n (change.Space fault.Private) says less h = (fresh, h)
 table_refused version written fresh settled header k m n change.Record says less h = tt
 table_refused version written fresh settled header k m n change.Key says less h = tt
 table_refused version written fresh settled header k m n change.Number says less h = tt
@@ -145,21 +136,12 @@ fail_weaker sound other k n reached more refused.Device f g h = h
 fail_weaker sound other k n reached more refused.Damaged f g h = λ s. h (f s)
 fail_weaker sound other k n reached more (refused.Exceeded l) f g h = g l h
 
-pub counted_weaker : (sound other : Type 0) (version settled : PageMap) (l : StoreLimit) → (other → sound) → IsCounted sound version settled l → IsCounted other version settled l
-counted_weaker sound other version settled limit.Pages f (inl never) = inl (λ s. never (f s))
-counted_weaker sound other version settled limit.Pages f (inr there) = inr there
-counted_weaker sound other version settled limit.Private f (inl never) = inl (λ s. never (f s))
-counted_weaker sound other version settled limit.Private f (inr there) = inr there
-counted_weaker sound other version settled limit.Kept f h = h
-counted_weaker sound other version settled limit.Record f h = h
-counted_weaker sound other version settled limit.Key f h = h
-
 -- ---- the pool's
 
 pub commit_fails : (sound : Type 0) (counted : StoreLimit → Type 0) (last k n : ℕ) (error : PoolError) → IsRefused (last ≡ 2 ^ 64 - 1) ⊥ k n error → MayFail sound k n (CommittingReaches counted last) (of_pool error)
 commit_fails sound counted last k n pool.Memory h = tt
 commit_fails sound counted last k n (pool.Device cause) h = has_risen k k n (omega arith) h
-commit_fails sound counted last k n pool.Pages h = inr (top last (2 ^ 64) (omega arith) h)
+commit_fails sound counted last k n pool.Pages h = top last (2 ^ 64) (omega arith) h
   where
     top : (last most : ℕ) → 0 < most → last ≡ most - 1 → most ≤ last + 1
     top last most some e = omega (arith, some, e)
@@ -184,26 +166,12 @@ pub refused_weaker : {A : Type 0} (result : Result A StoreError) (sound other : 
 refused_weaker (Ok a) sound other k n reached more f g h = h
 refused_weaker (Err e) sound other k n reached more f g h = fail_weaker sound other k n reached more e f g h
 
-pub rows_reach : (honest : Bool) (version written settled : PageMap) (sound other : Type 0) → (other → sound) → (other → IsTrue honest) → (name : Name) (rows : List Row) (l : StoreLimit)
-    → RowsReach (IsCounted sound version settled) (get (contents_in version written) name) rows l
-    → StoringReaches (IsCounted other version settled) (get (known_contents honest version written) name) rows l
-rows_reach honest version written settled sound other f device name rows limit.Record h = h
-rows_reach honest version written settled sound other f device name rows limit.Key h = absurd h
-rows_reach true version written settled sound other f device name rows limit.Pages (inl h) = inl (counted_weaker sound other version settled limit.Pages f h)
-rows_reach true version written settled sound other f device name rows limit.Pages (inr h) = inr h
-rows_reach false version written settled sound other f device name rows limit.Pages h = inl (inl (λ s. never (device s)))
-  where
-    never : IsTrue false → ⊥
-    never e = let bad : false ≡ true = e in cc
-rows_reach honest version written settled sound other f device name rows limit.Private h = counted_weaker sound other version settled limit.Private f h
-rows_reach honest version written settled sound other f device name rows limit.Kept h = absurd h
-
-pub table_reach : (version settled : PageMap) (sound other : Type 0) → (other → sound) → (l : StoreLimit) → ChangingReaches (IsCounted sound version settled) l → ChangingReaches (IsCounted other version settled) l
-table_reach version settled sound other f limit.Record h = absurd h
-table_reach version settled sound other f limit.Key h = absurd h
-table_reach version settled sound other f limit.Pages h = counted_weaker sound other version settled limit.Pages f h
-table_reach version settled sound other f limit.Private h = counted_weaker sound other version settled limit.Private f h
-table_reach version settled sound other f limit.Kept h = absurd h
+pub rows_reach : (counted : StoreLimit → Type 0) (table : Option StoredTable) (rows : List Row) (l : StoreLimit) → RowsReach counted rows l → StoringReaches counted table rows l
+rows_reach counted table rows limit.Record h = h
+rows_reach counted table rows limit.Key h = absurd h
+rows_reach counted table rows limit.Pages h = inl h
+rows_reach counted table rows limit.Private h = h
+rows_reach counted table rows limit.Kept h = absurd h
 
 pub risen_later : (k m n : ℕ) → k ≤ m → HasRisen m n → HasRisen k n
 risen_later k m n less h = risen_on (2 ^ 64 - 1) k m n less h

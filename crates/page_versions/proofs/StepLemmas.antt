@@ -95,14 +95,14 @@ module _ (v0 v1 written fresh now_settled settled : PageMap) (header : FileHeade
       (subst (λ (s : PageMap). SpaceRefused (AtLimit (over (over fresh s) v1 0) (size_of (over fresh s))) (HoldsNoDatabaseIn (in_use v1 written) header.catalog_root (IsWhole (over written v1))) m n cause) same h)
 
   pub rows_fail : (name : Name) (rows : List Row) → error ≡ of_rows cause → NumberingReaches (in_use v1 written) header.catalog_root name rows cause
-      → MayFail (IsDatabase v0 written) k n (RowsReach (IsCounted (IsDatabase v0 written) v0 settled) (get (contents_in v0 written) name) rows) error
+      → MayFail (IsDatabase v0 written) k n (RowsReach (IsCounted v0 settled) rows) error
   rows_fail name rows is numbers =
-      fails_as (IsDatabase v0 written) k n (RowsReach (IsCounted (IsDatabase v0 written) v0 settled) (get (contents_in v0 written) name) rows) error (of_rows cause) is
+      fails_as (IsDatabase v0 written) k n (RowsReach (IsCounted v0 settled) rows) error (of_rows cause) is
       (rows_refused v0 written fresh settled header k m n name rows cause says less (subst (λ (v : PageMap). NumberingReaches (in_use v written) header.catalog_root name rows cause) first numbers) refused_there)
 
-  pub table_fail : error ≡ of_change cause → MayFail (IsDatabase v0 written) k n (ChangingReaches (IsCounted (IsDatabase v0 written) v0 settled)) error
+  pub table_fail : error ≡ of_change cause → MayFail (IsDatabase v0 written) k n (ChangingReaches (IsCounted v0 settled)) error
   table_fail is =
-      fails_as (IsDatabase v0 written) k n (ChangingReaches (IsCounted (IsDatabase v0 written) v0 settled)) error (of_change cause) is
+      fails_as (IsDatabase v0 written) k n (ChangingReaches (IsCounted v0 settled)) error (of_change cause) is
       (table_refused v0 written fresh settled header k m n cause says less refused_there)
 
 -- the same commit of the same versions

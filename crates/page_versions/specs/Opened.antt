@@ -1,7 +1,9 @@
 -- What opening a device gives. Our own choice.
-use Rattle.std.specs.Prelude.{◌≡◌, ℕ, Bool, IsTrue, IsSome, List}
+use Rattle.std.specs.Prelude.{◌≡◌, ◌⊎◌, ℕ, Bool, IsTrue, IsSome, List, []}
 use Rattle.denote.specs.Database.{Database}
 use Rattle.store.specs.Contents.{database_of}
+use Rattle.pagefile.specs.declared.header.FileHeader.{FileHeader}
+use Rattle.pagefile.specs.Whole.{IsWhole}
 use Rattle.pool.specs.Versions.{Versions}
 use Rattle.page_versions.specs.Databases.{nothing, contents_in, IsDatabase}
 use Rattle.page_versions.specs.Saved.{IsSaved}
@@ -13,3 +15,7 @@ pub record Begins (honest : Bool) (bytes : List ℕ) (v : Versions) : Type 0 whe
   pub first : IsTrue honest → IsSome (v.pages 0 0)
   pub is : (db : Database) → IsSaved honest bytes db → IsDatabase (v.pages 0) nothing
   pub shows : (db : Database) → IsSaved honest bytes db → database_of (contents_in (v.pages 0) nothing) ≡ db
+
+-- where the device is honest, it is empty or its bytes are those of a whole file
+abbrev pub IsReadable : Bool → List ℕ → Type 0
+IsReadable honest bytes = IsTrue honest → (bytes ≡ []) ⊎ ((header : FileHeader) × IsWhole bytes header)

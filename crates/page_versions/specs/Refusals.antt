@@ -1,9 +1,7 @@
 -- Why a paged store refuses a call, by the refusals of what it stands on. Our own choice.
-use Rattle.std.specs.Prelude.{◌⊎◌, ℕ, ◌+◌, ◌^◌, ◌<◌, List, length, Option}
+use Rattle.std.specs.Prelude.{List}
 use Rattle.sqlval.specs.Value.{Row}
-use Rattle.store.specs.Contents.{StoredTable, next_number}
 use Rattle.store.specs.Errors.{HasLongRow}
-use Rattle.store.specs.Indexes.{entries_of}
 use Rattle.store.specs.declared.error.StoreError.{StoreError}
 use Rattle.store.specs.declared.error.StoreError.TheVariants as refused
 use Rattle.store.specs.declared.error.StoreLimit.{StoreLimit}
@@ -45,30 +43,30 @@ of_change change.Key = refused.Memory
 of_change change.Number = refused.Memory
 of_change change.Schema = refused.Memory
 
--- Which indexes there are is not known over a device that is not honest, so that a key is too long counts as want of memory; so does that a record of a schema is.
+-- Which indexes there are, and which numbers rows have, is not known over a device that is not honest, so that a key is too long or the numbers of rows end counts as want of memory; so does that a record of a schema is too long.
 abbrev pub of_rows : DatabaseError → StoreError
 of_rows (change.Space f) = of_fault f
 of_rows change.Record = refused.Exceeded limit.Record
 of_rows change.Key = refused.Memory
-of_rows change.Number = refused.Exceeded limit.Pages
+of_rows change.Number = refused.Memory
 of_rows change.Schema = refused.Memory
 
 -- with some pages written since the mark, the pages are at the limit that a fault names
 abbrev pub IsReached : PageMap → PageMap → Fault → Type 0
 IsReached version settled f = (fresh : PageMap) × AtLimit (over (over fresh settled) version 0) (size_of (over fresh settled)) f
 
--- A limit of the pages is reached by some change behind the mark. Of a store that is not sound nothing is said.
-abbrev pub IsCounted : Type 0 → PageMap → PageMap → StoreLimit → Type 0
-IsCounted sound version settled limit.Pages = (sound → ⊥) ⊎ IsReached version settled fault.Pages
-IsCounted sound version settled limit.Private = (sound → ⊥) ⊎ IsReached version settled fault.Private
-IsCounted sound version settled limit.Kept = ⊥
-IsCounted sound version settled limit.Record = ⊥
-IsCounted sound version settled limit.Key = ⊥
+-- a limit of the pages is reached by some change behind the mark
+abbrev pub IsCounted : PageMap → PageMap → StoreLimit → Type 0
+IsCounted version settled limit.Pages = IsReached version settled fault.Pages
+IsCounted version settled limit.Private = IsReached version settled fault.Private
+IsCounted version settled limit.Kept = ⊥
+IsCounted version settled limit.Record = ⊥
+IsCounted version settled limit.Key = ⊥
 
 -- rows that are stored reach a limit; that of keys is not named
-abbrev pub RowsReach : (StoreLimit → Type 0) → Option StoredTable → List Row → StoreLimit → Type 0
-RowsReach counted table rows limit.Record = HasLongRow rows
-RowsReach counted table rows limit.Key = ⊥
-RowsReach counted table rows limit.Pages = counted limit.Pages ⊎ (2 ^ 63 < next_number (entries_of table) + length rows)
-RowsReach counted table rows limit.Private = counted limit.Private
-RowsReach counted table rows limit.Kept = ⊥
+abbrev pub RowsReach : (StoreLimit → Type 0) → List Row → StoreLimit → Type 0
+RowsReach counted rows limit.Record = HasLongRow rows
+RowsReach counted rows limit.Key = ⊥
+RowsReach counted rows limit.Pages = counted limit.Pages
+RowsReach counted rows limit.Private = counted limit.Private
+RowsReach counted rows limit.Kept = ⊥

@@ -44,7 +44,8 @@ pub(crate) fn of_change(error: DatabaseError) -> StoreError
 }
 
 /// A key that is too long counts as want of memory: a store may name that limit only where it is known which indexes there are, and
-/// over a device that is not honest it is not. So does a record of a schema that is too long.
+/// over a device that is not honest it is not. So do row numbers that have come to their end, 2^63, which are as little known, and a
+/// record of a schema that is too long.
 pub(crate) fn of_rows(error: DatabaseError) -> StoreError
     ensures { result ≡ of_rows error }
 {
@@ -52,7 +53,7 @@ pub(crate) fn of_rows(error: DatabaseError) -> StoreError
         DatabaseError::Space(fault) => of_fault(fault),
         DatabaseError::Record => StoreError::Exceeded(StoreLimit::Record),
         DatabaseError::Key => StoreError::Memory,
-        DatabaseError::Number => StoreError::Exceeded(StoreLimit::Pages),
+        DatabaseError::Number => StoreError::Memory,
         DatabaseError::Schema => StoreError::Memory,
     }
 }

@@ -12,10 +12,11 @@ use page_database::database_stays;
 use page_tables::numbers_rise;
 use pool::{CloseRefused, Pool};
 
-/// Writes all that is committed, and hands the device back. A refusal is that of the device, and hands the pool back with all versions as they were.
+/// Writes all that is committed, waits until it is on the medium, and hands the device back. A refusal is that of the device, and hands the pool back with all versions as they were.
 pub fn close_pool<D: Disk>(pool: Pool<D>) -> Result<D, CloseRefused<D>>
     ensures saved { IfOk result (λ device. IsTrue D.is_honest → IsDatabase ((versions_of pool).pages (versions_of pool).last) nothing
         → HoldsDatabase (D.bytes device) (database_of (contents_in ((versions_of pool).pages (versions_of pool).last) nothing))) }
+    ensures settled { IfOk result (λ device. D.settled device) }
     ensures versions { IfErr result (λ r. versions_of r.pool ≡ versions_of pool) }
     ensures refusal { IfErr result (λ r. IsOfDevice (D.refused (device_of pool)) (D.refused (device_of r.pool)) r.cause) }
 {

@@ -2,8 +2,8 @@
 ghost use Rattle.std.specs.Prelude.{◌≡◌, ◌≤◌, [], IsTrue, IfOk, IfErr};
 ghost use Rattle.denote.specs.Database.{Database};
 ghost use Rattle.store.specs.Errors.{MayFail, Never};
-ghost use Rattle.pool.specs.Versions.{versions_of};
-ghost use Rattle.page_versions.specs.Opened.{Begins};
+ghost use Rattle.pool.specs.Versions.{versions_of, device_of};
+ghost use Rattle.page_versions.specs.Opened.{Begins, IsReadable};
 ghost use Rattle.page_versions.specs.Refusals.{of_open};
 ghost use Rattle.page_versions.specs.Saved.{IsSaved};
 
@@ -22,6 +22,8 @@ fn new_pool<D: Disk>(alloc: Global, device: D, frames: u32) -> Result<Pool<D>, R
     requires most { frames ≤ 4096 }
     requires empty { IsTrue D.is_honest → D.bytes device ≡ [] }
     ensures begins { IfOk result (λ pool. Begins D.is_honest (D.bytes device) (versions_of pool)) }
+    ensures readable { IfOk result (λ pool. IsReadable D.is_honest (D.bytes device)) }
+    ensures counts { IfOk result (λ pool. D.refused device ≤ D.refused (device_of pool)) }
     ensures left { IfErr result (λ back. back.value ≡ device) }
     ensures refused { IfErr result (λ back. back.error ≡ StoreError.Memory) }
 {
@@ -53,6 +55,8 @@ fn old_pool<D: Disk>(alloc: Global, device: D, frames: u32) -> Result<Pool<D>, R
     requires most { frames ≤ 4096 }
     requires some { IsTrue D.is_honest → D.bytes device ≡ [] → ⊥ }
     ensures begins { IfOk result (λ pool. Begins D.is_honest (D.bytes device) (versions_of pool)) }
+    ensures readable { IfOk result (λ pool. IsReadable D.is_honest (D.bytes device)) }
+    ensures counts { IfOk result (λ pool. D.refused device ≤ D.refused (device_of pool)) }
     ensures left { IfErr result (λ back. IsTrue D.is_honest → D.bytes back.value ≡ D.bytes device) }
     ensures refused { IfErr result (λ back. MayFail ((db : Database) × IsSaved D.is_honest (D.bytes device) db) (D.refused device) (D.refused back.value) Never back.error) }
 {
@@ -65,11 +69,13 @@ fn old_pool<D: Disk>(alloc: Global, device: D, frames: u32) -> Result<Pool<D>, R
     }
 }
 
-/// A pool over what lies on a device: nothing, which is a database without tables, or a file.
+/// A pool over what lies on a device: nothing, which is a database without tables, or a whole file; no other device is opened.
 pub fn pool_over<D: Disk>(alloc: Global, mut device: D, frames: u32) -> Result<Pool<D>, Returned<D>>
     requires least { 16 ≤ frames }
     requires most { frames ≤ 4096 }
     ensures begins { IfOk result (λ pool. Begins D.is_honest (D.bytes device) (versions_of pool)) }
+    ensures readable { IfOk result (λ pool. IsReadable D.is_honest (D.bytes device)) }
+    ensures counts { IfOk result (λ pool. D.refused device ≤ D.refused (device_of pool)) }
     ensures left { IfErr result (λ back. IsTrue D.is_honest → D.bytes back.value ≡ D.bytes device) }
     ensures refused { IfErr result (λ back. MayFail ((db : Database) × IsSaved D.is_honest (D.bytes device) db) (D.refused device) (D.refused back.value) Never back.error) }
 {

@@ -61,8 +61,7 @@ pub fn append_rows<D: Disk>(
     ensures appended { IsDatabase ((versions_of pool.old).pages at) (private_of changes.old) → OnOk result (IsNow ((versions_of pool.old).pages at) (private_of changes.new) (appended (contents_in ((versions_of pool.old).pages at) (private_of changes.old)) name.now rows)) }
     ensures settled { settled_of changes.new ≡ settled_of changes.old }
     ensures versions { versions_of pool.new ≡ versions_of pool.old }
-    ensures refused { IfErr result (MayFail (IsDatabase ((versions_of pool.old).pages at) (private_of changes.old)) (D.refused (device_of pool.old)) (D.refused (device_of pool.new)) (RowsReach (IsCounted (IsDatabase ((versions_of pool.old).pages at) (private_of changes.old)) ((versions_of pool.old).pages at) (settled_of changes.old))
-        (get (contents_in ((versions_of pool.old).pages at) (private_of changes.old)) name.now) rows)) }
+    ensures refused { IfErr result (MayFail (IsDatabase ((versions_of pool.old).pages at) (private_of changes.old)) (D.refused (device_of pool.old)) (D.refused (device_of pool.new)) (RowsReach (IsCounted ((versions_of pool.old).pages at) (settled_of changes.old)) rows)) }
     ensures rising { D.refused (device_of pool.old) ≤ D.refused (device_of pool.new) }
 {
     match read_header(pool, changes, at) {
@@ -114,8 +113,7 @@ pub fn replace_row<D: Disk>(
     ensures replaced { IsDatabase ((versions_of pool.old).pages at) (private_of changes.old) → OnOk result (IsNow ((versions_of pool.old).pages at) (private_of changes.new) (replaced (contents_in ((versions_of pool.old).pages at) (private_of changes.old)) name.now number row)) }
     ensures settled { settled_of changes.new ≡ settled_of changes.old }
     ensures versions { versions_of pool.new ≡ versions_of pool.old }
-    ensures refused { IfErr result (MayFail (IsDatabase ((versions_of pool.old).pages at) (private_of changes.old)) (D.refused (device_of pool.old)) (D.refused (device_of pool.new)) (RowsReach (IsCounted (IsDatabase ((versions_of pool.old).pages at) (private_of changes.old)) ((versions_of pool.old).pages at) (settled_of changes.old))
-        (get (contents_in ((versions_of pool.old).pages at) (private_of changes.old)) name.now) (row ∷ []))) }
+    ensures refused { IfErr result (MayFail (IsDatabase ((versions_of pool.old).pages at) (private_of changes.old)) (D.refused (device_of pool.old)) (D.refused (device_of pool.new)) (RowsReach (IsCounted ((versions_of pool.old).pages at) (settled_of changes.old)) (row ∷ []))) }
     ensures rising { D.refused (device_of pool.old) ≤ D.refused (device_of pool.new) }
 {
     match read_header(pool, changes, at) {
@@ -173,7 +171,7 @@ pub fn delete_row<D: Disk>(
     ensures deleted { IsDatabase ((versions_of pool.old).pages at) (private_of changes.old) → OnOk result (IsNow ((versions_of pool.old).pages at) (private_of changes.new) (deleted (contents_in ((versions_of pool.old).pages at) (private_of changes.old)) name.now number)) }
     ensures settled { settled_of changes.new ≡ settled_of changes.old }
     ensures versions { versions_of pool.new ≡ versions_of pool.old }
-    ensures refused { IfErr result (MayFail (IsDatabase ((versions_of pool.old).pages at) (private_of changes.old)) (D.refused (device_of pool.old)) (D.refused (device_of pool.new)) (ChangingReaches (IsCounted (IsDatabase ((versions_of pool.old).pages at) (private_of changes.old)) ((versions_of pool.old).pages at) (settled_of changes.old)))) }
+    ensures refused { IfErr result (MayFail (IsDatabase ((versions_of pool.old).pages at) (private_of changes.old)) (D.refused (device_of pool.old)) (D.refused (device_of pool.new)) (ChangingReaches (IsCounted ((versions_of pool.old).pages at) (settled_of changes.old)))) }
     ensures rising { D.refused (device_of pool.old) ≤ D.refused (device_of pool.new) }
 {
     match read_header(pool, changes, at) {

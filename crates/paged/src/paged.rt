@@ -75,6 +75,7 @@ impl<D: Disk + Drop> Store for Paged<D> {
     ghost use Rattle.std.specs.Prelude.{◌≡◌};
     ghost use Rattle.pool.specs.Versions.{versions_of, device_of, unwritten_of};
     ghost use Rattle.overlay.specs.Changes.{settled_of};
+    ghost use Rattle.page_versions.specs.Opened.{IsReadable};
     ghost use Rattle.page_versions.specs.Refusals.{IsCounted};
     ghost use Rattle.page_versions.specs.Saved.{IsSaved};
     ghost use Rattle.paged.specs.Store.{shown_of, sound_of};
@@ -92,7 +93,7 @@ impl<D: Disk + Drop> Store for Paged<D> {
 
     ghost read = { λ s. s.read };
 
-    ghost counted = { λ s limit. IsCounted (sound_of s) ((versions_of s.pool).pages (versions_of s.pool).last) (settled_of s.changes) limit };
+    ghost counted = { λ s limit. IsCounted ((versions_of s.pool).pages (versions_of s.pool).last) (settled_of s.changes) limit };
 
     ghost prepared = { λ s. s.prepared };
 
@@ -101,6 +102,8 @@ impl<D: Disk + Drop> Store for Paged<D> {
     ghost room = { λ s. s.frames };
 
     ghost saved = { λ device db. IsSaved D.is_honest (D.bytes device) db };
+
+    ghost readable = { λ device. IsReadable D.is_honest (D.bytes device) };
 
     ghost numbers_rise = { λ s view name table sound found. rises_seen _ _ _ _ _ view name table sound found };
 

@@ -108,6 +108,7 @@ impl<D: Disk> PageFile<D> {
         ensures count { CountsRefusal result (D.refused (disk_of self.old)) (D.refused (disk_of self.new)) }
         ensures cause { IfErr result (D.told (disk_of self.new)) }
         ensures synced { D.synced (disk_of self.new) ≡ D.synced (disk_of self.old) }
+        ensures settled { D.settled (disk_of self.old) → D.settled (disk_of self.new) }
     {
         self.disk.read_at(offset_of(number), into)
     }
@@ -130,6 +131,7 @@ impl<D: Disk> PageFile<D> {
         ensures count { CountsRefusal result (D.refused (disk_of self.old)) (D.refused (disk_of self.new)) }
         ensures cause { IfErr result (D.told (disk_of self.new)) }
         ensures synced { CountsSync result (D.synced (disk_of self.old)) (D.synced (disk_of self.new)) }
+        ensures settles { OnOk result (D.settled (disk_of self.new)) }
     {
         self.disk.sync()
     }

@@ -20,7 +20,7 @@ mod values;
 
 use clap::Error;
 use list_store::{ListStore, Lists};
-use shell::{Settings, run_on};
+use shell::{Settings, run_to_end};
 use std::alloc::Global;
 use std::io::{Read, Write};
 use std::process::Abort;
@@ -41,7 +41,7 @@ fn run_over_lists<R: Read, W: Write>(
     reader: &mut R,
     writer: &mut W,
 ) -> u8 {
-    run_on::<ListStore, R, W>(alloc, settings, Lists::new(alloc), reader, writer)
+    run_to_end::<ListStore, R, W>(alloc, settings, Lists::new(alloc), reader, writer).status
 }
 
 /// Whether a script over no tables prints this.

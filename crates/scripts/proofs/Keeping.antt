@@ -1,5 +1,5 @@
 -- What each call of a core keeps.
-use Rattle.std.proofs.Common.{◌≡◌, refl, ap, sym, subst, ◌∙◌, ℕ, ◌<◌, ◌≤◌, ◌+◌, Bool, true, false, [], ◌∷◌, drop, get_or, length, Option, Some, None, Ok}
+use Rattle.std.proofs.Common.{◌≡◌, refl, ap, sym, subst, ◌∙◌, ℕ, ◌<◌, ◌≤◌, ◌+◌, Bool, true, false, List, [], ◌∷◌, drop, get_or, length, Option, Some, None, Ok}
 use Rattle.std.specs.Prelude.{slice_set, is_some}
 use Rattle.std.specs.FinMap.{get}
 use Rattle.lexer.specs.Token.{Bytes}
@@ -7,11 +7,11 @@ use Rattle.ast.specs.declared.statement.AccessMode.{AccessMode}
 use Rattle.denote.specs.Database.{Database, CheckReading, IsGood}
 use Rattle.replies.specs.declared.reply.Reply.{Reply}
 use Rattle.session_definitions.specs.Rules.{Rules}
-use Rattle.session_definitions.specs.Run.{Event, Happens, MakesSession, DropsSession}
+use Rattle.session_definitions.specs.Run.{Event, MakesSession, DropsSession, Moment, Run}
 use Rattle.session_definitions.specs.Step.{Step}
 use Rattle.session_definitions.specs.World.{Transaction, World, is_live}
 use Rattle.session_laws.specs.Sound.{IsGoodWorld}
-use Rattle.session_laws.proofs.GoodSteps.{good_run}
+use Rattle.session_laws.proofs.GoodSteps.{good_drops, good_made_or_not}
 use Rattle.session_laws.proofs.Live.{keeps_live}
 use Rattle.store.specs.Stored.{Found, Stored}
 use Rattle.transactions.specs.Orderly.{IsOrderly, WriterIsCurrent}
@@ -29,8 +29,9 @@ use Rattle.scripts.proofs.Placed.{held_same, held_made, held_fallen, held_droppe
 
 -- ---- databases stay good
 
-good_event : (rules : Rules) (old : World) (event : Event) (new : World) → IsGoodWorld rules.check old → Happens rules old event new → IsGoodWorld rules.check new
-good_event rules old event new good happens = good_run rules old new (record { before = old; event = event } ∷ []) good (refl, happens)
+-- a run from a good world ends in a good one
+abbrev pub KeepsGood : Rules → Type 0
+KeepsGood rules = (start end : World) (moments : List Moment) → IsGoodWorld rules.check start → Run rules start moments end → IsGoodWorld rules.check end
 
 -- a session that stands sees a good database
 pub good_seen : (reading : CheckReading) (st : Stored) (writer : Option ℕ) (slots : Slots) (s : ℕ) → IsOrderly st writer → is_live (shown st writer slots) s ≡ true
@@ -88,13 +89,13 @@ module _ {S L D : Type 0} (is_sound : S → Type 0) (shows : S → Stored) (rule
 
   -- ---- calls
 
-  pub kept_step : (places : Places) (old new : Core S L D) (session : SessionId) (text : Bytes) (reply : Reply)
+  pub kept_step : KeepsGood rules → (places : Places) (old new : Core S L D) (session : SessionId) (text : Bytes) (reply : Reply)
       → (IsSound is_sound shows old → is_live (world_of shows old) (number_of session) ≡ true → IsGood rules.check (seen_in (shows old.store) old.writer (number_of session))
       → Step rules (world_of shows old) (number_of session) text reply (world_of shows new))
       → (IsSound is_sound shows old → IsGood rules.check (seen_in (shows old.store) old.writer (number_of session)) → IsSound is_sound shows new)
       → (is_live (world_of shows old) (number_of session) ≡ false → new ≡ old)
       → IsKept is_sound shows rules.check places old → IsKept is_sound shows rules.check places new
-  kept_step places old new session text reply step sound ended h = by (is_live (world_of shows old) (number_of session)) refl
+  kept_step keeps places old new session text reply step sound ended h = by (is_live (world_of shows old) (number_of session)) refl
     where
       by : (b : Bool) → is_live (world_of shows old) (number_of session) ≡ b → IsKept is_sound shows rules.check places new
       by true live =
@@ -102,7 +103,7 @@ module _ {S L D : Type 0} (is_sound : S → Type 0) (shows : S → Stored) (rule
           let steps = step h.sound live good in
           record {
             sound = sound h.sound good;
-            good = good_event rules (world_of shows old) (Event.Calls (number_of session) text reply steps.0) (world_of shows new) h.good steps.1;
+            good = keeps (world_of shows old) (world_of shows new) (record { before = world_of shows old; event = Event.Calls (number_of session) text reply steps.0 } ∷ []) h.good (refl, steps.1);
             held = held_same places (world_of shows old) (world_of shows new)
                 (keeps_live rules (world_of shows old) (world_of shows new) (number_of session) text reply steps) h.held;
           }
@@ -114,7 +115,7 @@ module _ {S L D : Type 0} (is_sound : S → Type 0) (shows : S → Stored) (rule
       → IsKept is_sound shows rules.check places old → IsKept is_sound shows rules.check (slice_set places i (Some session)) new
   kept_made places i session old new within empty makes sound h = record {
     sound = sound h.sound;
-    good = good_event rules (world_of shows old) (Event.Makes (Ok (number_of session))) (world_of shows new) h.good (makes h.sound);
+    good = good_made_or_not rules (world_of shows old) (Ok (number_of session)) (world_of shows new) h.good (makes h.sound);
     held = held_made places i session (world_of shows old) (world_of shows new) within empty (makes h.sound) h.held;
   }
 
@@ -142,7 +143,7 @@ module _ {S L D : Type 0} (is_sound : S → Type 0) (shows : S → Stored) (rule
       by : (b : Bool) → is_live (world_of shows old) (number_of session) ≡ b → IsKept is_sound shows rules.check (drop (i + 1) places) new
       by true live = record {
         sound = sound h.sound;
-        good = good_event rules (world_of shows old) (Event.Drops (number_of session)) (world_of shows new) h.good (drops live);
+        good = good_drops rules (world_of shows old) (number_of session) (world_of shows new) h.good (drops live);
         held = held_dropped places i session (world_of shows old) (world_of shows new) within is (drops live) h.held;
       }
       by false dead = subst (λ (core : Core S L D). IsKept is_sound shows rules.check (drop (i + 1) places) core) (sym (ended dead))

@@ -1,5 +1,5 @@
 //! A script: the pieces of an input, carried out in order.
-ghost use Rattle.std.specs.Prelude.{◌≡◌, ◌≤◌, ◌<◌, ◌-◌, ◌++◌, ℕ, false, List, length, is_ok, Option, IfOk, IfErr, MatchResult};
+ghost use Rattle.std.specs.Prelude.{◌≡◌, ◌≤◌, ◌<◌, ◌-◌, ◌++◌, ℕ, false, List, length, is_ok, Option, IfOk, IfErr, IfSome, MatchResult};
 ghost use Rattle.std.specs.Io.KnownBytes.{Consumes, Keeps, ReadConsumes};
 ghost use Rattle.replies.specs.Writes.{IsNoInterruption};
 ghost use Rattle.script_pieces.specs.PieceMeaning.{Asks};
@@ -9,6 +9,7 @@ ghost use Rattle.session_definitions.specs.Rules.{Rules, AreRules};
 ghost use Rattle.session_definitions.specs.Script.{EndsSessions, Performs, Plays, RepliesToFlush};
 ghost use Rattle.session_definitions.specs.World.{World};
 ghost use Rattle.sessions.specs.OfCore.{IsSound, world_of};
+ghost use Rattle.transactions.specs.Refused.{Counts};
 ghost use Rattle.scripts.specs.Settled.{IsCommitted, IsKept, IsSettled, Places, store_of};
 ghost use Rattle.scripts.specs.Played.{between, EndsEarly, IsNotInterrupted, IsWhole};
 ghost use Rattle.scripts.specs.Playing.{AfterTurn, AreLive, FindsNone, FindsSession, HasEnded, HasFailed, HasFinished, HasStopped, IsCarriedOut, IsPlaying, IsReading, IsReady, numbers_of, scene_of};
@@ -16,6 +17,7 @@ ghost use Rattle.scripts.specs.Playing.{AfterTurn, AreLive, FindsNone, FindsSess
 use refusals::{Reason, Refusal};
 use replies::{Reply, print_reply};
 use script_pieces::{Cutter, Request};
+use session_laws::databases_stay_good;
 use sessions::{Changes, Core, Language, SessionId};
 use std::alloc::Global;
 use std::io;
@@ -277,7 +279,8 @@ fn carry_out_piece<S: Store, L: Language + Changes<S>, W: Write>(
     }
 }
 
-/// Carries out what a piece asks for; a choice of a session alone has no reply.
+/// Carries out what a piece asks for; a choice of a session alone has no reply. After a flush that is not refused nothing is left to write, and it is refused by the device only where this
+/// refused a call.
 fn reply_to<S: Store, L: Language + Changes<S>>(
     core: &mut Core<S, L>,
     cutter: &Cutter,
@@ -288,6 +291,8 @@ fn reply_to<S: Store, L: Language + Changes<S>>(
         → IsReady (world_of S.shows core.old) sessions.old → Asks piece (asked request (call_text cutter.now))
         → Performs rules (scene_of (world_of S.shows core.old) sessions.old) (asked request (call_text cutter.now)) result (scene_of (world_of S.shows core.new) sessions.new)
         × IsReady (world_of S.shows core.new) sessions.new }
+    ensures flushes { request ≡ Request.Flushes
+        → IfSome result (λ reply. (reply ≡ Reply.Done → S.unwritten (store_of core.new) ≡ 0) × Counts reply (S.refused (store_of core.old)) (S.refused (store_of core.new))) }
     ensures refused { sessions.new.refused ≡ sessions.old.refused }
     ensures kept { (rules : Rules) → AreRules rules → IsKept S.is_sound S.shows rules.check sessions.old.standing core.old → IsKept S.is_sound S.shows rules.check sessions.new.standing core.new }
     ensures counts { S.refused (store_of core.old) ≤ S.refused (store_of core.new) }
@@ -312,6 +317,7 @@ fn reply_to<S: Store, L: Language + Changes<S>>(
 fn flush_all<S: Store, L: Language + Changes<S>>(core: &mut Core<S, L>) -> Reply
     ensures replies { RepliesToFlush result }
     ensures flushed { result ≡ Reply.Done → S.unwritten (store_of core.new) ≡ 0 }
+    ensures device { Counts result (S.refused (store_of core.old)) (S.refused (store_of core.new)) }
     ensures same { world_of S.shows core.new ≡ world_of S.shows core.old }
     ensures kept { (rules : Rules) (places : Places) → IsKept S.is_sound S.shows rules.check places core.old → IsKept S.is_sound S.shows rules.check places core.new }
     ensures counts { S.refused (store_of core.old) ≤ S.refused (store_of core.new) }
@@ -360,6 +366,7 @@ impl Sessions {
         ensures kept { (rules : Rules) → AreRules rules → IsKept S.is_sound S.shows rules.check self.old.standing core.old → IsKept S.is_sound S.shows rules.check self.new.standing core.new }
         ensures counts { S.refused (store_of core.old) ≤ S.refused (store_of core.new) }
     {
+        databases_stay_good();
         match self.session(core) {
             Ok(session) => core.step(session, text),
             Err(refusal) => Reply::Refused(refusal),

@@ -5,3 +5,4 @@ pub mod ChangeSteps
 pub mod Unread
 pub mod Cores
 pub mod Devices
+pub mod Limits

@@ -17,7 +17,7 @@ use Rattle.transactions.specs.Orderly.{IsOrderly}
 use Rattle.transactions.proofs.Orders.{same}
 use Rattle.transactions.proofs.Steps.{Answered, nothing_moves, withholds}
 
-is_memory : (r : Refusal) → (r ≡ refused.Memory) ⊎ (r ≢ refused.Memory)
+pub is_memory : (r : Refusal) → (r ≡ refused.Memory) ⊎ (r ≢ refused.Memory)
 is_memory refused.Memory = inl refl
 is_memory refused.Disk = inr (λ e. cc)
 is_memory (refused.Exceeded which) = inr (λ e. cc)

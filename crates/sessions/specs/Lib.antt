@@ -4,3 +4,4 @@ pub mod Answered
 pub mod Changed
 pub mod Numbers
 pub mod OfCore
+pub mod Limits

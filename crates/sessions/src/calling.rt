@@ -7,7 +7,8 @@ ghost use Rattle.statement_reading.specs.Reading.{IsRead};
 ghost use Rattle.statement_reading.specs.Rollback.{IsRollback};
 ghost use Rattle.transactions.specs.Moves.{Moves};
 ghost use Rattle.transactions.specs.Orderly.{IsOrderly};
-ghost use Rattle.transactions.specs.Refused.{Counts};
+ghost use Rattle.transactions.specs.Refused.{Counts, IfRefused, TellsReached};
+ghost use Rattle.sessions.specs.Limits.{CallReaches, StatementReaches};
 ghost use Rattle.sessions.specs.Seen.{seen_in};
 
 use crate::change::change;
@@ -35,6 +36,7 @@ pub(crate) fn call<S: Store, L: Language + Changes<S>>(
     ensures moves { (rules : Rules) → AreRules rules → S.is_sound store.old → IsOrderly (S.shows store.old) writer.old → IsGood rules.check (seen_in (S.shows store.old) writer.old session)
         → Moves rules session text.now result (S.shows store.old) writer.old mode.old (S.shows store.new) writer.new mode.new }
     ensures device { Counts result (S.refused store.old) (S.refused store.new) }
+    ensures limits { IfRefused result (TellsReached (CallReaches (S.counted store.old) (S.shows store.old).commits text.now)) }
     ensures rolled_back { IsRollback text.now → result ≡ Reply.Done }
     ensures sound { S.is_sound store.old → S.is_sound store.new }
     ensures counts { S.refused store.old ≤ S.refused store.new }
@@ -61,6 +63,7 @@ fn carry_out<S: Store, L: Language + Changes<S>>(
     ensures moves { (rules : Rules) (text : Bytes) → AreRules rules → IsRead text statement.now → (IsRollback text → ⊥) → S.is_sound store.old → IsOrderly (S.shows store.old) writer.old → IsGood rules.check (seen_in (S.shows store.old) writer.old session)
         → Moves rules session text result (S.shows store.old) writer.old mode.old (S.shows store.new) writer.new mode.new }
     ensures device { Counts result (S.refused store.old) (S.refused store.new) }
+    ensures limits { IfRefused result (TellsReached (StatementReaches (S.counted store.old) (S.shows store.old).commits statement.now)) }
     ensures sound { S.is_sound store.old → S.is_sound store.new }
     ensures counts { S.refused store.old ≤ S.refused store.new }
 {

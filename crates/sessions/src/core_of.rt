@@ -47,17 +47,19 @@ impl<S: Store, L: Language + Changes<S>> Core<S, L> {
     ghost use Rattle.session_definitions.specs.World.{is_live, opened};
     ghost use Rattle.denote.specs.Database.{Database, IsGood};
     ghost use Rattle.store.specs.Errors.{HasRisen};
-    ghost use Rattle.transactions.specs.Refused.{Counts};
+    ghost use Rattle.transactions.specs.Refused.{Counts, IfRefused, TellsReached};
     ghost use Rattle.refusals.specs.declared.limit.Limit.TheVariants as limit;
     ghost use Rattle.statement_reading.specs.Rollback.{IsRollback};
     ghost use Rattle.refusals.specs.declared.reason.Reason.TheVariants as reason;
     ghost use Rattle.refusals.specs.declared.refusal.Refusal.TheVariants.{Disk, Exceeded, Invalid};
+    ghost use Rattle.sessions.specs.Limits.{CallReaches};
     ghost use Rattle.sessions.specs.Seen.{seen_in};
     ghost use Rattle.sessions.specs.OfCore.{IsSound, StandAlike, StandBeside, number_of, world_of};
 
     /// Carries out a statement of this session, and answers its reply. A call of a session that has ended is refused by `session`, and nothing changes.
     ///
-    /// ROLLBACK takes no memory and always succeeds. A refusal is that of the device only where a call of the device was refused. That the database which the statement sees is good is a law of runs; a change relies on it.
+    /// ROLLBACK takes no memory and always succeeds. A refusal is that of the device only where a call of the device was refused. A limit of what the store counts (pages, private pages, kept page images) is
+    /// told only of a change, or of a COMMIT where the store reaches it. That the database which the statement sees is good is a law of runs; a change relies on it.
     pub fn step(&mut self, session: SessionId, text: &[u8]) -> Reply
         ensures step { (rules : Rules) → AreRules rules → IsSound S.is_sound S.shows self.old → is_live (world_of S.shows self.old) (number_of session) ≡ true
             → IsGood rules.check (seen_in (S.shows self.old.store) self.old.writer (number_of session)) → Step rules (world_of S.shows self.old) (number_of session) text.now result (world_of S.shows self.new) }
@@ -67,6 +69,7 @@ impl<S: Store, L: Language + Changes<S>> Core<S, L> {
         ensures ended { is_live (world_of S.shows self.old) (number_of session) ≡ false → (result ≡ Reply.Refused (Invalid reason.Session)) × (self.new ≡ self.old) }
         ensures live { StandAlike (world_of S.shows self.old) (world_of S.shows self.new) }
         ensures device { Counts result (S.refused self.old.store) (S.refused self.new.store) }
+        ensures limits { IfRefused result (TellsReached (CallReaches (S.counted self.old.store) (S.shows self.old.store).commits text.now)) }
         ensures counts { S.refused self.old.store ≤ S.refused self.new.store }
     {
         let Some(mut mode) = self.slots.mode_of(session.number) else {
@@ -167,8 +170,8 @@ impl<S: Store, L: Language + Changes<S>> Core<S, L> {
         }
     }
 
-    /// A core without sessions over the database that was saved on a device, with room for so many pages in memory. A refusal hands the device back, saved as it was; where a
-    /// database was saved on it, it is want of memory or the device, as of a flush.
+    /// A core without sessions over the database that was saved on a device, with room for so many pages in memory. A device that cannot be read as a store's is refused. A refusal hands
+    /// the device back, saved as it was; where a database was saved on it, it is want of memory or the device, as of a flush.
     pub fn open(
         alloc: Global,
         language: L,
@@ -179,6 +182,8 @@ impl<S: Store, L: Language + Changes<S>> Core<S, L> {
         ensures room { IfOk result (λ core. S.room core.store ≡ frames) }
         ensures opened { IfOk result (λ core. (db : Database) → S.saved device db → IsSound S.is_sound S.shows core × (world_of S.shows core ≡ opened db)) }
         ensures empty { IfOk result (λ core. (k : ℕ) → is_live (world_of S.shows core) k ≡ false) }
+        ensures readable { IfOk result (λ core. S.readable device) }
+        ensures counts { IfOk result (λ core. S.calls_refused device ≤ S.refused core.store) }
         ensures left { IfErr result (λ back. (db : Database) → S.saved device db → S.saved back.value db) }
         ensures refused { IfErr result (λ back. (db : Database) → S.saved device db → IsReserved back.refusal) }
         ensures stops { IfErr result (λ back. (db : Database) → S.saved device db → StopsFlush back.refusal) }

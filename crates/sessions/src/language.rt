@@ -3,6 +3,7 @@ ghost use Rattle.std.specs.Prelude.{◌≡◌, ◌≢◌, ◌↔◌, IsTrue, IfO
 ghost use Rattle.refusals.specs.declared.refusal.Refusal.TheVariants.{Disk, Memory};
 ghost use Rattle.statement_reading.specs.Reading.{IsRead, IsUnread};
 ghost use Rattle.statement_reading.specs.Rollback.{IsRollback};
+ghost use Rattle.transactions.specs.Refused.{TellsNoLimit};
 ghost use Rattle.typing.specs.Finds.{Finds};
 ghost use Rattle.typing.specs.Statement.{answered_found};
 
@@ -29,7 +30,7 @@ pub trait Language: Drop {
         ensures finds { Finds result (answered_found statement.now schema.now) };
 }
 
-/// What a statement stands for, as a language finds it. No reason against a statement is a refusal of the device: a law of the rules of names and types.
+/// What a statement stands for, as a language finds it. No reason against a statement is a refusal of the device, or a limit of the store: a law of the rules of names and types.
 pub(crate) fn typed_by<L: Language>(
     alloc: Global,
     language: &L,
@@ -38,6 +39,7 @@ pub(crate) fn typed_by<L: Language>(
 ) -> Result<Typed, Refusal>
     ensures finds { Finds result (answered_found statement.now schema.now) }
     ensures device { IfErr result (λ refusal. refusal ≢ Disk) }
+    ensures limits { IfErr result TellsNoLimit }
 {
     refusals_have_reasons();
     language.typed(alloc, statement, schema)

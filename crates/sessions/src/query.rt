@@ -18,7 +18,7 @@ ghost use Rattle.store.specs.Errors.{HasRisen};
 ghost use Rattle.store.specs.View.{seen_by};
 ghost use Rattle.transactions.specs.Moves.{Moves};
 ghost use Rattle.transactions.specs.Orderly.{IsOrderly};
-ghost use Rattle.transactions.specs.Refused.{Counts};
+ghost use Rattle.transactions.specs.Refused.{Counts, IfRefused, TellsNoLimit};
 ghost use Rattle.sessions.specs.Answered.{GivesRows, RefusesQuery};
 
 use crate::language::{Language, typed_by};
@@ -32,7 +32,7 @@ use store::{Seen, Store, View};
 use transactions::{refusal_of, take_back, view_of};
 use typing::Typed;
 
-/// A query. It begins a transaction where the session has none, but not where it is refused.
+/// A query. It begins a transaction where the session has none, but not where it is refused. It is refused by no limit of the store.
 pub(crate) fn query<S: Store, L: Language>(
     alloc: Global,
     language: &L,
@@ -45,6 +45,7 @@ pub(crate) fn query<S: Store, L: Language>(
         → S.is_sound store.old → IsOrderly (S.shows store.old) writer
         → Moves rules session text result (S.shows store.old) writer mode (S.shows store.new) writer mode }
     ensures device { Counts result (S.refused store.old) (S.refused store.new) }
+    ensures limits { IfRefused result TellsNoLimit }
     ensures sound { S.is_sound store.old → S.is_sound store.new }
     ensures counts { S.refused store.old ≤ S.refused store.new }
 {
@@ -74,6 +75,7 @@ fn rows_seen<S: Store, L: Language>(
     ensures refused { IfErr result (λ refusal. (rules : Rules) (x : OrderedQuery) → AreRules rules → statement.now ≡ asks.Query x → S.is_sound store.old
         → RefusesQuery rules (database_of (seen_by (S.shows store.old) view)) x refusal) }
     ensures device { IfErr result (λ refusal. refusal ≡ Disk → HasRisen (S.refused store.old) (S.refused store.new)) }
+    ensures limits { IfErr result TellsNoLimit }
     ensures shows { S.shows store.new ≡ S.shows store.old }
     ensures sound { S.is_sound store.old → S.is_sound store.new }
     ensures counts { S.refused store.old ≤ S.refused store.new }
@@ -97,6 +99,7 @@ fn evaluate<S: Store>(
     ensures answers { IfOk result (λ rows. (query : Query) → typed.now ≡ does.Query query → S.is_sound store.old → Answers (Ok rows) (denotes (database_of (seen_by (S.shows store.old) view)) query)) }
     ensures refused { IfErr result (λ refusal. (query : Query) → typed.now ≡ does.Query query → S.is_sound store.old → MayRefuse (denotes (database_of (seen_by (S.shows store.old) view)) query).unordered.faults refusal) }
     ensures device { IfErr result (λ refusal. refusal ≡ Disk → HasRisen (S.refused store.old) (S.refused store.new)) }
+    ensures limits { IfErr result TellsNoLimit }
     ensures shows { S.shows store.new ≡ S.shows store.old }
     ensures sound { S.is_sound store.old → S.is_sound store.new }
     ensures counts { S.refused store.old ≤ S.refused store.new }

@@ -11,7 +11,7 @@ use Rattle.shared.specs.declared.event.Act.TheVariants.{Connects, Refused, Says,
 use Rattle.shared.specs.declared.rule.View.{View}
 use Rattle.shared.specs.History.{Happens, event, given, moved, holder_of, lives_after}
 use Rattle.shared.specs.Views.{host, keeper_in, caller_in, one_more, extended, past, IsAt, Told, IsDesk, Extends}
-use Rattle.shared.proofs.Goods.{good_told}
+use Rattle.shared.proofs.Goods.{KeepsGood, good_told}
 use Rattle.shared.proofs.Histories.{same, differs, told_snoc, holder_snoc, all_snoc, all_more, none_some, calls_after}
 
 count_on : (count n : ℕ) → count ≡ n % 2 ^ 64 → (count + 1) % 2 ^ 64 ≡ (n + 1) % 2 ^ 64
@@ -66,7 +66,7 @@ nobodys premise start callers sound w count k id d free = by (holder_of id k.log
 
 -- ---- calls
 
-module _ (premise : Type 0) (start : World) (callers : Option ℕ) (sound sound' : Type 0) (w w' : World) (count : ℕ) (k m : View) (act : Act) where
+module _ (keeps : KeepsGood) (premise : Type 0) (start : World) (callers : Option ℕ) (sound sound' : Type 0) (w w' : World) (count : ℕ) (k m : View) (act : Act) where
   pub desk_after : IsDesk premise start callers sound w count k → Told (host k m)
       → ((id : ℕ) → is_live w' id ≡ lives_after act id (is_live w id))
       → ((rules : Rules) → AreRules rules → sound → IsGoodWorld rules.check w → sound' × Happens rules w act w')
@@ -79,7 +79,7 @@ module _ (premise : Type 0) (start : World) (callers : Option ℕ) (sound sound'
     all_of = all_snoc k.names k.log (event m.who act) d.all_of told.named;
     tells = λ p rules are good.
         let was = d.tells p rules are good in
-        let next = on rules are was.0 (good_told rules start k.log w good was.1) in
+        let next = on rules are was.0 (good_told keeps rules are start k.log w good was.1) in
         (next.0, told_snoc rules start k.log (event m.who act) w w' was.1 next.1);
   }
 
@@ -95,7 +95,7 @@ module _ (premise : Type 0) (start : World) (callers : Option ℕ) (sound sound'
     made = (calls_after (host k m) (event m.who act) refl told).made;
     legal = λ p rules are good.
         let was = d.tells p rules are good in
-        let next = on rules are was.0 (good_told rules start k.log w good was.1) in
+        let next = on rules are was.0 (good_told keeps rules are start k.log w good was.1) in
         (w', told_snoc rules start k.log (event m.who act) w w' was.1 next.1);
   }
 

@@ -7,11 +7,10 @@ use Rattle.lexer.specs.Token.{Bytes}
 use Rattle.refusals.specs.declared.refusal.Refusal.{Refusal}
 use Rattle.replies.specs.declared.reply.Reply.{Reply}
 use Rattle.session_definitions.specs.Rules.{Rules, AreRules}
-use Rattle.session_definitions.specs.Run.{MakesSession, DropsSession}
+use Rattle.session_definitions.specs.Run.{MakesSession, DropsSession, Moment, Run}
 use Rattle.session_definitions.specs.Step.{Step}
 use Rattle.session_definitions.specs.World.{Transaction, World, is_live}
 use Rattle.session_laws.specs.Sound.{IsGoodWorld}
-use Rattle.session_laws.proofs.GoodSteps.{good_run}
 use Rattle.store.specs.Stored.{Stored}
 use Rattle.transactions.specs.Orderly.{IsOrderly}
 use Rattle.transactions.specs.Shown.{Slots, slot_at, session_of, shown}
@@ -29,8 +28,12 @@ use Rattle.shared.specs.declared.event.Act.TheVariants.{Connects, Refused, Says,
 use Rattle.shared.specs.History.{IsTold, Happens}
 use Rattle.shared.proofs.Histories.{says_happens, connects_happens, refused_happens, ends_happens}
 
-pub good_told : (rules : Rules) (start : World) (log : List Event) (end : World) → IsGoodWorld rules.check start → IsTold rules start log end → IsGoodWorld rules.check end
-good_told rules start log end good h = good_run rules start end h.legal.moments good h.legal.run
+-- by the rules of names and types a run from a good world ends in a good one
+abbrev pub KeepsGood : Type 0
+KeepsGood = (rules : Rules) (start end : World) (moments : List Moment) → AreRules rules → IsGoodWorld rules.check start → Run rules start moments end → IsGoodWorld rules.check end
+
+pub good_told : KeepsGood → (rules : Rules) → AreRules rules → (start : World) (log : List Event) (end : World) → IsGoodWorld rules.check start → IsTold rules start log end → IsGoodWorld rules.check end
+good_told keeps rules are start log end good h = keeps rules start end h.legal.moments are good h.legal.run
 
 pub good_seen : (reading : CheckReading) (st : Stored) (writer : Option ℕ) (slots : Slots) (s : ℕ) → IsOrderly st writer → is_live (shown st writer slots) s ≡ true
     → IsGoodWorld reading (shown st writer slots) → IsGood reading (seen_in st writer s)

@@ -12,6 +12,7 @@ use crate::callers::{Client, Session};
 use crate::rule::{Asked, Call, Cell, Guest, Newcomer, Peek, Room, Spare, Token};
 use refusals::Refusal;
 use replies::Reply;
+use session_laws::databases_stay_good;
 use sessions::{Changes, Core, Language, SessionId};
 use std::marker::{Brand, Model, PhantomData};
 use std::mem::replace;
@@ -111,6 +112,7 @@ impl<S: Store, L: Language + Changes<S>, J: Room> Desk<S, L, J> {
         requires { cell.now.table.shared.table_id ≡ J.table }
         ensures { Said J.premise J.start me.old text.now result me.new }
     {
+        databases_stay_good();
         take_in(rt, cell, &mut self.keeper, &mut me.token);
         let reply = self.core.step(me.id, text);
         self.count = self.count.wrapping_add(1);
@@ -135,6 +137,7 @@ impl<S: Store, L: Language + Changes<S>, J: Room> Desk<S, L, J> {
         ensures ok { IfOk result (λ s. Joined J.premise J.start me s) }
         ensures err { IfErr result (λ e. TurnedAway J.premise J.start me e.0 e.1) }
     {
+        databases_stay_good();
         let Client { mut token, of } = me;
         take_in(rt, cell, &mut self.keeper, &mut token);
         self.count = self.count.wrapping_add(1);
@@ -156,6 +159,7 @@ impl<S: Store, L: Language + Changes<S>, J: Room> Desk<S, L, J> {
         requires { cell.now.table.shared.table_id ≡ J.table }
         ensures { Left J.premise J.start me result }
     {
+        databases_stay_good();
         let Session { id, mut token, of } = me;
         take_in(rt, cell, &mut self.keeper, &mut token);
         self.core.end_session(id);

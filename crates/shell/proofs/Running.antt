@@ -1,6 +1,6 @@
 -- A script is carried out, and how it ended is said.
-use Rattle.std.proofs.Common.{◌≡◌, ℕ, Bool, false, List, Option, Result, Ok, Err, refl, sym, subst}
-use Rattle.std.specs.Prelude.{IfOk, IfErr}
+use Rattle.std.proofs.Common.{◌≡◌, ◌≤◌, ◌+◌, ◌-◌, ◌^◌, ℕ, Bool, false, List, Option, Result, Ok, Err, refl, sym, subst, arith}
+use Rattle.std.specs.Prelude.{IfOk, IfErr, min}
 use Rattle.denote.specs.Database.{Database, CheckReading}
 use Rattle.replies.specs.declared.reply.Reply.{Reply}
 use Rattle.session_definitions.specs.Rules.{Rules}
@@ -8,6 +8,7 @@ use Rattle.session_definitions.specs.Script.{Scene, ArePlayed}
 use Rattle.session_definitions.specs.World.{World, opened}
 use Rattle.session_laws.specs.Sound.{IsGoodWorld}
 use Rattle.life_laws.specs.Damage.{has_damage}
+use Rattle.store.specs.Errors.{HasRisen}
 use Rattle.store.specs.Stored.{Stored}
 use Rattle.sessions.specs.declared.core_of.Core.{Core}
 use Rattle.sessions.specs.OfCore.{IsSound, world_of}
@@ -16,7 +17,7 @@ use Rattle.scripts.specs.declared.script.ScriptFault.TheVariants.{Memory, Reader
 use Rattle.scripts.specs.Played.{Streams, between, IsWhole, EndsEarly}
 use Rattle.scripts.specs.Settled.{HasNoSession, IsSettled}
 use Rattle.shell.specs.Status.{status_of}
-use Rattle.shell.specs.Runs.{CarriesOut, Gone, Runs, Says, replies_before}
+use Rattle.shell.specs.Runs.{CarriesOut, Says, replies_before}
 
 module _ (rules : Rules) (undamaged : (old new : Scene) (pieces : List (List ℕ)) (replies : List (Option Reply)) → ArePlayed rules old pieces replies new → has_damage replies ≡ false) where
   undamaged_before : (streams : Streams) (old : World) (fault : ScriptFault) (new : World) (early : EndsEarly rules streams old fault new)
@@ -44,8 +45,11 @@ pub is_settled : {S L D : Type 0} (is_sound : S → Type 0) (shows : S → Store
     → IsSound is_sound shows core → world_of shows core ≡ opened db → HasNoSession (world_of shows core) → IsGoodWorld reading (opened db) → IsSettled is_sound shows reading core
 is_settled is_sound shows reading core db sound is none good = record { sound = sound; good = subst (IsGoodWorld reading) (sym is) good; ended = none }
 
--- what is left on the device is not told
-pub forgotten : {rules : Rules} {old : World} {streams : Streams} {status : ℕ} {left : Option Database → Type 0} → Runs rules old streams status left → Runs rules old streams status Gone
-forgotten (Runs.not_opened refusal stops unread told is left) = Runs.not_opened refusal stops unread told is tt
-forgotten (Runs.closed end carried left) = Runs.closed end carried tt
-forgotten (Runs.not_closed before mid end carried told is left) = Runs.not_closed before mid end carried told is tt
+-- ---- the count of refused calls
+
+rises_from : (top a b c d : ℕ) → a ≤ b → b ≤ c → min (c + 1) top ≤ d → min (a + 1) top ≤ d
+rises_from top a b c d one two more = omega (arith, one, two, more)
+
+-- it was counted on since the store was opened, and rose when it was closed
+pub risen_since : (device start end back : ℕ) → device ≤ start → start ≤ end → HasRisen end back → HasRisen device back
+risen_since device start end back opened carried h = rises_from (2 ^ 64 - 1) device start end back opened carried h

@@ -1,13 +1,14 @@
 -- What `sqlsh run` does over a store, from the bytes that it reads to those that it writes. All of this is our own choice.
-use Rattle.std.specs.Prelude.{◌≡◌, ℕ, Bool, false, List, [], Option, Some, None, Result, Ok, Err}
+use Rattle.std.specs.Prelude.{◌≡◌, ℕ, Bool, false, List, [], Option, Some, None, IfSome, Result, Ok, Err}
 use Rattle.refusals.specs.declared.refusal.Refusal.{Refusal}
 use Rattle.refusals.specs.declared.refusal.Refusal.TheVariants.{Disk}
-use Rattle.denote.specs.Database.{Database}
+use Rattle.denote.specs.Database.{Database, CheckReading, IsGood}
 use Rattle.replies.specs.declared.reply.Reply.{Reply}
 use Rattle.session_definitions.specs.Refusals.{StopsFlush}
 use Rattle.session_definitions.specs.Rules.{Rules}
 use Rattle.session_definitions.specs.World.{World}
 use Rattle.life_laws.specs.Damage.{has_damage}
+use Rattle.store.specs.Errors.{HasRisen}
 use Rattle.scripts.specs.declared.script.ScriptFault.{ScriptFault}
 use Rattle.scripts.specs.declared.script.ScriptFault.TheVariants.{Memory, Reader, Writer}
 use Rattle.scripts.specs.Played.{Streams, between, IsWhole, EndsEarly}
@@ -33,22 +34,57 @@ pub data CarriesOut (rules : Rules) (streams : Streams) (old : World) (status : 
       → has_damage (replies_before rules (between streams.given streams.left streams.held mid) old fault new some) ≡ false
       → Tells (refusal_of fault) mid streams.holds → status ≡ status_of (Err fault) → CarriesOut rules streams old status new
 
+-- What a run leaves of its device: it was not opened, for this refusal, and this database is still saved on it; it was closed, and this one is saved on it; or it was not closed, and is
+-- not handed back.
+pub data Left : Type 0 where
+  unopened : Refusal → Database → Left
+  committed : Database → Left
+  unclosed : Left
+
 -- The store was not opened, for want of memory or by the device: nothing was read, and what was saved is left. Or the script was carried out in the world of its database
--- and the store was closed: what was committed last is left. Or the device refused that it was closed: nothing is left. What is left, `left` tells.
-pub data Runs (rules : Rules) (old : World) (streams : Streams) (status : ℕ) (left : Option Database → Type 0) : Type 0 where
+-- and the store was closed: what was committed last is left. Or the device refused that it was closed. What is left, `left` tells.
+pub data Runs (rules : Rules) (old : World) (streams : Streams) (status : ℕ) (left : Left → Type 0) : Type 0 where
   not_opened : (refusal : Refusal) → StopsFlush refusal → streams.left ≡ streams.given → Tells refusal streams.held streams.holds → status ≡ 3
-      → left (Some old.last) → Runs rules old streams status left
-  closed : (end : World) → CarriesOut rules streams old status end → left (Some end.last) → Runs rules old streams status left
+      → left (Left.unopened refusal old.last) → Runs rules old streams status left
+  closed : (end : World) → CarriesOut rules streams old status end → left (Left.committed end.last) → Runs rules old streams status left
   not_closed : (before : ℕ) (mid : Option (List ℕ)) (end : World) → CarriesOut rules (between streams.given streams.left streams.held mid) old before end
-      → Tells Disk mid streams.holds → status ≡ 3 → left None → Runs rules old streams status left
+      → Tells Disk mid streams.holds → status ≡ 3 → left Left.unclosed → Runs rules old streams status left
 
--- the device is handed back, and this database saved on it; or there is none
-abbrev pub HandsBack : {D : Type 0} → (D → Database → Type 0) → Option D → Option Database → Type 0
-HandsBack saved (Some device) (Some db) = saved device db
-HandsBack saved None None = Unit {0}
-HandsBack saved (Some device) None = ⊥
-HandsBack saved None (Some db) = ⊥
+-- ---- what is handed back
 
--- where the device is not handed back
-abbrev pub Gone : Option Database → Type 0
-Gone left = Unit {0}
+-- there is a device, and this database is saved on it
+abbrev pub IsSavedOn : {D : Type 0} → (D → Database → Type 0) → Option D → Database → Type 0
+IsSavedOn saved (Some device) db = saved device db
+IsSavedOn saved None db = ⊥
+
+-- it is there, and has refused a call: it counts more of them than before
+abbrev pub HasRefused : {X : Type 0} → (X → ℕ) → ℕ → Option X → Type 0
+HasRefused refused before (Some back) = HasRisen before (refused back)
+HasRefused refused before None = ⊥
+
+-- The device is handed back, and the database saved on it. Where the device is said to have refused that it was opened or closed, it refused a call: it is handed back, or the core that was not
+-- closed, which both count these calls.
+abbrev pub HandsBack : {D C : Type 0} → (D → Database → Type 0) → (D → ℕ) → (C → ℕ) → ℕ → Option D → Option C → Left → Type 0
+HandsBack saved calls refused before device core (Left.unopened refusal db) = IsSavedOn saved device db × (refusal ≡ Disk → HasRefused calls before device)
+HandsBack saved calls refused before device core (Left.committed db) = IsSavedOn saved device db
+HandsBack saved calls refused before device core Left.unclosed = (device ≡ None) × HasRefused refused before core
+
+-- the database that is left
+abbrev pub database_in : Left → Option Database
+database_in (Left.unopened refusal db) = Some db
+database_in (Left.committed db) = Some db
+database_in Left.unclosed = None
+
+-- what is handed back, with a good database
+abbrev pub Leaves : {D C : Type 0} → (D → Database → Type 0) → (D → ℕ) → (C → ℕ) → CheckReading → ℕ → Option D → Option C → Left → Type 0
+Leaves saved calls refused reading before device core left = HandsBack saved calls refused before device core left × IfSome (database_in left) (IsGood reading)
+
+-- ---- any device
+
+-- The store was not opened: nothing was read, and the refusal is told. It is that of the device only where this one refused a call.
+pub record IsNotOpened (streams : Streams) (status : ℕ) (has_refused : Type 0) : Type 0 where
+  pub refusal : Refusal
+  pub unread : streams.left ≡ streams.given
+  pub told : Tells refusal streams.held streams.holds
+  pub failed : status ≡ 3
+  pub device : refusal ≡ Disk → has_refused

@@ -5,14 +5,14 @@ ghost use Rattle.denote.specs.Database.{Database, IsGood};
 ghost use Rattle.session_definitions.specs.Rules.{Rules, AreRules};
 ghost use Rattle.session_definitions.specs.World.{new_world, opened};
 ghost use Rattle.scripts.specs.Played.{between};
-ghost use Rattle.shell.specs.Runs.{Gone, Runs};
+ghost use Rattle.scripts.specs.Settled.{store_of};
+ghost use Rattle.shell.specs.Runs.{HasRefused, IsNotOpened, Leaves, Runs};
 ghost use Rattle.shell.specs.Status.{IsStatus};
 ghost use Rattle.shell.specs.Tells.{Tells};
 
 use crate::command_line::settings;
 use crate::options::Settings;
-use crate::run::{FAILED, run_on};
-use crate::telling::tell;
+use crate::run::{EndedRun, failed, run_to_end};
 use clap::Error;
 use clap::error::ErrorKind;
 use disk::{Disk, DiskError, FileDisk, MemDisk};
@@ -58,42 +58,43 @@ fn run_asked<R: Files<File = File> + Input, W: Write>(
 {
     let mut reader = rt.reader();
     match settings.file {
-        Some(path) => run_over_pages(
-            alloc,
-            settings,
-            FileDisk::open(rt, path),
-            &mut reader,
-            writer,
-        ),
-        None => run_over_pages(
-            alloc,
-            settings,
-            Ok(MemDisk::new(alloc)),
-            &mut reader,
-            writer,
-        ),
+        Some(path) => {
+            let device = FileDisk::open(rt, path);
+            let ended = run_over_pages(alloc, settings, device, &mut reader, writer);
+            ended.status
+        }
+        None => {
+            let device: Result<MemDisk, DiskError> = Ok(MemDisk::new(alloc));
+            let ended = run_over_pages(alloc, settings, device, &mut reader, writer);
+            ended.status
+        }
     }
 }
 
-/// Does what `sqlsh run` does over the tables in the pages of a device, or says that the device could not be opened.
+/// Does what `sqlsh run` does over the tables in the pages of a device, as `run_to_end` does over any store, or says that the device could not be opened.
 pub fn run_over_pages<D: Disk + Drop, R: Read, W: Write>(
     alloc: Global,
     settings: &Settings<'_>,
     device: Result<D, DiskError>,
     reader: &mut R,
     writer: &mut W,
-) -> u8
-    ensures status { IsStatus result }
+) -> EndedRun<Paged<D>>
+    ensures status { IsStatus result.status }
     ensures runs { IfOk device (λ device. (rules : Rules) (db : Database) → AreRules rules → ⟦<Paged<D> as Store>⟧.saved device db → IsGood rules.check db
-        → Runs rules (opened db) (between (R.remaining reader.old) (R.remaining reader.new) (W.contents writer.old) (W.contents writer.new)) result Gone) }
+        → Runs rules (opened db) (between (R.remaining reader.old) (R.remaining reader.new) (W.contents writer.old) (W.contents writer.new)) result.status
+        (Leaves ⟦<Paged<D> as Store>⟧.saved D.refused (λ core. ⟦<Paged<D> as Store>⟧.refused (store_of core)) rules.check (D.refused device) result.device result.unclosed)) }
     ensures new { IfOk device (λ device. (rules : Rules) → AreRules rules → IsTrue D.is_honest → D.bytes device ≡ []
-        → Runs rules new_world (between (R.remaining reader.old) (R.remaining reader.new) (W.contents writer.old) (W.contents writer.new)) result Gone) }
-    ensures not_opened { OnErr device ((R.remaining reader.new ≡ R.remaining reader.old) × Tells Refusal.Disk (W.contents writer.old) (W.contents writer.new) × (result ≡ 3)) }
+        → Runs rules new_world (between (R.remaining reader.old) (R.remaining reader.new) (W.contents writer.old) (W.contents writer.new)) result.status
+        (Leaves ⟦<Paged<D> as Store>⟧.saved D.refused (λ core. ⟦<Paged<D> as Store>⟧.refused (store_of core)) rules.check (D.refused device) result.device result.unclosed)) }
+    ensures unreadable { IfOk device (λ device. (⟦<Paged<D> as Store>⟧.readable device → ⊥)
+        → IsNotOpened (between (R.remaining reader.old) (R.remaining reader.new) (W.contents writer.old) (W.contents writer.new)) result.status
+        (HasRefused D.refused (D.refused device) result.device)) }
+    ensures not_opened { OnErr device ((R.remaining reader.new ≡ R.remaining reader.old) × Tells Refusal.Disk (W.contents writer.old) (W.contents writer.new) × (result.status ≡ 3)) }
 {
     databases_stay_good();
     match device {
-        Ok(device) => run_on::<Paged<D>, R, W>(alloc, settings, device, reader, writer),
-        Err(_) => tell(Refusal::Disk, FAILED, writer),
+        Ok(device) => run_to_end::<Paged<D>, R, W>(alloc, settings, device, reader, writer),
+        Err(_) => failed(Refusal::Disk, None, None, writer),
     }
 }
 

@@ -1,14 +1,16 @@
 //! What `sqlsh run` does over any store.
-ghost use Rattle.std.specs.Prelude.{◌≡◌, ◌≤◌, IfOk, IfErr, IfSome};
+ghost use Rattle.std.specs.Prelude.{◌≡◌, ◌≤◌, IfOk, IfErr};
 ghost use Rattle.denote.specs.Database.{Database, IsGood};
+ghost use Rattle.refusals.specs.declared.refusal.Refusal.TheVariants.{Disk};
 ghost use Rattle.session_definitions.specs.Refusals.{StopsFlush};
 ghost use Rattle.session_definitions.specs.Rules.{Rules, AreRules};
 ghost use Rattle.session_definitions.specs.World.{opened};
 ghost use Rattle.sessions.specs.OfCore.{IsSound, world_of};
 ghost use Rattle.scripts.specs.Played.{between};
 ghost use Rattle.scripts.specs.Settled.{HasNoSession, IsSettled, store_of};
+ghost use Rattle.store.specs.Errors.{HasRisen};
 ghost use Rattle.shell.specs.Status.{refusal_of, status_of, IsStatus};
-ghost use Rattle.shell.specs.Runs.{CarriesOut, Gone, HandsBack, Runs, Says};
+ghost use Rattle.shell.specs.Runs.{CarriesOut, HasRefused, IsNotOpened, Leaves, Runs, Says};
 ghost use Rattle.shell.specs.Tells.{Tells};
 
 use crate::options::Settings;
@@ -31,70 +33,69 @@ pub(crate) const FAILED: u8 = 3;
 
 /// How a run ended.
 #[derive(Drop)]
-pub struct EndedRun<D> {
+pub struct EndedRun<S: Store> {
     /// The exit status.
     pub status: u8,
     /// The device: as it was where the store could not be opened, with all that is committed where it was closed, and none where it could not be closed.
-    pub device: Option<D>,
+    pub device: Option<S::Device>,
+    /// The core whose store could not be closed.
+    pub unclosed: Option<Core<S>>,
 }
 
 /// Does what `sqlsh run` does over the store on this device, from reader to writer: opens it, carries out the script
-/// and closes it. The answer is the exit status: 0; 1 where a reply was a refusal; 3 where the store could not be
+/// and closes it. The exit status is 0; 1 where a reply was a refusal; 3 where the store could not be
 /// opened or closed, or the script was not read or printed to its end, which a line `ERROR` and the code then says
-/// where it can be written.
-pub fn run_on<S: Store, R: Read, W: Write>(
-    alloc: Global,
-    settings: &Settings<'_>,
-    device: S::Device,
-    reader: &mut R,
-    writer: &mut W,
-) -> u8
-    ensures status { IsStatus result }
-    ensures runs { (rules : Rules) (db : Database) → AreRules rules → S.saved device db → IsGood rules.check db
-        → Runs rules (opened db) (between (R.remaining reader.old) (R.remaining reader.new) (W.contents writer.old) (W.contents writer.new)) result Gone }
-{
-    run_to_end::<S, R, W>(alloc, settings, device, reader, writer).status
-}
-
-/// Does what `run_on` does, and hands the device back, unless the store could not be closed: what was committed last is saved on it, for the next run.
+/// where it can be written. The device is handed back, with what was committed last saved on it for the next run; where the store could not be closed, the core is.
 ///
-/// Where a database was saved on the device, the store is refused for want of memory or by the device alone, and no reply is that the file is damaged.
+/// Where a database was saved on the device, the store is refused for want of memory or by the device alone, and no reply is that the file is damaged. The device is said to have refused
+/// that the store was opened or closed only where it refused a call. A device that cannot be read as a store's is not opened.
 pub fn run_to_end<S: Store, R: Read, W: Write>(
     alloc: Global,
     settings: &Settings<'_>,
     device: S::Device,
     reader: &mut R,
     writer: &mut W,
-) -> EndedRun<S::Device>
+) -> EndedRun<S>
     ensures status { IsStatus result.status }
     ensures runs { (rules : Rules) (db : Database) → AreRules rules → S.saved device db → IsGood rules.check db
         → Runs rules (opened db) (between (R.remaining reader.old) (R.remaining reader.new) (W.contents writer.old) (W.contents writer.new)) result.status
-        (λ left. HandsBack S.saved result.device left × IfSome left (IsGood rules.check)) }
+        (Leaves S.saved S.calls_refused (λ core. S.refused (store_of core)) rules.check (S.calls_refused device) result.device result.unclosed) }
+    ensures unreadable { (S.readable device → ⊥)
+        → IsNotOpened (between (R.remaining reader.old) (R.remaining reader.new) (W.contents writer.old) (W.contents writer.new)) result.status
+        (HasRefused S.calls_refused (S.calls_refused device) result.device) }
 {
     databases_stay_good();
     let mut core: Core<S> = match opened(alloc, settings, device) {
         Ok(core) => core,
-        Err(refused) => return failed(refused.refusal, Some(refused.value), writer),
+        Err(refused) => return failed(refused.refusal, Some(refused.value), None, writer),
     };
     let status = carry_out(alloc, &mut core, reader, writer);
     match core.close() {
         Ok(device) => EndedRun {
             status,
             device: Some(device),
+            unclosed: None,
         },
-        Err(refused) => failed(refused.refusal, None, writer),
+        Err(refused) => failed(refused.refusal, None, Some(refused.value), writer),
     }
 }
 
-/// Says why a store was not opened or closed, and hands back the device that there is.
-fn failed<D, W: Write>(refusal: Refusal, device: Option<D>, writer: &mut W) -> EndedRun<D>
+/// Says why a store was not opened or closed, and hands back the device or the core that there is.
+pub(crate) fn failed<S: Store, W: Write>(
+    refusal: Refusal,
+    device: Option<S::Device>,
+    unclosed: Option<Core<S>>,
+    writer: &mut W,
+) -> EndedRun<S>
     ensures status { result.status ≡ 3 }
     ensures device { result.device ≡ device }
+    ensures unclosed { result.unclosed ≡ unclosed }
     ensures tells { Tells refusal (W.contents writer.old) (W.contents writer.new) }
 {
     EndedRun {
         status: tell(refusal, FAILED, writer),
         device,
+        unclosed,
     }
 }
 
@@ -107,7 +108,10 @@ fn opened<S: Store>(
     ensures frames { IfOk result (λ core. S.room (store_of core) ≡ settings.now.frames.count) }
     ensures opened { IfOk result (λ core. (db : Database) → S.saved device db → IsSound S.is_sound S.shows core × (world_of S.shows core ≡ opened db)) }
     ensures empty { IfOk result (λ core. HasNoSession (world_of S.shows core)) }
+    ensures readable { IfOk result (λ core. S.readable device) }
+    ensures counts { IfOk result (λ core. S.calls_refused device ≤ S.refused (store_of core)) }
     ensures refused { IfErr result (λ back. (db : Database) → S.saved device db → StopsFlush back.refusal) }
+    ensures device { IfErr result (λ back. back.refusal ≡ Disk → HasRisen (S.calls_refused device) (S.calls_refused back.value)) }
     ensures left { IfErr result (λ back. (db : Database) → S.saved device db → S.saved back.value db) }
 {
     Core::open(alloc, Sql, device, frames_of(settings))
@@ -133,6 +137,7 @@ fn carry_out<S: Store, R: Read, W: Write>(
     ensures carries_out { (rules : Rules) → AreRules rules → IsSettled S.is_sound S.shows rules.check core.old
         → CarriesOut rules (between (R.remaining reader.old) (R.remaining reader.new) (W.contents writer.old) (W.contents writer.new)) (world_of S.shows core.old) result (world_of S.shows core.new) }
     ensures settled { (rules : Rules) → AreRules rules → IsSettled S.is_sound S.shows rules.check core.old → IsSettled S.is_sound S.shows rules.check core.new }
+    ensures counts { S.refused (store_of core.old) ≤ S.refused (store_of core.new) }
 {
     no_reply_is_damaged();
     let outcome = run(alloc, core, reader, writer);

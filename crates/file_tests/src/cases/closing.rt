@@ -18,7 +18,7 @@ fn played(
     alloc: Global,
     settings: &Settings<'_>,
     passed: u64,
-) -> (Vec<u8>, EndedRun<FaultyDisk<MemDisk>>) {
+) -> (Vec<u8>, EndedRun<Paged<FaultyDisk<MemDisk>>>) {
     let device = FaultyDisk::new(MemDisk::new(alloc), passed, true);
     let mut reader = SCRIPT.as_bytes();
     let mut writer = Vec::new(alloc);

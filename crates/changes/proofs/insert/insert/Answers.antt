@@ -1,4 +1,6 @@
 use Rattle.std.proofs.Common.{◌≡◌, ◌∙◌, sym, subst, Some}
+use Rattle.session_definitions.specs.Refusals.{IsReserved}
+use Rattle.changes.proofs.Named.{no_device}
 use Rattle.std.proofs.lemmas.Result.{IfOk-weaker, IfErr-weaker}
 use Rattle.sqlval.specs.declared.schema.Schema.{Schema}
 use Rattle.typing.specs.declared.statement.Change.TheVariants as does
@@ -52,3 +54,12 @@ returns-clause-refused g c = λ reading is_reading sound of good.
 
 pub returns-clause-device : goal.returns-clause-device
 returns-clause-device g c = c.in-Err-rows_of.ensures.device c.in-Ok.ensures.some
+
+pub returns-in-Err-clause-refused : goal.returns-in-Err-clause-refused
+returns-in-Err-clause-refused g c = λ reading is_reading sound of good.
+    let db = database_of (g.S.Store.shows c.args.store.now).working in
+    let schema : IsSchemaOf c.schema.result.now db = subst (λ (s : Schema). IsSchemaOf s db) (sym c.schema.ensures) of in
+    RefusesChange.withheld (subst IsReserved (sym (c.in-Err.ensures.good reading db schema good)) tt)
+
+pub returns-in-Err-clause-device : goal.returns-in-Err-clause-device
+returns-in-Err-clause-device g c = λ is. absurd (no_device c.in-Err.refusal c.in-Err.ensures.refused is)

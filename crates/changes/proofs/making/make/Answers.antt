@@ -43,11 +43,11 @@ returns-in-Update-clause-changes g c = rw c.in-Update.is (IfOk-weaker c.update.r
     (λ reply h reading is_reading sound of good. accepted_of reading (g.S.Store.shows c.args.store.now) (does.Update c.in-Update.updated) reply (g.S.Store.shows c.update.new.store) (h reading is_reading sound of good)) c.update.ensures.changes)
 
 pub returns-in-Update-clause-refused : goal.returns-in-Update-clause-refused
-returns-in-Update-clause-refused g c = rw c.in-Update.is (IfErr-weaker c.update.result _ _ (λ refusal h reading is_reading sound of good. h reading is_reading sound of) c.update.ensures.refused)
+returns-in-Update-clause-refused g c = rw c.in-Update.is c.update.ensures.refused
 
 pub returns-in-Delete-clause-changes : goal.returns-in-Delete-clause-changes
 returns-in-Delete-clause-changes g c = rw c.in-Delete.is (IfOk-weaker c.delete.result _ _
     (λ reply h reading is_reading sound of good. accepted_of reading (g.S.Store.shows c.args.store.now) (does.Delete c.in-Delete.deleted) reply (g.S.Store.shows c.delete.new.store) (h reading is_reading sound of good)) c.delete.ensures.changes)
 
 pub returns-in-Delete-clause-refused : goal.returns-in-Delete-clause-refused
-returns-in-Delete-clause-refused g c = rw c.in-Delete.is (IfErr-weaker c.delete.result _ _ (λ refusal h reading is_reading sound of good. h reading is_reading sound of) c.delete.ensures.refused)
+returns-in-Delete-clause-refused g c = rw c.in-Delete.is c.delete.ensures.refused

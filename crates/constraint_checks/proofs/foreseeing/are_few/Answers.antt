@@ -1,13 +1,22 @@
-use Rattle.std.proofs.Common.{◌≡◌, ◌∙◌, ◌*◌, Some}
+use Rattle.std.proofs.Common.{◌∙◌, subst, Option, Some}
 use Rattle.std.specs.FinMap.{get}
+use Rattle.store.specs.declared.rows.NumberedRow.{NumberedRow}
 use Rattle.store.specs.Indexes.{entries_of, entry_after}
-use Rattle.constraint_checks.proofs.Said.{below-min, given-found, many-found}
+use Rattle.store.specs.View.{IsEntry}
+use Rattle.constraint_checks.proofs.Said.{below-min, few-found, none-found}
 use Rattle.constraint_checks.proofs.foreseeing.are_few.Goals as goal
 
-pub returns-in-Ok-clause-few : goal.returns-in-Ok-clause-few
-returns-in-Ok-clause-few g c = λ sound many.
+pub returns-in-Ok-Some-clause-few : goal.returns-in-Ok-Some-clause-few
+returns-in-Ok-Some-clause-few g c = λ sound.
     let entries = entries_of (get (g.S.Store.shows c.args.store.now).working c.args.name.now) in
     let number = c.saturating_mul-number.result in
-    c.is_some.ensures
-    ∙ given-found c.in-Ok.found (entry_after (Some number) entries) (c.in-Ok.ensures.row sound)
-    (many-found c.args.count number entries (below-min number (c.args.count * 8) _ c.saturating_mul-number.ensures) many)
+    c.is_above.ensures.above
+    ∙ few-found c.args.count number c.in-Ok-Some.row entries c.saturating_mul-number.ensures c.is_above.ensures.fits
+    (subst (λ (found : Option NumberedRow). IsEntry found (entry_after (Some number) entries)) c.in-Ok-Some.field-0-is (c.in-Ok-Some.ensures.row sound))
+
+pub returns-in-Ok-None-clause-few : goal.returns-in-Ok-None-clause-few
+returns-in-Ok-None-clause-few g c = λ sound.
+    let entries = entries_of (get (g.S.Store.shows c.args.store.now).working c.args.name.now) in
+    let number = c.saturating_mul-number.result in
+    none-found c.args.count number entries (below-min number _ _ c.saturating_mul-number.ensures)
+    (subst (λ (found : Option NumberedRow). IsEntry found (entry_after (Some number) entries)) c.in-Ok-None.field-0-is (c.in-Ok-None.ensures.row sound))

@@ -27,5 +27,5 @@ returns-in-Ok-true-clause-said g c = IfOk-weaker c.look_up.result _ _
 
 pub returns-in-Ok-false-clause-said : goal.returns-in-Ok-false-clause-said
 returns-in-Ok-false-clause-said g c = λ table sound there many indexed.
-    let few = c.in-Ok-false.ensures.few sound (ap (λ o. has_many_more (length c.args.rows.now) (entries_of o)) there ∙ many) in
+    let few = c.in-Ok-false.ensures.few sound ∙ ap (λ o. has_many_more (length c.args.rows.now) (entries_of o)) there ∙ many in
     cc (few, c.in-Ok-false.field-0-test)

@@ -1,7 +1,7 @@
-use Rattle.std.proofs.Common.{List, ap, sym, refl, ◌∙◌}
+use Rattle.std.proofs.Common.{List, ap, sym, refl, ◌∙◌, inl}
 use Rattle.pagefile.specs.File.{disk_of}
-use Rattle.pool.specs.Versions.{versions_of}
-use Rattle.page_versions.proofs.OpenLemmas.{new_begins}
+use Rattle.pool.specs.Versions.{versions_of, device_of}
+use Rattle.page_versions.proofs.OpenLemmas.{new_begins, no_less}
 use Rattle.page_versions.proofs.opening.new_pool.Goals as goal
 
 pub returns-in-Ok-clause-begins : goal.returns-in-Ok-clause-begins
@@ -12,3 +12,9 @@ returns-in-Ok-clause-begins g c =
 
 pub returns-in-Err-clause-left : goal.returns-in-Err-clause-left
 returns-in-Err-clause-left g c = c.into_disk.ensures ∙ ap disk_of c.in-Err.ensures.left ∙ c.over-file.ensures
+
+pub returns-in-Ok-clause-readable : goal.returns-in-Ok-clause-readable
+returns-in-Ok-clause-readable g c = λ h. inl (c.requires.empty h)
+
+pub returns-in-Ok-clause-counts : goal.returns-in-Ok-clause-counts
+returns-in-Ok-clause-counts g c = no_less (g.D.Disk.refused c.args.device) (g.D.Disk.refused (disk_of c.over-file.result)) (g.D.Disk.refused (device_of c.in-Ok.pool)) (ap g.D.Disk.refused c.over-file.ensures) (ap g.D.Disk.refused c.in-Ok.ensures.device)

@@ -1,7 +1,7 @@
-use Rattle.std.proofs.Common.{ap, sym, refl, ◌∙◌, length}
+use Rattle.std.proofs.Common.{ap, sym, refl, ◌∙◌, length, inr}
 use Rattle.pagefile.specs.File.{disk_of}
-use Rattle.pool.specs.Versions.{versions_of}
-use Rattle.page_versions.proofs.OpenLemmas.{old_begins, open_refused}
+use Rattle.pool.specs.Versions.{versions_of, device_of}
+use Rattle.page_versions.proofs.OpenLemmas.{old_begins, open_refused, no_less}
 use Rattle.page_versions.proofs.opening.old_pool.Goals as goal
 
 pub new-requires-clause-size : goal.new-requires-clause-size
@@ -17,3 +17,9 @@ pub returns-in-Err-clause-refused : goal.returns-in-Err-clause-refused
 returns-in-Err-clause-refused g c =
     let e = c.in-Err.ensures in
     rw c.of_open.ensures (open_refused g.D.Disk.is_honest (g.D.Disk.bytes c.args.device) (g.D.Disk.refused c.args.device) (g.D.Disk.refused c.in-Err.refused.disk) c.in-Err.refused.cause c.requires.some e.count e.damaged)
+
+pub returns-in-Ok-clause-readable : goal.returns-in-Ok-clause-readable
+returns-in-Ok-clause-readable g c = λ h. inr (c.in-Ok.header, c.in-Ok.ensures.whole h)
+
+pub returns-in-Ok-clause-counts : goal.returns-in-Ok-clause-counts
+returns-in-Ok-clause-counts g c = no_less (g.D.Disk.refused c.args.device) (g.D.Disk.refused (disk_of c.in-Ok.file)) (g.D.Disk.refused (device_of c.new.result)) c.in-Ok.ensures.count (ap g.D.Disk.refused c.new.ensures.device)

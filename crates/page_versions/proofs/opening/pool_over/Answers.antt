@@ -1,6 +1,6 @@
 use Rattle.std.proofs.Common.{List, ap, sym, length, ◌∙◌}
-use Rattle.pool.specs.Versions.{versions_of}
-use Rattle.page_versions.proofs.OpenLemmas.{empty_of, begins_after, left_after, left_same, refused_after, memory_fails}
+use Rattle.pool.specs.Versions.{versions_of, device_of}
+use Rattle.page_versions.proofs.OpenLemmas.{empty_of, begins_after, readable_after, counts_after, left_after, left_same, refused_after, memory_fails}
 use Rattle.page_versions.proofs.opening.pool_over.Goals as goal
 
 pub new_pool-requires-clause-empty : goal.new_pool-requires-clause-empty
@@ -36,3 +36,21 @@ returns-else-len-eq0-clause-refused g c =
 
 pub returns-in-Err-clause-refused : goal.returns-in-Err-clause-refused
 returns-in-Err-clause-refused g c = c.in-Err.ensures.count.more
+
+pub returns-then-len-eq0-clause-readable : goal.returns-then-len-eq0-clause-readable
+returns-then-len-eq0-clause-readable g c =
+    readable_after c.new_pool.result g.D.Disk.is_honest (g.D.Disk.bytes c.len.new.self) (g.D.Disk.bytes c.args.device) c.len.ensures.same c.new_pool.ensures.readable
+
+pub returns-then-len-eq0-clause-counts : goal.returns-then-len-eq0-clause-counts
+returns-then-len-eq0-clause-counts g c =
+    counts_after c.new_pool.result g.D.Disk.is_honest (g.D.Disk.bytes c.len.new.self) (g.D.Disk.bytes c.args.device) c.len.ensures.same (λ pool. g.D.Disk.refused (device_of pool))
+    (g.D.Disk.refused c.args.device) (g.D.Disk.refused c.len.new.self) c.in-Ok.ensures.count c.new_pool.ensures.counts
+
+pub returns-else-len-eq0-clause-readable : goal.returns-else-len-eq0-clause-readable
+returns-else-len-eq0-clause-readable g c =
+    readable_after c.old_pool.result g.D.Disk.is_honest (g.D.Disk.bytes c.len.new.self) (g.D.Disk.bytes c.args.device) c.len.ensures.same c.old_pool.ensures.readable
+
+pub returns-else-len-eq0-clause-counts : goal.returns-else-len-eq0-clause-counts
+returns-else-len-eq0-clause-counts g c =
+    counts_after c.old_pool.result g.D.Disk.is_honest (g.D.Disk.bytes c.len.new.self) (g.D.Disk.bytes c.args.device) c.len.ensures.same (λ pool. g.D.Disk.refused (device_of pool))
+    (g.D.Disk.refused c.args.device) (g.D.Disk.refused c.len.new.self) c.in-Ok.ensures.count c.old_pool.ensures.counts

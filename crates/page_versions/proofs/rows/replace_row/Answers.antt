@@ -32,9 +32,9 @@ pub returns-in-Err-put_root-clause-refused : goal.returns-in-Err-put_root-clause
 returns-in-Err-put_root-clause-refused g c =
     root_fails (λ (t : Contents). replaced t c.args.name.now c.args.number c.args.row) ((versions_of c.args.pool.now).pages c.args.at) ((versions_of c.read_header.new.pool).pages c.args.at) ((versions_of c.replace_from.new.pool).pages c.args.at) (private_of c.args.changes.now) (private_of c.replace_from.new.changes) c.in-Ok.header c.in-Ok-replace_from.top c.in-Ok.ensures.says
     (ap (λ (v : Versions). v.pages c.args.at) c.read_header.ensures.versions) (ap (λ (v : Versions). v.pages c.args.at) c.replace_from.ensures.versions) c.in-Ok-replace_from.ensures.replaced c.in-Ok-replace_from.ensures.whole
-    (fresh_of c.put_root.new.changes) (settled_of c.put_root.new.changes) (settled_of c.args.changes.now) (RowsReach (IsCounted (IsDatabase ((versions_of c.args.pool.now).pages c.args.at) (private_of c.args.changes.now)) ((versions_of c.args.pool.now).pages c.args.at) (settled_of c.args.changes.now)) (get (contents_in ((versions_of c.args.pool.now).pages c.args.at) (private_of c.args.changes.now)) c.args.name.now) (c.args.row ∷ []))
+    (fresh_of c.put_root.new.changes) (settled_of c.put_root.new.changes) (settled_of c.args.changes.now) (RowsReach (IsCounted ((versions_of c.args.pool.now).pages c.args.at) (settled_of c.args.changes.now)) (c.args.row ∷ []))
     (g.D.Disk.refused (device_of c.args.pool.now)) (g.D.Disk.refused (device_of c.replace_from.new.pool)) (g.D.Disk.refused (device_of c.put_root.new.pool)) c.in-Err-put_root.fault c.of_fault.result c.of_fault.ensures
-    (let a = c.read_header.ensures.rising in let b = c.replace_from.ensures.rising in omega (arith, a, b)) (c.put_root.ensures.settled ∙ c.replace_from.ensures.settled) (λ r. inl (inr r)) (λ r. inr r) c.in-Err-put_root.ensures.refusal
+    (let a = c.read_header.ensures.rising in let b = c.replace_from.ensures.rising in omega (arith, a, b)) (c.put_root.ensures.settled ∙ c.replace_from.ensures.settled) (λ r. r) (λ r. r) c.in-Err-put_root.ensures.refusal
 
 pub returns-in-Err-replace_from-clause-versions : goal.returns-in-Err-replace_from-clause-versions
 returns-in-Err-replace_from-clause-versions g c = c.replace_from.ensures.versions ∙ c.read_header.ensures.versions
@@ -47,6 +47,6 @@ returns-in-Err-replace_from-clause-refused g c =
 
 pub returns-in-Err-clause-refused : goal.returns-in-Err-clause-refused
 returns-in-Err-clause-refused g c =
-    fails_as (IsDatabase ((versions_of c.args.pool.now).pages c.args.at) (private_of c.args.changes.now)) (g.D.Disk.refused (device_of c.args.pool.now)) (g.D.Disk.refused (device_of c.read_header.new.pool)) (RowsReach (IsCounted (IsDatabase ((versions_of c.args.pool.now).pages c.args.at) (private_of c.args.changes.now)) ((versions_of c.args.pool.now).pages c.args.at) (settled_of c.args.changes.now)) (get (contents_in ((versions_of c.args.pool.now).pages c.args.at) (private_of c.args.changes.now)) c.args.name.now) (c.args.row ∷ []))
+    fails_as (IsDatabase ((versions_of c.args.pool.now).pages c.args.at) (private_of c.args.changes.now)) (g.D.Disk.refused (device_of c.args.pool.now)) (g.D.Disk.refused (device_of c.read_header.new.pool)) (RowsReach (IsCounted ((versions_of c.args.pool.now).pages c.args.at) (settled_of c.args.changes.now)) (c.args.row ∷ []))
     c.of_fault-in-Err.result (of_fault c.in-Err.fault) c.of_fault-in-Err.ensures
-    (header_fails ((versions_of c.args.pool.now).pages c.args.at) (private_of c.args.changes.now) (RowsReach (IsCounted (IsDatabase ((versions_of c.args.pool.now).pages c.args.at) (private_of c.args.changes.now)) ((versions_of c.args.pool.now).pages c.args.at) (settled_of c.args.changes.now)) (get (contents_in ((versions_of c.args.pool.now).pages c.args.at) (private_of c.args.changes.now)) c.args.name.now) (c.args.row ∷ [])) (g.D.Disk.refused (device_of c.args.pool.now)) (g.D.Disk.refused (device_of c.read_header.new.pool)) c.in-Err.fault c.in-Err.ensures.refusal)
+    (header_fails ((versions_of c.args.pool.now).pages c.args.at) (private_of c.args.changes.now) (RowsReach (IsCounted ((versions_of c.args.pool.now).pages c.args.at) (settled_of c.args.changes.now)) (c.args.row ∷ [])) (g.D.Disk.refused (device_of c.args.pool.now)) (g.D.Disk.refused (device_of c.read_header.new.pool)) c.in-Err.fault c.in-Err.ensures.refusal)

@@ -1,5 +1,6 @@
 use Rattle.std.proofs.Common.{◌∙◌}
 use Rattle.std.proofs.Math.Nat.{le_trans}
+use Rattle.sessions.proofs.Devices.{risen_later}
 use Rattle.scripts.proofs.Keeping.{kept_same, same_world}
 use Rattle.scripts.proofs.script.flush_all.Goals as goal
 
@@ -28,3 +29,6 @@ pub returns-in-Err-flush-clause-kept : goal.returns-in-Err-flush-clause-kept
 returns-in-Err-flush-clause-kept g c = λ r places h.
     kept_same g.S.Store.is_sound g.S.Store.shows r places c.loop-left.core c.flush-in-loop-left.new.self c.flush-in-loop-left.ensures.same
     c.flush-in-loop-left.ensures.sound (c.loop-left.invariant.kept r places h)
+
+pub returns-in-Err-flush-clause-device : goal.returns-in-Err-flush-clause-device
+returns-in-Err-flush-clause-device g c = λ is. risen_later _ _ _ c.loop-left.invariant.counts (c.in-Err-flush.ensures.device is)

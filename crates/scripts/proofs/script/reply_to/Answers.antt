@@ -1,4 +1,4 @@
-use Rattle.std.proofs.Common.{rules, ◌≡◌, sym, subst, Some, None}
+use Rattle.std.proofs.Common.{rules, ◌≡◌, ◌∙◌, sym, subst, Some, None}
 use Rattle.script_pieces.specs.declared.request.Request.TheVariants as found
 use Rattle.sessions.specs.OfCore.{world_of}
 use Rattle.scripts.specs.Settled.{IsKept}
@@ -26,3 +26,21 @@ returns-in-Calls-Some-clause-kept g c = λ r are h.
 
 pub returns-in-Flushes-clause-kept : goal.returns-in-Flushes-clause-kept
 returns-in-Flushes-clause-kept g c = λ r are h. c.flush_all.ensures.kept r c.args.sessions.now.standing h
+
+pub returns-in-Calls-None-clause-flushes : goal.returns-in-Calls-None-clause-flushes
+returns-in-Calls-None-clause-flushes g c = λ e.
+    let is : c.args.request ≡ found.Calls None = search rules in
+    let bad : found.Calls None ≡ found.Flushes = sym is ∙ e in absurd (cc)
+
+pub returns-in-Calls-Some-clause-flushes : goal.returns-in-Calls-Some-clause-flushes
+returns-in-Calls-Some-clause-flushes g c = λ e.
+    let is : c.args.request ≡ found.Calls (Some c.in-Calls-Some.session) = search rules in
+    let bad : found.Calls (Some c.in-Calls-Some.session) ≡ found.Flushes = sym is ∙ e in absurd (cc)
+
+pub returns-in-Wrong-clause-flushes : goal.returns-in-Wrong-clause-flushes
+returns-in-Wrong-clause-flushes g c = λ e.
+    let is : c.args.request ≡ found.Wrong = search rules in
+    let bad : found.Wrong ≡ found.Flushes = sym is ∙ e in absurd (cc)
+
+pub returns-in-Flushes-clause-flushes : goal.returns-in-Flushes-clause-flushes
+returns-in-Flushes-clause-flushes g c = λ e. (c.flush_all.ensures.flushed, c.flush_all.ensures.device)

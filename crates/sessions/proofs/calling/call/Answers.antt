@@ -1,5 +1,7 @@
 use Rattle.std.proofs.Common.{◌≡◌, true, false, refl}
+use Rattle.sessions.specs.Limits.{CallReaches, StatementReaches}
 use Rattle.sessions.proofs.Devices.{never_read}
+use Rattle.sessions.proofs.Limits.{tells_none, told_wider, unread_tells}
 use Rattle.sessions.proofs.Unread.{refuses_text}
 use Rattle.sessions.proofs.calling.call.Goals as goal
 
@@ -23,3 +25,12 @@ returns-then-is_rollback-clause-device g c = rw c.roll_back.ensures.done tt
 
 pub returns-in-Err-clause-device : goal.returns-in-Err-clause-device
 returns-in-Err-clause-device g c = λ is. absurd (never_read c.args.text.now c.in-Err.refusal c.in-Err.ensures.unread is)
+
+pub returns-then-is_rollback-clause-limits : goal.returns-then-is_rollback-clause-limits
+returns-then-is_rollback-clause-limits g c = rw c.roll_back.ensures.done tt
+
+pub returns-in-Ok-clause-limits : goal.returns-in-Ok-clause-limits
+returns-in-Ok-clause-limits g c = told_wider (StatementReaches (g.S.Store.counted c.args.store.now) (g.S.Store.shows c.args.store.now).commits c.in-Ok.statement) (CallReaches (g.S.Store.counted c.args.store.now) (g.S.Store.shows c.args.store.now).commits c.args.text.now) (λ which reaches. (c.in-Ok.statement, c.in-Ok.ensures.read, reaches)) c.carry_out.result c.carry_out.ensures.limits
+
+pub returns-in-Err-clause-limits : goal.returns-in-Err-clause-limits
+returns-in-Err-clause-limits g c = tells_none (CallReaches (g.S.Store.counted c.args.store.now) (g.S.Store.shows c.args.store.now).commits c.args.text.now) c.in-Err.refusal (unread_tells c.args.text.now c.in-Err.refusal c.in-Err.ensures.unread)

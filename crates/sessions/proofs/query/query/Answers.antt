@@ -2,7 +2,7 @@ use Rattle.std.proofs.Common.{◌≡◌, ◌∙◌}
 use Rattle.store.specs.Stored.{Stored, begun}
 use Rattle.transactions.proofs.Orders.{same}
 use Rattle.transactions.proofs.Steps.{nothing_moves, withholds}
-use Rattle.transactions.proofs.Tests.{reserved, unbegun}
+use Rattle.transactions.proofs.Tests.{reserved, tells_reached, unbegun}
 use Rattle.sessions.proofs.QuerySteps.{gives, refuses}
 use Rattle.sessions.proofs.Devices.{risen_later, risen_still}
 use Rattle.sessions.proofs.query.query.Goals as goal
@@ -28,3 +28,6 @@ returns-in-Err-rows_seen-clause-moves g c = λ rules text x mode are is read oth
 
 pub returns-in-Err-rows_seen-clause-device : goal.returns-in-Err-rows_seen-clause-device
 returns-in-Err-rows_seen-clause-device g c = λ is. risen_still _ _ _ (risen_later _ _ _ c.begin.ensures.counts (c.in-Err-rows_seen.ensures.device is)) c.take_back.ensures.counts
+
+pub returns-in-Err-clause-limits : goal.returns-in-Err-clause-limits
+returns-in-Err-clause-limits g c = tells_reached _ _ _ _ _ _ c.refusal_of.ensures (rw c.in-Err.is at c.begin.ensures.refused)

@@ -1,3 +1,4 @@
+use Rattle.transactions.proofs.Tests.{tells_reached}
 use Rattle.std.proofs.lemmas.Result.{IfOk-weaker, IfErr-weaker}
 use Rattle.sessions.proofs.Devices.{risen_later}
 use Rattle.sessions.proofs.QuerySteps.{gives_typed, refuses_typed}
@@ -19,3 +20,6 @@ returns-in-Ok-clause-refused g c = IfErr-weaker c.evaluate.result _ _
 
 pub returns-in-Ok-clause-device : goal.returns-in-Ok-clause-device
 returns-in-Ok-clause-device g c = IfErr-weaker c.evaluate.result _ _ (λ refusal h is. risen_later _ _ _ c.prepare.ensures.counts (h is)) c.evaluate.ensures.device
+
+pub returns-in-Err-clause-limits : goal.returns-in-Err-clause-limits
+returns-in-Err-clause-limits g c = tells_reached _ _ _ _ _ _ c.refusal_of.ensures (rw c.in-Err.is at c.prepare.ensures.refused)

@@ -5,4 +5,4 @@ use Rattle.shell.proofs.program.run_over_pages.Goals as goal
 pub returns-in-Ok-clause-new : goal.returns-in-Ok-clause-new
 returns-in-Ok-clause-new g c =
     rw c.in-Ok.is
-    (λ rules are honest bare. c.run_on.ensures.runs rules empty are (honest, inl (bare, refl)) (c.databases_stay_good.ensures.new_world rules.check).last)
+    (λ rules are honest bare. c.run_to_end.ensures.runs rules empty are (honest, inl (bare, refl)) (c.databases_stay_good.ensures.new_world rules.check).last)

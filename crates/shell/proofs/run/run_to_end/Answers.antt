@@ -3,13 +3,28 @@ use Rattle.session_definitions.specs.World.{World}
 use Rattle.sessions.specs.OfCore.{world_of}
 use Rattle.scripts.specs.Played.{between}
 use Rattle.shell.specs.Runs.{CarriesOut, Runs}
-use Rattle.shell.proofs.Running.{is_settled}
+use Rattle.shell.proofs.Running.{is_settled, risen_since}
 use Rattle.shell.proofs.run.run_to_end.Goals as goal
 
 pub returns-in-Err-clause-runs : goal.returns-in-Err-clause-runs
 returns-in-Err-clause-runs g c = λ rules db are saved good.
     Runs.not_opened c.in-Err.refused.refusal (c.in-Err.ensures.refused db saved) refl c.failed.ensures.tells c.failed.ensures.status
-    (rw c.failed.ensures.device (c.in-Err.ensures.left db saved, good))
+    (rw c.failed.ensures.device ((c.in-Err.ensures.left db saved, c.in-Err.ensures.device), good))
+
+pub returns-in-Err-clause-unreadable : goal.returns-in-Err-clause-unreadable
+returns-in-Err-clause-unreadable g c = λ not. record {
+  refusal = c.in-Err.refused.refusal;
+  unread = refl;
+  told = c.failed.ensures.tells;
+  failed = c.failed.ensures.status;
+  device = rw c.failed.ensures.device c.in-Err.ensures.device;
+}
+
+pub returns-in-Ok-close-clause-unreadable : goal.returns-in-Ok-close-clause-unreadable
+returns-in-Ok-close-clause-unreadable g c = λ not. absurd (not c.in-Ok.ensures.readable)
+
+pub returns-in-Err-close-clause-unreadable : goal.returns-in-Err-close-clause-unreadable
+returns-in-Err-close-clause-unreadable g c = λ not. absurd (not c.in-Ok.ensures.readable)
 
 pub returns-in-Ok-close-clause-runs : goal.returns-in-Ok-close-clause-runs
 returns-in-Ok-close-clause-runs g c = λ rules db are saved good.
@@ -29,4 +44,5 @@ returns-in-Err-close-clause-runs g c = λ rules db are saved good.
     (subst (λ (w : World). CarriesOut rules (between (g.R.Read.remaining c.args.reader.now) (g.R.Read.remaining c.carry_out-status.new.reader) (g.W.Write.contents c.args.writer.now) (g.W.Write.contents c.carry_out-status.new.writer)) w
     c.carry_out-status.result (world_of g.S.Store.shows c.carry_out-status.new.core)) begins.1 (c.carry_out-status.ensures.carries_out rules are start))
     (rw c.in-Err-close.ensures.fails.0 at c.failed-in-Err-close.ensures.tells) c.failed-in-Err-close.ensures.status
-    (rw c.failed-in-Err-close.ensures.device (tt, tt))
+    (rw (c.failed-in-Err-close.ensures.device, c.failed-in-Err-close.ensures.unclosed)
+    ((refl, risen_since _ _ _ _ c.in-Ok.ensures.counts c.carry_out-status.ensures.counts c.in-Err-close.ensures.device), tt))

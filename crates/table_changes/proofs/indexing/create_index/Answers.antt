@@ -59,6 +59,6 @@ returns-clause-refused g c = λ reading sound of.
     subst (λ (rows : List Row). faults_of c.args.index rows ≡ []) rows (rw (c.as_slice.ensures, c.as_slice-2.ensures) at c.in_default-rows_fit_key.ensures.passes.ok) in
     RefusesChange.withheld (subst IsReserved (sym c.refusal_of-in-Err-create_index.ensures)
     (reserved (g.S.Store.is_sound c.scan.new.self) (g.S.Store.refused c.scan.new.self) (g.S.Store.refused c.create_index.new.self)
-    (IndexingReaches (g.S.Store.counted c.scan.new.self) (rows_of (entries_of (get (g.S.Store.shows c.scan.new.self).working name))) (record { name = Some c.args.index.name; columns = c.args.index.columns }))
+    (IndexingReaches (g.S.Store.counted c.create_index.new.self) (rows_of (entries_of (get (g.S.Store.shows c.scan.new.self).working name))) (record { name = Some c.args.index.name; columns = c.args.index.columns }))
     c.in-Err-create_index.error c.in-Err-create_index.ensures.refused (c.scan.ensures.sound (c.begin.ensures.sound sound)) (λ none. none)
     (λ long. no_long_key c.args.index.columns (rows_of (entries_of (get (g.S.Store.shows c.scan.new.self).working name))) (record { name = Some c.args.index.name; columns = c.args.index.columns }) refl none long)))

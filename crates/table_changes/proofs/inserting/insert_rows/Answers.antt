@@ -34,7 +34,7 @@ returns-in-Err-append-clause-refused g c = λ reading sound decided holds given.
     let marks = c.known_to_hold.ensures.shows ∙ c.in_default.ensures.shows in
     RefusesChange.withheld (subst IsReserved (sym c.refusal_of.ensures)
     (withheld reading (g.S.Store.shows c.args.store.now) (g.S.Store.shows c.known_to_hold.new.store) c.args.insert.now c.args.rows marks given
-    (g.S.Store.is_sound c.known_to_hold.new.store) (g.S.Store.refused c.known_to_hold.new.store) (g.S.Store.refused c.append.new.self) (g.S.Store.counted c.known_to_hold.new.store)
+    (g.S.Store.is_sound c.known_to_hold.new.store) (g.S.Store.refused c.known_to_hold.new.store) (g.S.Store.refused c.append.new.self) (g.S.Store.counted c.append.new.self)
     c.in-Err-append.error c.in-Err-append.ensures.refused looked))
 
 pub returns-in-Ok-settle_unless-clause-changes : goal.returns-in-Ok-settle_unless-clause-changes

@@ -1,3 +1,5 @@
+use Rattle.std.specs.FinMap.{get}
+use Rattle.paged.specs.Store.{shown_of}
 use Rattle.std.proofs.Common.{◌≡◌, ◌∙◌, refl, sym, ap, inl, inr}
 use Rattle.pool.specs.Versions.{versions_of, device_of}
 use Rattle.overlay.specs.Changes.{fresh_of, settled_of, private_of}
@@ -37,7 +39,7 @@ returns-in-Err-clause-sound g c =
 pub returns-in-Err-clause-refused : goal.returns-in-Err-clause-refused
 returns-in-Err-clause-refused g c =
     let s = c.args.self.now in
-    append_fails g.D.Disk.is_honest (versions_of s.pool) (numbers_of s.readers) (private_of s.changes) (settled_of s.changes) s.commits s.ordered.counted c.args.name.now c.args.rows (g.D.Disk.refused (device_of s.pool)) (g.D.Disk.refused (device_of c.append_rows.new.pool)) c.in-Err.error c.in-Err.ensures.refused
+    append_fails g.D.Disk.is_honest (versions_of s.pool) (numbers_of s.readers) (private_of s.changes) (settled_of s.changes) s.commits s.ordered.counted (versions_of c.append_rows.new.pool) (settled_of c.undo.new.self) c.append_rows.ensures.versions (c.undo.ensures.settled ∙ c.append_rows.ensures.settled) (get (shown_of s).working c.args.name.now) c.args.rows (g.D.Disk.refused (device_of s.pool)) (g.D.Disk.refused (device_of c.append_rows.new.pool)) c.in-Err.error c.in-Err.ensures.refused
 
 pub invariant_of-self : goal.invariant_of-self
 invariant_of-self g c =

@@ -44,7 +44,7 @@ returns-in-Err-clause-sound g c =
 pub returns-in-Err-clause-refused : goal.returns-in-Err-clause-refused
 returns-in-Err-clause-refused g c =
     let s = c.args.self.now in
-    let counted : StoreLimit → Type 0 = IsCounted (IsSound g.D.Disk.is_honest (versions_of s.pool) (numbers_of s.readers) (private_of s.changes) (settled_of s.changes)) ((versions_of s.pool).pages (versions_of s.pool).last) (settled_of s.changes) in
+    let counted : StoreLimit → Type 0 = IsCounted ((versions_of s.pool).pages (versions_of s.pool).last) (settled_of s.changes) in
     told_fails (IsSound g.D.Disk.is_honest (versions_of s.pool) (numbers_of s.readers) (private_of s.changes) (settled_of s.changes)) (g.D.Disk.refused (device_of s.pool)) (g.D.Disk.refused (device_of c.commit.new.pool)) (CommittingReaches counted s.pool.last) c.of_pool.result (of_pool c.in-Err.error) c.of_pool.ensures
     (commit_fails (IsSound g.D.Disk.is_honest (versions_of s.pool) (numbers_of s.readers) (private_of s.changes) (settled_of s.changes)) counted s.pool.last (g.D.Disk.refused (device_of s.pool)) (g.D.Disk.refused (device_of c.commit.new.pool)) c.in-Err.error c.in-Err.ensures.refusal)
 

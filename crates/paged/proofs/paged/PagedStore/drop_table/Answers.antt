@@ -37,7 +37,7 @@ returns-in-Err-clause-sound g c =
 pub returns-in-Err-clause-refused : goal.returns-in-Err-clause-refused
 returns-in-Err-clause-refused g c =
     let s = c.args.self.now in
-    create_fails g.D.Disk.is_honest (versions_of s.pool) (numbers_of s.readers) (private_of s.changes) (settled_of s.changes) s.commits s.ordered.counted (g.D.Disk.refused (device_of s.pool)) (g.D.Disk.refused (device_of c.drop_table.new.pool)) c.in-Err.error c.in-Err.ensures.refused
+    create_fails g.D.Disk.is_honest (versions_of s.pool) (numbers_of s.readers) (private_of s.changes) (settled_of s.changes) s.commits s.ordered.counted (versions_of c.drop_table.new.pool) (settled_of c.undo.new.self) c.drop_table.ensures.versions (c.undo.ensures.settled ∙ c.drop_table.ensures.settled) (g.D.Disk.refused (device_of s.pool)) (g.D.Disk.refused (device_of c.drop_table.new.pool)) c.in-Err.error c.in-Err.ensures.refused
 
 pub invariant_of-self : goal.invariant_of-self
 invariant_of-self g c =

@@ -24,3 +24,6 @@ returns-clause-sound g c =
 
 pub returns-clause-counts : goal.returns-clause-counts
 returns-clause-counts g c = no_less g.D.Disk.refused (device_of c.args.self.now.pool) (device_of c.end.new.pool) c.end.ensures.device
+
+pub returns-clause-unwritten : goal.returns-clause-unwritten
+returns-clause-unwritten g c = c.end.ensures.unwritten

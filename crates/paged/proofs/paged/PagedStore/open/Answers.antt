@@ -19,3 +19,9 @@ returns-in-Ok-clause-opened g c = λ db saved. (
 
 pub returns-in-Err-clause-left : goal.returns-in-Err-clause-left
 returns-in-Err-clause-left g c = λ db saved. saved_again g.D.Disk.is_honest (g.D.Disk.bytes c.args.device) (g.D.Disk.bytes c.in-Err.back.value) db c.in-Err.ensures.left saved
+
+pub returns-in-Ok-clause-readable : goal.returns-in-Ok-clause-readable
+returns-in-Ok-clause-readable g c = c.in-Ok.ensures.readable
+
+pub returns-in-Ok-clause-counts : goal.returns-in-Ok-clause-counts
+returns-in-Ok-clause-counts g c = c.in-Ok.ensures.counts

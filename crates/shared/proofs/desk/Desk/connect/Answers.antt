@@ -19,7 +19,7 @@ invariant_of-self g c =
     let x = r.1 ∙ ap (λ (v : View). keeper_in (extended (event v.who act) v)) t.view in (
       r.0 ∙ t.cell.0 ∙ c.self.invariant.0,
       subst (λ (v : View). IsDesk g.J.Room.premise g.J.Room.start g.J.Room.callers (IsSound g.S.Store.is_sound g.S.Store.shows c.new_session.new.self) (world_of g.S.Store.shows c.new_session.new.self) ((c.self.inside.count + 1) % 2 ^ 64) v) (sym x)
-          (desk_after _ _ _ _ _ _ _ _ (cell_view c.self.inside.keeper) (cell_view c.me.inside.token) act c.self.invariant.1 told (live_made (world_of g.S.Store.shows c.self.inside.core) (world_of g.S.Store.shows c.new_session.new.self) (number_of c.in-Ok.id) c.in-Ok.ensures.live.0 c.in-Ok.ensures.live.1)
+          (desk_after c.databases_stay_good.ensures.run _ _ _ _ _ _ _ _ (cell_view c.self.inside.keeper) (cell_view c.me.inside.token) act c.self.invariant.1 told (live_made (world_of g.S.Store.shows c.self.inside.core) (world_of g.S.Store.shows c.new_session.new.self) (number_of c.in-Ok.id) c.in-Ok.ensures.live.0 c.in-Ok.ensures.live.1)
           (connects_on g.S.Store.is_sound g.S.Store.shows c.self.inside.core c.new_session.new.self c.in-Ok.id c.in-Ok.ensures.makes c.in-Ok.ensures.sound)),
     )
 
@@ -33,7 +33,7 @@ returns-in-Ok-clause-ok g c =
       id = number_of c.in-Ok.id;
       at = ap (λ (v : View). v.at) x;
       call = subst₂ (λ (p q : Past). Extends g.J.Room.premise g.J.Room.start p act q) c.me.view_is (ap past (sym x))
-          (extends_after _ _ _ _ (IsSound g.S.Store.is_sound g.S.Store.shows c.new_session.new.self) _ _ _ (cell_view c.self.inside.keeper) (cell_view c.me.inside.token) act c.self.invariant.1 told
+          (extends_after c.databases_stay_good.ensures.run _ _ _ _ (IsSound g.S.Store.is_sound g.S.Store.shows c.new_session.new.self) _ _ _ (cell_view c.self.inside.keeper) (cell_view c.me.inside.token) act c.self.invariant.1 told
           (connects_on g.S.Store.is_sound g.S.Store.shows c.self.inside.core c.new_session.new.self c.in-Ok.id c.in-Ok.ensures.makes c.in-Ok.ensures.sound));
     }
 
@@ -46,7 +46,7 @@ invariant_of-self-2 g c =
     let x = r.1 ∙ ap (λ (v : View). keeper_in (extended (event v.who act) v)) t.view in (
       r.0 ∙ t.cell.0 ∙ c.self.invariant.0,
       subst (λ (v : View). IsDesk g.J.Room.premise g.J.Room.start g.J.Room.callers (IsSound g.S.Store.is_sound g.S.Store.shows c.new_session.new.self) (world_of g.S.Store.shows c.new_session.new.self) ((c.self.inside.count + 1) % 2 ^ 64) v) (sym x)
-          (desk_after _ _ _ _ _ _ _ _ (cell_view c.self.inside.keeper) (cell_view c.me.inside.token) act c.self.invariant.1 told (λ id. ap (λ x. is_live (world_of g.S.Store.shows x) id) c.in-Err.ensures.refused.1)
+          (desk_after c.databases_stay_good.ensures.run _ _ _ _ _ _ _ _ (cell_view c.self.inside.keeper) (cell_view c.me.inside.token) act c.self.invariant.1 told (λ id. ap (λ x. is_live (world_of g.S.Store.shows x) id) c.in-Err.ensures.refused.1)
           (refused_on g.S.Store.is_sound g.S.Store.shows c.self.inside.core c.new_session.new.self c.in-Err.refusal c.in-Err.ensures.makes c.in-Err.ensures.sound)),
     )
 
@@ -57,5 +57,5 @@ returns-clause-err g c =
     let x = c.record-token-in-Err.ensures.caller.2 ∙ ap (λ (v : View). caller_in (extended (event v.who act) v)) t.view in
     let told = subst Told t.view t.told in
     subst₂ (λ (p q : Past). Extends g.J.Room.premise g.J.Room.start p act q) c.me.view_is (ap past (sym x))
-    (extends_after _ _ _ _ (IsSound g.S.Store.is_sound g.S.Store.shows c.new_session.new.self) _ _ _ (cell_view c.self.inside.keeper) (cell_view c.me.inside.token) act c.self.invariant.1 told
+    (extends_after c.databases_stay_good.ensures.run _ _ _ _ (IsSound g.S.Store.is_sound g.S.Store.shows c.new_session.new.self) _ _ _ (cell_view c.self.inside.keeper) (cell_view c.me.inside.token) act c.self.invariant.1 told
     (refused_on g.S.Store.is_sound g.S.Store.shows c.self.inside.core c.new_session.new.self c.in-Err.refusal c.in-Err.ensures.makes c.in-Err.ensures.sound))

@@ -18,7 +18,7 @@ invariant_of-self g c =
     let x = r.1 ∙ ap (λ (v : View). keeper_in (extended (event v.who act) v)) t.view in (
       r.0 ∙ t.cell.0 ∙ c.self.invariant.0,
       subst (λ (v : View). IsDesk g.J.Room.premise g.J.Room.start g.J.Room.callers (IsSound g.S.Store.is_sound g.S.Store.shows c.step-reply.new.self) (world_of g.S.Store.shows c.step-reply.new.self) ((c.self.inside.count + 1) % 2 ^ 64) v) (sym x)
-          (desk_after _ _ _ _ _ _ _ _ (cell_view c.self.inside.keeper) (cell_view c.me.inside.token) act c.self.invariant.1 told (c.step-reply.ensures.live)
+          (desk_after c.databases_stay_good.ensures.run _ _ _ _ _ _ _ _ (cell_view c.self.inside.keeper) (cell_view c.me.inside.token) act c.self.invariant.1 told (c.step-reply.ensures.live)
           (says_on g.S.Store.is_sound g.S.Store.shows c.self.inside.core c.step-reply.new.self c.me.inside.id c.args.text.now c.step-reply.result (stands_at _ _ _ _ _ _ (cell_view c.self.inside.keeper) (cell_view c.me.inside.token) _ c.self.invariant.1 told c.me.invariant.3) c.step-reply.ensures.step c.step-reply.ensures.sound)),
     )
 
@@ -32,6 +32,6 @@ returns g c =
       id = number_of c.me.inside.id;
       at = ap (λ (p : Past). p.at) (sym c.me.view_is) ∙ c.me.invariant.3;
       call = subst₂ (λ (p q : Past). Extends g.J.Room.premise g.J.Room.start p act q) c.me.view_is (ap past (sym x))
-          (extends_after _ _ _ _ (IsSound g.S.Store.is_sound g.S.Store.shows c.step-reply.new.self) _ _ _ (cell_view c.self.inside.keeper) (cell_view c.me.inside.token) act c.self.invariant.1 told
+          (extends_after c.databases_stay_good.ensures.run _ _ _ _ (IsSound g.S.Store.is_sound g.S.Store.shows c.step-reply.new.self) _ _ _ (cell_view c.self.inside.keeper) (cell_view c.me.inside.token) act c.self.invariant.1 told
           (says_on g.S.Store.is_sound g.S.Store.shows c.self.inside.core c.step-reply.new.self c.me.inside.id c.args.text.now c.step-reply.result (stands_at _ _ _ _ _ _ (cell_view c.self.inside.keeper) (cell_view c.me.inside.token) _ c.self.invariant.1 told c.me.invariant.3) c.step-reply.ensures.step c.step-reply.ensures.sound));
     }
