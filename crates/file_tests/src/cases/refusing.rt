@@ -2,7 +2,7 @@
 use super::sample::sample_device;
 use disk::{FaultyDisk, MemDisk};
 use paged::Paged;
-use shell::{Settings, run_to_end, settings};
+use shell::{EndedRun, Settings, run_to_end, settings};
 use std::alloc::Global;
 use std::test::Fail;
 
@@ -84,14 +84,18 @@ fn played(
     let device = FaultyDisk::new(MemDisk::from_bytes(bytes), passed, false);
     let mut reader = swept.script.as_bytes();
     let mut printed = Vec::new(alloc);
-    let ended = run_to_end::<Paged<FaultyDisk<MemDisk>>, _, _>(
+    let EndedRun {
+        status: _status,
+        device,
+        unclosed: _core,
+    } = run_to_end::<Paged<FaultyDisk<MemDisk>>, _, _>(
         alloc,
         settings,
         device,
         &mut reader,
         &mut printed,
     );
-    match ended.device {
+    match device {
         Some(device) => (
             printed,
             Some(rows_in(alloc, settings, device.into_inner(), swept.query)),
