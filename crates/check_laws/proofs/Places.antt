@@ -54,15 +54,6 @@ found-then : {A B : Type 0} (P : A → Type 0) (Q : B → Type 0) (x : Finding A
 found-then P Q (Ok a) next h k = k a h
 found-then P Q (Err reasons) next h k = tt
 
-found-also : {A B : Type 0} (P : A → Type 0) (Q : B → Type 0) (x : Finding A) (y : Finding B) → IfFound P x → IfFound Q y → IfFound (λ (p : A × B). P p.0 × Q p.1) (also x y)
-found-also P Q (Ok a) (Ok b) h k = (h, k)
-found-also P Q (Ok a) (Err reasons) h k = tt
-found-also P Q (Err reasons) y h k = tt
-
-found-any : {A : Type 0} (x : Finding A) → IfFound (λ (a : A). Unit {0}) x
-found-any (Ok a) = tt
-found-any (Err reasons) = tt
-
 found-is : {A : Type 0} (P : A → Type 0) (x : Finding A) (a : A) → IfFound P x → x ≡ Ok a → P a
 found-is P x a h e = subst (IfFound P) e h
 
