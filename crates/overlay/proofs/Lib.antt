@@ -9,3 +9,4 @@ pub mod FreeLemmas
 pub mod RefusalLemmas
 pub mod TakeLemmas
 pub mod RootLemmas
+pub mod UndoneLemmas

@@ -11,7 +11,7 @@ use Rattle.page_space.specs.Space.{IsFresh}
 use Rattle.pool.specs.Pages.{PageMap, over, only, pick}
 use Rattle.pool.proofs.SlotLemmas.{lt-true, lt-false}
 use Rattle.overlay.specs.InUse.{in_use, is_counted}
-use Rattle.overlay.specs.Whole.{IsIn, AreApart, IsFreeList, HasFreeList, IsWhole, HasMostPages}
+use Rattle.overlay.specs.Whole.{IsIn, AreApart, IsFreeList, HasFreeList, IsWhole, HasMostPages, IsNext}
 use Rattle.overlay.specs.Puts.{PutsBoth, PutsLeaf, PutsLeafAtMost, Takes, TakesFirst, TakesNew, Took, TookAtMost}
 use Rattle.overlay.proofs.LayerLemmas.{put_here, put_apart, over_twice}
 use Rattle.overlay.proofs.InUseLemmas.{in_use-here, in_use-others, none_free, none_behind}
@@ -111,6 +111,22 @@ counts_taken version written h new page takes n differs = by takes.which
     by : TakesFirst (over written version) h page new ⊎ TakesNew h page new → nat_lt n new.page_count ≡ nat_lt n h.page_count
     by (inl first) = ap (λ (c : ℕ). nat_lt n c) first.count
     by (inr last) = counts_alike n h.page_count new.page_count page last.behind last.count differs
+
+-- the page taken is the one that page 0 has to be taken
+next_is : (first : List ℕ) (p : PageMap) (h new : FileHeader) (page : ℕ) → 0 < page → IsHeader first h → TakesFirst p h page new ⊎ TakesNew h page new → IsNext (Some first) page
+next_is first p h new page some says (inl one) =
+    (λ differs. sym (says.first_free ∙ one.first), λ none. absurd (not_zero page some (sym (says.first_free ∙ one.first) ∙ none)))
+  where
+    not_zero : (k : ℕ) → 0 < k → k ≡ 0 → ⊥
+    not_zero k more is = omega (arith, more, is)
+next_is first p h new page some says (inr one) = (λ differs. absurd (differs (says.first_free ∙ one.none)), λ none. one.behind ∙ sym says.page_count)
+
+pub took_next : (version written next : PageMap) (page : ℕ) → Took version written page next → IsNext (over written version 0) page
+took_next version written next page t = by (over written version 0) refl
+  where
+    by : (o : Option (List ℕ)) → over written version 0 ≡ o → IsNext o page
+    by None e = tt
+    by (Some first) e = next_is first (over written version) t.header t.new page t.takes.some (t.says first e) t.takes.which
 
 pub took_others : (version written next : PageMap) (page : ℕ) → Took version written page next → (n : ℕ) → n ≢ page → in_use version next n ≡ in_use version written n
 took_others version written next page t n differs =
@@ -280,3 +296,7 @@ pub taken_whole_after : {E : Type 0} (result : Result ℕ E) (version next_versi
     → OnOk result (IsWhole (over written version) → IsWhole (over next next_version))
 taken_whole_after (Ok page) version next_version written next is took = λ whole. subst (λ (v : PageMap). IsWhole (over next v)) (sym is) (took_whole version written next page took whole)
 taken_whole_after (Err e) version next_version written next is took = took
+
+pub next_after : {E : Type 0} (result : Result ℕ E) (version written next : PageMap) → IfOk result (λ page. Took version written page next) → IfOk result (IsNext (over written version 0))
+next_after (Ok page) version written next took = took_next version written next page took
+next_after (Err e) version written next took = took

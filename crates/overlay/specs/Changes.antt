@@ -1,5 +1,6 @@
 -- What a transaction's changes show.
 use Rattle.pool.specs.Pages.{PageMap, over, pages_in}
+use Rattle.overlay.specs.Undone.{Undone}
 use Rattle.overlay.specs.declared.changes.Changes.{Changes}
 
 -- the pages written since the mark
@@ -13,3 +14,7 @@ settled_of c = over (pages_in c.newer) (pages_in c.older)
 -- the pages written at all: the newer over the older
 abbrev pub private_of : Changes → PageMap
 private_of c = over (fresh_of c) (settled_of c)
+
+-- what is kept of the pages that were undone last
+abbrev pub undone_of : Changes → Undone
+undone_of c = record { size = c.undone_size; counts = c.undone_counts }

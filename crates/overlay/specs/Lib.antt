@@ -1,4 +1,5 @@
 pub mod Layers
+pub mod Undone
 pub mod Changes
 pub mod InUse
 pub mod Bounded

@@ -74,3 +74,8 @@ IsSaid (Some first) header = IsHeader first header × IsInBounds header
 abbrev pub HasRoot : Option (List ℕ) → ℕ → Type 0
 HasRoot None root = ⊤
 HasRoot (Some first) root = number_at first 16 ≡ root
+
+-- the page to be taken where page 0 is known: the first free one that it names, or the one behind the last where it names none
+abbrev pub IsNext : Option (List ℕ) → ℕ → Type 0
+IsNext None page = ⊤
+IsNext (Some first) page = (number_at first 12 ≢ 0 → page ≡ number_at first 12) × (number_at first 12 ≡ 0 → page ≡ number_at first 8)

@@ -2,9 +2,11 @@ ghost use Rattle.std.specs.Prelude.{◌≡◌, ◌≤◌, ◌<◌, ◌+◌, ℕ,
 ghost use Rattle.std.specs.Option.{is_some, option_copied};
 ghost use Rattle.pool.specs.Pages.{over, only, pages_in};
 ghost use Rattle.overlay.specs.Layers.{size_of, AreListed, IsNotKept};
+ghost use Rattle.overlay.specs.Undone.{counts_in, AreUndone};
 
 use crate::PRIVATE_PAGES;
 use crate::layers::{list_number, settle_all};
+use crate::uses::number_in;
 use items::Items;
 use page_space::Fault;
 use pagefile::Page;
@@ -29,6 +31,9 @@ pub struct Changes {
     /// The numbers of the fresh pages; one too many does no harm.
     fresh_numbers: Items<u32>,
     private_count: usize,
+    /// How many pages had been written when they were undone last, and what page 0 said, where it was one of them.
+    undone_size: usize,
+    undone_counts: Option<(u32, u32)>,
     ghost listed: { AreListed (pages_in fresh) fresh_numbers },
     ghost newer_listed: { AreListed (pages_in newer) newer_numbers },
     ghost older_counted: { older_count ≡ size_of (pages_in older) },
@@ -37,8 +42,18 @@ pub struct Changes {
     ghost few: { private_count ≤ 1024 },
 }
 
+/// The page count and the first free page that a page 0 says.
+fn counts_of(first: Option<&Page>) -> Option<(u32, u32)>
+    ensures { result ≡ counts_in (option_copied first.entry) }
+{
+    match first {
+        Some(page) => Some((number_in(page, 8), number_in(page, 12))),
+        None => None,
+    }
+}
+
 impl Changes {
-    ghost use Rattle.overlay.specs.Changes.{fresh_of, settled_of, private_of};
+    ghost use Rattle.overlay.specs.Changes.{fresh_of, settled_of, private_of, undone_of};
 
     /// No page written. Takes no memory until the first.
     pub fn new(alloc: Global) -> Changes
@@ -55,6 +70,8 @@ impl Changes {
             fresh: PageSet::new(alloc),
             fresh_numbers: Items::new(alloc),
             private_count: 0,
+            undone_size: 0,
+            undone_counts: None,
         }
     }
 
@@ -138,11 +155,15 @@ impl Changes {
         Ok(())
     }
 
-    /// Goes back to the mark: the fresh pages are as if they had not been written. Takes no memory.
+    /// Goes back to the mark: the fresh pages are as if they had not been written, but for what is kept of
+    /// how many there were and of page 0. Takes no memory.
     pub fn undo(&mut self)
         ensures fresh { fresh_of self.new ≡ (λ n. None) }
         ensures settled { settled_of self.new ≡ settled_of self.old }
+        ensures undone { AreUndone (private_of self.old) (undone_of self.new) }
     {
+        self.undone_counts = counts_of(self.get(0));
+        self.undone_size = self.private_count;
         self.fresh = PageSet::new(self.alloc);
         self.fresh_numbers = Items::new(self.alloc);
         self.private_count = self.settled_count;

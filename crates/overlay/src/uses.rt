@@ -24,7 +24,7 @@ const FREE: u8 = 3;
 pub(crate) const MOST_PAGES: u32 = 65_536;
 
 /// The number in the four bytes of a page from a place on.
-fn number_in(page: &[u8], at: usize) -> u32
+pub(crate) fn number_in(page: &[u8], at: usize) -> u32
     requires { at + 4 ≤ length page.now }
     ensures { result ≡ number_at page.now at }
 {
