@@ -2,7 +2,7 @@
 # Times queries over tables in memory by sqlsh and, where it is installed, by sqlite3's shell: a sort, DISTINCT, groups
 # (1,000 of them), set operators, an equal join by WHERE, and subqueries, over 10,000 and over 100,000 rows (the last
 # two over 3,000 and 10,000). Each is run ten times, in turn with the script that makes the tables and asks nothing,
-# whose median is taken off. For each query the medians are printed, how many times sqlite3's that is, and how much the
+# whose median is taken off. For each query the medians (processor seconds) are printed, how many times sqlite3's that is, and how much the
 # time grew from the first number of rows to the second. The number of runs may be given. PROGRAM=PATH tries another
 # build of sqlsh than that of the repository.
 set -euo pipefail
@@ -55,13 +55,11 @@ rows_of() {
 run_sqlsh() { "$program" run < "$1"; }
 run_sqlite3() { grep -v "^COMMIT;$" "$1" | sqlite3; }  # it commits each statement by itself
 
-# seconds PROGRAM SCRIPT: what one run takes
+# seconds PROGRAM SCRIPT: the seconds that a processor works for one run, which other work beside it changes little
 seconds() {
-  local start end
-  start=$(date +%s.%N)
-  "run_$1" "$2" > "$work/out"
-  end=$(date +%s.%N)
-  awk -v s="$start" -v e="$end" 'BEGIN { printf "%.4f\n", e - s }'
+  local TIMEFORMAT='%3U %3S'
+  { time "run_$1" "$2" > "$work/out"; } 2> "$work/time"
+  awk '{ print $1 + $2 }' "$work/time"
 }
 
 median() { sort -n "$1" | awk '{ at[NR] = $1 } END { print (at[int((NR + 1) / 2)] + at[int(NR / 2) + 1]) / 2 }'; }
