@@ -4,27 +4,33 @@
   tools/libraries.py CRATE    proves the libraries below this crate in a copy, and keeps what that made in their folders out/.
                               For a fresh clone: where one of them has been proved already, nothing is done
 
-The toolchain's own command for one crate proves the libraries below it one after another.
+The toolchain's own command for one crate proves the libraries below it one after another. Here each is proved as soon as
+those below it are, first the one with the longest way to the top.
 """
 import os
 import re
+import runpy
 import shutil
-import subprocess
 import sys
 import tempfile
+import threading
+from concurrent.futures import FIRST_COMPLETED, ThreadPoolExecutor, wait
 
 TOP = os.path.dirname(os.path.dirname(os.path.realpath(__file__)))
 # What one check takes, in bytes, where it takes much.
 MEMORY_OF_A_CHECK = 4 * 1024 ** 3
-# A crate without a function, which stands on all libraries that are wanted: the toolchain then builds them, and nothing else.
-ROOT = "every_library"
 
 
 def libraries_of_crates():
     """Of each crate, in the order of crates.txt, the libraries that its line names."""
+    return {name: line.partition(":")[2].split() for name, line in lines_of_crates().items()}
+
+
+def lines_of_crates():
+    """The line of each crate in crates.txt, in their order."""
     with open(TOP + "/crates.txt", encoding="utf-8") as lines:
-        entries = (line.partition("#")[0].partition(":") for line in lines)
-        return {name.split()[0]: after.split() for name, _, after in entries if name.strip()}
+        entries = (line.partition("#")[0].strip() for line in lines)
+        return {re.match(r"\w+", line)[0]: line for line in entries if line}
 
 
 def below(crates, libraries):
@@ -55,30 +61,61 @@ def copy_crate(room, crate, without=(), with_library=False):
         shutil.copytree(whole + "/out/rlib", part + "/out/rlib", symlinks=True)
 
 
-def list_crates(room, crates, libraries):
+def list_crates(room, crates):
+    lines = lines_of_crates()
     with open(room + "/crates.txt", "w", encoding="utf-8") as it:
-        it.writelines("%s: %s\n" % (name, " ".join(libraries[name])) for name in crates)
+        it.writelines(lines[name] + "\n" for name in crates)
 
 
-def build(room, wanted, libraries, tell=lambda name: None):
+def ways_up(crates):
+    """Of each crate the lines of code on the longest way from it to the top, itself counted."""
+    lines = {it.name: 300 + it.count(rb"\n") for it in crates}
+    found = {}
+    for crate in sorted(crates, key=lambda it: -len(it.below())):
+        above = (found[it.name] for it in crates if crate in it.deps)
+        found[crate.name] = lines[crate.name] + max(above, default=0)
+    return found
+
+
+def prove(crate, log):
+    """Proves a library and builds it. What the toolchain says stands in the log. Returns whether it is proved."""
+    with open(log, "w", encoding="utf-8") as crate.out:
+        return crate.build_rlib(["--jobs", "1"], False) == 0
+
+
+def prove_all(crates, room, tell):
+    """Proves these crates, each once those below it are proved. Returns those that are, and the one that was refused first."""
+    ways, proved, refused, running = ways_up(crates), set(), None, {}
+    left = sorted(crates, key=lambda it: -ways[it.name])
+    lanes = at_a_time()
+    with ThreadPoolExecutor(lanes) as pool:
+        while running or left and refused is None:
+            ready = [it for it in left if all(below.name in proved for below in it.below())] if refused is None else []
+            for crate in ready[:lanes - len(running)]:
+                left.remove(crate)
+                running[pool.submit(prove, crate, "%s/%s.log" % (room, crate.name))] = crate
+            for done in wait(running, return_when=FIRST_COMPLETED).done:
+                crate = running.pop(done)
+                if done.result():
+                    proved.add(crate.name)
+                    tell(crate.name)
+                else:
+                    refused = refused or crate
+    return proved, refused
+
+
+def build(room, wanted, tell=lambda name: None):
     """Proves these libraries, whose copies stand in the room, where that is not done. Tells of each once it is proved. Returns whether all are."""
     shutil.copy(TOP + "/HANDLES", room)
-    os.makedirs("%s/crates/%s/src" % (room, ROOT))
-    with open("%s/crates/%s/src/lib.rt" % (room, ROOT), "w", encoding="utf-8") as it:
-        it.write("//! Stands on all libraries.\n#![tactic(auto)]\n")
-    list_crates(room, [*wanted, ROOT], {**libraries, ROOT: wanted})
-    words = ["rt", "all", "check", "--jobs", str(at_a_time())]
-    ran = subprocess.Popen(words, cwd=room, stdout=subprocess.PIPE, stderr=subprocess.STDOUT)
-    said = []
-    for line in ran.stdout:
-        said.append(line.decode("utf-8", "replace"))
-        name = said[-1][3:].strip()
-        if said[-1].startswith("== ") and name in wanted:
-            tell(name)
-    shutil.rmtree("%s/crates/%s" % (room, ROOT))
-    if ran.wait():
-        print("".join(said[-40:]), file=sys.stderr)
-    return ran.returncode == 0
+    list_crates(room, wanted)
+    toolchain = runpy.run_path(os.path.realpath(shutil.which("rt")), run_name="toolchain")["rtlib"]
+    # It sets a signal's handler, which only the main thread may.
+    toolchain.guarded()
+    _, refused = prove_all(toolchain.crates_below(room), room, tell)
+    if refused:
+        with open("%s/%s.log" % (room, refused.name), encoding="utf-8") as log:
+            print("".join(log.readlines()[-40:]), file=sys.stderr)
+    return not refused
 
 
 def main(words):
@@ -98,7 +135,7 @@ def main(words):
     with tempfile.TemporaryDirectory(prefix="libraries-") as room:
         for crate in wanted:
             copy_crate(room, crate)
-        is_built = build(room, wanted, libraries, tell)
+        is_built = build(room, wanted, tell)
         for crate in wanted:
             if os.path.isfile("%s/crates/%s/out/rlib/stamp" % (room, crate)):
                 shutil.move("%s/crates/%s/out" % (room, crate), "%s/crates/%s/out" % (TOP, crate))
