@@ -4,3 +4,4 @@ pub mod ChangeLemmas
 pub mod OpenLemmas
 pub mod CloseLemmas
 pub mod StepLemmas
+pub mod UndoneLemmas

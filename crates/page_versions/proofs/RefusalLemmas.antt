@@ -10,7 +10,7 @@ use Rattle.store.specs.declared.error.StoreError.{StoreError}
 use Rattle.store.specs.declared.error.StoreError.TheVariants as refused
 use Rattle.store.specs.declared.error.StoreLimit.{StoreLimit}
 use Rattle.store.specs.declared.error.StoreLimit.TheVariants as limit
-use Rattle.store.specs.Contents.{StoredTable}
+use Rattle.store.specs.Contents.{StoredTable, Contents, next_number}
 use Rattle.store.specs.Errors.{HasRisen, MayFail, Never, StoringReaches, ChangingReaches, CommittingReaches}
 use Rattle.store.specs.Indexes.{entries_of}
 use Rattle.pagefile.specs.declared.header.FileHeader.{FileHeader}
@@ -32,7 +32,7 @@ use Rattle.page_database.specs.Held.{TableAt, rows_of_tables, HoldsDatabase, con
 use Rattle.page_database.specs.Changed.{HoldsNoDatabaseIn, SpaceRefused, StoringReaches as StoringReachesIn, NumberingReaches}
 use Rattle.page_database.proofs.DatabaseLemmas.{as_tables}
 use Rattle.page_versions.specs.Databases.{root_of, contents_in, known_contents, IsDatabase}
-use Rattle.page_versions.specs.Refusals.{of_fault, of_pool, of_change, of_rows, IsReached, IsCounted, RowsReach}
+use Rattle.page_versions.specs.Refusals.{of_fault, of_pool, of_change, of_rows, IsReached, IsCounted, RowsReach, NumbersEnd, NewRowsReach}
 use Rattle.page_versions.proofs.HeldLemmas.{root_is}
 
 risen_on : (top k m n : ℕ) → k ≤ m → min (m + 1) top ≤ n → min (k + 1) top ≤ n
@@ -75,51 +75,64 @@ tables_fail version written header reached k m n f says less h =
 
 -- ---- changes
 
-pub rows_refused : (version written fresh settled : PageMap) (header : FileHeader) (k m n : ℕ) (name : Name) (rows : List Row) (error : DatabaseError)
+-- where a database is held at the root, the numbers end
+numbers_end : (version written : PageMap) (header : FileHeader) (name : Name) (rows : List Row) → ((first : List ℕ) → over written version 0 ≡ Some first → IsHeader first header)
+    → NumberingReaches (in_use version written) header.catalog_root name rows change.Number → NumbersEnd version written name rows
+numbers_end version written header name rows says numbers d =
+    subst (λ (c : Contents). 2 ^ 63 < next_number (entries_of (get c name)) + length rows) (sym d.read) (numbers d.tables (held_at version written header says d))
+
+pub rows_refused : (version written next : PageMap) (header : FileHeader) (k m n : ℕ) (name : Name) (rows : List Row) (error : DatabaseError)
     → ((first : List ℕ) → over written version 0 ≡ Some first → IsHeader first header) → k ≤ m → NumberingReaches (in_use version written) header.catalog_root name rows error
-    → SpaceRefused (AtLimit (over (over fresh settled) version 0) (size_of (over fresh settled))) (HoldsNoDatabaseIn (in_use version written) header.catalog_root (IsWhole (over written version))) m n error
-    → MayFail (IsDatabase version written) k n (RowsReach (IsCounted version settled) rows) (of_rows error)
-rows_refused version written fresh settled header k m n name rows (change.Space fault.Memory) says less numbers h = tt
-rows_refused version written fresh settled header k m n name rows (change.Space fault.Disk) says less numbers h = has_risen k m n less h
-rows_refused version written fresh settled header k m n name rows (change.Space fault.Damaged) says less numbers h = λ d. h d.tables (held_at version written header says d) d.whole
-rows_refused version written fresh settled header k m n name rows (change.Space fault.Pages) says less numbers h = tt
-rows_refused version written fresh settled header k m n name rows (change.Space fault.Private) says less numbers h = (fresh, h)
-rows_refused version written fresh settled header k m n name rows change.Record says less numbers h = numbers
-rows_refused version written fresh settled header k m n name rows change.Key says less numbers h = tt
-rows_refused version written fresh settled header k m n name rows change.Schema says less numbers h = tt
-rows_refused version written fresh settled header k m n name rows change.Number says less numbers h = tt
+    → SpaceRefused (AtLimit (over next version 0) (size_of next)) (HoldsNoDatabaseIn (in_use version written) header.catalog_root (IsWhole (over written version))) m n error
+    → MayFail (IsDatabase version written) k n (NewRowsReach (IsCounted version next) (NumbersEnd version written name rows) rows) (of_rows error)
+rows_refused version written next header k m n name rows (change.Space fault.Memory) says less numbers h = tt
+rows_refused version written next header k m n name rows (change.Space fault.Disk) says less numbers h = has_risen k m n less h
+rows_refused version written next header k m n name rows (change.Space fault.Damaged) says less numbers h = λ d. h d.tables (held_at version written header says d) d.whole
+rows_refused version written next header k m n name rows (change.Space fault.Pages) says less numbers h = inl h
+rows_refused version written next header k m n name rows (change.Space fault.Private) says less numbers h = h
+rows_refused version written next header k m n name rows change.Record says less numbers h = numbers
+rows_refused version written next header k m n name rows change.Key says less numbers h = tt
+rows_refused version written next header k m n name rows change.Schema says less numbers h = tt
+rows_refused version written next header k m n name rows change.Number says less numbers h = inr (numbers_end version written header name rows says numbers)
 
 -- where no number is given, none is refused
-pub as_numbering : (pages : PageMap) (root : ℕ) (name : Name) (rows : List Row) (error : DatabaseError) → StoringReachesIn pages root name rows error → NumberingReaches pages root name rows error
-as_numbering pages root name rows (change.Space f) h = tt
-as_numbering pages root name rows change.Record h = h
-as_numbering pages root name rows change.Key h = h
-as_numbering pages root name rows change.Number h = absurd h
-as_numbering pages root name rows change.Schema h = tt
+pub row_refused : (version written next : PageMap) (header : FileHeader) (k m n : ℕ) (name : Name) (rows : List Row) (error : DatabaseError)
+    → ((first : List ℕ) → over written version 0 ≡ Some first → IsHeader first header) → k ≤ m → StoringReachesIn (in_use version written) header.catalog_root name rows error
+    → SpaceRefused (AtLimit (over next version 0) (size_of next)) (HoldsNoDatabaseIn (in_use version written) header.catalog_root (IsWhole (over written version))) m n error
+    → MayFail (IsDatabase version written) k n (RowsReach (IsCounted version next) rows) (of_rows error)
+row_refused version written next header k m n name rows (change.Space fault.Memory) says less limits h = tt
+row_refused version written next header k m n name rows (change.Space fault.Disk) says less limits h = has_risen k m n less h
+row_refused version written next header k m n name rows (change.Space fault.Damaged) says less limits h = λ d. h d.tables (held_at version written header says d) d.whole
+row_refused version written next header k m n name rows (change.Space fault.Pages) says less limits h = h
+row_refused version written next header k m n name rows (change.Space fault.Private) says less limits h = h
+row_refused version written next header k m n name rows change.Record says less limits h = limits
+row_refused version written next header k m n name rows change.Key says less limits h = tt
+row_refused version written next header k m n name rows change.Schema says less limits h = tt
+row_refused version written next header k m n name rows change.Number says less limits h = absurd limits
 
-pub table_refused : (version written fresh settled : PageMap) (header : FileHeader) (k m n : ℕ) (error : DatabaseError)
+pub table_refused : (version written next : PageMap) (header : FileHeader) (k m n : ℕ) (error : DatabaseError)
     → ((first : List ℕ) → over written version 0 ≡ Some first → IsHeader first header) → k ≤ m
-    → SpaceRefused (AtLimit (over (over fresh settled) version 0) (size_of (over fresh settled))) (HoldsNoDatabaseIn (in_use version written) header.catalog_root (IsWhole (over written version))) m n error
-    → MayFail (IsDatabase version written) k n (ChangingReaches (IsCounted version settled)) (of_change error)
-table_refused version written fresh settled header k m n (change.Space fault.Memory) says less h = tt
-table_refused version written fresh settled header k m n (change.Space fault.Disk) says less h = has_risen k m n less h
-table_refused version written fresh settled header k m n (change.Space fault.Damaged) says less h = λ d. h d.tables (held_at version written header says d) d.whole
-table_refused version written fresh settled header k m n (change.Space fault.Pages) says less h = tt
-table_refused version written fresh settled header k m n (change.Space fault.Private) says less h = (fresh, h)
-table_refused version written fresh settled header k m n change.Record says less h = tt
-table_refused version written fresh settled header k m n change.Key says less h = tt
-table_refused version written fresh settled header k m n change.Number says less h = tt
-table_refused version written fresh settled header k m n change.Schema says less h = tt
+    → SpaceRefused (AtLimit (over next version 0) (size_of next)) (HoldsNoDatabaseIn (in_use version written) header.catalog_root (IsWhole (over written version))) m n error
+    → MayFail (IsDatabase version written) k n (ChangingReaches (IsCounted version next)) (of_change error)
+table_refused version written next header k m n (change.Space fault.Memory) says less h = tt
+table_refused version written next header k m n (change.Space fault.Disk) says less h = has_risen k m n less h
+table_refused version written next header k m n (change.Space fault.Damaged) says less h = λ d. h d.tables (held_at version written header says d) d.whole
+table_refused version written next header k m n (change.Space fault.Pages) says less h = h
+table_refused version written next header k m n (change.Space fault.Private) says less h = h
+table_refused version written next header k m n change.Record says less h = tt
+table_refused version written next header k m n change.Key says less h = tt
+table_refused version written next header k m n change.Number says less h = tt
+table_refused version written next header k m n change.Schema says less h = tt
 
 -- a refusal of the last step, where the step before it was carried out
-pub root_refused : (version written fresh settled : PageMap) (harm : Type 0) (sound : Type 0) (reached : StoreLimit → Type 0) (k m n : ℕ) (f : Fault) → k ≤ m → (sound → harm → ⊥)
-    → (IsReached version settled fault.Pages → reached limit.Pages) → (IsReached version settled fault.Private → reached limit.Private)
-    → ChangeRefused (AtLimit (over (over fresh settled) version 0) (size_of (over fresh settled))) harm m n f → MayFail sound k n reached (of_fault f)
-root_refused version written fresh settled harm sound reached k m n fault.Memory less never pages private h = tt
-root_refused version written fresh settled harm sound reached k m n fault.Disk less never pages private h = has_risen k m n less h
-root_refused version written fresh settled harm sound reached k m n fault.Damaged less never pages private h = λ s. never s h
-root_refused version written fresh settled harm sound reached k m n fault.Pages less never pages private h = pages (fresh, h)
-root_refused version written fresh settled harm sound reached k m n fault.Private less never pages private h = private (fresh, h)
+pub root_refused : (version written next : PageMap) (harm : Type 0) (sound : Type 0) (reached : StoreLimit → Type 0) (k m n : ℕ) (f : Fault) → k ≤ m → (sound → harm → ⊥)
+    → (IsReached version next fault.Pages → reached limit.Pages) → (IsReached version next fault.Private → reached limit.Private)
+    → ChangeRefused (AtLimit (over next version 0) (size_of next)) harm m n f → MayFail sound k n reached (of_fault f)
+root_refused version written next harm sound reached k m n fault.Memory less never pages private h = tt
+root_refused version written next harm sound reached k m n fault.Disk less never pages private h = has_risen k m n less h
+root_refused version written next harm sound reached k m n fault.Damaged less never pages private h = λ s. never s h
+root_refused version written next harm sound reached k m n fault.Pages less never pages private h = pages h
+root_refused version written next harm sound reached k m n fault.Private less never pages private h = private h
 
 -- ---- weaker
 

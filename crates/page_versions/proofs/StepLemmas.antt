@@ -21,11 +21,11 @@ use Rattle.overlay.specs.Whole.{IsWhole, AtLimit}
 use Rattle.page_tables.specs.Held as plain
 use Rattle.page_database.specs.declared.error.DatabaseError.{DatabaseError}
 use Rattle.page_database.specs.Held.{TableAt, rows_of_tables, HoldsDatabase, HoldsNoDatabase, contents_of}
-use Rattle.page_database.specs.Changed.{DatabaseWritten, HoldsNoDatabaseIn, SpaceRefused, NumberingReaches}
+use Rattle.page_database.specs.Changed.{DatabaseWritten, HoldsNoDatabaseIn, SpaceRefused, StoringReaches, NumberingReaches}
 use Rattle.page_versions.specs.Changed.{IsNow}
 use Rattle.page_versions.specs.Databases.{contents_in, IsDatabase}
-use Rattle.page_versions.specs.Refusals.{of_fault, of_rows, of_change, IsReached, IsCounted, RowsReach}
-use Rattle.page_versions.proofs.RefusalLemmas.{held_at, tables_held_at, read_fails, tables_fail, rows_refused, table_refused, root_refused}
+use Rattle.page_versions.specs.Refusals.{of_fault, of_rows, of_change, IsReached, IsCounted, RowsReach, NumbersEnd, NewRowsReach}
+use Rattle.page_versions.proofs.RefusalLemmas.{held_at, tables_held_at, read_fails, tables_fail, rows_refused, row_refused, table_refused, root_refused}
 
 -- an error that is this one
 pub fails_as : (sound : Type 0) (k n : ℕ) (reached : StoreLimit → Type 0) (error other : StoreError) → error ≡ other → MayFail sound k n reached other → MayFail sound k n reached error
@@ -76,34 +76,38 @@ module _ (change : Contents → Contents) (v0 v1 v2 written mid : PageMap) (head
   pub changed_of : (next : PageMap) → ((contents : Contents) → IsWhole (over mid v2) → DatabaseWritten (in_use v2 mid) contents top → IsNow v2 next contents) → IsDatabase v0 written → IsNow v0 next (change (contents_in v0 written))
   changed_of next put d = subst (λ (v : PageMap). IsNow v next (change (contents_in v0 written))) (second ∙ first) (put (change (contents_in v0 written)) (whole_now d) (put_now d))
 
-  pub root_fails : (fresh now_settled settled : PageMap) (reached : StoreLimit → Type 0) (k m n : ℕ) (f : Fault) (error : StoreError) → error ≡ of_fault f → k ≤ m → now_settled ≡ settled
-      → (IsReached v0 settled fault.Pages → reached limit.Pages) → (IsReached v0 settled fault.Private → reached limit.Private)
-      → ChangeRefused (AtLimit (over (over fresh now_settled) v2 0) (size_of (over fresh now_settled))) ((contents : Contents) → IsWhole (over mid v2) → DatabaseWritten (in_use v2 mid) contents top → ⊥) m n f
+  pub root_fails : (next : PageMap) (reached : StoreLimit → Type 0) (k m n : ℕ) (f : Fault) (error : StoreError) → error ≡ of_fault f → k ≤ m
+      → (IsReached v0 next fault.Pages → reached limit.Pages) → (IsReached v0 next fault.Private → reached limit.Private)
+      → ChangeRefused (AtLimit (over next v2 0) (size_of next)) ((contents : Contents) → IsWhole (over mid v2) → DatabaseWritten (in_use v2 mid) contents top → ⊥) m n f
       → MayFail (IsDatabase v0 written) k n reached error
-  root_fails fresh now_settled settled reached k m n f error is less same pages private h =
+  root_fails next reached k m n f error is less pages private h =
       fails_as (IsDatabase v0 written) k n reached error (of_fault f) is
-      (root_refused v0 mid fresh settled ((contents : Contents) → IsWhole (over mid v2) → DatabaseWritten (in_use v2 mid) contents top → ⊥) (IsDatabase v0 written) reached k m n f less
+      (root_refused v0 mid next ((contents : Contents) → IsWhole (over mid v2) → DatabaseWritten (in_use v2 mid) contents top → ⊥) (IsDatabase v0 written) reached k m n f less
       (λ d never. never (change (contents_in v0 written)) (whole_now d) (put_now d)) pages private
-      (subst (λ (v : PageMap). ChangeRefused (AtLimit (over (over fresh settled) v 0) (size_of (over fresh settled))) ((contents : Contents) → IsWhole (over mid v2) → DatabaseWritten (in_use v2 mid) contents top → ⊥) m n f) (second ∙ first)
-      (subst (λ (s : PageMap). ChangeRefused (AtLimit (over (over fresh s) v2 0) (size_of (over fresh s))) ((contents : Contents) → IsWhole (over mid v2) → DatabaseWritten (in_use v2 mid) contents top → ⊥) m n f) same h)))
+      (subst (λ (v : PageMap). ChangeRefused (AtLimit (over next v 0) (size_of next)) ((contents : Contents) → IsWhole (over mid v2) → DatabaseWritten (in_use v2 mid) contents top → ⊥) m n f) (second ∙ first) h))
 
-module _ (v0 v1 written fresh now_settled settled : PageMap) (header : FileHeader) (k m n : ℕ) (cause : DatabaseError) (error : StoreError) (says : Says v0 written header) (first : v1 ≡ v0) (same : now_settled ≡ settled) (less : k ≤ m)
-    (h : SpaceRefused (AtLimit (over (over fresh now_settled) v1 0) (size_of (over fresh now_settled))) (HoldsNoDatabaseIn (in_use v1 written) header.catalog_root (IsWhole (over written v1))) m n cause) where
-  refused_there : SpaceRefused (AtLimit (over (over fresh settled) v0 0) (size_of (over fresh settled))) (HoldsNoDatabaseIn (in_use v0 written) header.catalog_root (IsWhole (over written v0))) m n cause
+module _ (v0 v1 written next : PageMap) (header : FileHeader) (k m n : ℕ) (cause : DatabaseError) (error : StoreError) (says : Says v0 written header) (first : v1 ≡ v0) (less : k ≤ m)
+    (h : SpaceRefused (AtLimit (over next v1 0) (size_of next)) (HoldsNoDatabaseIn (in_use v1 written) header.catalog_root (IsWhole (over written v1))) m n cause) where
+  refused_there : SpaceRefused (AtLimit (over next v0 0) (size_of next)) (HoldsNoDatabaseIn (in_use v0 written) header.catalog_root (IsWhole (over written v0))) m n cause
   refused_there =
-      subst (λ (v : PageMap). SpaceRefused (AtLimit (over (over fresh settled) v 0) (size_of (over fresh settled))) (HoldsNoDatabaseIn (in_use v written) header.catalog_root (IsWhole (over written v))) m n cause) first
-      (subst (λ (s : PageMap). SpaceRefused (AtLimit (over (over fresh s) v1 0) (size_of (over fresh s))) (HoldsNoDatabaseIn (in_use v1 written) header.catalog_root (IsWhole (over written v1))) m n cause) same h)
+      subst (λ (v : PageMap). SpaceRefused (AtLimit (over next v 0) (size_of next)) (HoldsNoDatabaseIn (in_use v written) header.catalog_root (IsWhole (over written v))) m n cause) first h
 
   pub rows_fail : (name : Name) (rows : List Row) → error ≡ of_rows cause → NumberingReaches (in_use v1 written) header.catalog_root name rows cause
-      → MayFail (IsDatabase v0 written) k n (RowsReach (IsCounted v0 settled) rows) error
+      → MayFail (IsDatabase v0 written) k n (NewRowsReach (IsCounted v0 next) (NumbersEnd v0 written name rows) rows) error
   rows_fail name rows is numbers =
-      fails_as (IsDatabase v0 written) k n (RowsReach (IsCounted v0 settled) rows) error (of_rows cause) is
-      (rows_refused v0 written fresh settled header k m n name rows cause says less (subst (λ (v : PageMap). NumberingReaches (in_use v written) header.catalog_root name rows cause) first numbers) refused_there)
+      fails_as (IsDatabase v0 written) k n (NewRowsReach (IsCounted v0 next) (NumbersEnd v0 written name rows) rows) error (of_rows cause) is
+      (rows_refused v0 written next header k m n name rows cause says less (subst (λ (v : PageMap). NumberingReaches (in_use v written) header.catalog_root name rows cause) first numbers) refused_there)
 
-  pub table_fail : error ≡ of_change cause → MayFail (IsDatabase v0 written) k n (ChangingReaches (IsCounted v0 settled)) error
+  pub row_fail : (name : Name) (rows : List Row) → error ≡ of_rows cause → StoringReaches (in_use v1 written) header.catalog_root name rows cause
+      → MayFail (IsDatabase v0 written) k n (RowsReach (IsCounted v0 next) rows) error
+  row_fail name rows is limits =
+      fails_as (IsDatabase v0 written) k n (RowsReach (IsCounted v0 next) rows) error (of_rows cause) is
+      (row_refused v0 written next header k m n name rows cause says less (subst (λ (v : PageMap). StoringReaches (in_use v written) header.catalog_root name rows cause) first limits) refused_there)
+
+  pub table_fail : error ≡ of_change cause → MayFail (IsDatabase v0 written) k n (ChangingReaches (IsCounted v0 next)) error
   table_fail is =
-      fails_as (IsDatabase v0 written) k n (ChangingReaches (IsCounted v0 settled)) error (of_change cause) is
-      (table_refused v0 written fresh settled header k m n cause says less refused_there)
+      fails_as (IsDatabase v0 written) k n (ChangingReaches (IsCounted v0 next)) error (of_change cause) is
+      (table_refused v0 written next header k m n cause says less refused_there)
 
 -- the same commit of the same versions
 pub same_pages : (v w : Versions) (at now : ℕ) → w ≡ v → now ≡ at → w.pages now ≡ v.pages at

@@ -3,3 +3,4 @@ pub mod Refusals
 pub mod Changed
 pub mod Opened
 pub mod Saved
+pub mod Undone

@@ -1,6 +1,10 @@
 -- Why a paged store refuses a call, by the refusals of what it stands on. Our own choice.
-use Rattle.std.specs.Prelude.{List}
+use Rattle.std.specs.Prelude.{◌⊎◌, ◌+◌, ◌^◌, ◌<◌, List, length}
+use Rattle.std.specs.FinMap.{get}
+use Rattle.denote.specs.Database.{Name}
 use Rattle.sqlval.specs.Value.{Row}
+use Rattle.store.specs.Contents.{next_number}
+use Rattle.store.specs.Indexes.{entries_of}
 use Rattle.store.specs.Errors.{HasLongRow}
 use Rattle.store.specs.declared.error.StoreError.{StoreError}
 use Rattle.store.specs.declared.error.StoreError.TheVariants as refused
@@ -17,6 +21,7 @@ use Rattle.page_database.specs.declared.error.DatabaseError.{DatabaseError}
 use Rattle.page_database.specs.declared.error.DatabaseError.TheVariants as change
 use Rattle.overlay.specs.Layers.{size_of}
 use Rattle.overlay.specs.Whole.{AtLimit}
+use Rattle.page_versions.specs.Databases.{IsDatabase, contents_in}
 
 abbrev pub of_fault : Fault → StoreError
 of_fault fault.Memory = refused.Memory
@@ -51,23 +56,34 @@ of_rows change.Key = refused.Memory
 of_rows change.Number = refused.Exceeded limit.Pages
 of_rows change.Schema = refused.Memory
 
--- with some pages written since the mark, the pages are at the limit that a fault names
+-- the pages that a change has written, over a version, are at the limit that a fault names
 abbrev pub IsReached : PageMap → PageMap → Fault → Type 0
-IsReached version settled f = (fresh : PageMap) × AtLimit (over (over fresh settled) version 0) (size_of (over fresh settled)) f
+IsReached version written f = AtLimit (over written version 0) (size_of written) f
 
--- The limit of private pages is reached by some change behind the mark. The limit of pages also tells that the numbers of rows end, which is not known over a device that is not
--- honest: so nothing is said of when it is reached.
+-- ... that a store names
 abbrev pub IsCounted : PageMap → PageMap → StoreLimit → Type 0
-IsCounted version settled limit.Pages = Unit {0}
-IsCounted version settled limit.Private = IsReached version settled fault.Private
-IsCounted version settled limit.Kept = ⊥
-IsCounted version settled limit.Record = ⊥
-IsCounted version settled limit.Key = ⊥
+IsCounted version written limit.Pages = IsReached version written fault.Pages
+IsCounted version written limit.Private = IsReached version written fault.Private
+IsCounted version written limit.Kept = ⊥
+IsCounted version written limit.Record = ⊥
+IsCounted version written limit.Key = ⊥
 
--- rows that are stored reach a limit; that of keys is not named
+-- a row that is stored in place of another reaches a limit; that of keys is not named
 abbrev pub RowsReach : (StoreLimit → Type 0) → List Row → StoreLimit → Type 0
 RowsReach counted rows limit.Record = HasLongRow rows
 RowsReach counted rows limit.Key = ⊥
 RowsReach counted rows limit.Pages = counted limit.Pages
 RowsReach counted rows limit.Private = counted limit.Private
 RowsReach counted rows limit.Kept = ⊥
+
+-- where a database lies there, the numbers of rows end before each of these has one in the table of a name
+abbrev pub NumbersEnd : PageMap → PageMap → Name → List Row → Type 0
+NumbersEnd version written name rows = IsDatabase version written → 2 ^ 63 < next_number (entries_of (get (contents_in version written) name)) + length rows
+
+-- new rows reach a limit: that of pages also tells that the numbers of rows end
+abbrev pub NewRowsReach : (StoreLimit → Type 0) → Type 0 → List Row → StoreLimit → Type 0
+NewRowsReach counted ended rows limit.Record = HasLongRow rows
+NewRowsReach counted ended rows limit.Key = ⊥
+NewRowsReach counted ended rows limit.Pages = counted limit.Pages ⊎ ended
+NewRowsReach counted ended rows limit.Private = counted limit.Private
+NewRowsReach counted ended rows limit.Kept = ⊥

@@ -13,7 +13,7 @@ ghost use Rattle.page_database.specs.Held.{TableAt, HoldsDatabase, contents_of};
 ghost use Rattle.page_database.specs.Changed.{DatabaseWritten, HoldsNoDatabaseIn, SpaceRefused, StoringReaches, NumberingReaches};
 ghost use Rattle.page_versions.specs.Changed.{IsNow};
 ghost use Rattle.page_versions.specs.Databases.{IsDatabase, contents_in};
-ghost use Rattle.page_versions.specs.Refusals.{IsCounted, RowsReach};
+ghost use Rattle.page_versions.specs.Refusals.{IsCounted, RowsReach, NumbersEnd, NewRowsReach};
 
 use crate::causes::{of_change, of_fault, of_rows};
 use crate::naming::put_root;
@@ -61,7 +61,7 @@ pub fn append_rows<D: Disk>(
     ensures appended { IsDatabase ((versions_of pool.old).pages at) (private_of changes.old) → OnOk result (IsNow ((versions_of pool.old).pages at) (private_of changes.new) (appended (contents_in ((versions_of pool.old).pages at) (private_of changes.old)) name.now rows)) }
     ensures settled { settled_of changes.new ≡ settled_of changes.old }
     ensures versions { versions_of pool.new ≡ versions_of pool.old }
-    ensures refused { IfErr result (MayFail (IsDatabase ((versions_of pool.old).pages at) (private_of changes.old)) (D.refused (device_of pool.old)) (D.refused (device_of pool.new)) (RowsReach (IsCounted ((versions_of pool.old).pages at) (settled_of changes.old)) rows)) }
+    ensures refused { IfErr result (MayFail (IsDatabase ((versions_of pool.old).pages at) (private_of changes.old)) (D.refused (device_of pool.old)) (D.refused (device_of pool.new)) (NewRowsReach (IsCounted ((versions_of pool.old).pages at) (private_of changes.new)) (NumbersEnd ((versions_of pool.old).pages at) (private_of changes.old) name.now rows) rows)) }
     ensures rising { D.refused (device_of pool.old) ≤ D.refused (device_of pool.new) }
 {
     match read_header(pool, changes, at) {
@@ -113,7 +113,7 @@ pub fn replace_row<D: Disk>(
     ensures replaced { IsDatabase ((versions_of pool.old).pages at) (private_of changes.old) → OnOk result (IsNow ((versions_of pool.old).pages at) (private_of changes.new) (replaced (contents_in ((versions_of pool.old).pages at) (private_of changes.old)) name.now number row)) }
     ensures settled { settled_of changes.new ≡ settled_of changes.old }
     ensures versions { versions_of pool.new ≡ versions_of pool.old }
-    ensures refused { IfErr result (MayFail (IsDatabase ((versions_of pool.old).pages at) (private_of changes.old)) (D.refused (device_of pool.old)) (D.refused (device_of pool.new)) (RowsReach (IsCounted ((versions_of pool.old).pages at) (settled_of changes.old)) (row ∷ []))) }
+    ensures refused { IfErr result (MayFail (IsDatabase ((versions_of pool.old).pages at) (private_of changes.old)) (D.refused (device_of pool.old)) (D.refused (device_of pool.new)) (RowsReach (IsCounted ((versions_of pool.old).pages at) (private_of changes.new)) (row ∷ []))) }
     ensures rising { D.refused (device_of pool.old) ≤ D.refused (device_of pool.new) }
 {
     match read_header(pool, changes, at) {
@@ -171,7 +171,7 @@ pub fn delete_row<D: Disk>(
     ensures deleted { IsDatabase ((versions_of pool.old).pages at) (private_of changes.old) → OnOk result (IsNow ((versions_of pool.old).pages at) (private_of changes.new) (deleted (contents_in ((versions_of pool.old).pages at) (private_of changes.old)) name.now number)) }
     ensures settled { settled_of changes.new ≡ settled_of changes.old }
     ensures versions { versions_of pool.new ≡ versions_of pool.old }
-    ensures refused { IfErr result (MayFail (IsDatabase ((versions_of pool.old).pages at) (private_of changes.old)) (D.refused (device_of pool.old)) (D.refused (device_of pool.new)) (ChangingReaches (IsCounted ((versions_of pool.old).pages at) (settled_of changes.old)))) }
+    ensures refused { IfErr result (MayFail (IsDatabase ((versions_of pool.old).pages at) (private_of changes.old)) (D.refused (device_of pool.old)) (D.refused (device_of pool.new)) (ChangingReaches (IsCounted ((versions_of pool.old).pages at) (private_of changes.new)))) }
     ensures rising { D.refused (device_of pool.old) ≤ D.refused (device_of pool.new) }
 {
     match read_header(pool, changes, at) {

@@ -64,7 +64,7 @@ pub fn create_table<D: Disk>(
     ensures created { IsDatabase ((versions_of pool.old).pages at) (private_of changes.old) → OnOk result (IsNow ((versions_of pool.old).pages at) (private_of changes.new) (with_table (contents_in ((versions_of pool.old).pages at) (private_of changes.old)) table.now)) }
     ensures settled { settled_of changes.new ≡ settled_of changes.old }
     ensures versions { versions_of pool.new ≡ versions_of pool.old }
-    ensures refused { IfErr result (MayFail (IsDatabase ((versions_of pool.old).pages at) (private_of changes.old)) (D.refused (device_of pool.old)) (D.refused (device_of pool.new)) (ChangingReaches (IsCounted ((versions_of pool.old).pages at) (settled_of changes.old)))) }
+    ensures refused { IfErr result (MayFail (IsDatabase ((versions_of pool.old).pages at) (private_of changes.old)) (D.refused (device_of pool.old)) (D.refused (device_of pool.new)) (ChangingReaches (IsCounted ((versions_of pool.old).pages at) (private_of changes.new)))) }
     ensures rising { D.refused (device_of pool.old) ≤ D.refused (device_of pool.new) }
 {
     match read_header(pool, changes, at) {
@@ -111,7 +111,7 @@ pub fn drop_table<D: Disk>(
     ensures dropped { IsDatabase ((versions_of pool.old).pages at) (private_of changes.old) → OnOk result (IsNow ((versions_of pool.old).pages at) (private_of changes.new) (without_table (contents_in ((versions_of pool.old).pages at) (private_of changes.old)) name.now)) }
     ensures settled { settled_of changes.new ≡ settled_of changes.old }
     ensures versions { versions_of pool.new ≡ versions_of pool.old }
-    ensures refused { IfErr result (MayFail (IsDatabase ((versions_of pool.old).pages at) (private_of changes.old)) (D.refused (device_of pool.old)) (D.refused (device_of pool.new)) (ChangingReaches (IsCounted ((versions_of pool.old).pages at) (settled_of changes.old)))) }
+    ensures refused { IfErr result (MayFail (IsDatabase ((versions_of pool.old).pages at) (private_of changes.old)) (D.refused (device_of pool.old)) (D.refused (device_of pool.new)) (ChangingReaches (IsCounted ((versions_of pool.old).pages at) (private_of changes.new)))) }
     ensures rising { D.refused (device_of pool.old) ≤ D.refused (device_of pool.new) }
 {
     match read_header(pool, changes, at) {
@@ -161,7 +161,7 @@ pub fn create_index<D: Disk>(
     ensures indexed { IsDatabase ((versions_of pool.old).pages at) (private_of changes.old) → OnOk result (IsNow ((versions_of pool.old).pages at) (private_of changes.new) (indexed (contents_in ((versions_of pool.old).pages at) (private_of changes.old)) name.now index)) }
     ensures settled { settled_of changes.new ≡ settled_of changes.old }
     ensures versions { versions_of pool.new ≡ versions_of pool.old }
-    ensures refused { IfErr result (MayFail (IsDatabase ((versions_of pool.old).pages at) (private_of changes.old)) (D.refused (device_of pool.old)) (D.refused (device_of pool.new)) (ChangingReaches (IsCounted ((versions_of pool.old).pages at) (settled_of changes.old)))) }
+    ensures refused { IfErr result (MayFail (IsDatabase ((versions_of pool.old).pages at) (private_of changes.old)) (D.refused (device_of pool.old)) (D.refused (device_of pool.new)) (ChangingReaches (IsCounted ((versions_of pool.old).pages at) (private_of changes.new)))) }
     ensures rising { D.refused (device_of pool.old) ≤ D.refused (device_of pool.new) }
 {
     match read_header(pool, changes, at) {
@@ -208,7 +208,7 @@ pub fn drop_index<D: Disk>(
     ensures unindexed { IsDatabase ((versions_of pool.old).pages at) (private_of changes.old) → OnOk result (IsNow ((versions_of pool.old).pages at) (private_of changes.new) (unindexed (contents_in ((versions_of pool.old).pages at) (private_of changes.old)) name.now)) }
     ensures settled { settled_of changes.new ≡ settled_of changes.old }
     ensures versions { versions_of pool.new ≡ versions_of pool.old }
-    ensures refused { IfErr result (MayFail (IsDatabase ((versions_of pool.old).pages at) (private_of changes.old)) (D.refused (device_of pool.old)) (D.refused (device_of pool.new)) (ChangingReaches (IsCounted ((versions_of pool.old).pages at) (settled_of changes.old)))) }
+    ensures refused { IfErr result (MayFail (IsDatabase ((versions_of pool.old).pages at) (private_of changes.old)) (D.refused (device_of pool.old)) (D.refused (device_of pool.new)) (ChangingReaches (IsCounted ((versions_of pool.old).pages at) (private_of changes.new)))) }
     ensures rising { D.refused (device_of pool.old) ≤ D.refused (device_of pool.new) }
 {
     match read_header(pool, changes, at) {

@@ -2,12 +2,11 @@ use Rattle.std.proofs.Common.{◌∷◌, [], ap, ◌∙◌, inl, inr, arith}
 use Rattle.std.specs.FinMap.{get}
 use Rattle.store.specs.Contents.{Contents, replaced}
 use Rattle.pool.specs.Versions.{Versions, versions_of, device_of}
-use Rattle.overlay.specs.Changes.{fresh_of, private_of, settled_of}
-use Rattle.overlay.specs.InUse.{in_use}
+use Rattle.overlay.specs.Changes.{private_of}
 use Rattle.page_versions.specs.Databases.{contents_in, IsDatabase}
 use Rattle.page_versions.specs.Refusals.{of_fault, IsCounted, RowsReach}
-use Rattle.page_versions.proofs.RefusalLemmas.{header_fails, as_numbering}
-use Rattle.page_versions.proofs.StepLemmas.{fails_as, changed_of, root_fails, rows_fail}
+use Rattle.page_versions.proofs.RefusalLemmas.{header_fails}
+use Rattle.page_versions.proofs.StepLemmas.{fails_as, changed_of, root_fails, row_fail}
 use Rattle.page_versions.proofs.rows.replace_row.Goals as goal
 
 pub returns-in-Ok-put_root-clause-replaced : goal.returns-in-Ok-put_root-clause-replaced
@@ -32,21 +31,21 @@ pub returns-in-Err-put_root-clause-refused : goal.returns-in-Err-put_root-clause
 returns-in-Err-put_root-clause-refused g c =
     root_fails (λ (t : Contents). replaced t c.args.name.now c.args.number c.args.row) ((versions_of c.args.pool.now).pages c.args.at) ((versions_of c.read_header.new.pool).pages c.args.at) ((versions_of c.replace_from.new.pool).pages c.args.at) (private_of c.args.changes.now) (private_of c.replace_from.new.changes) c.in-Ok.header c.in-Ok-replace_from.top c.in-Ok.ensures.says
     (ap (λ (v : Versions). v.pages c.args.at) c.read_header.ensures.versions) (ap (λ (v : Versions). v.pages c.args.at) c.replace_from.ensures.versions) c.in-Ok-replace_from.ensures.replaced c.in-Ok-replace_from.ensures.whole
-    (fresh_of c.put_root.new.changes) (settled_of c.put_root.new.changes) (settled_of c.args.changes.now) (RowsReach (IsCounted ((versions_of c.args.pool.now).pages c.args.at) (settled_of c.args.changes.now)) (c.args.row ∷ []))
+    (private_of c.put_root.new.changes) (RowsReach (IsCounted ((versions_of c.args.pool.now).pages c.args.at) (private_of c.put_root.new.changes)) (c.args.row ∷ []))
     (g.D.Disk.refused (device_of c.args.pool.now)) (g.D.Disk.refused (device_of c.replace_from.new.pool)) (g.D.Disk.refused (device_of c.put_root.new.pool)) c.in-Err-put_root.fault c.of_fault.result c.of_fault.ensures
-    (let a = c.read_header.ensures.rising in let b = c.replace_from.ensures.rising in omega (arith, a, b)) (c.put_root.ensures.settled ∙ c.replace_from.ensures.settled) (λ r. tt) (λ r. r) c.in-Err-put_root.ensures.refusal
+    (let a = c.read_header.ensures.rising in let b = c.replace_from.ensures.rising in omega (arith, a, b)) (λ r. r) (λ r. r) c.in-Err-put_root.ensures.refusal
 
 pub returns-in-Err-replace_from-clause-versions : goal.returns-in-Err-replace_from-clause-versions
 returns-in-Err-replace_from-clause-versions g c = c.replace_from.ensures.versions ∙ c.read_header.ensures.versions
 
 pub returns-in-Err-replace_from-clause-refused : goal.returns-in-Err-replace_from-clause-refused
 returns-in-Err-replace_from-clause-refused g c =
-    rows_fail ((versions_of c.args.pool.now).pages c.args.at) ((versions_of c.read_header.new.pool).pages c.args.at) (private_of c.args.changes.now) (fresh_of c.replace_from.new.changes) (settled_of c.replace_from.new.changes) (settled_of c.args.changes.now) c.in-Ok.header
+    row_fail ((versions_of c.args.pool.now).pages c.args.at) ((versions_of c.read_header.new.pool).pages c.args.at) (private_of c.args.changes.now) (private_of c.replace_from.new.changes) c.in-Ok.header
     (g.D.Disk.refused (device_of c.args.pool.now)) (g.D.Disk.refused (device_of c.read_header.new.pool)) (g.D.Disk.refused (device_of c.replace_from.new.pool)) c.in-Err-replace_from.error c.of_rows.result
-    c.in-Ok.ensures.says (ap (λ (v : Versions). v.pages c.args.at) c.read_header.ensures.versions) c.replace_from.ensures.settled c.read_header.ensures.rising c.in-Err-replace_from.ensures.refusal c.args.name.now (c.args.row ∷ []) c.of_rows.ensures (as_numbering (in_use ((versions_of c.read_header.new.pool).pages c.args.at) (private_of c.args.changes.now)) c.in-Ok.header.catalog_root c.args.name.now (c.args.row ∷ []) c.in-Err-replace_from.error c.in-Err-replace_from.ensures.limits)
+    c.in-Ok.ensures.says (ap (λ (v : Versions). v.pages c.args.at) c.read_header.ensures.versions) c.read_header.ensures.rising c.in-Err-replace_from.ensures.refusal c.args.name.now (c.args.row ∷ []) c.of_rows.ensures c.in-Err-replace_from.ensures.limits
 
 pub returns-in-Err-clause-refused : goal.returns-in-Err-clause-refused
 returns-in-Err-clause-refused g c =
-    fails_as (IsDatabase ((versions_of c.args.pool.now).pages c.args.at) (private_of c.args.changes.now)) (g.D.Disk.refused (device_of c.args.pool.now)) (g.D.Disk.refused (device_of c.read_header.new.pool)) (RowsReach (IsCounted ((versions_of c.args.pool.now).pages c.args.at) (settled_of c.args.changes.now)) (c.args.row ∷ []))
+    fails_as (IsDatabase ((versions_of c.args.pool.now).pages c.args.at) (private_of c.args.changes.now)) (g.D.Disk.refused (device_of c.args.pool.now)) (g.D.Disk.refused (device_of c.read_header.new.pool)) (RowsReach (IsCounted ((versions_of c.args.pool.now).pages c.args.at) (private_of c.args.changes.now)) (c.args.row ∷ []))
     c.of_fault-in-Err.result (of_fault c.in-Err.fault) c.of_fault-in-Err.ensures
-    (header_fails ((versions_of c.args.pool.now).pages c.args.at) (private_of c.args.changes.now) (RowsReach (IsCounted ((versions_of c.args.pool.now).pages c.args.at) (settled_of c.args.changes.now)) (c.args.row ∷ [])) (g.D.Disk.refused (device_of c.args.pool.now)) (g.D.Disk.refused (device_of c.read_header.new.pool)) c.in-Err.fault c.in-Err.ensures.refusal)
+    (header_fails ((versions_of c.args.pool.now).pages c.args.at) (private_of c.args.changes.now) (RowsReach (IsCounted ((versions_of c.args.pool.now).pages c.args.at) (private_of c.args.changes.now)) (c.args.row ∷ [])) (g.D.Disk.refused (device_of c.args.pool.now)) (g.D.Disk.refused (device_of c.read_header.new.pool)) c.in-Err.fault c.in-Err.ensures.refusal)
