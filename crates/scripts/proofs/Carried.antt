@@ -34,6 +34,7 @@ use Rattle.scripts.specs.declared.script.ScriptFault.{ScriptFault}
 use Rattle.scripts.specs.declared.script.ScriptFault.TheVariants.{Memory, Reader, Writer}
 use Rattle.scripts.specs.declared.script.Sessions.{Sessions}
 use Rattle.scripts.specs.Settled.{Places}
+use Rattle.scripts.specs.Device.{has_disk, shows_disk, tells_disk}
 use Rattle.scripts.specs.Played.{Streams, between, ArePiecesSoFar, IsPrinted, IsWhole, IsCutShort, EndsEarly}
 use Rattle.scripts.specs.Playing.{scene_of, numbers_of, standing_from, AreLive, IsReady, FindsSession, IsCarriedOut, HasPlayed, IsPlaying, HasStopped, HasPrinted, HasBroken, HasFinished, HasFailed, HasEnded, IsReading, FindsNone}
 use Rattle.scripts.proofs.Standing.{none_standing, none_numbered, get_standing, set_standing, values_standing, live_alike, live_dropped, live_made, live_at}
@@ -147,28 +148,30 @@ writes_reply held holds is_done reply writes = subst (Writes held holds is_done)
 
 module _ (rules : Rules) (piece : List ℕ) (request : Request) (old new : World) (before mid after : Sessions) (held holds : Option (List ℕ)) (is_done : Bool) where
   -- a piece without a reply
-  pub carried_silently : Asks piece request → Performs rules (scene_of old before) request None (scene_of new after) × IsReady new after → after.refused ≡ before.refused
+  pub carried_silently : Asks piece request → Performs rules (scene_of old before) request None (scene_of new after) × IsReady new after → after.refused ≡ before.refused → after.told_disk ≡ before.told_disk
       → IsCarriedOut rules piece old before new after held held is_done
-  carried_silently asks performs same = record {
+  carried_silently asks performs same told = record {
     request = request;
     asks = asks;
     reply = None;
     performs = performs.0;
     ready = performs.1;
     answer = same ∙ sym (or-false before.refused);
+    disk = told ∙ sym (or-false before.told_disk);
     written = writes_nothing held is_done;
   }
 
-  pub carried_printing : (reply : Reply) → Asks piece request → Performs rules (scene_of old before) request (Some reply) (scene_of new mid) × IsReady new mid → mid.refused ≡ before.refused
-      → after ≡ record mid { refused = mid.refused || is_refusal reply } → Writes held holds is_done (printed_reply reply)
+  pub carried_printing : (reply : Reply) → Asks piece request → Performs rules (scene_of old before) request (Some reply) (scene_of new mid) × IsReady new mid → mid.refused ≡ before.refused → mid.told_disk ≡ before.told_disk
+      → after ≡ record mid { refused = mid.refused || is_refusal reply; told_disk = mid.told_disk || tells_disk reply } → Writes held holds is_done (printed_reply reply)
       → IsCarriedOut rules piece old before new after held holds is_done
-  carried_printing reply asks performs same noted writes = record {
+  carried_printing reply asks performs same told noted writes = record {
     request = request;
     asks = asks;
     reply = Some reply;
     performs = subst (λ (sessions : Sessions). Performs rules (scene_of old before) request (Some reply) (scene_of new sessions)) (sym noted) performs.0;
     ready = subst (λ (sessions : Sessions). IsReady new sessions) (sym noted) (record { live = performs.1.live; within = performs.1.within });
     answer = ap (λ (sessions : Sessions). sessions.refused) noted ∙ ap (λ b. b || is_refusal reply) same;
+    disk = ap (λ (sessions : Sessions). sessions.told_disk) noted ∙ ap (λ b. b || tells_disk reply) told;
     written = writes_reply held holds is_done reply writes;
   }
 
@@ -191,6 +194,9 @@ printed_more (Some r ∷ replies) reply =
 refusal_more : (replies : List (Option Reply)) (reply : Option Reply) → has_refusal (replies ++ reply ∷ []) ≡ (has_refusal replies || is_refused reply)
 refusal_more = or_push has_refusal is_refused refl (λ x xs. refl)
 
+disk_more : (replies : List (Option Reply)) (reply : Option Reply) → has_disk (replies ++ reply ∷ []) ≡ (has_disk replies || shows_disk reply)
+disk_more = or_push has_disk shows_disk refl (λ x xs. refl)
+
 text_more : (printed written front rest text : List ℕ) → printed ≡ written ++ [] → text ≡ front ++ rest → printed ++ text ≡ (written ++ front) ++ rest
 text_more printed written front rest text e f =
     ap (λ l. l ++ text) (e ∙ append-nil written) ∙ ap (λ l. written ++ l) f ∙ sym (append_assoc written front rest)
@@ -205,6 +211,7 @@ module _ (rules : Rules) (start : World) (held : Option (List ℕ)) where
     carried_out = played_more rules (first_scene start) (scene_of old before) (scene_of new after) pieces h.replies piece c.request c.reply h.carried_out c.asks c.performs;
     ready = c.ready;
     answer = c.answer ∙ ap (λ b. b || is_refused c.reply) h.answer ∙ sym (refusal_more h.replies c.reply);
+    disk = c.disk ∙ ap (λ b. b || shows_disk c.reply) h.disk ∙ sym (disk_more h.replies c.reply);
     written = h.written ++ c.written.front;
     text = printed_more h.replies c.reply ∙ text_more (printed_replies h.replies) h.written c.written.front c.written.rest (printed_replies (c.reply ∷ [])) h.text c.written.whole;
     taken = Appends-trans held had has h.written c.written.front h.taken c.written.taken;
@@ -221,6 +228,7 @@ module _ (rules : Rules) (start : World) (held : Option (List ℕ)) where
     carried_out = h.carried_out;
     ready = h.ready;
     answer = h.answer;
+    disk = h.disk;
     written = h.written;
     text = h.text;
     taken = Appends-kept held had has h.written h.taken keeps;
@@ -228,12 +236,12 @@ module _ (rules : Rules) (start : World) (held : Option (List ℕ)) where
 
   -- ---- bytes
 
-  pub begins : (cutter : Cutter) (sessions : Sessions) → HasRead [] cutter → scene_of start sessions ≡ first_scene start → IsReady start sessions → sessions.refused ≡ false
+  pub begins : (cutter : Cutter) (sessions : Sessions) → HasRead [] cutter → scene_of start sessions ≡ first_scene start → IsReady start sessions → sessions.refused ≡ false → sessions.told_disk ≡ false
       → IsPlaying rules start held [] start cutter sessions held
-  begins cutter sessions read first ready answer = record {
+  begins cutter sessions read first ready answer disk = record {
     pieces = [];
     cut = cut_nothing cutter read;
-    played = record { replies = []; carried_out = (refl, first); ready = ready; answer = answer; written = []; text = refl; taken = Appends-nil held };
+    played = record { replies = []; carried_out = (refl, first); ready = ready; answer = answer; disk = disk; written = []; text = refl; taken = Appends-nil held };
   }
 
   pub goes_on : (input : List ℕ) (w : World) (old new : Cutter) (sessions : Sessions) (holds : Option (List ℕ)) (b : ℕ)
@@ -292,6 +300,7 @@ module _ (rules : Rules) (start : World) (held : Option (List ℕ)) where
         carried_out = subst (λ (scene : Scene). ArePlayed rules (first_scene start) pieces h.replies scene) (sym did.1) h.carried_out;
         ready = c.ready;
         answer = c.answer ∙ ap (λ (r : Option Reply). before.refused || is_refused r) did.0 ∙ or-false before.refused ∙ h.answer;
+        disk = c.disk ∙ ap (λ (r : Option Reply). before.told_disk || shows_disk r) did.0 ∙ or-false before.told_disk ∙ h.disk;
         written = h.written ++ c.written.front;
         text = h.text ∙ ap (λ l. (h.written ++ l)) (sym parts.0) ∙ sym (append-nil (h.written ++ c.written.front));
         taken = Appends-trans held had has h.written c.written.front h.taken c.written.taken;
@@ -352,7 +361,7 @@ module _ (rules : Rules) (start : World) (held : Option (List ℕ)) where
 
   -- ---- the end
 
-  pub ends_played : (pieces : List (List ℕ)) (w new : World) (sessions : Sessions) (has : Option (List ℕ)) (h : HasPlayed rules start held pieces [] w sessions has)
+  unfoldable pub ends_played : (pieces : List (List ℕ)) (w new : World) (sessions : Sessions) (has : Option (List ℕ)) (h : HasPlayed rules start held pieces [] w sessions has)
       → EndsSessions w (numbers_of sessions.standing) new → IsPlayed rules start pieces h.written new
   ends_played pieces w new sessions has h ends = record {
     scene = scene_of w sessions;
@@ -362,7 +371,7 @@ module _ (rules : Rules) (start : World) (held : Option (List ℕ)) where
     ended = subst (λ ss. EndsSessions w ss new) (sym (values_standing sessions.standing 1)) ends;
   }
 
-  pub ends_stopped : (done later pieces : List (List ℕ)) (unwritten : List ℕ) (w new : World) (sessions : Sessions) (has : Option (List ℕ)) (h : HasPlayed rules start held done unwritten w sessions has)
+  unfoldable pub ends_stopped : (done later pieces : List (List ℕ)) (unwritten : List ℕ) (w new : World) (sessions : Sessions) (has : Option (List ℕ)) (h : HasPlayed rules start held done unwritten w sessions has)
       → pieces ≡ done ++ later → EndsSessions w (numbers_of sessions.standing) new → IsStopped rules start pieces h.written new
   ends_stopped done later pieces unwritten w new sessions has h order ends = record {
     done = done;
@@ -377,7 +386,7 @@ module _ (rules : Rules) (start : World) (held : Option (List ℕ)) where
   }
 
 -- what was printed, and the sessions ended
-pub ends_printed : (rules : Rules) (cuts : List ℕ → List (List ℕ) → Type 0) (streams : Streams) (start w new : World) (sessions : Sessions) (h : HasPrinted rules cuts streams start w sessions)
+unfoldable pub ends_printed : (rules : Rules) (cuts : List ℕ → List (List ℕ) → Type 0) (streams : Streams) (start w new : World) (sessions : Sessions) (h : HasPrinted rules cuts streams start w sessions)
     → EndsSessions w (numbers_of sessions.standing) new → IsPrinted rules cuts streams start new
 ends_printed rules cuts streams start w new sessions h ends = record {
   input = h.input;
@@ -389,7 +398,7 @@ ends_printed rules cuts streams start w new sessions h ends = record {
   written = h.played.taken;
 }
 
-pub ends_whole : (rules : Rules) (streams : Streams) (start w new : World) (sessions : Sessions) → HasEnded rules streams start w sessions
+unfoldable pub ends_whole : (rules : Rules) (streams : Streams) (start w new : World) (sessions : Sessions) → HasEnded rules streams start w sessions
     → EndsSessions w (numbers_of sessions.standing) new → IsWhole rules streams start sessions.refused new
 unfolding ends_printed ends_played
 ends_whole rules streams start w new sessions h ends = record {
@@ -398,7 +407,7 @@ ends_whole rules streams start w new sessions h ends = record {
   answer = h.printed.played.answer;
 }
 
-pub ends_broken : (rules : Rules) (streams : Streams) (start w new : World) (sessions : Sessions) (h : HasBroken rules streams start w sessions)
+unfoldable pub ends_broken : (rules : Rules) (streams : Streams) (start w new : World) (sessions : Sessions) (h : HasBroken rules streams start w sessions)
     → EndsSessions w (numbers_of sessions.standing) new → IsCutShort rules streams start new
 ends_broken rules streams start w new sessions h ends = record {
   input = h.input;
@@ -410,7 +419,7 @@ ends_broken rules streams start w new sessions h ends = record {
   taken = h.stopped.played.taken;
 }
 
-pub ends_failed : (rules : Rules) (streams : Streams) (start w new : World) (fault : ScriptFault) (sessions : Sessions) → HasFailed rules streams start fault w sessions
+unfoldable pub ends_failed : (rules : Rules) (streams : Streams) (start w new : World) (fault : ScriptFault) (sessions : Sessions) → HasFailed rules streams start fault w sessions
     → EndsSessions w (numbers_of sessions.standing) new → EndsEarly rules streams start fault new
 ends_failed rules streams start w new Memory sessions h ends = absurd h
 ends_failed rules streams start w new (Reader error) sessions h ends = ends_printed rules AreEnded streams start w new sessions h ends
@@ -550,11 +559,12 @@ first_scene_is start n sessions standing chosen =
     λ i. record { world = start; chosen = (ap (λ k. k + 1) chosen) i; standing = (ap (standing_from 1) standing ∙ none_standing n 1) i }
 
 pub begins_reading : (rules : Rules) (start : World) (given held : Option (List ℕ)) (n : ℕ) (cutter : Cutter) (sessions : Sessions) → HasRead [] cutter
-    → sessions.standing ≡ replicate n None → sessions.chosen ≡ 0 → sessions.refused ≡ false → IsReading rules (between given given held held) start start cutter sessions
-begins_reading rules start given held n cutter sessions read standing chosen refused = record {
+    → sessions.standing ≡ replicate n None → sessions.chosen ≡ 0 → sessions.refused ≡ false → sessions.told_disk ≡ false
+    → IsReading rules (between given given held held) start start cutter sessions
+begins_reading rules start given held n cutter sessions read standing chosen refused disk = record {
   input = [];
   read = Consumes-nil given;
-  playing = begins rules start held cutter sessions read (first_scene_is start n sessions standing chosen) (ready_at_first start n sessions standing chosen) refused;
+  playing = begins rules start held cutter sessions read (first_scene_is start n sessions standing chosen) (ready_at_first start n sessions standing chosen) refused disk;
 }
 
 -- the sessions of a script that failed still stand

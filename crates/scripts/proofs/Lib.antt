@@ -3,3 +3,4 @@ pub mod Keeping
 pub mod Standing
 pub mod Pieces
 pub mod Carried
+pub mod Counting

@@ -1,3 +1,4 @@
 pub mod Settled
+pub mod Device
 pub mod Played
 pub mod Playing

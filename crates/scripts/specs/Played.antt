@@ -1,6 +1,7 @@
 -- What a script does, from the bytes that it reads to those that it writes. All of this is our own choice.
-use Rattle.std.specs.Prelude.{◌≡◌, ◌⊎◌, ℕ, Bool, List, Option}
+use Rattle.std.specs.Prelude.{◌≡◌, ◌⊎◌, ℕ, Bool, List, [], Option}
 use Rattle.std.specs.Io.KnownBytes.{Appends, Consumes, IsAtEnd, Keeps}
+use Rattle.replies.specs.declared.reply.Reply.{Reply}
 use Rattle.replies.specs.Writes.{IsNoInterruption}
 use Rattle.script_pieces.specs.Pieces.{ArePieces, AreEnded}
 use Rattle.session_definitions.specs.Rules.{Rules}
@@ -8,6 +9,7 @@ use Rattle.session_definitions.specs.Script.{IsPlayed, IsStopped, has_refusal}
 use Rattle.session_definitions.specs.World.{World}
 use Rattle.scripts.specs.declared.script.ScriptFault.{ScriptFault}
 use Rattle.scripts.specs.declared.script.ScriptFault.TheVariants.{Memory, Reader, Writer}
+use Rattle.scripts.specs.Device.{TellDevice}
 
 -- Of a reader the bytes that it had, and those that it has left; of a writer the bytes that it held, and those that it holds: each where
 -- its type tells them.
@@ -61,6 +63,24 @@ abbrev pub EndsEarly : Rules → Streams → World → ScriptFault → World →
 EndsEarly rules streams old Memory new = IsUntouched streams old new
 EndsEarly rules streams old (Reader error) new = IsPrinted rules AreEnded streams old new
 EndsEarly rules streams old (Writer error) new = IsCutShort rules streams old new
+
+-- the replies of the pieces that were carried out before a fault
+abbrev pub replies_before : (rules : Rules) (streams : Streams) (old : World) (fault : ScriptFault) (new : World) → EndsEarly rules streams old fault new → List (Option Reply)
+replies_before rules streams old Memory new early = []
+replies_before rules streams old (Reader error) new early = early.played.replies
+replies_before rules streams old (Writer error) new early = early.stopped.replies
+
+-- ---- over a store, whose device had refused `before` calls, and has refused `after` then
+
+-- All was carried out, and X0002 told only where the device refused a call.
+pub record RunsWhole (rules : Rules) (streams : Streams) (old : World) (before : ℕ) (refused : Bool) (new : World) (after : ℕ) : Type 0 where
+  pub all : IsWhole rules streams old refused new
+  pub device : TellDevice all.printed.played.replies before after
+
+-- A fault ended it, and X0002 was told only where the device refused a call.
+pub record RunsInPart (rules : Rules) (streams : Streams) (old : World) (before : ℕ) (fault : ScriptFault) (new : World) (after : ℕ) : Type 0 where
+  pub some : EndsEarly rules streams old fault new
+  pub device : TellDevice (replies_before rules streams old fault new some) before after
 
 -- no script ends since a read or a write was interrupted: it is tried again
 abbrev pub IsNotInterrupted : ScriptFault → Type 0

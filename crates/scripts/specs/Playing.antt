@@ -20,6 +20,7 @@ use Rattle.scripts.specs.declared.script.ScriptFault.{ScriptFault}
 use Rattle.scripts.specs.declared.script.ScriptFault.TheVariants.{Memory, Reader, Writer}
 use Rattle.scripts.specs.declared.script.Sessions.{Sessions}
 use Rattle.scripts.specs.Settled.{Places}
+use Rattle.scripts.specs.Device.{has_disk, shows_disk}
 use Rattle.scripts.specs.Played.{Streams, ArePiecesSoFar}
 
 -- ---- the sessions of a script
@@ -76,6 +77,7 @@ pub record IsCarriedOut (rules : Rules) (piece : List ℕ) (old : World) (before
   pub performs : Performs rules (scene_of old before) request reply (scene_of new after)
   pub ready : IsReady new after
   pub answer : after.refused ≡ (before.refused || is_refused reply)
+  pub disk : after.told_disk ≡ (before.told_disk || shows_disk reply)
   pub written : Writes held holds is_done (printed_replies (reply ∷ []))
 
 -- ---- the pieces so far
@@ -105,6 +107,7 @@ pub record HasPlayed (rules : Rules) (start : World) (held : Option (List ℕ)) 
   pub carried_out : ArePlayed rules (first_scene start) pieces replies (scene_of w sessions)
   pub ready : IsReady w sessions
   pub answer : sessions.refused ≡ has_refusal replies
+  pub disk : sessions.told_disk ≡ has_disk replies
   pub written : List ℕ
   pub text : printed_replies replies ≡ written ++ unwritten
   pub taken : Appends held holds written

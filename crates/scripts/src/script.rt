@@ -11,7 +11,8 @@ ghost use Rattle.session_definitions.specs.World.{World};
 ghost use Rattle.sessions.specs.OfCore.{IsSound, world_of};
 ghost use Rattle.transactions.specs.Refused.{Counts};
 ghost use Rattle.scripts.specs.Settled.{IsCommitted, IsKept, IsSettled, Places, store_of};
-ghost use Rattle.scripts.specs.Played.{between, EndsEarly, IsNotInterrupted, IsWhole};
+ghost use Rattle.scripts.specs.Device.{IsCounted, tells_disk};
+ghost use Rattle.scripts.specs.Played.{between, IsNotInterrupted, RunsInPart, RunsWhole};
 ghost use Rattle.scripts.specs.Playing.{AfterTurn, AreLive, FindsNone, FindsSession, HasEnded, HasFailed, HasFinished, HasStopped, IsCarriedOut, IsPlaying, IsReading, IsReady, numbers_of, scene_of};
 
 use refusals::{Reason, Refusal};
@@ -45,13 +46,15 @@ pub enum ScriptFault {
     Writer(io::Error),
 }
 
-/// The sessions of a script, the one that is chosen, and whether a reply was a refusal.
+/// The sessions of a script, the one that is chosen, and whether a reply was a refusal, and one the device's.
 #[derive(Drop)]
 struct Sessions {
     standing: [Option<SessionId>; SESSIONS],
     /// Its place among them, one less than its number.
     chosen: usize,
     refused: bool,
+    /// Whether a reply was X0002.
+    told_disk: bool,
 }
 
 /// Reads a script, makes the calls of its pieces in order and prints each reply; then ends its sessions.
@@ -59,7 +62,8 @@ struct Sessions {
 /// The answer tells whether a reply was a refusal. After a fault of the reader only the pieces that ended
 /// before it were carried out, and after one of the writer no later piece; of the text of the replies a beginning
 /// was then written. A read or a write that was interrupted is tried again. However it ends, what is not committed
-/// is rolled back: where no session stood before, none stands after it.
+/// is rolled back: where no session stood before, none stands after it. A reply is X0002 only where the device
+/// refused a call.
 pub fn run<S: Store, L: Language + Changes<S>, R: Read, W: Write>(
     alloc: Global,
     core: &mut Core<S, L>,
@@ -67,9 +71,11 @@ pub fn run<S: Store, L: Language + Changes<S>, R: Read, W: Write>(
     writer: &mut W,
 ) -> Result<bool, ScriptFault>
     ensures plays { (rules : Rules) → AreRules rules → IsSettled S.is_sound S.shows rules.check core.old
-        → IfOk result (λ refused. IsWhole rules (between (R.remaining reader.old) (R.remaining reader.new) (W.contents writer.old) (W.contents writer.new)) (world_of S.shows core.old) refused (world_of S.shows core.new)) }
+        → IfOk result (λ refused. RunsWhole rules (between (R.remaining reader.old) (R.remaining reader.new) (W.contents writer.old) (W.contents writer.new)) (world_of S.shows core.old)
+        (S.refused (store_of core.old)) refused (world_of S.shows core.new) (S.refused (store_of core.new))) }
     ensures stopped { (rules : Rules) → AreRules rules → IsSettled S.is_sound S.shows rules.check core.old
-        → IfErr result (λ fault. EndsEarly rules (between (R.remaining reader.old) (R.remaining reader.new) (W.contents writer.old) (W.contents writer.new)) (world_of S.shows core.old) fault (world_of S.shows core.new)) }
+        → IfErr result (λ fault. RunsInPart rules (between (R.remaining reader.old) (R.remaining reader.new) (W.contents writer.old) (W.contents writer.new)) (world_of S.shows core.old)
+        (S.refused (store_of core.old)) fault (world_of S.shows core.new) (S.refused (store_of core.new))) }
     ensures tried_again { IfErr result IsNotInterrupted }
     ensures settled { (rules : Rules) → AreRules rules → IsSettled S.is_sound S.shows rules.check core.old → IsSettled S.is_sound S.shows rules.check core.new }
     ensures committed { (rules : Rules) → AreRules rules → IsSettled S.is_sound S.shows rules.check core.old → IsCommitted S.shows core.new }
@@ -83,6 +89,7 @@ pub fn run<S: Store, L: Language + Changes<S>, R: Read, W: Write>(
         standing: [None; SESSIONS],
         chosen: 0,
         refused: false,
+        told_disk: false,
     };
     let mut waits = false;
     let outcome = play(core, &mut cutter, &mut sessions, reader, writer, &mut waits);
@@ -111,6 +118,7 @@ fn play<S: Store, L: Language + Changes<S>, R: Read, W: Write>(
         (λ fault. HasFailed rules (between given (R.remaining reader.new) held (W.contents writer.new)) start fault (world_of S.shows core.new) sessions.new) }
     ensures tried_again { IfErr result IsNotInterrupted }
     ensures kept { (rules : Rules) → AreRules rules → IsKept S.is_sound S.shows rules.check sessions.old.standing core.old → IsKept S.is_sound S.shows rules.check sessions.new.standing core.new }
+    ensures device { (since : ℕ) → IsCounted since sessions.old (S.refused (store_of core.old)) → IsCounted since sessions.new (S.refused (store_of core.new)) }
     ensures counts { S.refused (store_of core.old) ≤ S.refused (store_of core.new) }
 {
     let mut chunk = [0u8; CHUNK];
@@ -143,6 +151,7 @@ fn turn<S: Store, L: Language + Changes<S>, R: Read, W: Write>(
     ensures tried_again { IfErr result IsNotInterrupted }
     ensures room { length chunk.new ≡ length chunk.old }
     ensures kept { (rules : Rules) → AreRules rules → IsKept S.is_sound S.shows rules.check sessions.old.standing core.old → IsKept S.is_sound S.shows rules.check sessions.new.standing core.new }
+    ensures device { (since : ℕ) → IsCounted since sessions.old (S.refused (store_of core.old)) → IsCounted since sessions.new (S.refused (store_of core.new)) }
     ensures counts { S.refused (store_of core.old) ≤ S.refused (store_of core.new) }
 {
     match read_some(reader, chunk) {
@@ -172,6 +181,7 @@ fn play_last<S: Store, L: Language + Changes<S>, W: Write>(
         → HasFinished rules start held input (is_ok result) (world_of S.shows core.new) sessions.new (W.contents writer.new) }
     ensures tried_again { IfErr result IsNoInterruption }
     ensures kept { (rules : Rules) → AreRules rules → IsKept S.is_sound S.shows rules.check sessions.old.standing core.old → IsKept S.is_sound S.shows rules.check sessions.new.standing core.new }
+    ensures device { (since : ℕ) → IsCounted since sessions.old (S.refused (store_of core.old)) → IsCounted since sessions.new (S.refused (store_of core.new)) }
     ensures counts { S.refused (store_of core.old) ≤ S.refused (store_of core.new) }
 {
     let last = cutter.finish();
@@ -239,6 +249,7 @@ fn play_bytes<S: Store, L: Language + Changes<S>, W: Write>(
         (λ _. HasStopped rules start held (AreEnded (input ++ bytes.now)) (world_of S.shows core.new) sessions.new (W.contents writer.new)) }
     ensures tried_again { IfErr result IsNoInterruption }
     ensures kept { (rules : Rules) → AreRules rules → IsKept S.is_sound S.shows rules.check sessions.old.standing core.old → IsKept S.is_sound S.shows rules.check sessions.new.standing core.new }
+    ensures device { (since : ℕ) → IsCounted since sessions.old (S.refused (store_of core.old)) → IsCounted since sessions.new (S.refused (store_of core.new)) }
     ensures counts { S.refused (store_of core.old) ≤ S.refused (store_of core.new) }
 {
     for byte in bytes {
@@ -267,6 +278,7 @@ fn carry_out_piece<S: Store, L: Language + Changes<S>, W: Write>(
         → IsCarriedOut rules piece (world_of S.shows core.old) sessions.old (world_of S.shows core.new) sessions.new (W.contents writer.old) (W.contents writer.new) (is_ok result) }
     ensures tried_again { IfErr result IsNoInterruption }
     ensures kept { (rules : Rules) → AreRules rules → IsKept S.is_sound S.shows rules.check sessions.old.standing core.old → IsKept S.is_sound S.shows rules.check sessions.new.standing core.new }
+    ensures device { (since : ℕ) → IsCounted since sessions.old (S.refused (store_of core.old)) → IsCounted since sessions.new (S.refused (store_of core.new)) }
     ensures counts { S.refused (store_of core.old) ≤ S.refused (store_of core.new) }
 {
     match reply_to(core, cutter, sessions, request) {
@@ -279,8 +291,8 @@ fn carry_out_piece<S: Store, L: Language + Changes<S>, W: Write>(
     }
 }
 
-/// Carries out what a piece asks for; a choice of a session alone has no reply. After a flush that is not refused nothing is left to write, and it is refused by the device only where this
-/// refused a call.
+/// Carries out what a piece asks for; a choice of a session alone has no reply. After a flush that is not refused nothing is left to write. A reply is X0002 only where the device refused
+/// a call.
 fn reply_to<S: Store, L: Language + Changes<S>>(
     core: &mut Core<S, L>,
     cutter: &Cutter,
@@ -291,9 +303,9 @@ fn reply_to<S: Store, L: Language + Changes<S>>(
         → IsReady (world_of S.shows core.old) sessions.old → Asks piece (asked request (call_text cutter.now))
         → Performs rules (scene_of (world_of S.shows core.old) sessions.old) (asked request (call_text cutter.now)) result (scene_of (world_of S.shows core.new) sessions.new)
         × IsReady (world_of S.shows core.new) sessions.new }
-    ensures flushes { request ≡ Request.Flushes
-        → IfSome result (λ reply. (reply ≡ Reply.Done → S.unwritten (store_of core.new) ≡ 0) × Counts reply (S.refused (store_of core.old)) (S.refused (store_of core.new))) }
-    ensures refused { sessions.new.refused ≡ sessions.old.refused }
+    ensures flushes { request ≡ Request.Flushes → IfSome result (λ reply. reply ≡ Reply.Done → S.unwritten (store_of core.new) ≡ 0) }
+    ensures refused { (sessions.new.refused ≡ sessions.old.refused) × (sessions.new.told_disk ≡ sessions.old.told_disk) }
+    ensures device { IfSome result (λ reply. Counts reply (S.refused (store_of core.old)) (S.refused (store_of core.new))) }
     ensures kept { (rules : Rules) → AreRules rules → IsKept S.is_sound S.shows rules.check sessions.old.standing core.old → IsKept S.is_sound S.shows rules.check sessions.new.standing core.new }
     ensures counts { S.refused (store_of core.old) ≤ S.refused (store_of core.new) }
 {
@@ -335,8 +347,16 @@ fn flush_all<S: Store, L: Language + Changes<S>>(core: &mut Core<S, L>) -> Reply
     Reply::Done
 }
 
+/// Whether it is X0002.
+fn tells_disk(reply: &Reply) -> bool
+    ensures { result ≡ tells_disk reply.now }
+{
+    matches!(reply, Reply::Refused(Refusal::Disk))
+}
+
 impl Sessions {
-    ghost use Rattle.std.specs.Prelude.{◌||◌, zero};
+    ghost use Rattle.std.specs.Prelude.{◌||◌, ◌≢◌, zero};
+    ghost use Rattle.refusals.specs.declared.refusal.Refusal.TheVariants.{Disk};
     ghost use Rattle.replies.specs.Refused.{is_refusal};
 
     /// Chooses the session of this number, from 1 to 64.
@@ -346,11 +366,12 @@ impl Sessions {
         self.chosen = session.saturating_sub(1);
     }
 
-    /// Keeps whether a reply was a refusal.
+    /// Keeps whether a reply was a refusal, and whether one was the device's.
     fn note(&mut self, reply: &Reply)
-        ensures { self.new ≡ record self.old { refused = self.old.refused || is_refusal reply.now } }
+        ensures { self.new ≡ record self.old { refused = self.old.refused || is_refusal reply.now; told_disk = self.old.told_disk || tells_disk reply.now } }
     {
         self.refused = self.refused || reply.is_refused();
+        self.told_disk = self.told_disk || tells_disk(reply);
     }
 
     /// Calls the chosen session, which is made where it does not stand; where that is refused, the refusal
@@ -362,7 +383,8 @@ impl Sessions {
     ) -> Reply
         ensures plays { (rules : Rules) → AreRules rules → IsKept S.is_sound S.shows rules.check self.old.standing core.old → IsReady (world_of S.shows core.old) self.old
             → Plays rules (scene_of (world_of S.shows core.old) self.old) text.now result (scene_of (world_of S.shows core.new) self.new) × IsReady (world_of S.shows core.new) self.new }
-        ensures refused { self.new.refused ≡ self.old.refused }
+        ensures refused { (self.new.refused ≡ self.old.refused) × (self.new.told_disk ≡ self.old.told_disk) }
+        ensures device { Counts result (S.refused (store_of core.old)) (S.refused (store_of core.new)) }
         ensures kept { (rules : Rules) → AreRules rules → IsKept S.is_sound S.shows rules.check self.old.standing core.old → IsKept S.is_sound S.shows rules.check self.new.standing core.new }
         ensures counts { S.refused (store_of core.old) ≤ S.refused (store_of core.new) }
     {
@@ -381,7 +403,8 @@ impl Sessions {
         ensures finds { IsSound S.is_sound S.shows core.old → self.old.chosen < 64
             → MatchResult result (λ session. FindsSession (world_of S.shows core.old) self.old session (world_of S.shows core.new) self.new)
             (λ refusal. FindsNone (world_of S.shows core.old) self.old refusal (world_of S.shows core.new) self.new) }
-        ensures refused { self.new.refused ≡ self.old.refused }
+        ensures refused { (self.new.refused ≡ self.old.refused) × (self.new.told_disk ≡ self.old.told_disk) }
+        ensures device { IfErr result (λ refusal. refusal ≢ Disk) }
         ensures kept { (rules : Rules) → AreRules rules → IsKept S.is_sound S.shows rules.check self.old.standing core.old → IsKept S.is_sound S.shows rules.check self.new.standing core.new }
         ensures counts { S.refused (store_of core.old) ≤ S.refused (store_of core.new) }
     {

@@ -1,4 +1,5 @@
 pub mod Histories
+pub mod Counting
 pub mod Moves
 pub mod Goods
 pub mod Desks

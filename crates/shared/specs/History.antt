@@ -1,10 +1,13 @@
 -- Histories of many callers of one core: what each was told, in one order; and which of them are legal (sessions are those of ISO/IEC 9075:1992, 4.30; that their calls
 -- have one order is our own choice).
-use Rattle.std.specs.Prelude.{Option, Some, None, Ok, Err, ◌≡◌, ℕ, ◌<◌, ◌==◌, Bool, true, false, not, ◌||◌, ◌&&◌, List, [], ◌∷◌, ◌++◌, map}
+use Rattle.std.specs.Prelude.{Option, Some, None, Ok, Err, ◌≡◌, ℕ, ◌<◌, ◌≤◌, ◌==◌, Bool, true, false, not, ◌||◌, ◌&&◌, List, [], ◌∷◌, ◌++◌, map}
+use Rattle.refusals.specs.declared.refusal.Refusal.TheVariants.{Disk}
 use Rattle.session_definitions.specs.Rules.{Rules, AreRules}
 use Rattle.session_definitions.specs.Run as runs
 use Rattle.session_definitions.specs.World.{World}
 use Rattle.session_laws.specs.Sound.{IsGoodWorld}
+use Rattle.store.specs.Errors.{HasRisen}
+use Rattle.transactions.specs.Refused.{Counts}
 use Rattle.shared.specs.declared.event.Event.{Event}
 use Rattle.shared.specs.declared.event.Act.{Act}
 use Rattle.shared.specs.declared.event.Act.TheVariants.{Connects, Refused, Says, Ends}
@@ -102,3 +105,22 @@ at_after (Connects id) at = Some id
 at_after (Refused refusal) at = at
 at_after (Says id text reply) at = at
 at_after (Ends id) at = None
+
+-- ---- refusals of the device
+
+-- X0002 is told of a call only where the count of refused calls rose from the one to the other
+abbrev pub TellsDevice : Act → ℕ → ℕ → Type 0
+TellsDevice (Connects id) before after = Unit {0}
+TellsDevice (Refused refusal) before after = refusal ≡ Disk → HasRisen before after
+TellsDevice (Says id text reply) before after = Counts reply before after
+TellsDevice (Ends id) before after = Unit {0}
+
+-- of each call
+abbrev pub AllTellDevice : List Event → ℕ → ℕ → Type 0
+AllTellDevice [] before after = Unit {0}
+AllTellDevice (e ∷ es) before after = TellsDevice e.act before after × AllTellDevice es before after
+
+-- The count of refused calls has not fallen since it was the one, and rose where X0002 was told.
+pub record IsCounted (before after : ℕ) (log : List Event) : Type 0 where
+  pub least : before ≤ after
+  pub told : AllTellDevice log before after

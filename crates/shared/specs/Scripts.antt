@@ -3,12 +3,16 @@ use Rattle.std.specs.Prelude.{Bool, true, false, Option, Some, None, Result, Ok,
 use mathlib.Core.List.{IsPrefix}
 use Rattle.std.specs.Global.{Vec}
 use Rattle.refusals.specs.declared.refusal.Refusal.{Refusal}
+use Rattle.refusals.specs.declared.refusal.Refusal.TheVariants.{Disk}
 use Rattle.replies.specs.declared.reply.Reply.{Reply}
 use Rattle.session_definitions.specs.World.{World}
+use Rattle.sessions.specs.declared.core_of.Core.{Core}
+use Rattle.store.specs.Errors.{HasRisen}
+use Rattle.transactions.specs.Refused.{IfRefused}
 use Rattle.shared.specs.declared.event.Event.{Event}
 use Rattle.shared.specs.declared.event.Act.{Act}
 use Rattle.shared.specs.declared.event.Act.TheVariants.{Connects, Refused, Says, Ends}
-use Rattle.shared.specs.History.{Stays, AllOf, calls_by}
+use Rattle.shared.specs.History.{Stays, AllOf, IsCounted, calls_by}
 use Rattle.shared.specs.Views.{Past}
 
 -- a text's answer: its reply, or why no session was made for it
@@ -92,6 +96,19 @@ pub record Asks (v : Past) (more : List Ask) (w : Past) : Type 0 where
   pub saw : IsPrefix v.seen w.seen
   pub mine : asks w.mine ≡ asks v.mine ++ more
 
+-- the answer is X0002 only where the device refused a call, as `has_refused` says
+abbrev pub TellsDeviceIf : Type 0 → Answer → Type 0
+TellsDeviceIf has_refused (Err refusal) = refusal ≡ Disk → has_refused
+TellsDeviceIf has_refused (Ok reply) = IfRefused reply (λ refusal. refusal ≡ Disk → has_refused)
+
+-- and so each of a script's
+abbrev pub AllTellDeviceIf : Type 0 → List Answer → Type 0
+AllTellDeviceIf has_refused [] = Unit {0}
+AllTellDeviceIf has_refused (a ∷ answers) = TellsDeviceIf has_refused a × AllTellDeviceIf has_refused answers
+
+abbrev pub store_of : {S L D : Type 0} → Core S L D → S
+store_of core = core.store
+
 -- There is one history. Each call in it is a script's; of each script it has the calls of its texts, each once and in order, with the answers that are given, and no others.
 -- Under the premise it is legal, and leads from the first world to the last.
 pub record OneHistory (premise : Type 0) (start : World) (scripts : List Script) (replies : List Answers) (sound : Type 0) (end : World) : Type 0 where
@@ -100,3 +117,10 @@ pub record OneHistory (premise : Type 0) (start : World) (scripts : List Script)
   pub all : length replies ≡ length scripts
   pub each : (k : ℕ) (answers : Answers) → slice_get replies k ≡ Some answers → Played (texts_at scripts k) (calls_by k log) answers.items
   pub tells : premise → Stays start log sound end
+
+-- There is one history of the scripts, from a core whose device had refused `before` calls to one whose device has refused `after`. X0002 is told in it, and is an answer, only where the
+-- device refused a call.
+pub record RunSideBySide (premise : Type 0) (start : World) (before : ℕ) (scripts : List Script) (replies : List Answers) (sound : Type 0) (end : World) (after : ℕ) : Type 0 where
+  pub history : OneHistory premise start scripts replies sound end
+  pub counted : IsCounted before after history.log
+  pub device : (k : ℕ) (answers : Answers) → slice_get replies k ≡ Some answers → AllTellDeviceIf (HasRisen before after) answers.items

@@ -1,10 +1,11 @@
 //! What lies under the lock: a core, and the pass that knows the history of all that was called.
-ghost use Rattle.std.specs.Prelude.{◌≡◌, ℕ, ◌+◌, ◌%◌, ◌^◌, Some, None, List, [], true, false, length, IfOk, IfErr};
+ghost use Rattle.std.specs.Prelude.{◌≡◌, ◌≤◌, ℕ, ◌+◌, ◌%◌, ◌^◌, Some, None, List, [], true, false, length, IfOk, IfErr};
 ghost use mathlib.Core.List.{IsPrefix};
 ghost use Rattle.crossbeam_utils.specs.Seq.{cell_view};
 ghost use Rattle.session_definitions.specs.World.{is_live};
 ghost use Rattle.sessions.specs.OfCore.{IsSound, world_of};
-ghost use Rattle.shared.specs.History.{event, calls_by, AllOf, Stays};
+ghost use Rattle.shared.specs.History.{event, calls_by, AllOf, IsCounted, Stays};
+ghost use Rattle.shared.specs.Scripts.{store_of};
 ghost use Rattle.shared.specs.Views.{keeper as keeper_of, one_more, host, keeper_in, caller_in, extended, May, Told, Extends, Said, Joined, TurnedAway, Left};
 ghost use Rattle.shared.specs.Called.{act_of};
 
@@ -28,7 +29,7 @@ pub(crate) enum Called<'a> {
     Ends(SessionId),
 }
 
-/// A core, the number of calls modulo 2^64, and the pass that knows the history. The core is as that history left it.
+/// A core, the number of calls modulo 2^64, and the pass that knows the history. The core is as that history left it, and its device refused a call since where one was told X0002.
 #[derive(Drop)]
 pub struct Desk<S: Store, L: Language + Changes<S>, J: Room> {
     core: Core<S, L>,
@@ -42,13 +43,16 @@ impl<S: Store, L: Language + Changes<S>, J: Room> Model for Desk<S, L, J> {
     ghost use Rattle.crossbeam_utils.specs.Seq.{cell_view};
     ghost use Rattle.sessions.specs.OfCore.{IsSound, world_of};
     ghost use Rattle.shared.specs.declared.event.Event.{Event};
+    ghost use Rattle.shared.specs.History.{IsCounted};
+    ghost use Rattle.shared.specs.Scripts.{store_of};
     ghost use Rattle.shared.specs.Views.{IsDesk};
 
     ghost Value = { List Event };
 
     ghost view = { λ d. (cell_view d.keeper).log };
 
-    ghost invariant = { λ d. (d.keeper.table_id ≡ J.table) × IsDesk J.premise J.start J.callers (IsSound S.is_sound S.shows d.core) (world_of S.shows d.core) d.count (cell_view d.keeper) };
+    ghost invariant = { λ d. (d.keeper.table_id ≡ J.table) × IsDesk J.premise J.start J.callers (IsSound S.is_sound S.shows d.core) (world_of S.shows d.core) d.count (cell_view d.keeper)
+        × IsCounted J.refused (S.refused (store_of d.core)) (cell_view d.keeper).log };
 }
 
 impl<S: Store, L: Language + Changes<S>, J: Room> Desk<S, L, J> {
@@ -56,6 +60,7 @@ impl<S: Store, L: Language + Changes<S>, J: Room> Desk<S, L, J> {
     pub(crate) fn new(core: Core<S, L>, keeper: Token) -> Desk<S, L, J>
         requires core { (world_of S.shows core ≡ J.start) × ((id : ℕ) → is_live (world_of S.shows core) id ≡ false) }
         requires sound { J.premise → IsSound S.is_sound S.shows core }
+        requires device { J.refused ≤ S.refused (store_of core) }
         requires keeper { (keeper.table_id ≡ J.table) × (cell_view keeper ≡ keeper_of (cell_view keeper).names []) }
         requires limit { (n : ℕ) → J.callers ≡ Some n → (cell_view keeper).names ≡ n }
         ensures { result ≡ [] }
@@ -74,6 +79,7 @@ impl<S: Store, L: Language + Changes<S>, J: Room> Desk<S, L, J> {
         ensures keeps { (cell_view result.1).keeps ≡ true }
         ensures all_of { (n : ℕ) → J.callers ≡ Some n → AllOf n (cell_view result.1).log }
         ensures history { J.premise → Stays J.start (cell_view result.1).log (IsSound S.is_sound S.shows result.0) (world_of S.shows result.0) }
+        ensures device { IsCounted J.refused (S.refused (store_of result.0)) (cell_view result.1).log }
     {
         let Desk {
             core,

@@ -1,8 +1,9 @@
 //! The calls of sessions, by any thread.
-ghost use Rattle.std.specs.Prelude.{◌≡◌, ℕ, None, [], false, IfOk, IfErr};
+ghost use Rattle.std.specs.Prelude.{◌≡◌, ◌≤◌, ℕ, None, [], false, IfOk, IfErr};
 ghost use Rattle.crossbeam_utils.specs.Seq.{cell_view};
 ghost use Rattle.session_definitions.specs.World.{is_live};
 ghost use Rattle.sessions.specs.OfCore.{IsSound, world_of};
+ghost use Rattle.shared.specs.Scripts.{store_of};
 ghost use Rattle.shared.specs.Views.{keeper as keeper_of, Said, Joined, TurnedAway, Left, HasHistory};
 
 use crate::callers::{Client, Session};
@@ -29,6 +30,7 @@ impl<S: Store, L: Language + Changes<S>, J: Room> Shared<S, L, J> {
         requires view { cell_view keeper ≡ keeper_of 0 [] }
         requires core { (world_of S.shows core ≡ J.start) × ((id : ℕ) → is_live (world_of S.shows core) id ≡ false) }
         requires sound { J.premise → IsSound S.is_sound S.shows core }
+        requires device { J.refused ≤ S.refused (store_of core) }
         requires any { J.callers ≡ None }
         ensures { result.cell ≡ cell }
     {

@@ -115,8 +115,8 @@ impl Split<View> for Guest {
     ghost right = { caller_in };
 }
 
-/// What is fixed as long as a lock lives: its cell, the world with which it began, the premise under which its history is legal, and how many callers there are, where that
-/// is settled.
+/// What is fixed as long as a lock lives: its cell, the world with which it began, how many calls the device had refused then, the premise under which its history is legal, and how many
+/// callers there are, where that is settled.
 pub trait Room {
     ghost use Rattle.std.specs.Prelude.{Option, ℕ};
     ghost use Rattle.atomic_table.specs.Seated.{TableId};
@@ -125,6 +125,8 @@ pub trait Room {
     ghost table: { TableId };
 
     ghost start: { World };
+
+    ghost refused: { ℕ };
 
     ghost premise: { Type 0 };
 
@@ -139,6 +141,8 @@ impl Room for Brand {
     ghost table = { no_table };
 
     ghost start = { new_world };
+
+    ghost refused = { 0 };
 
     ghost premise = { ⊥ };
 

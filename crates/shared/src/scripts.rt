@@ -1,11 +1,11 @@
 //! Scripts, each on a thread of its own, over one core.
-ghost use Rattle.std.specs.Prelude.{◌≡◌, ℕ, ◌+◌, ◌<◌, Some, None, [], ◌∷◌, ◌++◌, true, false, length, vec_len, slice_get, slice_index_or, IfOk, IfSome, OnOk};
+ghost use Rattle.std.specs.Prelude.{◌≡◌, ◌≤◌, ℕ, ◌+◌, ◌<◌, Some, None, [], ◌∷◌, ◌++◌, true, false, length, vec_len, slice_get, slice_index_or, IfOk, IfSome, OnOk};
 ghost use mathlib.Core.List.{IsPrefix};
 ghost use Rattle.crossbeam_utils.specs.Seq.{cell_view};
 ghost use Rattle.session_definitions.specs.World.{is_live};
 ghost use Rattle.sessions.specs.OfCore.{IsSound, world_of};
 ghost use Rattle.shared.specs.Views.{keeper as keeper_of};
-ghost use Rattle.shared.specs.Scripts.{Asks, asked, after, closing, Played, texts_of, texts_at, OneHistory};
+ghost use Rattle.shared.specs.Scripts.{Asks, asked, after, closing, Played, texts_of, texts_at, RunSideBySide, store_of};
 ghost use Rattle.shared.specs.Callers.{past_of, stands_of, HasPlayed, AllPlayed};
 
 use crate::callers::Client;
@@ -29,7 +29,7 @@ use store::Store;
 ///
 /// A script's session is made just before a call for which it does not stand, and ended after the last; where none is made, the refusal is the text's answer, and the text is
 /// not carried out. There is one history of all calls: of each script it has these calls and no others, with these answers, and it is legal where the core was sound and its
-/// databases good. Only want of memory is refused; the core is dropped then.
+/// databases good. An answer is X0002 only where the device refused a call. Only want of memory is refused; the core is dropped then.
 pub fn run_scripts<
     S: Store + Send,
     L: Language + Changes<S> + Send,
@@ -45,7 +45,8 @@ pub fn run_scripts<
 where
     S::Device: Send,
     requires { (id : ℕ) → is_live (world_of S.shows core) id ≡ false }
-    ensures { IfOk result (λ r. OneHistory (IsSound S.is_sound S.shows core) (world_of S.shows core) scripts.now r.1.items (IsSound S.is_sound S.shows r.0) (world_of S.shows r.0)) }
+    ensures { IfOk result (λ r. RunSideBySide (IsSound S.is_sound S.shows core) (world_of S.shows core) (S.refused (store_of core)) scripts.now r.1.items
+        (IsSound S.is_sound S.shows r.0) (world_of S.shows r.0) (S.refused (store_of r.0))) }
 {
     let (cell, keeper) = Cell::ruled(alloc, [0])?;
     run_in::<S, L, Brand, G, R>(rt, alloc, cell, keeper, core, scripts, gate)
@@ -73,8 +74,9 @@ where
     requires view { cell_view keeper ≡ keeper_of 0 [] }
     requires core { (world_of S.shows core ≡ J.start) × ((id : ℕ) → is_live (world_of S.shows core) id ≡ false) }
     requires sound { J.premise → IsSound S.is_sound S.shows core }
+    requires device { J.refused ≤ S.refused (store_of core) }
     requires limit { J.callers ≡ Some (length scripts.now) }
-    ensures { IfOk result (λ r. OneHistory J.premise J.start scripts.now r.1.items (IsSound S.is_sound S.shows r.0) (world_of S.shows r.0)) }
+    ensures { IfOk result (λ r. RunSideBySide J.premise J.start J.refused scripts.now r.1.items (IsSound S.is_sound S.shows r.0) (world_of S.shows r.0) (S.refused (store_of r.0))) }
 {
     let mut keeper = keeper;
     let jobs = jobs_for::<J>(alloc, &cell, &mut keeper, scripts.len())?;
@@ -213,7 +215,7 @@ fn settle<S: Store, L: Language + Changes<S>, J: Room, R: Wait>(
 ) -> Result<(Core<S, L>, Vec<Answers>), AllocError>
     requires limit { J.callers ≡ Some (length scripts.now) }
     requires done { (length done.items ≡ length scripts.now) × AllPlayed scripts.now done.items }
-    ensures { IfOk result (λ r. OneHistory J.premise J.start scripts.now r.1.items (IsSound S.is_sound S.shows r.0) (world_of S.shows r.0)) }
+    ensures { IfOk result (λ r. RunSideBySide J.premise J.start J.refused scripts.now r.1.items (IsSound S.is_sound S.shows r.0) (world_of S.shows r.0) (S.refused (store_of r.0))) }
 {
     let Shared { cell, desk } = shared;
     let (core, keeper) = desk.into_inner().into_parts();

@@ -41,6 +41,7 @@ loop-byte-preserved g c =
             (ends_piece r start held _ (world_of g.S.Store.shows c.loop-byte.core) (world_of g.S.Store.shows w.carry_out_piece.new.core) c.loop-byte.cutter c.take.new.self w.clear.new.self
             c.loop-byte.sessions w.carry_out_piece.new.sessions _ _ (get_or bytes i 0) w.in-Some.request playing w.in-Some.ensures.ends w.clear.ensures carried);
         kept = λ r are h. w.carry_out_piece.ensures.kept r are (c.loop-byte.invariant.kept r are h);
+        device = λ since h. w.carry_out_piece.ensures.device since (c.loop-byte.invariant.device since h);
         counts = le_trans c.loop-byte.invariant.counts w.carry_out_piece.ensures.counts;
       })
       | in_default w ↦ rw (w.core-is, w.sessions-is, w.cutter-is, w.writer-is) (record {
@@ -50,6 +51,7 @@ loop-byte-preserved g c =
             (one_more input bytes i within)
             (goes_on r start held _ (world_of g.S.Store.shows c.loop-byte.core) c.loop-byte.cutter c.take.new.self c.loop-byte.sessions _ (get_or bytes i 0) playing w.in_default.ensures.goes_on);
         kept = c.loop-byte.invariant.kept;
+        device = c.loop-byte.invariant.device;
         counts = c.loop-byte.invariant.counts;
       })
     ]
@@ -60,3 +62,6 @@ returns-clause-plays g c = λ r start held input are h p.
     let playing = subst (λ (l : List ℕ). IsPlaying r start held (input ++ l) (world_of g.S.Store.shows c.loop-byte.core) c.loop-byte.cutter c.loop-byte.sessions (g.W.Write.contents c.loop-byte.writer))
     (take_all c.loop-byte.byte-index c.args.bytes.now past) (c.loop-byte.invariant.plays r start held input are h p) in
     passed_on r start held c.pass_on.result (input ++ c.args.bytes.now) (world_of g.S.Store.shows c.loop-byte.core) c.loop-byte.cutter c.loop-byte.sessions _ _ c.pass_on.ensures.bytes playing
+
+pub returns-in-Err-clause-device : goal.returns-in-Err-clause-device
+returns-in-Err-clause-device g c = λ since h. c.carry_out_piece.ensures.device since (c.loop-byte.invariant.device since h)

@@ -43,4 +43,4 @@ returns-in-Wrong-clause-flushes g c = λ e.
     let bad : found.Wrong ≡ found.Flushes = sym is ∙ e in absurd (cc)
 
 pub returns-in-Flushes-clause-flushes : goal.returns-in-Flushes-clause-flushes
-returns-in-Flushes-clause-flushes g c = λ e. (c.flush_all.ensures.flushed, c.flush_all.ensures.device)
+returns-in-Flushes-clause-flushes g c = λ e. c.flush_all.ensures.flushed

@@ -7,6 +7,7 @@ use Rattle.shared.specs.Scripts.{Answers, asks, Played, texts_at}
 use Rattle.shared.specs.Callers.{HasPlayed}
 use Rattle.shared.specs.declared.jobs.Done.{Done}
 use Rattle.shared.proofs.Asking.{each_reply, later_is}
+use Rattle.shared.proofs.Counting.{answered}
 use Rattle.shared.proofs.scripts.settle.Goals as goal
 
 pub loop-one-preserved : goal.loop-one-preserved
@@ -47,9 +48,14 @@ returns g c =
     let began = c.into_iter-one-iterator.ensures.into_iter_gives in
     let all : length c.loop-one.replies.items ≡ length c.args.scripts.now = omega (arith, was.3, began.1, none, c.requires.done.0) in
     record {
-      log = (cell_view c.into_parts-core.result.1).log;
-      all_of = held.all_of (length c.args.scripts.now) c.requires.limit;
-      all = all;
-      each = was.5;
-      tells = held.history;
+      history = record {
+        log = (cell_view c.into_parts-core.result.1).log;
+        all_of = held.all_of (length c.args.scripts.now) c.requires.limit;
+        all = all;
+        each = was.5;
+        tells = held.history;
+      };
+      counted = held.device;
+      device = λ k answers is.
+          answered g.J.Room.refused _ (texts_at c.args.scripts.now k) k (cell_view c.into_parts-core.result.1).log answers.items (was.5 k answers is) held.device.told;
     }

@@ -4,9 +4,10 @@ use Rattle.session_definitions.specs.World.{is_live}
 use Rattle.sessions.specs.OfCore.{IsSound, number_of, world_of}
 use Rattle.shared.specs.declared.rule.View.{View}
 use Rattle.shared.specs.declared.event.Act.TheVariants.{Connects, Refused}
-use Rattle.shared.specs.History.{event}
+use Rattle.shared.specs.History.{IsCounted, event}
 use Rattle.shared.specs.Views.{keeper_in, caller_in, extended, past, Past, Told, IsDesk, Extends}
 use Rattle.shared.proofs.Goods.{connects_on, refused_on}
+use Rattle.shared.proofs.Counting.{counted_after, not_disk, same_count}
 use Rattle.shared.proofs.Desks.{desk_after, extends_after, live_made}
 use Rattle.shared.proofs.desk.Desk.connect.Goals as goal
 
@@ -21,6 +22,8 @@ invariant_of-self g c =
       subst (λ (v : View). IsDesk g.J.Room.premise g.J.Room.start g.J.Room.callers (IsSound g.S.Store.is_sound g.S.Store.shows c.new_session.new.self) (world_of g.S.Store.shows c.new_session.new.self) ((c.self.inside.count + 1) % 2 ^ 64) v) (sym x)
           (desk_after c.databases_stay_good.ensures.run _ _ _ _ _ _ _ _ (cell_view c.self.inside.keeper) (cell_view c.me.inside.token) act c.self.invariant.1 told (live_made (world_of g.S.Store.shows c.self.inside.core) (world_of g.S.Store.shows c.new_session.new.self) (number_of c.in-Ok.id) c.in-Ok.ensures.live.0 c.in-Ok.ensures.live.1)
           (connects_on g.S.Store.is_sound g.S.Store.shows c.self.inside.core c.new_session.new.self c.in-Ok.id c.in-Ok.ensures.makes c.in-Ok.ensures.sound)),
+      subst (λ (v : View). IsCounted g.J.Room.refused (g.S.Store.refused c.new_session.new.self.store) v.log) (sym x)
+          (counted_after _ _ _ (cell_view c.self.inside.keeper).log (event (cell_view c.me.inside.token).who act) (same_count _ _ c.new_session.ensures.counts) tt c.self.invariant.2),
     )
 
 pub returns-in-Ok-clause-ok : goal.returns-in-Ok-clause-ok
@@ -48,6 +51,8 @@ invariant_of-self-2 g c =
       subst (λ (v : View). IsDesk g.J.Room.premise g.J.Room.start g.J.Room.callers (IsSound g.S.Store.is_sound g.S.Store.shows c.new_session.new.self) (world_of g.S.Store.shows c.new_session.new.self) ((c.self.inside.count + 1) % 2 ^ 64) v) (sym x)
           (desk_after c.databases_stay_good.ensures.run _ _ _ _ _ _ _ _ (cell_view c.self.inside.keeper) (cell_view c.me.inside.token) act c.self.invariant.1 told (λ id. ap (λ x. is_live (world_of g.S.Store.shows x) id) c.in-Err.ensures.refused.1)
           (refused_on g.S.Store.is_sound g.S.Store.shows c.self.inside.core c.new_session.new.self c.in-Err.refusal c.in-Err.ensures.makes c.in-Err.ensures.sound)),
+      subst (λ (v : View). IsCounted g.J.Room.refused (g.S.Store.refused c.new_session.new.self.store) v.log) (sym x)
+          (counted_after _ _ _ (cell_view c.self.inside.keeper).log (event (cell_view c.me.inside.token).who act) (same_count _ _ c.new_session.ensures.counts) (not_disk _ _ _ c.in-Err.ensures.refused.0) c.self.invariant.2),
     )
 
 pub returns-clause-err : goal.returns-clause-err
