@@ -7,3 +7,5 @@ pub mod CloseLemmas
 pub mod OrderlyLemmas
 pub mod ChangeLemmas
 pub mod KeepingLemmas
+pub mod SteadyLemmas
+pub mod DoneLemmas

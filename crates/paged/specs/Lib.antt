@@ -3,3 +3,4 @@ pub mod Shown
 pub mod Sound
 pub mod Store
 pub mod SeenLemmas
+pub mod Counted

@@ -1,6 +1,8 @@
 -- What always holds of the parts of a paged store. Our own choice.
 use Rattle.std.specs.Prelude.{◌≡◌, ℕ, Bool, IsTrue, IsSome}
+use Rattle.pool.specs.Pages.{PageMap}
 use Rattle.pool.specs.Versions.{Versions}
+use Rattle.page_versions.specs.Databases.{IsDatabase}
 use Rattle.page_readers.specs.declared.readers.Readers.{Readers}
 use Rattle.page_readers.specs.Pinned.{ArePinned}
 
@@ -9,3 +11,7 @@ pub record IsOrderly (honest : Bool) (v : Versions) (readers : Readers) (commits
   pub pinned : ArePinned readers v.pins
   pub counted : commits ≡ v.last
   pub first : IsTrue honest → IsSome (v.pages v.last 0)
+
+-- where the pages written before the mark leave a database, all written pages do
+abbrev pub IsSteady : PageMap → PageMap → PageMap → Type 0
+IsSteady version written settled = IsDatabase version settled → ∥ IsDatabase version written ∥₁

@@ -4,6 +4,7 @@
 mod keeping;
 mod paged;
 mod seen;
+mod undoing;
 mod writing;
 
 pub use paged::Paged;

@@ -2,10 +2,12 @@
 ghost use Rattle.std.specs.Prelude.{◌≡◌};
 ghost use Rattle.pool.specs.Versions.{versions_of};
 ghost use Rattle.store.specs.View.{count_of};
-ghost use Rattle.paged.specs.Orderly.{IsOrderly};
+ghost use Rattle.overlay.specs.Changes.{private_of, settled_of};
+ghost use Rattle.paged.specs.Orderly.{IsOrderly, IsSteady};
 
 use crate::keeping::{are_places, is_kept};
 use crate::seen::{beyond_seen, next_seen, ranged_seen, rows_seen, schema_seen, sought_seen};
+use crate::undoing::undo_refused;
 use crate::writing::write_some;
 use denote::{Row, Rows};
 use disk::Disk;
@@ -41,6 +43,7 @@ pub struct Paged<D: Disk> {
     read: u64,
     frames: usize,
     ghost ordered: { IsOrderly D.is_honest (versions_of pool) readers commits },
+    ghost steady: { IsSteady ((versions_of pool).pages (versions_of pool).last) (private_of changes) (settled_of changes) },
 }
 
 impl<D: Disk + Drop> Paged<D> {
@@ -74,10 +77,10 @@ fn rows_in(found: &Option<NumberedRow>) -> usize
 impl<D: Disk + Drop> Store for Paged<D> {
     ghost use Rattle.std.specs.Prelude.{◌≡◌};
     ghost use Rattle.pool.specs.Versions.{versions_of, device_of, unwritten_of};
-    ghost use Rattle.overlay.specs.Changes.{settled_of};
+    ghost use Rattle.overlay.specs.Changes.{settled_of, undone_of};
     ghost use Rattle.page_versions.specs.Opened.{IsReadable};
-    ghost use Rattle.page_versions.specs.Refusals.{IsCounted};
     ghost use Rattle.page_versions.specs.Saved.{IsSaved};
+    ghost use Rattle.paged.specs.Counted.{IsCounted};
     ghost use Rattle.paged.specs.Store.{shown_of, sound_of};
     ghost use Rattle.paged.specs.SeenLemmas.{rises_seen};
 
@@ -93,7 +96,7 @@ impl<D: Disk + Drop> Store for Paged<D> {
 
     ghost read = { λ s. s.read };
 
-    ghost counted = { λ s limit. IsCounted ((versions_of s.pool).pages (versions_of s.pool).last) (settled_of s.changes) limit };
+    ghost counted = { λ s limit. IsCounted D.is_honest ((versions_of s.pool).pages (versions_of s.pool).last) (settled_of s.changes) (undone_of s.changes) limit };
 
     ghost prepared = { λ s. s.prepared };
 
@@ -232,90 +235,65 @@ impl<D: Disk + Drop> Store for Paged<D> {
         if !is_kept(&table) {
             return self.refuse(StoreError::Memory);
         }
-        match create_table(
+        let done = create_table(
             self.alloc,
             &mut self.pool,
             &mut self.changes,
             self.commits,
             &table,
-        ) {
-            Ok(()) => Ok(()),
-            Err(error) => {
-                self.changes.undo();
-                Err(error)
-            }
-        }
+        );
+        undo_refused(&mut self.changes, done)
     }
 
     fn drop_table(&mut self, name: &Text) -> Result<(), StoreError> {
-        match drop_table(
+        let done = drop_table(
             self.alloc,
             &mut self.pool,
             &mut self.changes,
             self.commits,
             name,
-        ) {
-            Ok(()) => Ok(()),
-            Err(error) => {
-                self.changes.undo();
-                Err(error)
-            }
-        }
+        );
+        undo_refused(&mut self.changes, done)
     }
 
     fn create_index(&mut self, name: &Text, index: Index) -> Result<(), StoreError> {
         are_places(index.columns.as_slice());
-        match create_index(
+        let done = create_index(
             self.alloc,
             &mut self.pool,
             &mut self.changes,
             self.commits,
             name,
             index,
-        ) {
-            Ok(()) => Ok(()),
-            Err(error) => {
-                self.changes.undo();
-                Err(error)
-            }
-        }
+        );
+        undo_refused(&mut self.changes, done)
     }
 
     fn drop_index(&mut self, name: &Text) -> Result<(), StoreError> {
-        match drop_index(
+        let done = drop_index(
             self.alloc,
             &mut self.pool,
             &mut self.changes,
             self.commits,
             name,
-        ) {
-            Ok(()) => Ok(()),
-            Err(error) => {
-                self.changes.undo();
-                Err(error)
-            }
-        }
+        );
+        undo_refused(&mut self.changes, done)
     }
 
     fn append(&mut self, name: &Text, rows: Rows) -> Result<(), StoreError> {
-        match append_rows(
+        let done = append_rows(
             self.alloc,
             &mut self.pool,
             &mut self.changes,
             self.commits,
             name,
             rows,
-        ) {
-            Ok(()) => Ok(()),
-            Err(error) => {
-                self.changes.undo();
-                Err(error)
-            }
-        }
+        );
+        undo_refused(&mut self.changes, done)
     }
 
     fn replace(&mut self, name: &Text, number: u64, row: Row) -> Result<(), StoreError> {
-        match replace_row(
+        let done = replace_row(
             self.alloc,
             &mut self.pool,
             &mut self.changes,
@@ -323,30 +301,20 @@ impl<D: Disk + Drop> Store for Paged<D> {
             name,
             number,
             row,
-        ) {
-            Ok(()) => Ok(()),
-            Err(error) => {
-                self.changes.undo();
-                Err(error)
-            }
-        }
+        );
+        undo_refused(&mut self.changes, done)
     }
 
     fn delete(&mut self, name: &Text, number: u64) -> Result<(), StoreError> {
-        match delete_row(
+        let done = delete_row(
             self.alloc,
             &mut self.pool,
             &mut self.changes,
             self.commits,
             name,
             number,
-        ) {
-            Ok(()) => Ok(()),
-            Err(error) => {
-                self.changes.undo();
-                Err(error)
-            }
-        }
+        );
+        undo_refused(&mut self.changes, done)
     }
 
     fn scan(&mut self, alloc: Global, view: View, name: &Text) -> Result<Numbered, StoreError> {

@@ -5,6 +5,7 @@ use Rattle.page_readers.specs.Pinned.{numbers_of}
 use Rattle.paged.proofs.PageLemmas.{none_fresh}
 use Rattle.paged.proofs.ShownLemmas.{shown_undone}
 use Rattle.paged.proofs.SoundLemmas.{sound_moved}
+use Rattle.paged.proofs.SteadyLemmas.{steady_at}
 use Rattle.paged.proofs.paged.Paged.refuse.Goals as goal
 
 pub returns-clause-undone : goal.returns-clause-undone
@@ -18,3 +19,8 @@ returns-clause-sound g c =
     let s = c.args.self.now in
     sound_moved g.D.Disk.is_honest (versions_of s.pool) (versions_of s.pool) (numbers_of s.readers) (private_of s.changes) (settled_of s.changes) (private_of c.undo.new.self) (settled_of c.undo.new.self) refl
     (inr (inl (none_fresh (fresh_of c.undo.new.self) (settled_of c.undo.new.self) (settled_of s.changes) c.undo.ensures.fresh c.undo.ensures.settled))) (inr (inl c.undo.ensures.settled))
+
+pub invariant_of-self : goal.invariant_of-self
+invariant_of-self g c =
+    let s = c.args.self.now in
+    record { ordered = s.ordered; steady = steady_at ((versions_of s.pool).pages (versions_of s.pool).last) (private_of c.undo.new.self) (settled_of c.undo.new.self) (none_fresh (fresh_of c.undo.new.self) (settled_of c.undo.new.self) (settled_of c.undo.new.self) c.undo.ensures.fresh refl) }

@@ -8,12 +8,13 @@ use Rattle.paged.proofs.ShownLemmas.{shown_begun, shown_same}
 use Rattle.paged.proofs.SoundLemmas.{sound_begun, sound_same}
 use Rattle.paged.proofs.ChangeLemmas.{memory_fails}
 use Rattle.paged.proofs.OrderlyLemmas.{orderly_kept, no_less}
+use Rattle.paged.proofs.SteadyLemmas.{steady_kept}
 use Rattle.paged.proofs.paged.PagedStore.begin.Goals as goal
 
 pub invariant_of-self : goal.invariant_of-self
 invariant_of-self g c =
     let s = c.args.self.now in
-    record { ordered = orderly_kept g.D.Disk.is_honest (versions_of s.pool) (versions_of c.begin.new.pool) s.readers c.begin.new.self s.commits (numbers_of c.begin.new.self) c.begin.ensures.kept c.begin.ensures.pinned s.ordered }
+    record { ordered = orderly_kept g.D.Disk.is_honest (versions_of s.pool) (versions_of c.begin.new.pool) s.readers c.begin.new.self s.commits (numbers_of c.begin.new.self) c.begin.ensures.kept c.begin.ensures.pinned s.ordered; steady = steady_kept (versions_of s.pool) (versions_of c.begin.new.pool) (numbers_of c.begin.new.self) (private_of s.changes) (settled_of s.changes) c.begin.ensures.kept s.steady }
 
 pub returns-in-Ok-clause-shows : goal.returns-in-Ok-clause-shows
 returns-in-Ok-clause-shows g c =

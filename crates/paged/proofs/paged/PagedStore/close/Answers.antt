@@ -4,6 +4,7 @@ use Rattle.overlay.specs.Changes.{fresh_of, settled_of, private_of}
 use Rattle.page_readers.specs.Pinned.{numbers_of}
 use Rattle.paged.proofs.CloseLemmas.{closed_saved, closed_shows, closed_sound, closed_refused}
 use Rattle.paged.proofs.OrderlyLemmas.{orderly_same, orderly_kept}
+use Rattle.paged.proofs.SteadyLemmas.{steady_none}
 use Rattle.paged.proofs.paged.PagedStore.close.Goals as goal
 
 pub returns-in-Ok-clause-closed : goal.returns-in-Ok-clause-closed
@@ -27,4 +28,5 @@ invariant_of-result g c =
     record {
       ordered = orderly_same g.D.Disk.is_honest (versions_of c.end_all.new.pool) (versions_of c.in-Err.refused.pool) c.end_all.new.self s.commits c.in-Err.ensures.versions
           (orderly_kept g.D.Disk.is_honest (versions_of s.pool) (versions_of c.end_all.new.pool) s.readers c.end_all.new.self s.commits (numbers_of c.end_all.new.self) c.end_all.ensures.kept c.end_all.ensures.pinned s.ordered);
+      steady = steady_none ((versions_of c.in-Err.refused.pool).pages (versions_of c.in-Err.refused.pool).last) (fresh_of c.new.result) (settled_of c.new.result) c.new.ensures.fresh c.new.ensures.settled;
     }

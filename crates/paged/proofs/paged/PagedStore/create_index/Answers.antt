@@ -1,50 +1,49 @@
 use Rattle.std.specs.FinMap.{get}
 use Rattle.denote.specs.SchemaOf.{index_of}
-use Rattle.store.specs.Contents.{rows_of}
 use Rattle.store.specs.Indexes.{entries_of}
 use Rattle.paged.specs.Store.{shown_of}
-use Rattle.std.proofs.Common.{◌≡◌, ◌∙◌, refl, sym, ap, inl, inr}
+use Rattle.store.specs.Contents.{Contents, indexed, rows_of}
 use Rattle.pool.specs.Versions.{versions_of, device_of}
-use Rattle.overlay.specs.Changes.{fresh_of, settled_of, private_of}
+use Rattle.overlay.specs.Changes.{settled_of, private_of, undone_of}
 use Rattle.page_readers.specs.Pinned.{numbers_of}
-use Rattle.std.proofs.Common.{subst}
-use Rattle.store.specs.Contents.{Contents, indexed}
-use Rattle.pool.specs.Pages.{PageMap}
-use Rattle.page_versions.specs.Databases.{IsDatabase}
-use Rattle.paged.proofs.PageLemmas.{none_fresh}
-use Rattle.paged.proofs.ChangeLemmas.{changed_here, index_fails}
-use Rattle.paged.proofs.ShownLemmas.{shown_working, shown_undone}
-use Rattle.paged.proofs.SoundLemmas.{sound_with, sound_moved}
+use Rattle.paged.proofs.DoneLemmas.{done_shows, done_undone, done_sound, done_steady, index_fails}
 use Rattle.paged.proofs.OrderlyLemmas.{orderly_same}
 use Rattle.paged.proofs.paged.PagedStore.create_index.Goals as goal
 
-pub returns-in-Ok-clause-shows : goal.returns-in-Ok-clause-shows
-returns-in-Ok-clause-shows g c =
+pub returns-clause-shows : goal.returns-clause-shows
+returns-clause-shows g c =
     let s = c.args.self.now in
-    λ sound. shown_working g.D.Disk.is_honest (versions_of s.pool) (versions_of c.create_index.new.pool) (numbers_of s.readers) (private_of s.changes) (settled_of s.changes) (private_of c.create_index.new.changes) (settled_of c.create_index.new.changes) _ sound.device c.create_index.ensures.versions (changed_here g.D.Disk.is_honest (versions_of s.pool) (numbers_of s.readers) (private_of s.changes) (settled_of s.changes) s.commits s.ordered.counted (λ (x : Contents). indexed x c.args.name.now c.args.index) (private_of c.create_index.new.changes) c.in-Ok.ensures.indexed sound).shows c.create_index.ensures.settled
+    λ sound. done_shows g.D.Disk.is_honest (versions_of s.pool) (versions_of c.create_index-done.new.pool) (numbers_of s.readers) (private_of s.changes) (settled_of s.changes) (private_of c.create_index-done.new.changes) (settled_of c.create_index-done.new.changes) (private_of c.undo_refused.new.changes) (settled_of c.undo_refused.new.changes)
+    s.commits s.ordered.counted c.create_index-done.ensures.versions c.create_index-done.ensures.settled c.undo_refused.ensures.settled (λ (x : Contents). indexed x c.args.name.now c.args.index)
+    c.undo_refused.result c.create_index-done.result c.undo_refused.ensures.same c.undo_refused.ensures.made c.create_index-done.ensures.indexed sound
 
-pub returns-in-Ok-clause-sound : goal.returns-in-Ok-clause-sound
-returns-in-Ok-clause-sound g c =
+pub returns-clause-undone : goal.returns-clause-undone
+returns-clause-undone g c =
     let s = c.args.self.now in
-    sound_with g.D.Disk.is_honest (versions_of s.pool) (versions_of c.create_index.new.pool) (numbers_of s.readers) (private_of s.changes) (settled_of s.changes) (private_of c.create_index.new.changes) (settled_of c.create_index.new.changes) c.create_index.ensures.versions (λ sound. (changed_here g.D.Disk.is_honest (versions_of s.pool) (numbers_of s.readers) (private_of s.changes) (settled_of s.changes) s.commits s.ordered.counted (λ (x : Contents). indexed x c.args.name.now c.args.index) (private_of c.create_index.new.changes) c.in-Ok.ensures.indexed sound).is)
-    (λ sound. subst (λ (p : PageMap). IsDatabase ((versions_of s.pool).pages (versions_of s.pool).last) p) (sym c.create_index.ensures.settled) sound.marked)
+    done_undone g.D.Disk.is_honest (versions_of s.pool) (versions_of c.create_index-done.new.pool) (numbers_of s.readers) (private_of s.changes) (settled_of s.changes) (private_of c.create_index-done.new.changes) (settled_of c.create_index-done.new.changes) (private_of c.undo_refused.new.changes) (settled_of c.undo_refused.new.changes)
+    s.commits s.ordered.counted c.create_index-done.ensures.versions c.create_index-done.ensures.settled c.undo_refused.ensures.settled (λ (x : Contents). indexed x c.args.name.now c.args.index)
+    c.undo_refused.result c.create_index-done.result c.undo_refused.ensures.same c.undo_refused.ensures.left
 
-pub returns-in-Err-clause-undone : goal.returns-in-Err-clause-undone
-returns-in-Err-clause-undone g c =
+pub returns-clause-sound : goal.returns-clause-sound
+returns-clause-sound g c =
     let s = c.args.self.now in
-    shown_undone g.D.Disk.is_honest (versions_of s.pool) (versions_of c.create_index.new.pool) (numbers_of s.readers) (private_of s.changes) (settled_of s.changes) (private_of c.undo.new.self) (settled_of c.undo.new.self) c.create_index.ensures.versions (none_fresh (fresh_of c.undo.new.self) (settled_of c.undo.new.self) (settled_of s.changes) c.undo.ensures.fresh (c.undo.ensures.settled ∙ c.create_index.ensures.settled)) (c.undo.ensures.settled ∙ c.create_index.ensures.settled)
+    done_sound g.D.Disk.is_honest (versions_of s.pool) (versions_of c.create_index-done.new.pool) (numbers_of s.readers) (private_of s.changes) (settled_of s.changes) (private_of c.create_index-done.new.changes) (settled_of c.create_index-done.new.changes) (private_of c.undo_refused.new.changes) (settled_of c.undo_refused.new.changes)
+    s.commits s.ordered.counted c.create_index-done.ensures.versions c.create_index-done.ensures.settled c.undo_refused.ensures.settled (λ (x : Contents). indexed x c.args.name.now c.args.index)
+    c.create_index-done.result c.undo_refused.ensures.made c.undo_refused.ensures.left c.create_index-done.ensures.indexed
 
-pub returns-in-Err-clause-sound : goal.returns-in-Err-clause-sound
-returns-in-Err-clause-sound g c =
+pub returns-clause-refused : goal.returns-clause-refused
+returns-clause-refused g c =
     let s = c.args.self.now in
-    sound_moved g.D.Disk.is_honest (versions_of s.pool) (versions_of c.create_index.new.pool) (numbers_of s.readers) (private_of s.changes) (settled_of s.changes) (private_of c.undo.new.self) (settled_of c.undo.new.self) c.create_index.ensures.versions (inr (inl (none_fresh (fresh_of c.undo.new.self) (settled_of c.undo.new.self) (settled_of s.changes) c.undo.ensures.fresh (c.undo.ensures.settled ∙ c.create_index.ensures.settled)))) (inr (inl (c.undo.ensures.settled ∙ c.create_index.ensures.settled)))
-
-pub returns-in-Err-clause-refused : goal.returns-in-Err-clause-refused
-returns-in-Err-clause-refused g c =
-    let s = c.args.self.now in
-    index_fails g.D.Disk.is_honest (versions_of s.pool) (numbers_of s.readers) (private_of s.changes) (settled_of s.changes) s.commits s.ordered.counted (versions_of c.create_index.new.pool) (settled_of c.undo.new.self) c.create_index.ensures.versions (c.undo.ensures.settled ∙ c.create_index.ensures.settled) (rows_of (entries_of (get (shown_of s).working c.args.name.now))) (index_of c.args.index) (g.D.Disk.refused (device_of s.pool)) (g.D.Disk.refused (device_of c.create_index.new.pool)) c.in-Err.error c.in-Err.ensures.refused
+    index_fails g.D.Disk.is_honest (versions_of s.pool) (versions_of c.create_index-done.new.pool) (numbers_of s.readers) (private_of s.changes) (settled_of s.changes) (private_of c.create_index-done.new.changes) (settled_of c.create_index-done.new.changes) (settled_of c.undo_refused.new.changes)
+    s.commits s.ordered.counted c.create_index-done.ensures.versions c.create_index-done.ensures.settled c.undo_refused.ensures.settled (g.D.Disk.refused (device_of s.pool)) (g.D.Disk.refused (device_of c.create_index-done.new.pool))
+    (undone_of c.undo_refused.new.changes) (rows_of (entries_of (get (shown_of s).working c.args.name.now))) (index_of c.args.index) c.undo_refused.result c.create_index-done.result c.undo_refused.ensures.same c.undo_refused.ensures.undone c.create_index-done.ensures.refused
 
 pub invariant_of-self : goal.invariant_of-self
 invariant_of-self g c =
     let s = c.args.self.now in
-    record { ordered = orderly_same g.D.Disk.is_honest (versions_of s.pool) (versions_of c.create_index.new.pool) s.readers s.commits c.create_index.ensures.versions s.ordered }
+    record {
+      ordered = orderly_same g.D.Disk.is_honest (versions_of s.pool) (versions_of c.create_index-done.new.pool) s.readers s.commits c.create_index-done.ensures.versions s.ordered;
+      steady = done_steady g.D.Disk.is_honest (versions_of s.pool) (versions_of c.create_index-done.new.pool) (numbers_of s.readers) (private_of s.changes) (settled_of s.changes) (private_of c.create_index-done.new.changes) (settled_of c.create_index-done.new.changes) (private_of c.undo_refused.new.changes) (settled_of c.undo_refused.new.changes)
+          s.commits s.ordered.counted c.create_index-done.ensures.versions c.create_index-done.ensures.settled c.undo_refused.ensures.settled (λ (x : Contents). indexed x c.args.name.now c.args.index)
+          c.create_index-done.result c.undo_refused.ensures.made c.undo_refused.ensures.left c.create_index-done.ensures.indexed s.steady;
+    }

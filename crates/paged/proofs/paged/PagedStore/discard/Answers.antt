@@ -5,6 +5,7 @@ use Rattle.page_readers.specs.Pinned.{numbers_of}
 use Rattle.paged.proofs.PageLemmas.{none_private}
 use Rattle.paged.proofs.ShownLemmas.{shown_discarded}
 use Rattle.paged.proofs.SoundLemmas.{sound_moved}
+use Rattle.paged.proofs.SteadyLemmas.{steady_none}
 use Rattle.paged.proofs.paged.PagedStore.discard.Goals as goal
 
 pub returns-clause-shows : goal.returns-clause-shows
@@ -18,3 +19,8 @@ returns-clause-sound g c =
     let s = c.args.self.now in
     sound_moved g.D.Disk.is_honest (versions_of s.pool) (versions_of s.pool) (numbers_of s.readers) (private_of s.changes) (settled_of s.changes) (private_of c.new.result) (settled_of c.new.result) refl
     (inr (inr (none_private (fresh_of c.new.result) (settled_of c.new.result) c.new.ensures.fresh c.new.ensures.settled))) (inr (inr c.new.ensures.settled))
+
+pub invariant_of-self : goal.invariant_of-self
+invariant_of-self g c =
+    let s = c.args.self.now in
+    record { ordered = s.ordered; steady = steady_none ((versions_of s.pool).pages (versions_of s.pool).last) (fresh_of c.new.result) (settled_of c.new.result) c.new.ensures.fresh c.new.ensures.settled }

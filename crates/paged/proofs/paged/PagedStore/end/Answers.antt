@@ -5,12 +5,13 @@ use Rattle.page_readers.specs.Pinned.{numbers_of}
 use Rattle.paged.proofs.ShownLemmas.{shown_ended}
 use Rattle.paged.proofs.SoundLemmas.{sound_ended}
 use Rattle.paged.proofs.OrderlyLemmas.{orderly_kept, no_less}
+use Rattle.paged.proofs.SteadyLemmas.{steady_kept}
 use Rattle.paged.proofs.paged.PagedStore.end.Goals as goal
 
 pub invariant_of-self : goal.invariant_of-self
 invariant_of-self g c =
     let s = c.args.self.now in
-    record { ordered = orderly_kept g.D.Disk.is_honest (versions_of s.pool) (versions_of c.end.new.pool) s.readers c.end.new.self s.commits (numbers_of c.end.new.self) c.end.ensures.kept c.end.ensures.pinned s.ordered }
+    record { ordered = orderly_kept g.D.Disk.is_honest (versions_of s.pool) (versions_of c.end.new.pool) s.readers c.end.new.self s.commits (numbers_of c.end.new.self) c.end.ensures.kept c.end.ensures.pinned s.ordered; steady = steady_kept (versions_of s.pool) (versions_of c.end.new.pool) (numbers_of c.end.new.self) (private_of s.changes) (settled_of s.changes) c.end.ensures.kept s.steady }
 
 pub returns-clause-shows : goal.returns-clause-shows
 returns-clause-shows g c =

@@ -10,12 +10,13 @@ use Rattle.paged.proofs.ChangeLemmas.{told_fails}
 use Rattle.paged.proofs.ShownLemmas.{shown_with}
 use Rattle.paged.proofs.SoundLemmas.{same_sound}
 use Rattle.paged.proofs.OrderlyLemmas.{orderly_same}
+use Rattle.paged.proofs.SteadyLemmas.{steady_same}
 use Rattle.paged.proofs.paged.PagedStore.flush.Goals as goal
 
 pub invariant_of-self : goal.invariant_of-self
 invariant_of-self g c =
     let s = c.args.self.now in
-    record { ordered = orderly_same g.D.Disk.is_honest (versions_of s.pool) (versions_of c.write_some.new.pool) s.readers s.commits c.write_some.ensures.versions s.ordered }
+    record { ordered = orderly_same g.D.Disk.is_honest (versions_of s.pool) (versions_of c.write_some.new.pool) s.readers s.commits c.write_some.ensures.versions s.ordered; steady = steady_same (versions_of s.pool) (versions_of c.write_some.new.pool) (private_of s.changes) (settled_of s.changes) c.write_some.ensures.versions s.steady }
 
 pub returns-in-Ok-clause-shows : goal.returns-in-Ok-clause-shows
 returns-in-Ok-clause-shows g c =

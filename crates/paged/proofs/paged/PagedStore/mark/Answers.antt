@@ -4,6 +4,7 @@ use Rattle.overlay.specs.Changes.{fresh_of, settled_of, private_of}
 use Rattle.page_readers.specs.Pinned.{numbers_of}
 use Rattle.paged.proofs.ShownLemmas.{shown_marked, shown_with, same_but_mark}
 use Rattle.paged.proofs.SoundLemmas.{sound_moved}
+use Rattle.paged.proofs.SteadyLemmas.{steady_marked}
 use Rattle.paged.proofs.paged.PagedStore.mark.Goals as goal
 
 pub returns-in-Ok-clause-shows : goal.returns-in-Ok-clause-shows
@@ -28,3 +29,8 @@ returns-in-Err-clause-sound g c =
     let s = c.args.self.now in
     sound_moved g.D.Disk.is_honest (versions_of s.pool) (versions_of s.pool) (numbers_of s.readers) (private_of s.changes) (settled_of s.changes) (private_of c.mark.new.self) (settled_of c.mark.new.self) refl
     (inl c.in-Err.ensures.same) (inr (inl c.in-Err.ensures.left))
+
+pub invariant_of-self : goal.invariant_of-self
+invariant_of-self g c =
+    let s = c.args.self.now in
+    record { ordered = s.ordered; steady = steady_marked ((versions_of s.pool).pages (versions_of s.pool).last) (private_of s.changes) (settled_of s.changes) (private_of c.mark.new.self) (settled_of c.mark.new.self) c.mark.result c.mark.ensures.same c.mark.ensures.settled c.mark.ensures.left s.steady }

@@ -4,10 +4,11 @@ use Rattle.overlay.specs.Changes.{fresh_of, settled_of, private_of}
 use Rattle.page_readers.specs.Pinned.{numbers_of}
 use Rattle.paged.proofs.PageLemmas.{none_private}
 use Rattle.paged.proofs.OpenLemmas.{opened_orderly, opened_sound, opened_shows, saved_again}
+use Rattle.paged.proofs.SteadyLemmas.{steady_none}
 use Rattle.paged.proofs.paged.PagedStore.open.Goals as goal
 
 pub invariant_of-result : goal.invariant_of-result
-invariant_of-result g c = record { ordered = opened_orderly g.D.Disk.is_honest (g.D.Disk.bytes c.args.device) (versions_of c.in-Ok.pool) c.new-in-Ok.result c.in-Ok.ensures.begins c.new-in-Ok.ensures.pinned }
+invariant_of-result g c = record { ordered = opened_orderly g.D.Disk.is_honest (g.D.Disk.bytes c.args.device) (versions_of c.in-Ok.pool) c.new-in-Ok.result c.in-Ok.ensures.begins c.new-in-Ok.ensures.pinned; steady = steady_none ((versions_of c.in-Ok.pool).pages (versions_of c.in-Ok.pool).last) (fresh_of c.new.result) (settled_of c.new.result) c.new.ensures.fresh c.new.ensures.settled }
 
 pub returns-in-Ok-clause-opened : goal.returns-in-Ok-clause-opened
 returns-in-Ok-clause-opened g c = λ db saved. (

@@ -5,12 +5,18 @@ use Rattle.page_readers.specs.Pinned.{numbers_of}
 use Rattle.paged.proofs.ShownLemmas.{shown_with}
 use Rattle.paged.proofs.SoundLemmas.{same_sound}
 use Rattle.paged.proofs.OrderlyLemmas.{orderly_same}
+use Rattle.paged.proofs.SteadyLemmas.{steady_same}
 use Rattle.paged.proofs.paged.PagedStore.scan.Goals as goal
 
 pub invariant_of-self : goal.invariant_of-self
 invariant_of-self g c =
     let s = c.args.self.now in
-    record { ordered = orderly_same g.D.Disk.is_honest (versions_of s.pool) (versions_of c.rows_seen.new.pool) s.readers s.commits c.rows_seen.ensures.versions s.ordered }
+    record { ordered = orderly_same g.D.Disk.is_honest (versions_of s.pool) (versions_of c.rows_seen.new.pool) s.readers s.commits c.rows_seen.ensures.versions s.ordered; steady = steady_same (versions_of s.pool) (versions_of c.rows_seen.new.pool) (private_of s.changes) (settled_of s.changes) c.rows_seen.ensures.versions s.steady }
+
+pub invariant_of-self-in-Err-1 : goal.invariant_of-self-in-Err-1
+invariant_of-self-in-Err-1 g c =
+    let s = c.args.self.now in
+    record { ordered = orderly_same g.D.Disk.is_honest (versions_of s.pool) (versions_of c.rows_seen.new.pool) s.readers s.commits c.rows_seen.ensures.versions s.ordered; steady = steady_same (versions_of s.pool) (versions_of c.rows_seen.new.pool) (private_of s.changes) (settled_of s.changes) c.rows_seen.ensures.versions s.steady }
 
 pub returns-in-Ok-clause-shows : goal.returns-in-Ok-clause-shows
 returns-in-Ok-clause-shows g c =
