@@ -9,6 +9,7 @@ ghost use Rattle.btree_read.specs.Sorted.{put};
 ghost use Rattle.btree_read.specs.Tree.{IsTree};
 ghost use Rattle.btree.specs.Overfull.{IsNoTreeIn};
 ghost use Rattle.btree.specs.Written.{IsWritten};
+ghost use Rattle.tree_entries.specs.Kept.{LosesNoPage};
 ghost use Rattle.catalog_records.specs.Records.{table_records, table_record as table_record_of};
 ghost use Rattle.catalog_read.specs.Keepable.{IsTable};
 ghost use Rattle.catalog.specs.Held.{IsCoded, AreCoded, HoldsSchema};
@@ -69,6 +70,7 @@ fn put_record<S: PageSpace>(
     ensures put { (owned : List ℕ) (entries : List Entry) → IsTree (S.pages space.old) root owned entries
         → IfOk result (IsWritten (S.pages space.old) (S.pages space.new) owned (put (key_code r.now.key) (row_code r.now.row) entries)) }
     ensures coded { OnOk result (IsCoded r.now) }
+    ensures keeps { IfOk result (LosesNoPage (S.pages space.old) (S.pages space.new) root) }
     ensures whole { OnOk result (S.is_whole space.old → S.is_whole space.new) }
     ensures refusal { IfErr result (MayRefuse (S.at_limit space.new) (IsNoTreeIn (S.pages space.old) root (S.is_whole space.old)) (S.refused space.old) (S.refused space.new)) }
     ensures rising { S.refused space.old ≤ S.refused space.new }
@@ -95,6 +97,7 @@ fn put_records<S: PageSpace>(
     ensures put { (owned : List ℕ) (entries : List Entry) → IsTree (S.pages space.old) root owned entries
         → IfOk result (IsWritten (S.pages space.old) (S.pages space.new) owned (put_all records.now entries)) }
     ensures coded { OnOk result (AreCoded records.now) }
+    ensures keeps { IfOk result (LosesNoPage (S.pages space.old) (S.pages space.new) root) }
     ensures whole { OnOk result (S.is_whole space.old → S.is_whole space.new) }
     ensures refusal { IfErr result (MayRefuse (S.at_limit space.new) (IsNoTreeIn (S.pages space.old) root (S.is_whole space.old)) (S.refused space.old) (S.refused space.new)) }
     ensures rising { S.refused space.old ≤ S.refused space.new }
@@ -132,6 +135,7 @@ pub fn add_table<S: PageSpace>(
 ) -> Result<u32, ChangeError>
     ensures added { (owned : List ℕ) (tables : List AnyTable) → HoldsSchema (S.pages space.old) root owned tables → IsTable table.now → IsFree table.now.name tables
         → IfOk result (SchemaWritten (S.pages space.old) (S.pages space.new) owned (with_table table.now tables)) }
+    ensures keeps { IfOk result (LosesNoPage (S.pages space.old) (S.pages space.new) root) }
     ensures whole { OnOk result (S.is_whole space.old → S.is_whole space.new) }
     ensures refusal { IfErr result (MayRefuse (S.at_limit space.new) (HoldsNoSchemaIn (S.pages space.old) root (S.is_whole space.old)) (S.refused space.old) (S.refused space.new)) }
     ensures rising { S.refused space.old ≤ S.refused space.new }
@@ -153,6 +157,7 @@ pub fn set_root<S: PageSpace>(
 ) -> Result<u32, ChangeError>
     ensures set { (owned : List ℕ) (before behind : List AnyTable) (table : AnyTable) → HoldsSchema (S.pages space.old) root owned (before ++ table ∷ behind) → table.name ≡ name.now
         → IfOk result (SchemaWritten (S.pages space.old) (S.pages space.new) owned (before ++ with_root rows table ∷ behind)) }
+    ensures keeps { IfOk result (LosesNoPage (S.pages space.old) (S.pages space.new) root) }
     ensures whole { OnOk result (S.is_whole space.old → S.is_whole space.new) }
     ensures refusal { IfErr result (MayRefuse (S.at_limit space.new) (HoldsNoSchemaIn (S.pages space.old) root (S.is_whole space.old)) (S.refused space.old) (S.refused space.new)) }
     ensures rising { S.refused space.old ≤ S.refused space.new }

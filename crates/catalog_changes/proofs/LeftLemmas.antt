@@ -18,7 +18,9 @@ use Rattle.btree.proofs.GrowLemmas.{has_or_not}
 use Rattle.btree.proofs.LawLemmas.{tree_used}
 use Rattle.btree_remove.specs.Removed.{IsRemoved, IsLess}
 use Rattle.btree_remove.proofs.LawLemmas.{less_is_one, found_there}
+use Rattle.tree_entries.specs.Kept.{LosesNoPage}
 use Rattle.tree_entries.proofs.AscendLemmas.{root_ascends}
+use Rattle.tree_entries.proofs.KeptLemmas.{loses_left}
 use Rattle.catalog_read.specs.Keepable.{IsTable}
 use Rattle.catalog.specs.Held.{entry_of, entries_of, IsCoded, AreCoded, HoldsSchema}
 use Rattle.catalog.proofs.PutLemmas.{entries_append}
@@ -80,6 +82,10 @@ not_absent old root owned k key v before behind e t none =
 
 pub tree_removed : (old new : PageMap) (owned : List ℕ) (entries : List Entry) (k : Key) (top : ℕ) → IsRemoved old new owned entries k top → HasTree new top
 tree_removed old new owned entries k top w = record { owned = w.now_owned; entries = w.now_entries; tree = w.stored }
+
+pub no_page_lost_by_removal : (old new : PageMap) (k : Key) (root top : ℕ) → ((owned : List ℕ) (entries : List Entry) → IsTree old root owned entries → IsRemoved old new owned entries k top) → LosesNoPage old new root top
+no_page_lost_by_removal old new k root top removes owned entries t =
+    let w = removes owned entries t in record { now_owned = w.now_owned; entries = w.now_entries; tree = w.stored; loses = loses_left old new owned w.now_owned w.gone w.others }
 
 -- ---- several
 

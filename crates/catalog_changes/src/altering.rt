@@ -1,6 +1,7 @@
 //! A table of a schema exchanged for another of its name.
 ghost use Rattle.std.specs.Prelude.{◌≡◌, ◌≤◌, ◌∷◌, ◌++◌, ℕ, List, IfOk, IfErr, OnOk};
 ghost use Rattle.sqlval.specs.declared.schema.Table.{Table as AnyTable};
+ghost use Rattle.tree_entries.specs.Kept.{LosesNoPage};
 ghost use Rattle.catalog_read.specs.Keepable.{IsTable};
 ghost use Rattle.catalog.specs.Held.{HoldsSchema};
 ghost use Rattle.catalog.specs.Changed.{MayRefuse, SchemaWritten};
@@ -26,6 +27,7 @@ pub fn alter_table<S: PageSpace>(
 ) -> Result<u32, ChangeError>
     ensures altered { (owned : List ℕ) (before behind : List AnyTable) → HoldsSchema (S.pages space.old) root owned (before ++ table.now ∷ behind) → changed.now.name ≡ table.now.name → IsTable changed.now
         → IfOk result (SchemaWritten (S.pages space.old) (S.pages space.new) owned (before ++ changed.now ∷ behind)) }
+    ensures keeps { IfOk result (LosesNoPage (S.pages space.old) (S.pages space.new) root) }
     ensures whole { OnOk result (S.is_whole space.old → S.is_whole space.new) }
     ensures refusal { IfErr result (MayRefuse (S.at_limit space.new) (HoldsNoneWith (S.pages space.old) root table.now (S.is_whole space.old)) (S.refused space.old) (S.refused space.new)) }
     ensures rising { S.refused space.old ≤ S.refused space.new }

@@ -5,6 +5,7 @@ ghost use Rattle.sqlrecord.specs.Key.{key_code};
 ghost use Rattle.btree_read.specs.declared.entry.Entry.{Entry};
 ghost use Rattle.btree_read.specs.Tree.{IsTree};
 ghost use Rattle.btree.specs.Overfull.{IsNoTreeIn};
+ghost use Rattle.tree_entries.specs.Kept.{LosesNoPage};
 ghost use Rattle.catalog_records.specs.Records.{table_records};
 ghost use Rattle.catalog.specs.Held.{HoldsSchema, entries_of};
 ghost use Rattle.catalog.specs.Changed.{MayRefuse, HoldsNoSchemaIn, IsOfRecord};
@@ -41,6 +42,7 @@ fn remove_record<S: PageSpace>(
     ensures removed { (owned : List ℕ) (before behind : List Entry) (value : List ℕ) → IsTree (S.pages space.old) root owned (before ++ record { key = key_code r.now.key; value = value } ∷ behind)
         → IfOk result (EntriesLeft (S.pages space.old) (S.pages space.new) owned (before ++ behind)) }
     ensures tree { HasTree (S.pages space.old) root → IfOk result (HasTree (S.pages space.new)) }
+    ensures keeps { IfOk result (LosesNoPage (S.pages space.old) (S.pages space.new) root) }
     ensures whole { OnOk result (S.is_whole space.old → S.is_whole space.new) }
     ensures refusal { IfErr result (MayRefuse (S.at_limit space.new) (IsNoTreeIn (S.pages space.old) root (S.is_whole space.old)) (S.refused space.old) (S.refused space.new)) }
     ensures rising { S.refused space.old ≤ S.refused space.new }
@@ -63,6 +65,7 @@ fn remove_records<S: PageSpace>(
 ) -> Result<u32, ChangeError>
     ensures removed { (owned : List ℕ) (before behind : List Entry) → IsTree (S.pages space.old) root owned (before ++ (entries_of records.now ++ behind))
         → IfOk result (EntriesLeft (S.pages space.old) (S.pages space.new) owned (before ++ behind)) }
+    ensures keeps { IfOk result (LosesNoPage (S.pages space.old) (S.pages space.new) root) }
     ensures whole { OnOk result (S.is_whole space.old → S.is_whole space.new) }
     ensures refusal { IfErr result (MayRefuse (S.at_limit space.new) (IsNoTreeIn (S.pages space.old) root (S.is_whole space.old)) (S.refused space.old) (S.refused space.new)) }
     ensures rising { S.refused space.old ≤ S.refused space.new }
@@ -99,6 +102,7 @@ pub fn drop_table<S: PageSpace>(
 ) -> Result<u32, ChangeError>
     ensures dropped { (owned : List ℕ) (before behind : List AnyTable) → HoldsSchema (S.pages space.old) root owned (before ++ table.now ∷ behind)
         → IfOk result (SchemaLeft (S.pages space.old) (S.pages space.new) owned (before ++ behind)) }
+    ensures keeps { IfOk result (LosesNoPage (S.pages space.old) (S.pages space.new) root) }
     ensures whole { OnOk result (S.is_whole space.old → S.is_whole space.new) }
     ensures refusal { IfErr result (MayRefuse (S.at_limit space.new) (HoldsNoSchemaIn (S.pages space.old) root (S.is_whole space.old)) (S.refused space.old) (S.refused space.new)) }
     ensures rising { S.refused space.old ≤ S.refused space.new }

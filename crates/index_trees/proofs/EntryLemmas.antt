@@ -27,7 +27,9 @@ use Rattle.btree.proofs.LawLemmas.{tree_stays, tree_used}
 use Rattle.btree_remove.specs.Removed.{IsRemoved}
 use Rattle.btree_remove.proofs.LawLemmas.{comes_first, own_key, beside_used}
 use Rattle.btree_remove.proofs.LeafLemmas.{same_key}
+use Rattle.tree_entries.specs.Kept.{LosesNoPage}
 use Rattle.tree_entries.proofs.AscendLemmas.{root_ascends}
+use Rattle.tree_entries.proofs.KeptLemmas.{loses_left}
 use Rattle.index_trees.specs.Indexed.{index_entry, Stands, IsRow, IsOfRow, HoldsIndex, AreWith, IndexWritten}
 
 -- ---- keys
@@ -234,3 +236,7 @@ pub key_more : (columns : List ℕ) (row : Row) (i : ℕ) (value : Value) (key :
 key_more columns row i value key below v e =
     ap (λ k. k ++ value ∷ []) e ∙ ap (λ x. key_of (take i columns) row ++ x ∷ []) v
     ∙ sym (map-append (λ c. slice_index_or row c Null) (take i columns) (get_or columns i 0 ∷ [])) ∙ ap (λ cs. key_of cs row) (sym (take_more columns i 0 below))
+
+pub no_page_lost_by_removal : (old new : PageMap) (k : Key) (root top : ℕ) → ((owned : List ℕ) (entries : List Entry) → IsTree old root owned entries → IsRemoved old new owned entries k top) → LosesNoPage old new root top
+no_page_lost_by_removal old new k root top removes owned entries t =
+    let w = removes owned entries t in record { now_owned = w.now_owned; entries = w.now_entries; tree = w.stored; loses = loses_left old new owned w.now_owned w.gone w.others }

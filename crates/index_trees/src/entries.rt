@@ -5,6 +5,7 @@ ghost use Rattle.sqlval.specs.CodedLength.{key_length};
 ghost use Rattle.sqlval.specs.Matching.{key_of as key_of_row};
 ghost use Rattle.store.specs.Contents as stored;
 ghost use Rattle.sqlrecord.specs.Key.{index_key_code};
+ghost use Rattle.tree_entries.specs.Kept.{LosesNoPage};
 ghost use Rattle.index_trees.specs.Indexed.{HoldsIndex, AreWith, IndexWritten, HoldsNoIndexIn, HoldsNoRowIn, HasEntry, MayRefuse};
 ghost use Rattle.index_trees.specs.Refused.{IsOfKey};
 
@@ -77,6 +78,7 @@ pub fn add_row<S: PageSpace>(
 ) -> Result<u32, IndexError>
     ensures added { (owned : List ℕ) (others rows : List stored.Entry) → HoldsIndex (S.pages space.old) root owned columns.now others → AreWith (number, row.now) others rows
         → IfOk result (IndexWritten (S.pages space.old) (S.pages space.new) owned columns.now rows) }
+    ensures keeps { IfOk result (LosesNoPage (S.pages space.old) (S.pages space.new) root) }
     ensures whole { OnOk result (S.is_whole space.old → S.is_whole space.new) }
     ensures refusal { IfErr result (MayRefuse (S.at_limit space.new) (HoldsNoIndexIn (S.pages space.old) root columns.now (S.is_whole space.old)) (S.refused space.old) (S.refused space.new) columns.now row.now) }
     ensures rising { S.refused space.old ≤ S.refused space.new }
@@ -105,6 +107,7 @@ pub fn remove_row<S: PageSpace>(
     ensures removed { (owned : List ℕ) (others rows : List stored.Entry) → HoldsIndex (S.pages space.old) root owned columns.now rows → AreWith (number, row.now) others rows
         → IfOk result (IndexWritten (S.pages space.old) (S.pages space.new) owned columns.now others) }
     ensures there { OnOk result (HasEntry (S.pages space.old) root columns.now (number, row.now)) }
+    ensures keeps { IfOk result (LosesNoPage (S.pages space.old) (S.pages space.new) root) }
     ensures whole { OnOk result (S.is_whole space.old → S.is_whole space.new) }
     ensures refusal { IfErr result (MayRefuse (S.at_limit space.new) (HoldsNoRowIn (S.pages space.old) root columns.now (number, row.now) (S.is_whole space.old)) (S.refused space.old) (S.refused space.new) columns.now row.now) }
     ensures rising { S.refused space.old ≤ S.refused space.new }

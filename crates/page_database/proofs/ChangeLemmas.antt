@@ -23,6 +23,8 @@ use Rattle.tablestore.specs.declared.error.AppendError.TheVariants as put
 use Rattle.tablestore.specs.Held.{IsKept, AreKept}
 use Rattle.tablestore.specs.Appended.{RowsWritten, MayRefuse, MayRefuseRow, NumbersEnd}
 use Rattle.table_rows_changed.specs.Rows.{RowsLeft, without_number, with_number}
+use Rattle.tree_entries.specs.Kept.{LosesNoPage}
+use Rattle.tree_entries.proofs.KeptLemmas.{loses_left, loses_known}
 use Rattle.page_database.specs.declared.exchange.Exchange.{Exchange}
 use Rattle.page_database.specs.declared.error.DatabaseError.{DatabaseError}
 use Rattle.page_database.specs.Causes.{of_append}
@@ -35,11 +37,11 @@ use Rattle.page_database.proofs.DatabaseLemmas.{unsettled, rows_of_it, table_in}
 
 -- ---- rows put behind the others
 
-abbrev pub append_unsettled : (old mid : PageMap) (root top : ℕ) (table : Table) (exchange : Exchange) → (h : IsAppendable old root table exchange)
-    → RowsWritten old mid h.its.at.owned (h.its.at.rows ++ enumerate_from (next_number h.its.at.rows) exchange.put.rows) top → IsUnsettled mid root table top exchange
-append_unsettled old mid root top table exchange h w =
+abbrev pub append_unsettled : {alone : Bool} (old mid : PageMap) (root top : ℕ) (table : Table) (exchange : Exchange) → (h : IsAppendable alone old root table exchange)
+    → RowsWritten old mid h.its.at.owned (h.its.at.rows ++ enumerate_from (next_number h.its.at.rows) exchange.put.rows) top → LosesNoPage old mid table.root top → IsUnsettled alone mid root table top exchange
+append_unsettled old mid root top table exchange h w keeps =
     unsettled old root table h.its mid top w.now_owned (h.its.at.rows ++ enumerate_from (next_number h.its.at.rows) exchange.put.rows) h.its.at.rows (enumerate_from (next_number h.its.at.rows) exchange.put.rows) exchange w.holds
-    (record { own = w.own; others = w.others })
+    (record { own = w.own; others = w.others }) (loses_known _ _ _ _ h.its.at.owned w.now_owned _ _ keeps (rows_of_it old root table h.its).tree w.holds.tree)
     (record {
       taken = subst (λ (o : Option NumberedRow). IsLeft o h.its.at.rows h.its.at.rows) (sym h.none) refl;
       put = record { numbers = h.numbers; rows = rows_enumerated exchange.put.rows (next_number h.its.at.rows) };
@@ -56,11 +58,11 @@ left_moved old mid owned rows top w = record { own = w.own; others = λ n h u. w
     foreign n h u (inl g) = h g
     foreign n h u (inr g) = not_fresh old n u g
 
-abbrev pub delete_unsettled : (old mid : PageMap) (root top number : ℕ) (table : Table) (exchange : Exchange) → (h : IsExchangeableAt old root table number exchange [])
-    → RowsLeft old mid h.its.at.owned (without_number number h.its.at.rows) top → IsUnsettled mid root table top exchange
+abbrev pub delete_unsettled : {alone : Bool} (old mid : PageMap) (root top number : ℕ) (table : Table) (exchange : Exchange) → (h : IsExchangeableAt alone old root table number exchange [])
+    → RowsLeft old mid h.its.at.owned (without_number number h.its.at.rows) top → IsUnsettled alone mid root table top exchange
 delete_unsettled old mid root top number table exchange h w =
     unsettled old root table h.its mid top w.now_owned (without_number number h.its.at.rows) (without_number number h.its.at.rows) [] exchange w.holds
-    (left_moved old mid h.its.at.owned (without_number number h.its.at.rows) top w)
+    (left_moved old mid h.its.at.owned (without_number number h.its.at.rows) top w) (loses_left old mid h.its.at.owned w.now_owned w.gone w.others)
     (record {
       taken = subst (λ (o : Option NumberedRow). IsLeft o h.its.at.rows (without_number number h.its.at.rows)) (sym h.taken)
           (taken_from number h.its.at.rows (entry_of h.one) (rows_of_it old root table h.its).kept (numbered old table.root h.its.at.owned h.its.at.rows (rows_of_it old root table h.its)) h.found);
@@ -79,7 +81,7 @@ without_kept number (e ∷ rows) h = by (e.0 == number) (without_kept number row
     by true again = again
     by false again = (h.0, again)
 
-pub one_more : (old mid : PageMap) (root top : ℕ) (table : Table) (found : NumberedRow) (row : Row) → (h : HasRow old root table found) → RowsWritten old mid h.its.at.owned (with_number found.number row h.its.at.rows) top
+pub one_more : {alone : Bool} (old mid : PageMap) (root top : ℕ) (table : Table) (found : NumberedRow) (row : Row) → (h : HasRow alone old root table found) → RowsWritten old mid h.its.at.owned (with_number found.number row h.its.at.rows) top
     → AreMore ((found.number, row) ∷ []) (without_number found.number h.its.at.rows)
 one_more old mid root top table found row h w = (
   one_with (without_number found.number h.its.at.rows) (found.number, row)
@@ -89,11 +91,11 @@ one_more old mid root top table found row h w = (
   tt,
 )
 
-abbrev pub replace_unsettled : (old mid : PageMap) (root top : ℕ) (table : Table) (found : NumberedRow) (row : Row) (put : Numbered) → AreEntries put ((found.number, row) ∷ []) → (h : HasRow old root table found)
-    → RowsWritten old mid h.its.at.owned (with_number found.number row h.its.at.rows) top → IsUnsettled mid root table top (record { taken = Some found; put = put })
-replace_unsettled old mid root top table found row put are h w =
+abbrev pub replace_unsettled : {alone : Bool} (old mid : PageMap) (root top : ℕ) (table : Table) (found : NumberedRow) (row : Row) (put : Numbered) → AreEntries put ((found.number, row) ∷ []) → (h : HasRow alone old root table found)
+    → RowsWritten old mid h.its.at.owned (with_number found.number row h.its.at.rows) top → LosesNoPage old mid table.root top → IsUnsettled alone mid root table top (record { taken = Some found; put = put })
+replace_unsettled old mid root top table found row put are h w keeps =
     unsettled old root table h.its mid top w.now_owned (with_number found.number row h.its.at.rows) (without_number found.number h.its.at.rows) ((found.number, row) ∷ []) (record { taken = Some found; put = put }) w.holds
-    (record { own = w.own; others = w.others })
+    (record { own = w.own; others = w.others }) (loses_known _ _ _ _ h.its.at.owned w.now_owned _ _ keeps (rows_of_it old root table h.its).tree w.holds.tree)
     (record {
       taken = taken_from found.number h.its.at.rows (entry_of found) (rows_of_it old root table h.its).kept (numbered old table.root h.its.at.owned h.its.at.rows (rows_of_it old root table h.its)) h.found;
       put = are;
@@ -133,8 +135,8 @@ no_long_key indexes rows none h = empty (subst (λ (rs : List Row). Contains rs 
     empty inside = let less = inside.1 in omega (arith, less)
 
 -- rows with their numbers, to be put behind those of a table
-abbrev pub to_append : (old mid : PageMap) (root first : ℕ) (table : Table) (numbers : List ℕ) (given rows : List Row) → mid ≡ old → given ≡ rows → numbers ≡ map (λ (e : Entry). e.0) (enumerate_from first given)
-    → (h : IsTableOf old root table) → first ≡ next_number h.at.rows → IsAppendable mid root table (record { taken = None; put = record { numbers = numbers; rows = rows } })
+abbrev pub to_append : {alone : Bool} (old mid : PageMap) (root first : ℕ) (table : Table) (numbers : List ℕ) (given rows : List Row) → mid ≡ old → given ≡ rows → numbers ≡ map (λ (e : Entry). e.0) (enumerate_from first given)
+    → (h : IsTableOf alone old root table) → first ≡ next_number h.at.rows → IsAppendable alone mid root table (record { taken = None; put = record { numbers = numbers; rows = rows } })
 to_append old mid root first table numbers given rows same is are h begins = record {
   its = table_in old mid root table same h;
   none = refl;
@@ -144,11 +146,11 @@ to_append old mid root first table numbers given rows same is are h begins = rec
 pub numbers_end : (first : ℕ) (given rows : List Row) (held : List Entry) → given ≡ rows → first ≡ next_number held → 2 ^ 63 < first + length given → 2 ^ 63 < next_number held + length rows
 numbers_end first given rows held is begins h = let l : length given ≡ length rows = ap length is in omega (arith, begins, l, h)
 
-abbrev pub to_exchange_at : (old mid : PageMap) (root number : ℕ) (table : Table) (exchange : Exchange) (one : NumberedRow) (more : List Entry) → mid ≡ old → exchange.taken ≡ Some one → AreEntries exchange.put more → (h : IsTableOf old root table)
-    → row_numbered number h.at.rows ≡ Some (entry_of one) → IsExchangeableAt mid root table number exchange more
+abbrev pub to_exchange_at : {alone : Bool} (old mid : PageMap) (root number : ℕ) (table : Table) (exchange : Exchange) (one : NumberedRow) (more : List Entry) → mid ≡ old → exchange.taken ≡ Some one → AreEntries exchange.put more → (h : IsTableOf alone old root table)
+    → row_numbered number h.at.rows ≡ Some (entry_of one) → IsExchangeableAt alone mid root table number exchange more
 to_exchange_at old mid root number table exchange one more same taken put h found = record { its = table_in old mid root table same h; one = one; taken = taken; found = found; put = put }
 
-abbrev pub to_row : (old mid : PageMap) (root number : ℕ) (table : Table) (one : NumberedRow) → mid ≡ old → (h : IsTableOf old root table) → row_numbered number h.at.rows ≡ Some (entry_of one) → HasRow mid root table one
+abbrev pub to_row : {alone : Bool} (old mid : PageMap) (root number : ℕ) (table : Table) (one : NumberedRow) → mid ≡ old → (h : IsTableOf alone old root table) → row_numbered number h.at.rows ≡ Some (entry_of one) → HasRow alone mid root table one
 to_row old mid root number table one same h found = record {
   its = table_in old mid root table same h;
   found = subst (λ (n : ℕ). row_numbered n h.at.rows ≡ Some (entry_of one)) (sym (numbered_is number h.at.rows (entry_of one) found).1) found;

@@ -19,8 +19,8 @@ use Rattle.page_tables.specs.Held as plain
 use Rattle.page_tables.specs.Named.{root_named}
 use Rattle.page_tables.proofs.NameLemmas.{tied_name, name_from_tie, Named, found_at, get_none}
 use Rattle.page_tables.proofs.ChangeLemmas.{contents_changed}
-use Rattle.page_database.specs.Held.{TableAt, declared_at, declared_of, rows_at, rows_of_tables, HoldsDatabase, contents_of}
-use Rattle.page_database.specs.Changed.{DatabaseWritten, Reaches}
+use Rattle.page_database.specs.Held.{TableAt, declared_at, declared_of, rows_at, rows_of_tables, HoldsFor, contents_of}
+use Rattle.page_database.specs.Changed.{WrittenFor, Reaches}
 use Rattle.page_database.specs.declared.error.DatabaseError.{DatabaseError}
 use Rattle.page_database.specs.Named.{table_named}
 use Rattle.page_database.specs.Exchanged.{IsWithRows, IsTableOf, RowsExchanged}
@@ -64,8 +64,8 @@ is_found name (t ∷ tables) table e = by (same_name t.name name) refl e (is_fou
         let w = again found in
         record { before = t ∷ w.before; at = w.at; behind = w.behind; is = ap (λ ts. t ∷ ts) w.is; declared = w.declared; named = w.named; others = (not_tied name t.name h, w.others) }
 
-abbrev pub table_of_name : (pages : PageMap) (root : ℕ) (name : Name) (tables : List TableAt) (table : Table) → HoldsDatabase pages root tables → IsFoundAt name tables table → IsTableOf pages root table
-table_of_name pages root name tables table h w = record { before = w.before; at = w.at; behind = w.behind; declared = w.declared; holds = subst (HoldsDatabase pages root) w.is h }
+abbrev pub table_of_name : {alone : Bool} (pages : PageMap) (root : ℕ) (name : Name) (tables : List TableAt) (table : Table) → HoldsFor alone pages root tables → IsFoundAt name tables table → IsTableOf alone pages root table
+table_of_name {alone} pages root name tables table h w = record { before = w.before; at = w.at; behind = w.behind; declared = w.declared; holds = subst (HoldsFor alone pages root) w.is h }
 
 others_rows : (name : Name) (before : List TableAt) → AllByRecursion (λ (b : TableAt). eq_by_cmp text_order name b.name ≡ false) before
     → AllByRecursion (λ (b : plain.TableAt). eq_by_cmp text_order name b.declared.name ≡ false) (rows_of_tables before)
@@ -119,15 +119,15 @@ changed_by name tables table change now w same is =
 pub not_changed : (name : Name) (tables : List TableAt) (change : StoredTable → StoredTable) → table_named name (declared_of tables) ≡ None → contents_of tables ≡ changed change (contents_of tables) name
 not_changed name tables change e = ap (λ (o : Option StoredTable). put_back (contents_of tables) name (option_map change o)) (sym (get_absent name tables e))
 
-pub database_none : (old new : PageMap) (root : ℕ) (name : Name) (tables : List TableAt) (change : StoredTable → StoredTable) → new ≡ old → HoldsDatabase old root tables → table_named name (declared_of tables) ≡ None
-    → DatabaseWritten new (changed change (contents_of tables) name) root
-database_none old new root name tables change same h e = record { tables = tables; holds = subst (λ (p : PageMap). HoldsDatabase p root tables) (sym same) h; shows = not_changed name tables change e }
+pub database_none : {alone : Bool} (old new : PageMap) (root : ℕ) (name : Name) (tables : List TableAt) (change : StoredTable → StoredTable) → new ≡ old → HoldsFor alone old root tables → table_named name (declared_of tables) ≡ None
+    → WrittenFor alone new (changed change (contents_of tables) name) root
+database_none {alone} old new root name tables change same h e = record { tables = tables; holds = subst (λ (p : PageMap). HoldsFor alone p root tables) (sym same) h; shows = not_changed name tables change e }
 
-pub database_rows : {E : Type 0} (result : Result ℕ E) (new : PageMap) (name : Name) (tables : List TableAt) (table : Table) (change : StoredTable → StoredTable) (rows_of_it : List Entry) → (w : IsFoundAt name tables table)
+pub database_rows : (alone : Bool) {E : Type 0} (result : Result ℕ E) (new : PageMap) (name : Name) (tables : List TableAt) (table : Table) (change : StoredTable → StoredTable) (rows_of_it : List Entry) → (w : IsFoundAt name tables table)
     → record (plain.stored_of (rows_at w.at)) { entries = rows_of_it } ≡ change (plain.stored_of (rows_at w.at))
-    → IfOk result (RowsExchanged new w.before w.at w.behind rows_of_it) → IfOk result (DatabaseWritten new (changed change (contents_of tables) name))
-database_rows (Err e) new name tables table change rows_of_it w makes h = tt
-database_rows (Ok root) new name tables table change rows_of_it w makes h =
+    → IfOk result (RowsExchanged alone new w.before w.at w.behind rows_of_it) → IfOk result (WrittenFor alone new (changed change (contents_of tables) name))
+database_rows alone (Err e) new name tables table change rows_of_it w makes h = tt
+database_rows alone (Ok root) new name tables table change rows_of_it w makes h =
     record { tables = w.before ++ h.now ∷ w.behind; holds = h.holds; shows = changed_by name tables table change h.now w h.kept.name (h.kept.stored ∙ makes) }
 
 -- ---- limits

@@ -1,5 +1,5 @@
 -- A table made.
-use Rattle.std.proofs.Common.{◌≡◌, ◌≢◌, ℕ, Bool, true, false, cond, List, [], ◌∷◌, ◌++◌, map, is_some, Option, Some, None, refl, sym, ap, subst, ◌∙◌, append_assoc, if◌then◌else◌}
+use Rattle.std.proofs.Common.{◌≡◌, ◌≢◌, ℕ, Bool, true, false, cond, List, [], ◌∷◌, ◌++◌, map, is_some, Option, Some, None, refl, sym, ap, subst, ◌∙◌, append_assoc, if◌then◌else◌, Result, Ok, Err, IfOk}
 use Rattle.std.proofs.lemmas.Cmp.{nat_list_cmp_total}
 use Rattle.std.specs.List.{AllByRecursion}
 use Rattle.std.specs.Ordering.{eq_by_cmp, is_lt}
@@ -15,11 +15,13 @@ use Rattle.page_space.specs.Space.{PageMap}
 use Rattle.catalog.specs.Changed as schema
 use Rattle.tablestore.specs.Held.{HoldsRows}
 use Rattle.index_trees.specs.Indexed.{HoldsIndex}
+use Rattle.tree_entries.specs.Kept.{LosesNoPage}
+use Rattle.tree_entries.proofs.KeptLemmas.{loses_known}
 use Rattle.page_tables.specs.Held as plain
 use Rattle.page_tables.proofs.NameLemmas.{name_from_tie, tie_itself, contents-get}
 use Rattle.page_database.specs.Trees.{TreeAt, Lies, IndexOf, pages_of, HoldsTrees}
-use Rattle.page_database.specs.Held.{IndexAt, TableAt, indexes_declared, declared_at, declared_of, trees_of_indexes, rows_tree, table_trees, trees_of, schema_tree, rows_at, rows_of_tables, HoldsDatabase, contents_of}
-use Rattle.page_database.specs.Changed.{DatabaseWritten}
+use Rattle.page_database.specs.Held.{IndexAt, TableAt, indexes_declared, declared_at, declared_of, trees_of_indexes, rows_tree, table_trees, trees_of, schema_tree, rows_at, rows_of_tables, HoldsFor, contents_of}
+use Rattle.page_database.specs.Changed.{WrittenFor}
 use Rattle.page_database.specs.Named.{table_named}
 use Rattle.page_database.proofs.TreeLemmas.{trees_put, first_changed}
 use Rattle.page_database.proofs.SettleLemmas.{schema_moved}
@@ -56,27 +58,27 @@ declared_with t (u ∷ tables) = by (is_lt (text_order u.name t.name)) (declared
 
 -- ---- trees without pages
 
-indexes_put : (pages : PageMap) (front behind : List TreeAt) (indexes : List Index) → AllByRecursion (λ (i : Index). i.root ≡ 0) indexes → HoldsTrees pages (front ++ behind)
-    → HoldsTrees pages (front ++ (trees_of_indexes [] (map new_index indexes) ++ behind))
+indexes_put : {alone : Bool} (pages : PageMap) (front behind : List TreeAt) (indexes : List Index) → AllByRecursion (λ (i : Index). i.root ≡ 0) indexes → HoldsTrees alone pages (front ++ behind)
+    → HoldsTrees alone pages (front ++ (trees_of_indexes [] (map new_index indexes) ++ behind))
 indexes_put pages front behind [] begins h = h
 indexes_put pages front behind (i ∷ indexes) begins h =
     trees_put pages front (trees_of_indexes [] (map new_index indexes) ++ behind) (record { root = i.root; owned = []; content = IndexOf i.columns [] }) (indexes_put pages front behind indexes begins.1 h)
     (subst (λ (k : ℕ). HoldsIndex pages k [] i.columns []) (sym begins.0) (record { entries = []; tree = (refl, refl); each = λ row g. absurd g; only = λ x g. absurd g })) refl
 
-table_put : (pages : PageMap) (front behind : List TreeAt) (t : Table) → t.root ≡ 0 → AllByRecursion (λ (i : Index). i.root ≡ 0) t.indexes → HoldsTrees pages (front ++ behind) → HoldsTrees pages (front ++ (table_trees (new_at t) ++ behind))
+table_put : {alone : Bool} (pages : PageMap) (front behind : List TreeAt) (t : Table) → t.root ≡ 0 → AllByRecursion (λ (i : Index). i.root ≡ 0) t.indexes → HoldsTrees alone pages (front ++ behind) → HoldsTrees alone pages (front ++ (table_trees (new_at t) ++ behind))
 table_put pages front behind t begins indexes h =
     trees_put pages front (trees_of_indexes [] (map new_index t.indexes) ++ behind) (rows_tree t.root [] []) (indexes_put pages front behind t.indexes indexes h)
     (subst (λ (k : ℕ). HoldsRows pages k [] []) (sym begins) (record { tree = (refl, refl); kept = tt })) refl
 
-all_put : (tables : List TableAt) (pages : PageMap) (front : List TreeAt) (t : Table) → t.root ≡ 0 → AllByRecursion (λ (i : Index). i.root ≡ 0) t.indexes → HoldsTrees pages (front ++ trees_of tables) → HoldsTrees pages (front ++ trees_of (with_at (new_at t) tables))
+all_put : {alone : Bool} (tables : List TableAt) (pages : PageMap) (front : List TreeAt) (t : Table) → t.root ≡ 0 → AllByRecursion (λ (i : Index). i.root ≡ 0) t.indexes → HoldsTrees alone pages (front ++ trees_of tables) → HoldsTrees alone pages (front ++ trees_of (with_at (new_at t) tables))
 all_put [] pages front t begins indexes h = table_put pages front [] t begins indexes h
-all_put (u ∷ tables) pages front t begins indexes h = by (is_lt (text_order u.name t.name)) (all_put tables pages (front ++ table_trees u) t begins indexes (subst (HoldsTrees pages) (joined (trees_of tables)) h))
+all_put {alone} (u ∷ tables) pages front t begins indexes h = by (is_lt (text_order u.name t.name)) (all_put tables pages (front ++ table_trees u) t begins indexes (subst (HoldsTrees alone pages) (joined (trees_of tables)) h))
   where
     joined : (ts : List TreeAt) → front ++ (table_trees u ++ ts) ≡ (front ++ table_trees u) ++ ts
     joined ts = sym (append_assoc front (table_trees u) ts)
 
-    by : (b : Bool) → HoldsTrees pages ((front ++ table_trees u) ++ trees_of (with_at (new_at t) tables)) → HoldsTrees pages (front ++ trees_of (if b then u ∷ with_at (new_at t) tables else new_at t ∷ u ∷ tables))
-    by true again = subst (HoldsTrees pages) (sym (joined (trees_of (with_at (new_at t) tables)))) again
+    by : (b : Bool) → HoldsTrees alone pages ((front ++ table_trees u) ++ trees_of (with_at (new_at t) tables)) → HoldsTrees alone pages (front ++ trees_of (if b then u ∷ with_at (new_at t) tables else new_at t ∷ u ∷ tables))
+    by true again = subst (HoldsTrees alone pages) (sym (joined (trees_of (with_at (new_at t) tables)))) again
     by false again = table_put pages front (trees_of (u ∷ tables)) t begins indexes h
 
 -- ---- what a store shows
@@ -117,27 +119,31 @@ is_free name (u ∷ tables) h = (λ same. apart u.name h.0 same, is_free name ta
     apart : (other : Name) → eq_by_cmp text_order name other ≡ false → other ≢ name
     apart other e same = let bad : true ≡ false = sym (tie_itself name) ∙ subst (λ (n : Name). eq_by_cmp text_order name n ≡ false) same e in cc
 
+pub if_ok_both : {A E : Type 0} (P Q R : A → Type 0) (r : Result A E) → ((x : A) → P x → Q x → R x) → IfOk r P → IfOk r Q → IfOk r R
+if_ok_both P Q R (Ok x) f p q = f x p q
+if_ok_both P Q R (Err e) f p q = tt
+
 pub name_free : (t : Table) (tables : List TableAt) → table_named t.name (declared_of tables) ≡ None → schema.IsFree t.name (declared_of tables)
 name_free t tables free = is_free t.name tables (absent_differ t.name tables free)
 
-pub created_new : (old new : PageMap) (root now : ℕ) (t : Table) (tables : List TableAt) → t.root ≡ 0 → AllByRecursion (λ (i : Index). i.root ≡ 0) t.indexes → (h : HoldsDatabase old root tables) → table_named t.name (declared_of tables) ≡ None
-    → schema.SchemaWritten old new h.owned (schema.with_table t (declared_of tables)) now → DatabaseWritten new (with_table (contents_of tables) t) now
-created_new old new root now t tables begins indexes h free w =
+pub created_new : {alone : Bool} (old new : PageMap) (root now : ℕ) (t : Table) (tables : List TableAt) → t.root ≡ 0 → AllByRecursion (λ (i : Index). i.root ≡ 0) t.indexes → (h : HoldsFor alone old root tables) → table_named t.name (declared_of tables) ≡ None
+    → schema.SchemaWritten old new h.owned (schema.with_table t (declared_of tables)) now → LosesNoPage old new root now → WrittenFor alone new (with_table (contents_of tables) t) now
+created_new {alone} old new root now t tables begins indexes h free w keeps =
     let differ = absent_differ t.name tables free in
     let ts = all_put tables old (schema_tree root h.owned (declared_of tables) ∷ []) t begins indexes h.trees in
     let moved = first_changed old new (trees_of (with_at (new_at t) tables)) (schema_tree root h.owned (declared_of tables)) (schema_tree now w.now_owned (schema.with_table t (declared_of tables))) ts w.holds
-    (schema_moved old new h.owned (schema.with_table t (declared_of tables)) now w) in
+    (schema_moved old new h.owned (schema.with_table t (declared_of tables)) now w) (loses_known _ _ _ _ h.owned w.now_owned _ _ keeps h.trees.each.0.tree w.holds.tree) in
     record {
       tables = with_at (new_at t) tables;
       holds = record {
         owned = w.now_owned;
-        trees = subst (λ (ds : List Table). HoldsTrees new (schema_tree now w.now_owned ds ∷ trees_of (with_at (new_at t) tables)))
+        trees = subst (λ (ds : List Table). HoldsTrees alone new (schema_tree now w.now_owned ds ∷ trees_of (with_at (new_at t) tables)))
             (ap (λ (d : Table). schema.with_table d (declared_of tables)) (sym (declared_new t)) ∙ sym (declared_with (new_at t) tables)) moved;
       };
       shows = contents_with t tables differ ∙ ap (λ (o : Option StoredTable). cond (is_some o) (contents_of tables) (insert (contents_of tables) t.name (new_table t))) (sym (get_absent t.name tables free));
     }
 
-pub created_before : (pages : PageMap) (root : ℕ) (t table : Table) (tables : List TableAt) → HoldsDatabase pages root tables → IsFoundAt t.name tables table → DatabaseWritten pages (with_table (contents_of tables) t) root
+pub created_before : {alone : Bool} (pages : PageMap) (root : ℕ) (t table : Table) (tables : List TableAt) → HoldsFor alone pages root tables → IsFoundAt t.name tables table → WrittenFor alone pages (with_table (contents_of tables) t) root
 created_before pages root t table tables h w = record {
   tables = tables;
   holds = h;

@@ -1,5 +1,5 @@
 -- A table of a database, and the others around it.
-use Rattle.std.proofs.Common.{◌≡◌, ℕ, ◌⊎◌, inl, inr, List, [], ◌∷◌, ◌++◌, map, Option, Some, None, IsSome, refl, sym, ap, subst, ◌∙◌, append_assoc}
+use Rattle.std.proofs.Common.{◌≡◌, ℕ, ◌⊎◌, inl, inr, List, [], ◌∷◌, ◌++◌, map, Option, Some, None, IsSome, refl, sym, ap, subst, ◌∙◌, append_assoc, Bool, true, false}
 use Rattle.std.proofs.lemmas.List.{map-append}
 use Rattle.std.specs.List.{AllByRecursion}
 use Rattle.sqlval.specs.declared.schema.Table.{Table}
@@ -9,10 +9,12 @@ use Rattle.btree_read.specs.Lists.{Apart, Has}
 use Rattle.btree_read.proofs.ListLemmas.{each_left, each_right, has_left, has_right, has_either, Parted, apart_parts, apart_join}
 use Rattle.catalog.specs.Held.{HoldsSchema}
 use Rattle.tablestore.specs.Held.{HoldsRows}
+use Rattle.btree_read.proofs.NodeLemmas.{not_fresh}
+use Rattle.tree_entries.specs.Kept.{LosesNone}
 use Rattle.page_tables.specs.Held as plain
 use Rattle.page_database.specs.declared.exchange.Exchange.{Exchange}
 use Rattle.page_database.specs.Trees.{TreeAt, Lies, pages_of, HoldsTrees, IsMoved}
-use Rattle.page_database.specs.Held.{IndexAt, TableAt, declared_at, declared_of, trees_of_indexes, rows_tree, table_trees, trees_of, schema_tree, rows_at, rows_of_tables, HoldsDatabase}
+use Rattle.page_database.specs.Held.{IndexAt, TableAt, declared_at, declared_of, trees_of_indexes, rows_tree, table_trees, trees_of, schema_tree, rows_at, rows_of_tables, HoldsFor}
 use Rattle.page_database.specs.Exchanged.{Exchanges, AreSameRows, IsUnsettled, IsWithRows, IsSettled, IsTableOf, RowsExchanged}
 use Rattle.page_database.proofs.TreeLemmas.{trees_changed, all_used, all_stay, pages_append}
 
@@ -24,23 +26,23 @@ pub declared_middle : (before behind : List TableAt) (t : TableAt) → declared_
 declared_middle before behind t = map-append declared_at before (t ∷ behind)
 
 -- the trees of a database, around one table
-pub zipped : (pages : PageMap) (root : ℕ) (owned : List ℕ) (before behind : List TableAt) (t : TableAt) → HoldsTrees pages (schema_tree root owned (declared_of (before ++ t ∷ behind)) ∷ trees_of (before ++ t ∷ behind))
-    → HoldsTrees pages (schema_tree root owned (declared_of before ++ declared_at t ∷ declared_of behind) ∷ (trees_of before ++ (table_trees t ++ trees_of behind)))
-zipped pages root owned before behind t h =
-    subst (λ (ds : List Table). HoldsTrees pages (schema_tree root owned ds ∷ (trees_of before ++ (table_trees t ++ trees_of behind)))) (declared_middle before behind t)
-    (subst (λ (ts : List TreeAt). HoldsTrees pages (schema_tree root owned (declared_of (before ++ t ∷ behind)) ∷ ts)) (trees_middle before behind t) h)
+pub zipped : {alone : Bool} (pages : PageMap) (root : ℕ) (owned : List ℕ) (before behind : List TableAt) (t : TableAt) → HoldsTrees alone pages (schema_tree root owned (declared_of (before ++ t ∷ behind)) ∷ trees_of (before ++ t ∷ behind))
+    → HoldsTrees alone pages (schema_tree root owned (declared_of before ++ declared_at t ∷ declared_of behind) ∷ (trees_of before ++ (table_trees t ++ trees_of behind)))
+zipped {alone} pages root owned before behind t h =
+    subst (λ (ds : List Table). HoldsTrees alone pages (schema_tree root owned ds ∷ (trees_of before ++ (table_trees t ++ trees_of behind)))) (declared_middle before behind t)
+    (subst (λ (ts : List TreeAt). HoldsTrees alone pages (schema_tree root owned (declared_of (before ++ t ∷ behind)) ∷ ts)) (trees_middle before behind t) h)
 
-pub unzipped : (pages : PageMap) (root : ℕ) (owned : List ℕ) (before behind : List TableAt) (t : TableAt) → HoldsTrees pages (schema_tree root owned (declared_of before ++ declared_at t ∷ declared_of behind) ∷ (trees_of before ++ (table_trees t ++ trees_of behind)))
-    → HoldsDatabase pages root (before ++ t ∷ behind)
-unzipped pages root owned before behind t h = record {
+pub unzipped : {alone : Bool} (pages : PageMap) (root : ℕ) (owned : List ℕ) (before behind : List TableAt) (t : TableAt) → HoldsTrees alone pages (schema_tree root owned (declared_of before ++ declared_at t ∷ declared_of behind) ∷ (trees_of before ++ (table_trees t ++ trees_of behind)))
+    → HoldsFor alone pages root (before ++ t ∷ behind)
+unzipped {alone} pages root owned before behind t h = record {
   owned = owned;
-  trees = subst (λ (ds : List Table). HoldsTrees pages (schema_tree root owned ds ∷ trees_of (before ++ t ∷ behind))) (sym (declared_middle before behind t))
-      (subst (λ (ts : List TreeAt). HoldsTrees pages (schema_tree root owned (declared_of before ++ declared_at t ∷ declared_of behind) ∷ ts)) (sym (trees_middle before behind t)) h);
+  trees = subst (λ (ds : List Table). HoldsTrees alone pages (schema_tree root owned ds ∷ trees_of (before ++ t ∷ behind))) (sym (declared_middle before behind t))
+      (subst (λ (ts : List TreeAt). HoldsTrees alone pages (schema_tree root owned (declared_of before ++ declared_at t ∷ declared_of behind) ∷ ts)) (sym (trees_middle before behind t)) h);
 }
 
-module _ (old : PageMap) (root : ℕ) (table : Table) (h : IsTableOf old root table) where
-  pub around_table : HoldsTrees old (schema_tree root h.holds.owned (declared_of h.before ++ table ∷ declared_of h.behind) ∷ (trees_of h.before ++ (table_trees h.at ++ trees_of h.behind)))
-  around_table = subst (λ (t : Table). HoldsTrees old (schema_tree root h.holds.owned (declared_of h.before ++ t ∷ declared_of h.behind) ∷ (trees_of h.before ++ (table_trees h.at ++ trees_of h.behind)))) h.declared
+module _ {alone : Bool} (old : PageMap) (root : ℕ) (table : Table) (h : IsTableOf alone old root table) where
+  pub around_table : HoldsTrees alone old (schema_tree root h.holds.owned (declared_of h.before ++ table ∷ declared_of h.behind) ∷ (trees_of h.before ++ (table_trees h.at ++ trees_of h.behind)))
+  around_table = subst (λ (t : Table). HoldsTrees alone old (schema_tree root h.holds.owned (declared_of h.before ++ t ∷ declared_of h.behind) ∷ (trees_of h.before ++ (table_trees h.at ++ trees_of h.behind)))) h.declared
       (zipped old root h.holds.owned h.before h.behind h.at h.holds.trees)
 
   pub rows_of_it : HoldsRows old table.root h.at.owned h.at.rows
@@ -50,9 +52,9 @@ module _ (old : PageMap) (root : ℕ) (table : Table) (h : IsTableOf old root ta
   pub schema_of_it : HoldsSchema old root h.holds.owned (declared_of h.before ++ table ∷ declared_of h.behind)
   schema_of_it = around_table.each.0
 
-  abbrev pub unsettled : (mid : PageMap) (top : ℕ) (now_owned : List ℕ) (rows left more : List Entry) (exchange : Exchange) → HoldsRows mid top now_owned rows → IsMoved old mid h.at.owned now_owned
-      → Exchanges exchange h.at.rows left more → AreSameRows (left ++ more) rows → IsUnsettled mid root table top exchange
-  unsettled mid top now_owned rows left more exchange held moved exchanges same = record {
+  abbrev pub unsettled : (mid : PageMap) (top : ℕ) (now_owned : List ℕ) (rows left more : List Entry) (exchange : Exchange) → HoldsRows mid top now_owned rows → IsMoved old mid h.at.owned now_owned → LosesNone old mid h.at.owned now_owned
+      → Exchanges exchange h.at.rows left more → AreSameRows (left ++ more) rows → IsUnsettled alone mid root table top exchange
+  unsettled mid top now_owned rows left more exchange held moved loses exchanges same = record {
     owned = h.holds.owned;
     front = declared_of h.before;
     back = declared_of h.behind;
@@ -65,33 +67,49 @@ module _ (old : PageMap) (root : ℕ) (table : Table) (h : IsTableOf old root ta
     more = more;
     declared = h.declared;
     trees = trees_changed old mid (schema_tree root h.holds.owned (declared_of h.before ++ table ∷ declared_of h.behind) ∷ trees_of h.before) (trees_of_indexes h.at.rows h.at.indexes ++ trees_of h.behind)
-        (rows_tree h.at.root h.at.owned h.at.rows) (rows_tree top now_owned rows) around_table held moved;
+        (rows_tree h.at.root h.at.owned h.at.rows) (rows_tree top now_owned rows) around_table held moved loses;
     exchanges = exchanges;
     same = same;
   }
 
-  pub rows_exchanged : (new : PageMap) (now : ℕ) (rows : List Entry) → IsSettled new (declared_of h.before) (declared_of h.behind) (trees_of h.before) (trees_of h.behind) h.at rows now → RowsExchanged new h.before h.at h.behind rows now
+  pub rows_exchanged : (new : PageMap) (now : ℕ) (rows : List Entry) → IsSettled alone new (declared_of h.before) (declared_of h.behind) (trees_of h.before) (trees_of h.behind) h.at rows now → RowsExchanged alone new h.before h.at h.behind rows now
   rows_exchanged new now rows s = record { now = s.now; kept = s.kept; holds = unzipped new now s.owned h.before h.behind s.now s.trees }
 
-  pub rows_kept : (new : PageMap) (rows : List Entry) → new ≡ old → rows ≡ h.at.rows → RowsExchanged new h.before h.at h.behind rows root
+  pub rows_kept : (new : PageMap) (rows : List Entry) → new ≡ old → rows ≡ h.at.rows → RowsExchanged alone new h.before h.at h.behind rows root
   rows_kept new rows same e = record {
     now = h.at;
     kept = record { name = refl; stored = λ i. record { columns = h.at.columns; constraints = h.at.constraints; indexes = (plain.stored_of (rows_at h.at)).indexes; entries = sym e i } };
-    holds = subst (λ (p : PageMap). HoldsDatabase p root (h.before ++ h.at ∷ h.behind)) (sym same) h.holds;
+    holds = subst (λ (p : PageMap). HoldsFor alone p root (h.before ++ h.at ∷ h.behind)) (sym same) h.holds;
   }
 
-abbrev pub table_in : (old mid : PageMap) (root : ℕ) (table : Table) → mid ≡ old → IsTableOf old root table → IsTableOf mid root table
-table_in old mid root table same h = record { before = h.before; at = h.at; behind = h.behind; declared = h.declared; holds = subst (λ (p : PageMap). HoldsDatabase p root (h.before ++ h.at ∷ h.behind)) (sym same) h.holds }
+abbrev pub table_in : {alone : Bool} (old mid : PageMap) (root : ℕ) (table : Table) → mid ≡ old → IsTableOf alone old root table → IsTableOf alone mid root table
+table_in {alone} old mid root table same h = record { before = h.before; at = h.at; behind = h.behind; declared = h.declared; holds = subst (λ (p : PageMap). HoldsFor alone p root (h.before ++ h.at ∷ h.behind)) (sym same) h.holds }
 
 -- ---- a database stays where no page in use changes
 
-pub stays : (old new : PageMap) (root : ℕ) (tables : List TableAt) → ((n : ℕ) → IsSome (old n) → new n ≡ old n) → HoldsDatabase old root tables → HoldsDatabase new root tables
+pub stays : (old new : PageMap) (root : ℕ) (tables : List TableAt) → ((n : ℕ) → IsSome (old n) → new n ≡ old n) → HoldsFor false old root tables → HoldsFor false new root tables
 stays old new root tables same h =
     let ts : List TreeAt = schema_tree root h.owned (declared_of tables) ∷ trees_of tables in
-    record { owned = h.owned; trees = record { each = all_stay old new ts (λ n i. same n (all_used old ts h.trees.each n i)) h.trees.each; apart = h.trees.apart } }
+    record { owned = h.owned; trees = record { each = all_stay old new ts (λ n i. same n (all_used old ts h.trees.each n i)) h.trees.each; apart = h.trees.apart; all = λ a. absurd (cc) } }
 
-pub at_first : (pages : PageMap) → HoldsDatabase pages 0 []
-at_first pages = record { owned = []; trees = record { each = (record { tree = (refl, refl); range = tt; coded = tt }, tt); apart = tt } }
+pub at_first : {alone : Bool} (pages : PageMap) → (alone ≡ true → (n : ℕ) → pages n ≡ None) → HoldsFor alone pages 0 []
+at_first pages none = record { owned = []; trees = record { each = (record { tree = (refl, refl); range = tt; coded = tt }, tt); apart = tt; all = λ a n u. absurd (not_fresh pages n u (none a n)) } }
+
+-- ---- all pages are owned
+
+pub as_any : (pages : PageMap) (root : ℕ) (tables : List TableAt) → HoldsFor true pages root tables → HoldsFor false pages root tables
+as_any pages root tables h = record { owned = h.owned; trees = record { each = h.trees.each; apart = h.trees.apart; all = λ a. absurd (cc) } }
+
+pub all_are_owned : (pages : PageMap) (root : ℕ) (tables : List TableAt) → (h : HoldsFor true pages root tables) → (n : ℕ) → IsSome (pages n) → Has n (h.owned ++ pages_of (trees_of tables))
+all_are_owned pages root tables h = h.trees.all refl
+
+pub owned_are_used : (pages : PageMap) (root : ℕ) (tables : List TableAt) → (h : HoldsFor true pages root tables) → (n : ℕ) → Has n (h.owned ++ pages_of (trees_of tables)) → IsSome (pages n)
+owned_are_used pages root tables h = all_used pages (schema_tree root h.owned (declared_of tables) ∷ trees_of tables) h.trees.each
+
+pub owned_stays : (old new : PageMap) (root : ℕ) (tables : List TableAt) → ((n : ℕ) → new n ≡ old n) → HoldsFor true old root tables → HoldsFor true new root tables
+owned_stays old new root tables same h =
+    let ts : List TreeAt = schema_tree root h.owned (declared_of tables) ∷ trees_of tables in
+    record { owned = h.owned; trees = record { each = all_stay old new ts (λ n i. same n) h.trees.each; apart = h.trees.apart; all = λ a n u. h.trees.all a n (subst IsSome (same n) u) } }
 
 -- ---- without its indexes
 
@@ -126,7 +144,7 @@ rows_apart (t ∷ tables) h =
           (has_right n (pages_of (trees_of_indexes t.rows t.indexes)) (pages_of (trees_of tables)) (fewer n tables j)));
     })
 
-pub as_tables : (pages : PageMap) (root : ℕ) (tables : List TableAt) → HoldsDatabase pages root tables → plain.HoldsTables pages root (rows_of_tables tables)
+pub as_tables : {alone : Bool} (pages : PageMap) (root : ℕ) (tables : List TableAt) → HoldsFor alone pages root tables → plain.HoldsTables pages root (rows_of_tables tables)
 as_tables pages root tables h =
     let p = apart_parts h.owned (pages_of (trees_of tables)) h.trees.apart in
     record {

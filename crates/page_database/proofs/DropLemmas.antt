@@ -26,16 +26,17 @@ use Rattle.tablestore.specs.Held.{entries_of}
 use Rattle.index_trees.specs.Indexed.{HoldsIndex}
 use Rattle.catalog.specs.Held.{HoldsSchema}
 use Rattle.catalog_changes.specs.Left.{SchemaLeft}
+use Rattle.tree_entries.proofs.KeptLemmas.{loses_left}
 use Rattle.page_tables.specs.Held as plain
 use Rattle.page_tables.proofs.NameLemmas.{name_from_tie, tie_itself, contents-get}
 use Rattle.page_tables.proofs.SchemaLemmas.{AreDifferent, names_differ}
 use Rattle.page_database.specs.Trees.{TreeAt, Lies, pages_of, HoldsTrees, IsMoved}
-use Rattle.page_database.specs.Held.{IndexAt, TableAt, indexes_declared, declared_at, declared_of, index_tree, trees_of_indexes, rows_tree, table_trees, trees_of, schema_tree, rows_at, rows_of_tables, HoldsDatabase, contents_of}
-use Rattle.page_database.specs.Changed.{DatabaseWritten}
+use Rattle.page_database.specs.Held.{IndexAt, TableAt, indexes_declared, declared_at, declared_of, index_tree, trees_of_indexes, rows_tree, table_trees, trees_of, schema_tree, rows_at, rows_of_tables, HoldsFor, contents_of}
+use Rattle.page_database.specs.Changed.{WrittenFor}
 use Rattle.page_database.specs.Named.{table_named}
 use Rattle.page_database.specs.Exchanged.{IsTableOf}
 use Rattle.page_database.specs.Dropped.{AreIndexes, AreTreesOf, TableGone, AreFreed}
-use Rattle.page_database.proofs.TreeLemmas.{pages_append, all_stay, all_used, first_changed}
+use Rattle.page_database.proofs.TreeLemmas.{pages_append, all_stay, all_used, owned_left, first_changed}
 use Rattle.page_database.proofs.DatabaseLemmas.{around_table, declared_middle}
 use Rattle.page_database.proofs.ContentLemmas.{IsFoundAt, rows_middle, not_tied, get_absent}
 
@@ -58,17 +59,21 @@ dropped_on old mid new one other w v = record {
     gone n (inl h) (inr g) = v.others n g ∙ w.gone n h
     gone n (inr h) (inr g) = absurd (g h)
 
-pub trees_gone : (old new : PageMap) (before trees behind : List TreeAt) → HoldsTrees old (before ++ (trees ++ behind)) → AreDropped old new (pages_of trees) → HoldsTrees new (before ++ behind)
+pub trees_gone : {alone : Bool} (old new : PageMap) (before trees behind : List TreeAt) → HoldsTrees alone old (before ++ (trees ++ behind)) → AreDropped old new (pages_of trees) → HoldsTrees alone new (before ++ behind)
 trees_gone old new before trees behind h dropped = record {
   each = each_append (Lies new) before behind
       (all_stay old new before (λ n i. dropped.others n (λ own. outer.none n i (has_left n (pages_of trees) (pages_of behind) own))) (each_left (Lies old) before (trees ++ behind) h.each))
       (all_stay old new behind (λ n i. dropped.others n (λ own. inner.none n own i)) (each_right (Lies old) trees behind (each_right (Lies old) before (trees ++ behind) h.each)));
   apart = subst Apart (sym (pages_append before behind)) (apart_join (pages_of before) (pages_of behind)
       (record { left = outer.left; right = inner.right; none = λ n i j. outer.none n i (has_right n (pages_of trees) (pages_of behind) j) }));
+  all = λ a. owned_left old new (pages_of trees) before behind (λ n u. subst (Has n) parted (h.all a n u)) dropped;
 }
   where
+    parted : pages_of (before ++ (trees ++ behind)) ≡ pages_of before ++ (pages_of trees ++ pages_of behind)
+    parted = pages_append before (trees ++ behind) ∙ ap (λ ns. pages_of before ++ ns) (pages_append trees behind)
+
     outer : Parted (pages_of before) (pages_of trees ++ pages_of behind)
-    outer = apart_parts (pages_of before) (pages_of trees ++ pages_of behind) (subst Apart (pages_append before (trees ++ behind) ∙ ap (λ ns. pages_of before ++ ns) (pages_append trees behind)) h.apart)
+    outer = apart_parts (pages_of before) (pages_of trees ++ pages_of behind) (subst Apart parted h.apart)
 
     inner : Parted (pages_of trees) (pages_of behind)
     inner = apart_parts (pages_of trees) (pages_of behind) outer.right
@@ -76,10 +81,10 @@ trees_gone old new before trees behind h dropped = record {
 -- ---- the indexes of a table
 
 -- the trees of the first indexes are given back
-abbrev pub AreGone : PageMap → PageMap → List Index → ℕ → Type 0
-AreGone old now indexes i = (h : AreIndexes old indexes) → AreDropped old now (pages_of (trees_of_indexes h.rows (take i h.its)))
+abbrev pub AreGone : Bool → PageMap → PageMap → List Index → ℕ → Type 0
+AreGone alone old now indexes i = (h : AreIndexes alone old indexes) → AreDropped old now (pages_of (trees_of_indexes h.rows (take i h.its)))
 
-pub gone_first : (old : PageMap) (indexes : List Index) → AreGone old old indexes 0
+pub gone_first : {alone : Bool} (old : PageMap) (indexes : List Index) → AreGone alone old old indexes 0
 gone_first old indexes h = dropped_none old
 
 pub record IsAt (its : List IndexAt) (i : ℕ) (x : Index) : Type 0 where
@@ -97,24 +102,24 @@ is_at (f ∷ its) (suc i) x below is =
     record { at = w.at; left = w.left; named = w.named; first = ap (λ fs. f ∷ fs) w.first; all = ap (λ fs. f ∷ fs) w.all }
 
 module _ (old mid : PageMap) (indexes : List Index) (i : ℕ) (x : Index) (below : i < length indexes) (is : x ≡ slice_index_or indexes i x) where
-  pub place : (h : AreIndexes old indexes) → IsAt h.its i x
+  pub place : {alone : Bool} (h : AreIndexes alone old indexes) → IsAt h.its i x
   place h = is_at h.its i x (subst (λ (ds : List Index). i < length ds) h.declared below) (is ∙ ap (λ (ds : List Index). slice_index_or ds i x) h.declared)
 
-  its_trees : (h : AreIndexes old indexes) → (w : IsAt h.its i x) → HoldsTrees old (h.before ++ (trees_of_indexes h.rows (take i h.its) ++ (index_tree h.rows w.at ∷ (trees_of_indexes h.rows w.left ++ h.behind))))
-  its_trees h w =
+  its_trees : {alone : Bool} (h : AreIndexes alone old indexes) → (w : IsAt h.its i x) → HoldsTrees alone old (h.before ++ (trees_of_indexes h.rows (take i h.its) ++ (index_tree h.rows w.at ∷ (trees_of_indexes h.rows w.left ++ h.behind))))
+  its_trees {alone} h w =
       let e : trees_of_indexes h.rows h.its ++ h.behind ≡ trees_of_indexes h.rows (take i h.its) ++ (index_tree h.rows w.at ∷ (trees_of_indexes h.rows w.left ++ h.behind)) =
       ap (λ (js : List IndexAt). trees_of_indexes h.rows js ++ h.behind) w.all ∙ ap (λ ts. ts ++ h.behind) (map-append (index_tree h.rows) (take i h.its) (w.at ∷ w.left))
       ∙ append_assoc (trees_of_indexes h.rows (take i h.its)) (index_tree h.rows w.at ∷ trees_of_indexes h.rows w.left) h.behind in
-      subst (λ ts. HoldsTrees old (h.before ++ ts)) e h.trees
+      subst (λ ts. HoldsTrees alone old (h.before ++ ts)) e h.trees
 
   -- the tree of the next one is still there
-  pub tree_here : AreGone old mid indexes i → (h : AreIndexes old indexes) → HoldsIndex mid x.root (place h).at.owned x.columns h.rows
+  pub tree_here : {alone : Bool} → AreGone alone old mid indexes i → (h : AreIndexes alone old indexes) → HoldsIndex mid x.root (place h).at.owned x.columns h.rows
   tree_here known h =
       let w = place h in
       let t = trees_gone old mid h.before (trees_of_indexes h.rows (take i h.its)) (index_tree h.rows w.at ∷ (trees_of_indexes h.rows w.left ++ h.behind)) (its_trees h w) (known h) in
       subst (λ (y : Index). HoldsIndex mid y.root w.at.owned y.columns h.rows) w.named (each_right (Lies mid) h.before (index_tree h.rows w.at ∷ (trees_of_indexes h.rows w.left ++ h.behind)) t.each).0
 
-  pub gone_next : (new : PageMap) → AreGone old mid indexes i → ((owned : List ℕ) (entries : List tree.Entry) → IsTree mid x.root owned entries → AreDropped mid new owned) → AreGone old new indexes (i + 1)
+  pub gone_next : {alone : Bool} (new : PageMap) → AreGone alone old mid indexes i → ((owned : List ℕ) (entries : List tree.Entry) → IsTree mid x.root owned entries → AreDropped mid new owned) → AreGone alone old new indexes (i + 1)
   gone_next new known drops h =
       let w = place h in
       let one = drops w.at.owned (tree_here known h).entries (tree_here known h).tree in
@@ -129,14 +134,14 @@ declared_length : (its : List IndexAt) → length (indexes_declared its) ≡ len
 declared_length [] = refl
 declared_length (f ∷ its) = ap suc (declared_length its)
 
-pub gone_all : (old new : PageMap) (indexes : List Index) (i : ℕ) → i ≡ length indexes → AreGone old new indexes i → (h : AreIndexes old indexes) → AreDropped old new (pages_of (trees_of_indexes h.rows h.its))
+pub gone_all : {alone : Bool} (old new : PageMap) (indexes : List Index) (i : ℕ) → i ≡ length indexes → AreGone alone old new indexes i → (h : AreIndexes alone old indexes) → AreDropped old new (pages_of (trees_of_indexes h.rows h.its))
 gone_all old new indexes i is known h =
     subst (λ (js : List IndexAt). AreDropped old new (pages_of (trees_of_indexes h.rows js)))
     (ap (λ k. take k h.its) (is ∙ ap length h.declared ∙ declared_length h.its) ∙ take-length h.its) (known h)
 
 -- ---- all trees of a table
 
-abbrev pub indexes_then : (old mid : PageMap) (table : Table) → (h : AreTreesOf old table) → AreDropped old mid h.at.owned → AreIndexes mid table.indexes
+abbrev pub indexes_then : {alone : Bool} (old mid : PageMap) (table : Table) → (h : AreTreesOf alone old table) → AreDropped old mid h.at.owned → AreIndexes alone mid table.indexes
 indexes_then old mid table h dropped = record {
   before = h.before;
   its = h.at.indexes;
@@ -147,7 +152,7 @@ indexes_then old mid table h dropped = record {
       (subst (AreDropped old mid) (sym (append_nil h.at.owned)) dropped);
 }
 
-pub rows_tree_of : (old : PageMap) (table : Table) → (h : AreTreesOf old table) → IsTree old table.root h.at.owned (entries_of h.at.rows)
+pub rows_tree_of : {alone : Bool} (old : PageMap) (table : Table) → (h : AreTreesOf alone old table) → IsTree old table.root h.at.owned (entries_of h.at.rows)
 rows_tree_of old table h = subst (λ (t : Table). IsTree old t.root h.at.owned (entries_of h.at.rows)) h.declared (each_right (Lies old) h.before (table_trees h.at ++ h.behind) h.trees.each).0.tree
 
 pub dropped_both : {E : Type 0} (result : Result ⊤ E) (old mid new : PageMap) (t : TableAt) → AreDropped old mid t.owned → OnOk result (AreDropped mid new (pages_of (trees_of_indexes t.rows t.indexes))) → OnOk result (AreDropped old new (pages_of (table_trees t)))
@@ -170,22 +175,22 @@ pub trees_apart : (before behind : List TableAt) (t : TableAt) → trees_of befo
 trees_apart [] behind t = refl
 trees_apart (b ∷ before) behind t = append_assoc (table_trees b) (trees_of before) (trees_of behind) ∙ ap (λ ts. table_trees b ++ ts) (trees_apart before behind t)
 
-module _ (old mid : PageMap) (root top : ℕ) (table : Table) (h : IsTableOf old root table) (w : SchemaLeft old mid h.holds.owned (declared_of h.before ++ declared_of h.behind) top) where
-  pub left_trees : HoldsTrees mid (schema_tree top w.now_owned (declared_of h.before ++ declared_of h.behind) ∷ (trees_of h.before ++ (table_trees h.at ++ trees_of h.behind)))
+module _ {alone : Bool} (old mid : PageMap) (root top : ℕ) (table : Table) (h : IsTableOf alone old root table) (w : SchemaLeft old mid h.holds.owned (declared_of h.before ++ declared_of h.behind) top) where
+  pub left_trees : HoldsTrees alone mid (schema_tree top w.now_owned (declared_of h.before ++ declared_of h.behind) ∷ (trees_of h.before ++ (table_trees h.at ++ trees_of h.behind)))
   left_trees = first_changed old mid (trees_of h.before ++ (table_trees h.at ++ trees_of h.behind)) (schema_tree root h.holds.owned (declared_of h.before ++ table ∷ declared_of h.behind))
-      (schema_tree top w.now_owned (declared_of h.before ++ declared_of h.behind)) (around_table old root table h) w.holds (left_moved old mid h.holds.owned (declared_of h.before ++ declared_of h.behind) top w)
+      (schema_tree top w.now_owned (declared_of h.before ++ declared_of h.behind)) (around_table old root table h) w.holds (left_moved old mid h.holds.owned (declared_of h.before ++ declared_of h.behind) top w) (loses_left old mid h.holds.owned w.now_owned w.gone w.others)
 
-  abbrev pub trees_then : AreTreesOf mid table
+  abbrev pub trees_then : AreTreesOf alone mid table
   trees_then = record { before = schema_tree top w.now_owned (declared_of h.before ++ declared_of h.behind) ∷ trees_of h.before; at = h.at; behind = trees_of h.behind; declared = h.declared; trees = left_trees }
 
-  pub table_gone : (new : PageMap) → AreDropped mid new (pages_of (table_trees h.at)) → TableGone new h.before h.at h.behind top
+  pub table_gone : (new : PageMap) → AreDropped mid new (pages_of (table_trees h.at)) → TableGone alone new h.before h.at h.behind top
   table_gone new dropped =
       let t = trees_gone mid new (schema_tree top w.now_owned (declared_of h.before ++ declared_of h.behind) ∷ trees_of h.before) (table_trees h.at) (trees_of h.behind) left_trees dropped in
       record {
         holds = record {
           owned = w.now_owned;
-          trees = subst (λ (ds : List Table). HoldsTrees new (schema_tree top w.now_owned ds ∷ trees_of (h.before ++ h.behind))) (sym (map-append declared_at h.before h.behind))
-              (subst (λ (ts : List TreeAt). HoldsTrees new (schema_tree top w.now_owned (declared_of h.before ++ declared_of h.behind) ∷ ts)) (trees_apart h.before h.behind h.at) t);
+          trees = subst (λ (ds : List Table). HoldsTrees alone new (schema_tree top w.now_owned ds ∷ trees_of (h.before ++ h.behind))) (sym (map-append declared_at h.before h.behind))
+              (subst (λ (ts : List TreeAt). HoldsTrees alone new (schema_tree top w.now_owned (declared_of h.before ++ declared_of h.behind) ∷ ts)) (trees_apart h.before h.behind h.at) t);
         };
         gone = dropped.gone;
       }
@@ -204,7 +209,7 @@ behind_differ : (before behind : List TableAt) (t : TableAt) → AreDifferent (d
 behind_differ [] behind t h = others_declared t.name behind h.0
 behind_differ (b ∷ before) behind t h = behind_differ before behind t h.1
 
-pub others_behind : (pages : PageMap) (root : ℕ) (name : Name) (tables : List TableAt) (table : Table) → HoldsDatabase pages root tables → (w : IsFoundAt name tables table) → AllByRecursion (λ (u : TableAt). eq_by_cmp text_order name u.name ≡ false) w.behind
+pub others_behind : {alone : Bool} (pages : PageMap) (root : ℕ) (name : Name) (tables : List TableAt) (table : Table) → HoldsFor alone pages root tables → (w : IsFoundAt name tables table) → AllByRecursion (λ (u : TableAt). eq_by_cmp text_order name u.name ≡ false) w.behind
 others_behind pages root name tables table h w =
     subst (λ (n : Name). Others n w.behind) w.named
     (behind_differ w.before w.behind w.at (subst (λ (ts : List TableAt). AreDifferent (declared_of ts)) w.is (names_differ pages root h.owned (declared_of tables) h.trees.each.0)))
@@ -216,8 +221,8 @@ not_named new name (u ∷ tables) h = (λ same. absurd (differ u.name h.0 same),
     differ : (other : Name) → eq_by_cmp text_order name other ≡ false → other ≡ name → ⊥
     differ other e same = let bad : true ≡ false = sym (tie_itself name) ∙ subst (λ (n : Name). eq_by_cmp text_order name n ≡ false) same e in cc
 
-pub all_freed : (new : PageMap) (name : Name) (tables : List TableAt) (table : Table) (root : ℕ) → (w : IsFoundAt name tables table) → AllByRecursion (λ (u : TableAt). eq_by_cmp text_order name u.name ≡ false) w.behind
-    → TableGone new w.before w.at w.behind root → AreFreed new name tables
+pub all_freed : {alone : Bool} (new : PageMap) (name : Name) (tables : List TableAt) (table : Table) (root : ℕ) → (w : IsFoundAt name tables table) → AllByRecursion (λ (u : TableAt). eq_by_cmp text_order name u.name ≡ false) w.behind
+    → TableGone alone new w.before w.at w.behind root → AreFreed new name tables
 all_freed new name tables table root w behind g =
     subst (AreFreed new name) (sym w.is)
     (each_append (λ (t : TableAt). t.name ≡ name → (n : ℕ) → Has n (pages_of (table_trees t)) → new n ≡ None) w.before (w.at ∷ w.behind)
@@ -274,12 +279,12 @@ contents_absent name tables e = same_tables (contents_of tables) (remove (conten
     by q true h = ap (get (contents_of tables)) (name_from_tie q name h) ∙ get_absent name tables e ∙ sym (ap (λ c. cond c None (get (contents_of tables) q)) h)
     by q false h = sym (ap (λ c. cond c None (get (contents_of tables) q)) h)
 
-pub database_dropped : {E : Type 0} (result : Result ℕ E) (new : PageMap) (name : Name) (tables : List TableAt) (table : Table) → (w : IsFoundAt name tables table) → AllByRecursion (λ (u : TableAt). eq_by_cmp text_order name u.name ≡ false) w.behind
-    → IfOk result (TableGone new w.before w.at w.behind) → IfOk result (DatabaseWritten new (without_table (contents_of tables) name))
-database_dropped (Err e) new name tables table w later h = tt
-database_dropped (Ok root) new name tables table w later h = record { tables = w.before ++ w.behind; holds = h.holds; shows = contents_without name tables table w later }
+pub database_dropped : (alone : Bool) {E : Type 0} (result : Result ℕ E) (new : PageMap) (name : Name) (tables : List TableAt) (table : Table) → (w : IsFoundAt name tables table) → AllByRecursion (λ (u : TableAt). eq_by_cmp text_order name u.name ≡ false) w.behind
+    → IfOk result (TableGone alone new w.before w.at w.behind) → IfOk result (WrittenFor alone new (without_table (contents_of tables) name))
+database_dropped alone (Err e) new name tables table w later h = tt
+database_dropped alone (Ok root) new name tables table w later h = record { tables = w.before ++ w.behind; holds = h.holds; shows = contents_without name tables table w later }
 
-pub freed_by : {E : Type 0} (result : Result ℕ E) (new : PageMap) (name : Name) (tables : List TableAt) (table : Table) → (w : IsFoundAt name tables table) → AllByRecursion (λ (u : TableAt). eq_by_cmp text_order name u.name ≡ false) w.behind
-    → IfOk result (TableGone new w.before w.at w.behind) → OnOk result (AreFreed new name tables)
-freed_by (Err e) new name tables table w later h = tt
-freed_by (Ok root) new name tables table w later h = all_freed new name tables table root w later h
+pub freed_by : (alone : Bool) {E : Type 0} (result : Result ℕ E) (new : PageMap) (name : Name) (tables : List TableAt) (table : Table) → (w : IsFoundAt name tables table) → AllByRecursion (λ (u : TableAt). eq_by_cmp text_order name u.name ≡ false) w.behind
+    → IfOk result (TableGone alone new w.before w.at w.behind) → OnOk result (AreFreed new name tables)
+freed_by alone (Err e) new name tables table w later h = tt
+freed_by alone (Ok root) new name tables table w later h = all_freed new name tables table root w later h

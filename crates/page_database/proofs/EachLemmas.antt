@@ -1,5 +1,5 @@
 -- Rows exchanged in each index of a table, one after another.
-use Rattle.std.proofs.Common.{◌≡◌, ℕ, zero, suc, ◌+◌, ◌<◌, ◌≤◌, List, [], ◌∷◌, ◌++◌, length, map, take, drop, refl, sym, ap, subst, ◌∙◌, arith, append_assoc, add-one}
+use Rattle.std.proofs.Common.{◌≡◌, ℕ, zero, suc, ◌+◌, ◌<◌, ◌≤◌, List, [], ◌∷◌, ◌++◌, length, map, take, drop, refl, sym, ap, subst, ◌∙◌, arith, append_assoc, add-one, Bool}
 use Rattle.std.specs.Prelude.{slice_index_or}
 use Rattle.std.proofs.lemmas.List.{map-append, length-append}
 use Rattle.std.proofs.Math.Seq.{take-length}
@@ -13,6 +13,8 @@ use Rattle.store.specs.Errors.{HasLongKey}
 use Rattle.page_space.specs.Space.{PageMap}
 use Rattle.btree_read.proofs.ListLemmas.{each_right}
 use Rattle.index_trees.specs.Indexed.{HoldsIndex, IndexWritten}
+use Rattle.tree_entries.specs.Kept.{LosesNoPage}
+use Rattle.tree_entries.proofs.KeptLemmas.{loses_known}
 use Rattle.page_database.specs.declared.exchange.Exchange.{Exchange}
 use Rattle.page_database.specs.Trees.{TreeAt, Lies, HoldsTrees}
 use Rattle.page_database.specs.Held.{IndexAt, indexes_declared, index_tree, trees_of_indexes}
@@ -21,18 +23,18 @@ use Rattle.page_database.proofs.TreeLemmas.{trees_changed}
 use Rattle.page_database.proofs.IndexLemmas.{index_moved}
 
 -- the first indexes have the new rows, the others those that were held
-pub record Midway (new : PageMap) (before : List TreeAt) (indexes : List Index) (behind : List TreeAt) (held rows : List Entry) (i : ℕ) (roots : List ℕ) : Type 0 where
+pub record Midway (alone : Bool) (new : PageMap) (before : List TreeAt) (indexes : List Index) (behind : List TreeAt) (held rows : List Entry) (i : ℕ) (roots : List ℕ) : Type 0 where
   pub done : List IndexAt
   pub left : List IndexAt
   pub count : length roots ≡ i
   pub now : indexes_declared done ≡ with_roots roots (take i indexes)
   pub rest : indexes_declared left ≡ drop i indexes
-  pub trees : HoldsTrees new (before ++ (trees_of_indexes rows done ++ (trees_of_indexes held left ++ behind)))
+  pub trees : HoldsTrees alone new (before ++ (trees_of_indexes rows done ++ (trees_of_indexes held left ++ behind)))
 
-abbrev pub MidwayBy : PageMap → PageMap → List Index → Exchange → ℕ → List ℕ → Type 0
-MidwayBy old now indexes exchange i roots = (h : AreExchangeable old indexes exchange) → Midway now h.before indexes h.behind h.held (h.left ++ h.more) i roots
+abbrev pub MidwayBy : Bool → PageMap → PageMap → List Index → Exchange → ℕ → List ℕ → Type 0
+MidwayBy alone old now indexes exchange i roots = (h : AreExchangeable alone old indexes exchange) → Midway alone now h.before indexes h.behind h.held (h.left ++ h.more) i roots
 
-pub midway_first : (old : PageMap) (indexes : List Index) (exchange : Exchange) → MidwayBy old old indexes exchange 0 []
+pub midway_first : {alone : Bool} (old : PageMap) (indexes : List Index) (exchange : Exchange) → MidwayBy alone old old indexes exchange 0 []
 midway_first old indexes exchange h = record { done = []; left = h.its; count = refl; now = refl; rest = sym h.declared; trees = h.trees }
 
 pub record FirstLeft (left : List IndexAt) (x : Index) (xs : List Index) : Type 0 where
@@ -61,33 +63,33 @@ roots_more [] (y ∷ indexes) r x below is = ap (λ z. with_root r z ∷ []) (sy
 roots_more (q ∷ roots) (y ∷ indexes) r x below is = ap (λ zs. with_root q y ∷ zs) (roots_more roots indexes r x (omega (arith, below)) is)
 
 module _ (old mid : PageMap) (indexes : List Index) (exchange : Exchange) (i : ℕ) (roots : List ℕ) (x : Index) (below : i < length indexes) (is : x ≡ slice_index_or indexes i x) where
-  pub here : (h : AreExchangeable old indexes exchange) → (m : Midway mid h.before indexes h.behind h.held (h.left ++ h.more) i roots) → FirstLeft m.left x (drop (suc i) indexes)
+  pub here : {alone : Bool} (h : AreExchangeable alone old indexes exchange) → (m : Midway alone mid h.before indexes h.behind h.held (h.left ++ h.more) i roots) → FirstLeft m.left x (drop (suc i) indexes)
   here h m = first_left m.left x (drop (suc i) indexes) (m.rest ∙ drop_here indexes i x below is)
 
-  around : (h : AreExchangeable old indexes exchange) → (m : Midway mid h.before indexes h.behind h.held (h.left ++ h.more) i roots) → (f : FirstLeft m.left x (drop (suc i) indexes))
-      → HoldsTrees mid ((h.before ++ trees_of_indexes (h.left ++ h.more) m.done) ++ index_tree h.held f.first ∷ (trees_of_indexes h.held f.others ++ h.behind))
-  around h m f =
+  around : {alone : Bool} (h : AreExchangeable alone old indexes exchange) → (m : Midway alone mid h.before indexes h.behind h.held (h.left ++ h.more) i roots) → (f : FirstLeft m.left x (drop (suc i) indexes))
+      → HoldsTrees alone mid ((h.before ++ trees_of_indexes (h.left ++ h.more) m.done) ++ index_tree h.held f.first ∷ (trees_of_indexes h.held f.others ++ h.behind))
+  around {alone} h m f =
       let D : List TreeAt = trees_of_indexes (h.left ++ h.more) m.done in
-      subst (HoldsTrees mid) (sym (append_assoc h.before D (index_tree h.held f.first ∷ (trees_of_indexes h.held f.others ++ h.behind))))
-      (subst (λ (ls : List IndexAt). HoldsTrees mid (h.before ++ (D ++ (trees_of_indexes h.held ls ++ h.behind)))) f.is m.trees)
+      subst (HoldsTrees alone mid) (sym (append_assoc h.before D (index_tree h.held f.first ∷ (trees_of_indexes h.held f.others ++ h.behind))))
+      (subst (λ (ls : List IndexAt). HoldsTrees alone mid (h.before ++ (D ++ (trees_of_indexes h.held ls ++ h.behind)))) f.is m.trees)
 
-  pub index_here : (h : AreExchangeable old indexes exchange) → (m : Midway mid h.before indexes h.behind h.held (h.left ++ h.more) i roots) → (f : FirstLeft m.left x (drop (suc i) indexes))
+  pub index_here : {alone : Bool} (h : AreExchangeable alone old indexes exchange) → (m : Midway alone mid h.before indexes h.behind h.held (h.left ++ h.more) i roots) → (f : FirstLeft m.left x (drop (suc i) indexes))
       → HoldsIndex mid x.root f.first.owned x.columns h.held
   index_here h m f =
       let t = around h m f in
       subst (λ (y : Index). HoldsIndex mid y.root f.first.owned y.columns h.held) f.named
       (each_right (Lies mid) (h.before ++ trees_of_indexes (h.left ++ h.more) m.done) (index_tree h.held f.first ∷ (trees_of_indexes h.held f.others ++ h.behind)) t.each).0
 
-  abbrev pub exchange_here : MidwayBy old mid indexes exchange i roots → AreExchangeable old indexes exchange → IsExchangeable mid x.root x.columns exchange
+  abbrev pub exchange_here : {alone : Bool} → MidwayBy alone old mid indexes exchange i roots → AreExchangeable alone old indexes exchange → IsExchangeable mid x.root x.columns exchange
   exchange_here known h =
       let m = known h in
       let f = here h m in
       record { owned = f.first.owned; held = h.held; left = h.left; more = h.more; index = index_here h m f; exchanges = h.exchanges }
 
-  pub midway_next : (new : PageMap) (top : ℕ) → MidwayBy old mid indexes exchange i roots
-      → ((g : IsExchangeable mid x.root x.columns exchange) → IndexWritten mid new g.owned x.columns (g.left ++ g.more) top)
-      → MidwayBy old new indexes exchange (i + 1) (roots ++ top ∷ [])
-  midway_next new top known one h =
+  pub midway_next : {alone : Bool} (new : PageMap) (top : ℕ) → MidwayBy alone old mid indexes exchange i roots
+      → ((g : IsExchangeable mid x.root x.columns exchange) → IndexWritten mid new g.owned x.columns (g.left ++ g.more) top) → LosesNoPage mid new x.root top
+      → MidwayBy alone old new indexes exchange (i + 1) (roots ++ top ∷ [])
+  midway_next {alone} new top known one keeps h =
       let m = known h in
       let f = here h m in
       let rows : List Entry = h.left ++ h.more in
@@ -95,7 +97,7 @@ module _ (old mid : PageMap) (indexes : List Index) (exchange : Exchange) (i : �
       let R : List TreeAt = trees_of_indexes h.held f.others ++ h.behind in
       let w = one (exchange_here known h) in
       let now : IndexAt = record { declared = with_root top x; owned = w.now_owned } in
-      let t = trees_changed mid new (h.before ++ D) R (index_tree h.held f.first) (index_tree rows now) (around h m f) w.holds (index_moved mid new f.first.owned x.columns rows top w) in
+      let t = trees_changed mid new (h.before ++ D) R (index_tree h.held f.first) (index_tree rows now) (around h m f) w.holds (index_moved mid new f.first.owned x.columns rows top w) (loses_known _ _ _ _ f.first.owned w.now_owned _ _ keeps (index_here h m f).tree w.holds.tree) in
       let joined : (h.before ++ D) ++ index_tree rows now ∷ R ≡ h.before ++ (trees_of_indexes rows (m.done ++ now ∷ []) ++ R) =
       append_assoc h.before D (index_tree rows now ∷ R) ∙ ap (λ ts. h.before ++ ts) (sym (append_assoc D (index_tree rows now ∷ []) R) ∙ ap (λ ts. ts ++ R) (sym (map-append (index_tree rows) m.done (now ∷ [])))) in
       let less : length roots < length indexes = omega (arith, m.count, below) in
@@ -107,7 +109,7 @@ module _ (old mid : PageMap) (indexes : List Index) (exchange : Exchange) (i : �
         now = map-append (λ (j : IndexAt). j.declared) m.done (now ∷ []) ∙ ap (λ ds. ds ++ with_root top x ∷ []) (m.now ∙ ap (λ k. with_roots roots (take k indexes)) (sym m.count))
             ∙ sym (roots_more roots indexes top x less at) ∙ ap (λ k. with_roots (roots ++ top ∷ []) (take k indexes)) (ap suc m.count ∙ sym (add-one i));
         rest = f.rest ∙ ap (λ k. drop k indexes) (sym (add-one i));
-        trees = subst (HoldsTrees new) joined t;
+        trees = subst (HoldsTrees alone new) joined t;
       }
 
 none_left : (left : List IndexAt) → indexes_declared left ≡ [] → left ≡ []
@@ -120,15 +122,15 @@ drop_past [] (suc n) l = refl
 drop_past (x ∷ indexes) zero l = absurd (omega (arith, l))
 drop_past (x ∷ indexes) (suc n) l = drop_past indexes n (omega (arith, l))
 
-pub midway_end : (old new : PageMap) (indexes : List Index) (exchange : Exchange) (i : ℕ) (roots : List ℕ) → i ≡ length indexes → MidwayBy old new indexes exchange i roots
-    → (h : AreExchangeable old indexes exchange) → AreExchanged new h.before indexes h.behind (h.left ++ h.more) roots
-midway_end old new indexes exchange i roots is known h =
+pub midway_end : {alone : Bool} (old new : PageMap) (indexes : List Index) (exchange : Exchange) (i : ℕ) (roots : List ℕ) → i ≡ length indexes → MidwayBy alone old new indexes exchange i roots
+    → (h : AreExchangeable alone old indexes exchange) → AreExchanged alone new h.before indexes h.behind (h.left ++ h.more) roots
+midway_end {alone} old new indexes exchange i roots is known h =
     let m = known h in
     let none : m.left ≡ [] = none_left m.left (m.rest ∙ drop_past indexes i (omega (arith, is))) in
     record {
       its = m.done;
       declared = m.now ∙ ap (with_roots roots) (ap (λ k. take k indexes) is ∙ take-length indexes);
-      trees = subst (λ (ls : List IndexAt). HoldsTrees new (h.before ++ (trees_of_indexes (h.left ++ h.more) m.done ++ (trees_of_indexes h.held ls ++ h.behind)))) none m.trees;
+      trees = subst (λ (ls : List IndexAt). HoldsTrees alone new (h.before ++ (trees_of_indexes (h.left ++ h.more) m.done ++ (trees_of_indexes h.held ls ++ h.behind)))) none m.trees;
     }
 
 -- ---- limits

@@ -1,5 +1,5 @@
 -- An index made over the rows of a table.
-use Rattle.std.proofs.Common.{◌≡◌, ℕ, List, [], ◌∷◌, ◌++◌, map, length, Option, None, Result, Ok, Err, IfOk, refl, sym, ap, subst, ◌∙◌, ◌<◌, append_assoc, arith}
+use Rattle.std.proofs.Common.{◌≡◌, ℕ, List, [], ◌∷◌, ◌++◌, map, length, Option, None, Result, Ok, Err, IfOk, refl, sym, ap, subst, ◌∙◌, ◌<◌, append_assoc, arith, Bool}
 use Rattle.std.proofs.lemmas.List.{map-append}
 use Rattle.std.specs.List.{AllByRecursion}
 use Rattle.sqlval.specs.declared.schema.Index.{Index}
@@ -12,15 +12,18 @@ use Rattle.sqlval.specs.Value.{Row}
 use Rattle.store.specs.View.{AreEntries}
 use Rattle.store.specs.declared.rows.NumberedRow.{NumberedRow}
 use Rattle.page_space.specs.Space.{PageMap}
+use Rattle.btree_read.specs.Tree.{IsTree}
 use Rattle.btree_read.proofs.ListLemmas.{each_append, each_left, each_right}
 use Rattle.catalog_read.specs.Keepable.{ArePlaces, AreAmong, IsIndex, IsIndexOver, IsTable}
 use Rattle.tablestore.specs.Held.{HoldsRows}
 use Rattle.index_trees.specs.Indexed.{HoldsIndex, IndexWritten}
+use Rattle.tree_entries.specs.Kept.{LosesNoPage}
+use Rattle.tree_entries.proofs.KeptLemmas.{loses_known}
 use Rattle.page_tables.specs.Held.{stored_of}
 use Rattle.page_database.specs.declared.exchange.Exchange.{Exchange}
 use Rattle.page_database.specs.Trees.{TreeAt, Lies, RowsOf, IndexOf, HoldsTrees}
-use Rattle.page_database.specs.Held.{IndexAt, TableAt, indexes_declared, declared_at, declared_of, index_tree, trees_of_indexes, table_trees, trees_of, schema_tree, rows_at, HoldsDatabase, contents_of}
-use Rattle.page_database.specs.Changed.{DatabaseWritten}
+use Rattle.page_database.specs.Held.{IndexAt, TableAt, indexes_declared, declared_at, declared_of, index_tree, trees_of_indexes, table_trees, trees_of, schema_tree, rows_at, HoldsFor, contents_of}
+use Rattle.page_database.specs.Changed.{WrittenFor}
 use Rattle.page_database.specs.Exchanged.{IsLeft, HasLongKeyIn, with_root, IsExchangeable, HasTable, TablePut, IsTableOf}
 use Rattle.page_database.specs.Indexed.{table_indexed, IndexMade}
 use Rattle.page_database.proofs.TreeLemmas.{trees_changed, trees_put}
@@ -46,7 +49,7 @@ from_nothing pages mid rows columns owned held exchange none are h = record {
   exchanges = record { taken = subst (λ (o : Option NumberedRow). IsLeft o [] []) (sym none) refl; put = are; apart = more_apart held [] h.kept (numbered pages rows owned held h) };
 }
 
-module _ (old mid : PageMap) (root : ℕ) (table : Table) (index : Index) (top : ℕ) (h : IsTableOf old root table) (w : IndexWritten old mid [] index.columns h.at.rows top) where
+module _ {alone : Bool} (old mid : PageMap) (root : ℕ) (table : Table) (index : Index) (top : ℕ) (h : IsTableOf alone old root table) (w : IndexWritten old mid [] index.columns h.at.rows top) (keeps : LosesNoPage old mid 0 top) where
   abbrev pub new_index : IndexAt
   new_index = record { declared = with_root top index; owned = w.now_owned }
 
@@ -59,15 +62,16 @@ module _ (old mid : PageMap) (root : ℕ) (table : Table) (index : Index) (top :
   joined : (ts : List TreeAt) → front_trees ++ ts ≡ schema_tree root h.holds.owned (declared_of h.before ++ table ∷ declared_of h.behind) ∷ (trees_of h.before ++ (table_trees h.at ++ ts))
   joined ts = ap (λ us. schema_tree root h.holds.owned (declared_of h.before ++ table ∷ declared_of h.behind) ∷ us) (append_assoc (trees_of h.before) (table_trees h.at) ts)
 
-  pub with_it : HoldsTrees mid (schema_tree root h.holds.owned (declared_of h.before ++ table ∷ declared_of h.behind) ∷ its_others)
+  pub with_it : HoldsTrees alone mid (schema_tree root h.holds.owned (declared_of h.before ++ table ∷ declared_of h.behind) ∷ its_others)
   with_it =
       let nothing : TreeAt = record { root = 0; owned = []; content = IndexOf index.columns [] } in
-      let was : HoldsTrees old (front_trees ++ nothing ∷ trees_of h.behind) =
-      trees_put old front_trees (trees_of h.behind) nothing (subst (HoldsTrees old) (sym (joined (trees_of h.behind))) (around_table old root table h)) (no_entries old index.columns) refl in
-      subst (HoldsTrees mid) (joined (index_tree h.at.rows new_index ∷ trees_of h.behind))
-      (trees_changed old mid front_trees (trees_of h.behind) nothing (index_tree h.at.rows new_index) was w.holds (index_moved old mid [] index.columns h.at.rows top w))
+      let empty : IsTree old 0 [] [] = (refl, refl) in
+      let was : HoldsTrees alone old (front_trees ++ nothing ∷ trees_of h.behind) =
+      trees_put old front_trees (trees_of h.behind) nothing (subst (HoldsTrees alone old) (sym (joined (trees_of h.behind))) (around_table old root table h)) (no_entries old index.columns) refl in
+      subst (HoldsTrees alone mid) (joined (index_tree h.at.rows new_index ∷ trees_of h.behind))
+      (trees_changed old mid front_trees (trees_of h.behind) nothing (index_tree h.at.rows new_index) was w.holds (index_moved old mid [] index.columns h.at.rows top w) (loses_known old mid 0 top [] w.now_owned [] w.holds.entries keeps empty w.holds.tree))
 
-  abbrev pub to_put_index : HasTable mid root table
+  abbrev pub to_put_index : HasTable alone mid root table
   to_put_index = record { owned = h.holds.owned; front = declared_of h.before; back = declared_of h.behind; others = its_others; trees = with_it }
 
   pub range_indexed : IsBounded mid → ArePlaces index.columns → AreAmong (length table.columns) index.columns → IsTable (table_indexed table index top)
@@ -99,20 +103,20 @@ module _ (old mid : PageMap) (root : ℕ) (table : Table) (index : Index) (top :
   indexes_with : map index_of (indexes_declared (h.at.indexes ++ new_index ∷ [])) ≡ map index_of (indexes_declared h.at.indexes) ++ index_of index ∷ []
   indexes_with = ap (map index_of) (map-append (λ (i : IndexAt). i.declared) h.at.indexes (new_index ∷ [])) ∙ map-append index_of (indexes_declared h.at.indexes) (with_root top index ∷ [])
 
-  pub index_made : (new : PageMap) (now : ℕ) → TablePut new (declared_of h.before) (table_indexed table index top) (declared_of h.behind) its_others now → IndexMade new h.before h.at h.behind index now
+  pub index_made : (new : PageMap) (now : ℕ) → TablePut alone new (declared_of h.before) (table_indexed table index top) (declared_of h.behind) its_others now → IndexMade alone new h.before h.at h.behind index now
   index_made new now p = record {
     now = now_with;
     name = refl;
     stored = λ i. record { columns = h.at.columns; constraints = h.at.constraints; indexes = indexes_with i; entries = h.at.rows };
     holds = unzipped new now p.owned h.before h.behind now_with
-        (subst (λ (t : Table). HoldsTrees new (schema_tree now p.owned (declared_of h.before ++ t ∷ declared_of h.behind) ∷ (trees_of h.before ++ (table_trees now_with ++ trees_of h.behind)))) (sym declared_with)
-        (subst (λ (ts : List TreeAt). HoldsTrees new (schema_tree now p.owned (declared_of h.before ++ table_indexed table index top ∷ declared_of h.behind) ∷ (trees_of h.before ++ ts))) (sym trees_with) p.trees));
+        (subst (λ (t : Table). HoldsTrees alone new (schema_tree now p.owned (declared_of h.before ++ t ∷ declared_of h.behind) ∷ (trees_of h.before ++ (table_trees now_with ++ trees_of h.behind)))) (sym declared_with)
+        (subst (λ (ts : List TreeAt). HoldsTrees alone new (schema_tree now p.owned (declared_of h.before ++ table_indexed table index top ∷ declared_of h.behind) ∷ (trees_of h.before ++ ts))) (sym trees_with) p.trees));
   }
 
-pub database_indexed : {E : Type 0} (result : Result ℕ E) (new : PageMap) (name : Name) (tables : List TableAt) (table : Table) (index : Index) → (w : IsFoundAt name tables table)
-    → IfOk result (IndexMade new w.before w.at w.behind index) → IfOk result (DatabaseWritten new (changed (with_index index) (contents_of tables) name))
-database_indexed (Err e) new name tables table index w h = tt
-database_indexed (Ok root) new name tables table index w h =
+pub database_indexed : (alone : Bool) {E : Type 0} (result : Result ℕ E) (new : PageMap) (name : Name) (tables : List TableAt) (table : Table) (index : Index) → (w : IsFoundAt name tables table)
+    → IfOk result (IndexMade alone new w.before w.at w.behind index) → IfOk result (WrittenFor alone new (changed (with_index index) (contents_of tables) name))
+database_indexed alone (Err e) new name tables table index w h = tt
+database_indexed alone (Ok root) new name tables table index w h =
     record { tables = w.before ++ h.now ∷ w.behind; holds = h.holds; shows = changed_by name tables table (with_index index) h.now w h.name h.stored }
 
 pub from_old : {E : Type 0} (result : Result ℕ E) (old mid new : PageMap) (columns : List ℕ) (held : List Entry) → mid ≡ old → IfOk result (IndexWritten mid new [] columns held) → IfOk result (IndexWritten old new [] columns held)

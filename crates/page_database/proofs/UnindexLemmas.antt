@@ -32,8 +32,8 @@ use Rattle.index_trees.specs.Indexed.{HoldsIndex}
 use Rattle.page_tables.specs.Held as plain
 use Rattle.page_tables.proofs.NameLemmas.{contents-get}
 use Rattle.page_database.specs.Trees.{TreeAt, Lies, pages_of, HoldsTrees}
-use Rattle.page_database.specs.Held.{IndexAt, TableAt, indexes_declared, declared_at, declared_of, index_tree, trees_of_indexes, rows_tree, table_trees, trees_of, schema_tree, rows_at, rows_of_tables, HoldsDatabase, contents_of}
-use Rattle.page_database.specs.Changed.{DatabaseWritten}
+use Rattle.page_database.specs.Held.{IndexAt, TableAt, indexes_declared, declared_at, declared_of, index_tree, trees_of_indexes, rows_tree, table_trees, trees_of, schema_tree, rows_at, rows_of_tables, HoldsFor, contents_of}
+use Rattle.page_database.specs.Changed.{WrittenFor}
 use Rattle.page_database.specs.Dropped.{AreIndexes}
 use Rattle.page_database.specs.Exchanged.{HasTable, TablePut, IsTableOf}
 use Rattle.page_database.specs.Unindexed.{without_named, table_without, kept_at, named_at, without_at, AreGiven, IndexesLeft, IndexesGone, TablesUnindexed}
@@ -70,7 +70,7 @@ range_kept P name (i ∷ indexes) h = by (is_named name i.name) (range_kept P na
     by true again = again
     by false again = (h.0, again)
 
-pub range_without : (pages : PageMap) (root : ℕ) (table : Table) (name : Name) → HasTable pages root table → IsTable (table_without name table)
+pub range_without : {alone : Bool} (pages : PageMap) (root : ℕ) (table : Table) (name : Name) → HasTable alone pages root table → IsTable (table_without name table)
 range_without pages root table name h =
     let was : IsTable table = (each_right IsTable h.front (table ∷ h.back) (schema_held pages root table h).range).0 in
     record {
@@ -104,14 +104,14 @@ filter_more p (x ∷ xs) y = by (p x) (filter_more p xs y)
     by false again = again
 
 -- the first indexes without those of the name, the others as they were
-pub record Midway (new : PageMap) (name : Name) (before : List TreeAt) (its : List IndexAt) (behind : List TreeAt) (rows : List Entry) (i : ℕ) : Type 0 where
-  pub trees : HoldsTrees new (before ++ (trees_of_indexes rows (kept_at name (take i its)) ++ (trees_of_indexes rows (drop i its) ++ behind)))
+pub record Midway (alone : Bool) (new : PageMap) (name : Name) (before : List TreeAt) (its : List IndexAt) (behind : List TreeAt) (rows : List Entry) (i : ℕ) : Type 0 where
+  pub trees : HoldsTrees alone new (before ++ (trees_of_indexes rows (kept_at name (take i its)) ++ (trees_of_indexes rows (drop i its) ++ behind)))
   pub given : AreGiven new name (take i its) rows
 
-abbrev pub MidwayBy : PageMap → PageMap → Name → List Index → ℕ → Type 0
-MidwayBy old now name indexes i = (h : AreIndexes old indexes) → Midway now name h.before h.its h.behind h.rows i
+abbrev pub MidwayBy : Bool → PageMap → PageMap → Name → List Index → ℕ → Type 0
+MidwayBy alone old now name indexes i = (h : AreIndexes alone old indexes) → Midway alone now name h.before h.its h.behind h.rows i
 
-pub midway_first : (old : PageMap) (name : Name) (indexes : List Index) → MidwayBy old old name indexes 0
+pub midway_first : {alone : Bool} (old : PageMap) (name : Name) (indexes : List Index) → MidwayBy alone old old name indexes 0
 midway_first old name indexes h = record { trees = h.trees; given = λ n i. absurd i }
 
 pub record IsHere (its : List IndexAt) (i : ℕ) (x : Index) : Type 0 where
@@ -127,35 +127,35 @@ is_here (f ∷ its) (suc i) x below is =
     let w = is_here its i x (omega (arith, below)) is in
     record { at = w.at; named = w.named; first = ap (λ fs. f ∷ fs) w.first; rest = w.rest }
 
-module _ (old mid : PageMap) (name : Name) (indexes : List Index) (i : ℕ) (x : Index) (below : i < length indexes) (is : x ≡ slice_index_or indexes i x) (known : MidwayBy old mid name indexes i) where
-  pub place : (h : AreIndexes old indexes) → IsHere h.its i x
+module _ {alone : Bool} (old mid : PageMap) (name : Name) (indexes : List Index) (i : ℕ) (x : Index) (below : i < length indexes) (is : x ≡ slice_index_or indexes i x) (known : MidwayBy alone old mid name indexes i) where
+  pub place : (h : AreIndexes alone old indexes) → IsHere h.its i x
   place h = is_here h.its i x (subst (λ (ds : List Index). i < length ds) h.declared below) (is ∙ ap (λ (ds : List Index). slice_index_or ds i x) h.declared)
 
-  around : (h : AreIndexes old indexes)
-      → HoldsTrees mid ((h.before ++ trees_of_indexes h.rows (kept_at name (take i h.its))) ++ index_tree h.rows (place h).at ∷ (trees_of_indexes h.rows (drop (suc i) h.its) ++ h.behind))
+  around : (h : AreIndexes alone old indexes)
+      → HoldsTrees alone mid ((h.before ++ trees_of_indexes h.rows (kept_at name (take i h.its))) ++ index_tree h.rows (place h).at ∷ (trees_of_indexes h.rows (drop (suc i) h.its) ++ h.behind))
   around h =
       let K : List TreeAt = trees_of_indexes h.rows (kept_at name (take i h.its)) in
       let w = place h in
-      subst (HoldsTrees mid) (sym (append_assoc h.before K (index_tree h.rows w.at ∷ (trees_of_indexes h.rows (drop (suc i) h.its) ++ h.behind))))
-      (subst (λ (js : List IndexAt). HoldsTrees mid (h.before ++ (K ++ (trees_of_indexes h.rows js ++ h.behind)))) w.rest (known h).trees)
+      subst (HoldsTrees alone mid) (sym (append_assoc h.before K (index_tree h.rows w.at ∷ (trees_of_indexes h.rows (drop (suc i) h.its) ++ h.behind))))
+      (subst (λ (js : List IndexAt). HoldsTrees alone mid (h.before ++ (K ++ (trees_of_indexes h.rows js ++ h.behind)))) w.rest (known h).trees)
 
   -- the tree of the next one is still there
-  pub tree_here : (h : AreIndexes old indexes) → HoldsIndex mid x.root (place h).at.owned x.columns h.rows
+  pub tree_here : (h : AreIndexes alone old indexes) → HoldsIndex mid x.root (place h).at.owned x.columns h.rows
   tree_here h =
       let w = place h in
       subst (λ (y : Index). HoldsIndex mid y.root w.at.owned y.columns h.rows) w.named
       (each_right (Lies mid) (h.before ++ trees_of_indexes h.rows (kept_at name (take i h.its))) (index_tree h.rows w.at ∷ (trees_of_indexes h.rows (drop (suc i) h.its) ++ h.behind)) (around h).each).0
 
-  kept_now : (h : AreIndexes old indexes) → kept_at name (take (suc i) h.its) ≡ kept_at name (take i h.its) ++ (if not (is_named name (place h).at.declared.name) then (place h).at ∷ [] else [])
+  kept_now : (h : AreIndexes alone old indexes) → kept_at name (take (suc i) h.its) ≡ kept_at name (take i h.its) ++ (if not (is_named name (place h).at.declared.name) then (place h).at ∷ [] else [])
   kept_now h = ap (kept_at name) (place h).first ∙ filter_more (λ (j : IndexAt). not (is_named name j.declared.name)) (take i h.its) (place h).at
 
-  named_now : (h : AreIndexes old indexes) → named_at name (take (suc i) h.its) ≡ named_at name (take i h.its) ++ (if is_named name (place h).at.declared.name then (place h).at ∷ [] else [])
+  named_now : (h : AreIndexes alone old indexes) → named_at name (take (suc i) h.its) ≡ named_at name (take i h.its) ++ (if is_named name (place h).at.declared.name then (place h).at ∷ [] else [])
   named_now h = ap (named_at name) (place h).first ∙ filter_more (λ (j : IndexAt). is_named name j.declared.name) (take i h.its) (place h).at
 
-  is_it : (h : AreIndexes old indexes) (b : Bool) → is_named name x.name ≡ b → is_named name (place h).at.declared.name ≡ b
+  is_it : (h : AreIndexes alone old indexes) (b : Bool) → is_named name x.name ≡ b → is_named name (place h).at.declared.name ≡ b
   is_it h b e = ap (λ (y : Index). is_named name y.name) (place h).named ∙ e
 
-  one_gone : (new : PageMap) (h : AreIndexes old indexes) → is_named name x.name ≡ true → AreDropped mid new (place h).at.owned → Midway new name h.before h.its h.behind h.rows (suc i)
+  one_gone : (new : PageMap) (h : AreIndexes alone old indexes) → is_named name x.name ≡ true → AreDropped mid new (place h).at.owned → Midway alone new name h.before h.its h.behind h.rows (suc i)
   one_gone new h e dropped =
       let w = place h in
       let K : List TreeAt = trees_of_indexes h.rows (kept_at name (take i h.its)) in
@@ -170,8 +170,8 @@ module _ (old mid : PageMap) (name : Name) (indexes : List Index) (i : ℕ) (x :
       ∙ pages_append (trees_of_indexes h.rows (named_at name (take i h.its))) (index_tree h.rows w.at ∷ [])
       ∙ ap (λ ns. pages_of (trees_of_indexes h.rows (named_at name (take i h.its))) ++ ns) (append_nil w.at.owned) in
       record {
-        trees = subst (λ (js : List IndexAt). HoldsTrees new (h.before ++ (trees_of_indexes h.rows js ++ R))) (sym kept)
-            (subst (HoldsTrees new) (append_assoc h.before K R) (trees_dropped mid new (h.before ++ K) R (index_tree h.rows w.at) (around h) dropped));
+        trees = subst (λ (js : List IndexAt). HoldsTrees alone new (h.before ++ (trees_of_indexes h.rows js ++ R))) (sym kept)
+            (subst (HoldsTrees alone new) (append_assoc h.before K R) (trees_dropped mid new (h.before ++ K) R (index_tree h.rows w.at) (around h) dropped));
         given = λ n j. now n (has_either n (pages_of (trees_of_indexes h.rows (named_at name (take i h.its)))) w.at.owned (subst (Has n) pages j)) (has_or_not n w.at.owned);
       }
     where
@@ -180,7 +180,7 @@ module _ (old mid : PageMap) (name : Name) (indexes : List Index) (i : ℕ) (x :
       now n (inl was) (inr other) = dropped.others n other ∙ (known h).given n was
       now n (inr own) (inr other) = absurd (other own)
 
-  one_kept : (h : AreIndexes old indexes) → is_named name x.name ≡ false → Midway mid name h.before h.its h.behind h.rows (suc i)
+  one_kept : (h : AreIndexes alone old indexes) → is_named name x.name ≡ false → Midway alone mid name h.before h.its h.behind h.rows (suc i)
   one_kept h e =
       let w = place h in
       let K : List TreeAt = trees_of_indexes h.rows (kept_at name (take i h.its)) in
@@ -193,17 +193,17 @@ module _ (old mid : PageMap) (name : Name) (indexes : List Index) (i : ℕ) (x :
       append_assoc h.before K (index_tree h.rows w.at ∷ R)
       ∙ ap (λ ts. h.before ++ ts) (sym (append_assoc K (index_tree h.rows w.at ∷ []) R) ∙ ap (λ ts. ts ++ R) (sym (map-append (index_tree h.rows) (kept_at name (take i h.its)) (w.at ∷ []))) ∙ ap (λ (js : List IndexAt). trees_of_indexes h.rows js ++ R) (sym kept)) in
       record {
-        trees = subst (HoldsTrees mid) joined (around h);
+        trees = subst (HoldsTrees alone mid) joined (around h);
         given = λ n j. (known h).given n (subst (λ (js : List IndexAt). Has n (pages_of (trees_of_indexes h.rows js))) gone j);
       }
 
   pub midway_next : (new : PageMap) → (is_named name x.name ≡ true → (owned : List ℕ) (entries : List tree.Entry) → IsTree mid x.root owned entries → AreDropped mid new owned) → (is_named name x.name ≡ false → new ≡ mid)
-      → MidwayBy old new name indexes (i + 1)
-  midway_next new drops same h = subst (λ (k : ℕ). Midway new name h.before h.its h.behind h.rows k) (sym (add-one i)) (by (is_named name x.name) refl)
+      → MidwayBy alone old new name indexes (i + 1)
+  midway_next new drops same h = subst (λ (k : ℕ). Midway alone new name h.before h.its h.behind h.rows k) (sym (add-one i)) (by (is_named name x.name) refl)
     where
-      by : (b : Bool) → is_named name x.name ≡ b → Midway new name h.before h.its h.behind h.rows (suc i)
+      by : (b : Bool) → is_named name x.name ≡ b → Midway alone new name h.before h.its h.behind h.rows (suc i)
       by true e = one_gone new h e (drops e (place h).at.owned (tree_here h).entries (tree_here h).tree)
-      by false e = subst (λ (p : PageMap). Midway p name h.before h.its h.behind h.rows (suc i)) (sym (same e)) (one_kept h e)
+      by false e = subst (λ (p : PageMap). Midway alone p name h.before h.its h.behind h.rows (suc i)) (sym (same e)) (one_kept h e)
 
 drop_all : {X : Type 0} (xs : List X) → drop (length xs) xs ≡ []
 drop_all [] = refl
@@ -213,64 +213,64 @@ declared_length : (its : List IndexAt) → length (indexes_declared its) ≡ len
 declared_length [] = refl
 declared_length (f ∷ its) = ap suc (declared_length its)
 
-pub midway_end : (old new : PageMap) (name : Name) (indexes : List Index) (i : ℕ) → i ≡ length indexes → MidwayBy old new name indexes i → (h : AreIndexes old indexes) → IndexesLeft new name h.before h.its h.behind h.rows
-midway_end old new name indexes i is known h =
+pub midway_end : {alone : Bool} (old new : PageMap) (name : Name) (indexes : List Index) (i : ℕ) → i ≡ length indexes → MidwayBy alone old new name indexes i → (h : AreIndexes alone old indexes) → IndexesLeft alone new name h.before h.its h.behind h.rows
+midway_end {alone} old new name indexes i is known h =
     let count : i ≡ length h.its = is ∙ ap length h.declared ∙ declared_length h.its in
     let all : take i h.its ≡ h.its = ap (λ k. take k h.its) count ∙ take-length h.its in
     let none : drop i h.its ≡ [] = ap (λ k. drop k h.its) count ∙ drop_all h.its in
     record {
-      trees = subst (λ (js : List IndexAt). HoldsTrees new (h.before ++ (trees_of_indexes h.rows (kept_at name h.its) ++ (trees_of_indexes h.rows js ++ h.behind)))) none
-          (subst (λ (js : List IndexAt). HoldsTrees new (h.before ++ (trees_of_indexes h.rows (kept_at name js) ++ (trees_of_indexes h.rows (drop i h.its) ++ h.behind)))) all (known h).trees);
+      trees = subst (λ (js : List IndexAt). HoldsTrees alone new (h.before ++ (trees_of_indexes h.rows (kept_at name h.its) ++ (trees_of_indexes h.rows js ++ h.behind)))) none
+          (subst (λ (js : List IndexAt). HoldsTrees alone new (h.before ++ (trees_of_indexes h.rows (kept_at name js) ++ (trees_of_indexes h.rows (drop i h.its) ++ h.behind)))) all (known h).trees);
       given = subst (λ (js : List IndexAt). AreGiven new name js h.rows) all (known h).given;
     }
 
 -- ---- one table
 
-module _ (old : PageMap) (root : ℕ) (table : Table) (name : Name) (h : IsTableOf old root table) where
-  abbrev pub to_put_without : HasTable old root table
+module _ {alone : Bool} (old : PageMap) (root : ℕ) (table : Table) (name : Name) (h : IsTableOf alone old root table) where
+  abbrev pub to_put_without : HasTable alone old root table
   to_put_without = record { owned = h.holds.owned; front = declared_of h.before; back = declared_of h.behind; others = trees_of h.before ++ (table_trees h.at ++ trees_of h.behind); trees = around_table old root table h }
 
-  module _ (mid : PageMap) (top : ℕ) (p : TablePut mid (declared_of h.before) (table_without name table) (declared_of h.behind) (trees_of h.before ++ (table_trees h.at ++ trees_of h.behind)) top) where
+  module _ (mid : PageMap) (top : ℕ) (p : TablePut alone mid (declared_of h.before) (table_without name table) (declared_of h.behind) (trees_of h.before ++ (table_trees h.at ++ trees_of h.behind)) top) where
     abbrev pub front_then : List TreeAt
     front_then = schema_tree top p.owned (declared_of h.before ++ table_without name table ∷ declared_of h.behind) ∷ (trees_of h.before ++ rows_tree h.at.root h.at.owned h.at.rows ∷ [])
 
     pub split : (ts : List TreeAt) → front_then ++ ts ≡ schema_tree top p.owned (declared_of h.before ++ table_without name table ∷ declared_of h.behind) ∷ (trees_of h.before ++ (rows_tree h.at.root h.at.owned h.at.rows ∷ ts))
     split ts = ap (λ us. schema_tree top p.owned (declared_of h.before ++ table_without name table ∷ declared_of h.behind) ∷ us) (append_assoc (trees_of h.before) (rows_tree h.at.root h.at.owned h.at.rows ∷ []) ts)
 
-    abbrev pub to_drop : AreIndexes mid table.indexes
+    abbrev pub to_drop : AreIndexes alone mid table.indexes
     to_drop = record {
       before = front_then;
       its = h.at.indexes;
       behind = trees_of h.behind;
       rows = h.at.rows;
       declared = ap (λ (t : Table). t.indexes) (sym h.declared);
-      trees = subst (HoldsTrees mid) (sym (split (trees_of_indexes h.at.rows h.at.indexes ++ trees_of h.behind))) p.trees;
+      trees = subst (HoldsTrees alone mid) (sym (split (trees_of_indexes h.at.rows h.at.indexes ++ trees_of h.behind))) p.trees;
     }
 
-    pub table_left : (new : PageMap) → IndexesLeft new name front_then h.at.indexes (trees_of h.behind) h.at.rows → IndexesGone new name h.before h.at h.behind top
+    pub table_left : (new : PageMap) → IndexesLeft alone new name front_then h.at.indexes (trees_of h.behind) h.at.rows → IndexesGone alone new name h.before h.at h.behind top
     table_left new w = record {
       holds = unzipped new top p.owned h.before h.behind (without_at name h.at)
-          (subst (λ (t : Table). HoldsTrees new (schema_tree top p.owned (declared_of h.before ++ t ∷ declared_of h.behind) ∷ (trees_of h.before ++ (table_trees (without_at name h.at) ++ trees_of h.behind))))
+          (subst (λ (t : Table). HoldsTrees alone new (schema_tree top p.owned (declared_of h.before ++ t ∷ declared_of h.behind) ∷ (trees_of h.before ++ (table_trees (without_at name h.at) ++ trees_of h.behind))))
           (ap (table_without name) (sym h.declared) ∙ sym (declared_without name h.at))
-          (subst (HoldsTrees new) (split (trees_of_indexes h.at.rows (kept_at name h.at.indexes) ++ trees_of h.behind)) w.trees));
+          (subst (HoldsTrees alone new) (split (trees_of_indexes h.at.rows (kept_at name h.at.indexes) ++ trees_of h.behind)) w.trees));
       given = w.given;
     }
 
   -- where it has none of the name
-  pub table_same : index_in name table ≡ None → IndexesGone old name h.before h.at h.behind root
+  pub table_same : index_in name table ≡ None → IndexesGone alone old name h.before h.at h.behind root
   table_same none =
       let w = none_named name h.at.indexes 0 (ap (index_in name) h.declared ∙ none) in
       record {
-        holds = subst (λ (js : List IndexAt). HoldsDatabase old root (h.before ++ record h.at { indexes = js } ∷ h.behind)) (sym w.0) h.holds;
+        holds = subst (λ (js : List IndexAt). HoldsFor alone old root (h.before ++ record h.at { indexes = js } ∷ h.behind)) (sym w.0) h.holds;
         given = λ n j. absurd (subst (λ (js : List IndexAt). Has n (pages_of (trees_of_indexes h.at.rows js))) w.1 j);
       }
 
 -- ---- all tables, one after another
 
-abbrev pub MidwayTables : PageMap → PageMap → ℕ → Name → List Table → ℕ → ℕ → Type 0
-MidwayTables old now root name tables i top = (its : List TableAt) → HoldsDatabase old root its → declared_of its ≡ tables → HoldsDatabase now top (map (without_at name) (take i its) ++ drop i its)
+abbrev pub MidwayTables : Bool → PageMap → PageMap → ℕ → Name → List Table → ℕ → ℕ → Type 0
+MidwayTables alone old now root name tables i top = (its : List TableAt) → HoldsFor alone old root its → declared_of its ≡ tables → HoldsFor alone now top (map (without_at name) (take i its) ++ drop i its)
 
-pub tables_first : (old : PageMap) (root : ℕ) (name : Name) (tables : List Table) → MidwayTables old old root name tables 0 root
+pub tables_first : {alone : Bool} (old : PageMap) (root : ℕ) (name : Name) (tables : List Table) → MidwayTables alone old old root name tables 0 root
 tables_first old root name tables its h e = h
 
 pub record IsNext (its : List TableAt) (i : ℕ) (x : Table) : Type 0 where
@@ -286,20 +286,20 @@ is_next (f ∷ its) (suc i) x below is =
     let w = is_next its i x (omega (arith, below)) is in
     record { at = w.at; named = w.named; first = ap (λ fs. f ∷ fs) w.first; rest = w.rest }
 
-module _ (old mid : PageMap) (root top : ℕ) (name : Name) (tables : List Table) (i : ℕ) (x : Table) (below : i < length tables) (is : x ≡ slice_index_or tables i x) (known : MidwayTables old mid root name tables i top) where
+module _ {alone : Bool} (old mid : PageMap) (root top : ℕ) (name : Name) (tables : List Table) (i : ℕ) (x : Table) (below : i < length tables) (is : x ≡ slice_index_or tables i x) (known : MidwayTables alone old mid root name tables i top) where
   pub next_place : (its : List TableAt) → declared_of its ≡ tables → IsNext its i x
   next_place its e = is_next its i x (subst (λ (ds : List Table). i < length ds) (sym e) below) (is ∙ ap (λ (ds : List Table). slice_index_or ds i x) (sym e))
 
-  abbrev pub next_table : (its : List TableAt) → HoldsDatabase old root its → declared_of its ≡ tables → IsTableOf mid top x
+  abbrev pub next_table : (its : List TableAt) → HoldsFor alone old root its → declared_of its ≡ tables → IsTableOf alone mid top x
   next_table its h e = record {
     before = map (without_at name) (take i its);
     at = (next_place its e).at;
     behind = drop (suc i) its;
     declared = (next_place its e).named;
-    holds = subst (λ (ts : List TableAt). HoldsDatabase mid top (map (without_at name) (take i its) ++ ts)) (next_place its e).rest (known its h e);
+    holds = subst (λ (ts : List TableAt). HoldsFor alone mid top (map (without_at name) (take i its) ++ ts)) (next_place its e).rest (known its h e);
   }
 
-  pub tables_next : (new : PageMap) (now : ℕ) → ((h : IsTableOf mid top x) → IndexesGone new name h.before h.at h.behind now) → MidwayTables old new root name tables (i + 1) now
+  pub tables_next : (new : PageMap) (now : ℕ) → ((h : IsTableOf alone mid top x) → IndexesGone alone new name h.before h.at h.behind now) → MidwayTables alone old new root name tables (i + 1) now
   tables_next new now one its h e =
       let w = next_place its e in
       let g = (one (next_table its h e)).holds in
@@ -307,20 +307,20 @@ module _ (old mid : PageMap) (root top : ℕ) (name : Name) (tables : List Table
       sym (append_assoc (map (without_at name) (take i its)) (without_at name w.at ∷ []) (drop (suc i) its))
       ∙ ap (λ ts. ts ++ drop (suc i) its) (sym (map-append (without_at name) (take i its) (w.at ∷ [])) ∙ ap (map (without_at name)) (sym w.first))
       ∙ ap (λ (k : ℕ). map (without_at name) (take k its) ++ drop k its) (sym (add-one i)) in
-      subst (HoldsDatabase new now) joined g
+      subst (HoldsFor alone new now) joined g
 
 tables_length : (its : List TableAt) → length (declared_of its) ≡ length its
 tables_length [] = refl
 tables_length (f ∷ its) = ap suc (tables_length its)
 
-pub tables_end : (old new : PageMap) (root top : ℕ) (name : Name) (tables : List Table) (i : ℕ) → i ≡ length tables → MidwayTables old new root name tables i top
-    → (its : List TableAt) → HoldsDatabase old root its → declared_of its ≡ tables → TablesUnindexed new name its top
-tables_end old new root top name tables i is known its h e =
+pub tables_end : {alone : Bool} (old new : PageMap) (root top : ℕ) (name : Name) (tables : List Table) (i : ℕ) → i ≡ length tables → MidwayTables alone old new root name tables i top
+    → (its : List TableAt) → HoldsFor alone old root its → declared_of its ≡ tables → TablesUnindexed alone new name its top
+tables_end {alone} old new root top name tables i is known its h e =
     let count : i ≡ length its = is ∙ ap length (sym e) ∙ tables_length its in
     let all : map (without_at name) (take i its) ++ drop i its ≡ map (without_at name) its =
     ap (λ k. map (without_at name) (take k its) ++ drop k its) count ∙ ap (λ ts. map (without_at name) ts ++ drop (length its) its) (take-length its)
     ∙ ap (λ ts. map (without_at name) its ++ ts) (drop_all its) ∙ append_nil (map (without_at name) its) in
-    subst (HoldsDatabase new top) all (known its h e)
+    subst (HoldsFor alone new top) all (known its h e)
 
 -- ---- what a store shows
 
@@ -362,6 +362,6 @@ contents_unindexed name its = same_tables (contents_of (map (without_at name) it
     ∙ sym (find-mapped (without_index name) q (entries (contents_of its)))
     ∙ sym (get-from_entries nat_list_cmp_total _ q))
 
-pub database_unindexed : {E : Type 0} (result : Result ℕ E) (new : PageMap) (name : Name) (its : List TableAt) → IfOk result (TablesUnindexed new name its) → IfOk result (DatabaseWritten new (unindexed (contents_of its) name))
-database_unindexed (Err e) new name its h = tt
-database_unindexed (Ok root) new name its h = record { tables = map (without_at name) its; holds = h; shows = contents_unindexed name its }
+pub database_unindexed : (alone : Bool) {E : Type 0} (result : Result ℕ E) (new : PageMap) (name : Name) (its : List TableAt) → IfOk result (TablesUnindexed alone new name its) → IfOk result (WrittenFor alone new (unindexed (contents_of its) name))
+database_unindexed alone (Err e) new name its h = tt
+database_unindexed alone (Ok root) new name its h = record { tables = map (without_at name) its; holds = h; shows = contents_unindexed name its }

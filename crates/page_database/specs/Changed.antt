@@ -1,5 +1,5 @@
 -- What a change of a database leaves of the pages, and why it may be refused. Our own choice.
-use Rattle.std.specs.Prelude.{◌≡◌, ℕ, ◌+◌, ◌^◌, ◌<◌, List, length, ⊤}
+use Rattle.std.specs.Prelude.{◌≡◌, ℕ, ◌+◌, ◌^◌, ◌<◌, List, length, ⊤, Bool, true, false}
 use Rattle.sqlval.specs.Value.{Row}
 use Rattle.std.specs.FinMap.{get}
 use Rattle.denote.specs.Database.{Name}
@@ -11,13 +11,20 @@ use Rattle.page_space.specs.declared.fault.Fault.{Fault}
 use Rattle.page_space.specs.declared.fault.Fault.TheVariants.{Memory}
 use Rattle.page_database.specs.declared.error.DatabaseError.{DatabaseError}
 use Rattle.page_database.specs.declared.error.DatabaseError.TheVariants.{Space, Record, Key, Number, Schema}
-use Rattle.page_database.specs.Held.{TableAt, HoldsDatabase, contents_of}
+use Rattle.page_database.specs.Held.{TableAt, HoldsFor, HoldsDatabase, contents_of}
 
--- the pages now hold these contents
-pub record DatabaseWritten (new : PageMap) (contents : Contents) (root : ℕ) : Type 0 where
+-- the pages now hold these contents, alone or not
+pub record WrittenFor (alone : Bool) (new : PageMap) (contents : Contents) (root : ℕ) : Type 0 where
   pub tables : List TableAt
-  pub holds : HoldsDatabase new root tables
+  pub holds : HoldsFor alone new root tables
   pub shows : contents_of tables ≡ contents
+
+abbrev pub DatabaseWritten : PageMap → Contents → ℕ → Type 0
+DatabaseWritten = WrittenFor false
+
+-- and each page in use belongs to one of their trees
+abbrev pub DatabaseOwned : PageMap → Contents → ℕ → Type 0
+DatabaseOwned = WrittenFor true
 
 -- no database is held there in a space whose list of free pages is one
 abbrev pub HoldsNoDatabaseIn : PageMap → ℕ → Type 0 → Type 0

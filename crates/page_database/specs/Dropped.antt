@@ -1,5 +1,5 @@
 -- A table that goes, with the trees of its rows and indexes. Our own choice.
-use Rattle.std.specs.Prelude.{◌≡◌, ℕ, List, ◌∷◌, ◌++◌, None}
+use Rattle.std.specs.Prelude.{◌≡◌, ℕ, List, ◌∷◌, ◌++◌, None, Bool}
 use Rattle.std.specs.List.{AllByRecursion}
 use Rattle.sqlval.specs.declared.schema.Table.{Table}
 use Rattle.sqlval.specs.declared.schema.Index.{Index}
@@ -8,28 +8,28 @@ use Rattle.store.specs.Contents.{Entry}
 use Rattle.page_space.specs.Space.{PageMap}
 use Rattle.btree_read.specs.Lists.{Has}
 use Rattle.page_database.specs.Trees.{TreeAt, pages_of, HoldsTrees}
-use Rattle.page_database.specs.Held.{IndexAt, TableAt, indexes_declared, trees_of_indexes, declared_at, table_trees, HoldsDatabase}
+use Rattle.page_database.specs.Held.{IndexAt, TableAt, indexes_declared, trees_of_indexes, declared_at, table_trees, HoldsFor}
 
 -- indexes between other trees
-pub record AreIndexes (pages : PageMap) (indexes : List Index) : Type 0 where
+pub record AreIndexes (alone : Bool) (pages : PageMap) (indexes : List Index) : Type 0 where
   pub before : List TreeAt
   pub its : List IndexAt
   pub behind : List TreeAt
   pub rows : List Entry
   pub declared : indexes ≡ indexes_declared its
-  pub trees : HoldsTrees pages (before ++ (trees_of_indexes rows its ++ behind))
+  pub trees : HoldsTrees alone pages (before ++ (trees_of_indexes rows its ++ behind))
 
 -- the trees of a table between other trees
-pub record AreTreesOf (pages : PageMap) (table : Table) : Type 0 where
+pub record AreTreesOf (alone : Bool) (pages : PageMap) (table : Table) : Type 0 where
   pub before : List TreeAt
   pub at : TableAt
   pub behind : List TreeAt
   pub declared : declared_at at ≡ table
-  pub trees : HoldsTrees pages (before ++ (table_trees at ++ behind))
+  pub trees : HoldsTrees alone pages (before ++ (table_trees at ++ behind))
 
 -- the table is gone, its pages are free, and the other tables are as they were
-pub record TableGone (new : PageMap) (before : List TableAt) (was : TableAt) (behind : List TableAt) (root : ℕ) : Type 0 where
-  pub holds : HoldsDatabase new root (before ++ behind)
+pub record TableGone (alone : Bool) (new : PageMap) (before : List TableAt) (was : TableAt) (behind : List TableAt) (root : ℕ) : Type 0 where
+  pub holds : HoldsFor alone new root (before ++ behind)
   pub gone : (n : ℕ) → Has n (pages_of (table_trees was)) → new n ≡ None
 
 -- the pages of a table of this name are free

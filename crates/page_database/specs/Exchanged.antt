@@ -1,5 +1,5 @@
 -- Indexes that lose a row and get others, and the roots of their trees in the schema. Our own choice.
-use Rattle.std.specs.Prelude.{◌≡◌, ℕ, zero, suc, ◌+◌, ◌<◌, List, [], ◌∷◌, ◌++◌, map, Contains, Option, None, Some, ⊤}
+use Rattle.std.specs.Prelude.{◌≡◌, ℕ, zero, suc, ◌+◌, ◌<◌, List, [], ◌∷◌, ◌++◌, map, Contains, Option, None, Some, ⊤, Bool}
 use Rattle.sqlval.specs.declared.schema.Table.{Table}
 use Rattle.sqlval.specs.declared.schema.Index.{Index}
 use Rattle.sqlval.specs.CodedLength.{key_length}
@@ -17,7 +17,7 @@ use Rattle.page_tables.specs.Held.{stored_of}
 use Rattle.page_database.specs.declared.exchange.Exchange.{Exchange}
 use Rattle.page_database.specs.Trees.{TreeAt, HoldsTrees}
 use Rattle.page_database.specs.Named.{row_numbered}
-use Rattle.page_database.specs.Held.{IndexAt, TableAt, declared_at, indexes_declared, trees_of_indexes, rows_tree, table_trees, schema_tree, rows_at, HoldsDatabase}
+use Rattle.page_database.specs.Held.{IndexAt, TableAt, declared_at, indexes_declared, trees_of_indexes, rows_tree, table_trees, schema_tree, rows_at, HoldsFor}
 
 -- what is left of rows, where one is taken or none
 abbrev pub IsLeft : Option NumberedRow → List Entry → List Entry → Type 0
@@ -91,7 +91,7 @@ abbrev pub table_with : ℕ → List ℕ → Table → Table
 table_with rows roots table = record table { root = rows; indexes = with_roots roots table.indexes }
 
 -- indexes, between other trees, in which these rows can be exchanged
-pub record AreExchangeable (pages : PageMap) (indexes : List Index) (exchange : Exchange) : Type 0 where
+pub record AreExchangeable (alone : Bool) (pages : PageMap) (indexes : List Index) (exchange : Exchange) : Type 0 where
   pub before : List TreeAt
   pub its : List IndexAt
   pub behind : List TreeAt
@@ -99,29 +99,29 @@ pub record AreExchangeable (pages : PageMap) (indexes : List Index) (exchange : 
   pub left : List Entry
   pub more : List Entry
   pub declared : indexes ≡ indexes_declared its
-  pub trees : HoldsTrees pages (before ++ (trees_of_indexes held its ++ behind))
+  pub trees : HoldsTrees alone pages (before ++ (trees_of_indexes held its ++ behind))
   pub exchanges : Exchanges exchange held left more
 
 -- the indexes are now of these rows, at these roots; the other trees are as they were
-pub record AreExchanged (new : PageMap) (before : List TreeAt) (indexes : List Index) (behind : List TreeAt) (rows : List Entry) (roots : List ℕ) : Type 0 where
+pub record AreExchanged (alone : Bool) (new : PageMap) (before : List TreeAt) (indexes : List Index) (behind : List TreeAt) (rows : List Entry) (roots : List ℕ) : Type 0 where
   pub its : List IndexAt
   pub declared : indexes_declared its ≡ with_roots roots indexes
-  pub trees : HoldsTrees new (before ++ (trees_of_indexes rows its ++ behind))
+  pub trees : HoldsTrees alone new (before ++ (trees_of_indexes rows its ++ behind))
 
 -- ---- a table in the schema
 
 -- the schema has this table, beside other trees
-pub record HasTable (pages : PageMap) (root : ℕ) (table : Table) : Type 0 where
+pub record HasTable (alone : Bool) (pages : PageMap) (root : ℕ) (table : Table) : Type 0 where
   pub owned : List ℕ
   pub front : List Table
   pub back : List Table
   pub others : List TreeAt
-  pub trees : HoldsTrees pages (schema_tree root owned (front ++ table ∷ back) ∷ others)
+  pub trees : HoldsTrees alone pages (schema_tree root owned (front ++ table ∷ back) ∷ others)
 
 -- the schema has this table there, and the other trees are as they were
-pub record TablePut (new : PageMap) (front : List Table) (table : Table) (back : List Table) (others : List TreeAt) (root : ℕ) : Type 0 where
+pub record TablePut (alone : Bool) (new : PageMap) (front : List Table) (table : Table) (back : List Table) (others : List TreeAt) (root : ℕ) : Type 0 where
   pub owned : List ℕ
-  pub trees : HoldsTrees new (schema_tree root owned (front ++ table ∷ back) ∷ others)
+  pub trees : HoldsTrees alone new (schema_tree root owned (front ++ table ∷ back) ∷ others)
 
 -- ---- a table whose rows are exchanged
 
@@ -131,7 +131,7 @@ pub record AreSameRows (one other : List Entry) : Type 0 where
   pub back : (row : Entry) → IsRow row other → IsRow row one
 
 -- the tree of its rows has other rows already, those of its indexes and the schema are as they were
-pub record IsUnsettled (pages : PageMap) (root : ℕ) (table : Table) (rows_root : ℕ) (exchange : Exchange) : Type 0 where
+pub record IsUnsettled (alone : Bool) (pages : PageMap) (root : ℕ) (table : Table) (rows_root : ℕ) (exchange : Exchange) : Type 0 where
   pub owned : List ℕ
   pub front : List Table
   pub back : List Table
@@ -143,7 +143,7 @@ pub record IsUnsettled (pages : PageMap) (root : ℕ) (table : Table) (rows_root
   pub left : List Entry
   pub more : List Entry
   pub declared : declared_at at ≡ table
-  pub trees : HoldsTrees pages (schema_tree root owned (front ++ table ∷ back) ∷ (before ++ (rows_tree rows_root now_owned rows ∷ (trees_of_indexes at.rows at.indexes ++ behind))))
+  pub trees : HoldsTrees alone pages (schema_tree root owned (front ++ table ∷ back) ∷ (before ++ (rows_tree rows_root now_owned rows ∷ (trees_of_indexes at.rows at.indexes ++ behind))))
   pub exchanges : Exchanges exchange at.rows left more
   pub same : AreSameRows (left ++ more) rows
 
@@ -153,42 +153,42 @@ pub record IsWithRows (was : TableAt) (rows : List Entry) (now : TableAt) : Type
   pub stored : stored_of (rows_at now) ≡ record (stored_of (rows_at was)) { entries = rows }
 
 -- all trees of the table have the new rows, and the schema names their roots
-pub record IsSettled (new : PageMap) (front back : List Table) (before behind : List TreeAt) (was : TableAt) (rows : List Entry) (root : ℕ) : Type 0 where
+pub record IsSettled (alone : Bool) (new : PageMap) (front back : List Table) (before behind : List TreeAt) (was : TableAt) (rows : List Entry) (root : ℕ) : Type 0 where
   pub now : TableAt
   pub owned : List ℕ
   pub kept : IsWithRows was rows now
-  pub trees : HoldsTrees new (schema_tree root owned (front ++ declared_at now ∷ back) ∷ (before ++ (table_trees now ++ behind)))
+  pub trees : HoldsTrees alone new (schema_tree root owned (front ++ declared_at now ∷ back) ∷ (before ++ (table_trees now ++ behind)))
 
 -- ---- a table of a database
 
-pub record IsTableOf (pages : PageMap) (root : ℕ) (table : Table) : Type 0 where
+pub record IsTableOf (alone : Bool) (pages : PageMap) (root : ℕ) (table : Table) : Type 0 where
   pub before : List TableAt
   pub at : TableAt
   pub behind : List TableAt
   pub declared : declared_at at ≡ table
-  pub holds : HoldsDatabase pages root (before ++ at ∷ behind)
+  pub holds : HoldsFor alone pages root (before ++ at ∷ behind)
 
 -- it now has these rows, and the other tables are as they were
-pub record RowsExchanged (new : PageMap) (before : List TableAt) (was : TableAt) (behind : List TableAt) (rows : List Entry) (root : ℕ) : Type 0 where
+pub record RowsExchanged (alone : Bool) (new : PageMap) (before : List TableAt) (was : TableAt) (behind : List TableAt) (rows : List Entry) (root : ℕ) : Type 0 where
   pub now : TableAt
   pub kept : IsWithRows was rows now
-  pub holds : HoldsDatabase new root (before ++ now ∷ behind)
+  pub holds : HoldsFor alone new root (before ++ now ∷ behind)
 
 -- rows that are to be put behind those of a table, with the numbers that they get
-pub record IsAppendable (pages : PageMap) (root : ℕ) (table : Table) (exchange : Exchange) : Type 0 where
-  pub its : IsTableOf pages root table
+pub record IsAppendable (alone : Bool) (pages : PageMap) (root : ℕ) (table : Table) (exchange : Exchange) : Type 0 where
+  pub its : IsTableOf alone pages root table
   pub none : exchange.taken ≡ None
   pub numbers : exchange.put.numbers ≡ map (λ (e : Entry). e.0) (enumerate_from (next_number its.at.rows) exchange.put.rows)
 
 -- a table's row of this number, that is to be taken, and what is to be put in its place
-pub record IsExchangeableAt (pages : PageMap) (root : ℕ) (table : Table) (number : ℕ) (exchange : Exchange) (more : List Entry) : Type 0 where
-  pub its : IsTableOf pages root table
+pub record IsExchangeableAt (alone : Bool) (pages : PageMap) (root : ℕ) (table : Table) (number : ℕ) (exchange : Exchange) (more : List Entry) : Type 0 where
+  pub its : IsTableOf alone pages root table
   pub one : NumberedRow
   pub taken : exchange.taken ≡ Some one
   pub found : row_numbered number its.at.rows ≡ Some (entry_of one)
   pub put : AreEntries exchange.put more
 
 -- a table's row of this number
-pub record HasRow (pages : PageMap) (root : ℕ) (table : Table) (one : NumberedRow) : Type 0 where
-  pub its : IsTableOf pages root table
+pub record HasRow (alone : Bool) (pages : PageMap) (root : ℕ) (table : Table) (one : NumberedRow) : Type 0 where
+  pub its : IsTableOf alone pages root table
   pub found : row_numbered one.number its.at.rows ≡ Some (entry_of one)

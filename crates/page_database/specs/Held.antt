@@ -1,5 +1,5 @@
 -- The database that pages hold: a schema, of each table its rows, and each index of it over just these rows. Our own choice.
-use Rattle.std.specs.Prelude.{◌≡◌, ℕ, List, ◌∷◌, map}
+use Rattle.std.specs.Prelude.{◌≡◌, ℕ, List, ◌∷◌, map, Bool, true, false}
 use Rattle.std.specs.List.{flat_map}
 use Rattle.sqlval.specs.declared.schema.Table.{Table}
 use Rattle.sqlval.specs.declared.schema.Column.{Column}
@@ -55,10 +55,18 @@ trees_of tables = flat_map table_trees tables
 abbrev pub schema_tree : ℕ → List ℕ → List Table → TreeAt
 schema_tree root owned tables = record { root = root; owned = owned; content = SchemaOf tables }
 
--- the tree at the root has the schema, and no page belongs to two of the trees of the database
-pub record HoldsDatabase (pages : PageMap) (root : ℕ) (tables : List TableAt) : Type 0 where
+-- the tree at the root has the schema, and no page belongs to two of the trees of the database; if it is alone there, each page in use belongs to one
+pub record HoldsFor (alone : Bool) (pages : PageMap) (root : ℕ) (tables : List TableAt) : Type 0 where
   pub owned : List ℕ
-  pub trees : HoldsTrees pages (schema_tree root owned (declared_of tables) ∷ trees_of tables)
+  pub trees : HoldsTrees alone pages (schema_tree root owned (declared_of tables) ∷ trees_of tables)
+
+-- whatever else lies in the pages
+abbrev pub HoldsDatabase : PageMap → ℕ → List TableAt → Type 0
+HoldsDatabase = HoldsFor false
+
+-- each page in use is one of the tree of the schema, of a table's or of an index's
+abbrev pub IsAllOwned : PageMap → ℕ → List TableAt → Type 0
+IsAllOwned = HoldsFor true
 
 -- no database is held there
 abbrev pub HoldsNoDatabase : PageMap → ℕ → Type 0

@@ -1,5 +1,5 @@
 -- The trees of a database in one space of pages. Our own choice.
-use Rattle.std.specs.Prelude.{◌≡◌, ℕ, ◌⊎◌, List, None, IsSome}
+use Rattle.std.specs.Prelude.{◌≡◌, ℕ, ◌⊎◌, List, None, IsSome, Bool, true}
 use Rattle.std.specs.List.{flat_map, AllByRecursion}
 use Rattle.sqlval.specs.declared.schema.Table.{Table}
 use Rattle.store.specs.Contents.{Entry}
@@ -33,10 +33,15 @@ Lies pages tree = HasContent pages tree.root tree.owned tree.content
 abbrev pub pages_of : List TreeAt → List ℕ
 pages_of trees = flat_map (λ (tree : TreeAt). tree.owned) trees
 
--- each of the trees lies in the pages, and no page belongs to two of them
-pub record HoldsTrees (pages : PageMap) (trees : List TreeAt) : Type 0 where
+-- each page in use belongs to one of the trees: none is lost
+abbrev pub OwnAll : PageMap → List TreeAt → Type 0
+OwnAll pages trees = (n : ℕ) → IsSome (pages n) → Has n (pages_of trees)
+
+-- each of the trees lies in the pages, and no page belongs to two of them; if they are alone there, no other page is in use
+pub record HoldsTrees (alone : Bool) (pages : PageMap) (trees : List TreeAt) : Type 0 where
   pub each : AllByRecursion (Lies pages) trees
   pub apart : Apart (pages_of trees)
+  pub all : alone ≡ true → OwnAll pages trees
 
 -- a tree has its own pages or such as were not in use, and no other page in use has changed
 pub record IsMoved (old new : PageMap) (owned now_owned : List ℕ) : Type 0 where

@@ -6,8 +6,9 @@ ghost use Rattle.catalog.specs.Changed.{with_table, IsFree, SchemaWritten, Holds
 ghost use Rattle.std.specs.List.{AllByRecursion};
 ghost use Rattle.store.specs.Contents as stored;
 ghost use Rattle.catalog_read.specs.Keepable.{IsTable};
-ghost use Rattle.page_database.specs.Held.{TableAt, HoldsDatabase, contents_of};
-ghost use Rattle.page_database.specs.Changed.{DatabaseWritten, HoldsNoDatabaseIn, SpaceRefused, ReachesNone};
+ghost use Rattle.tree_entries.specs.Kept.{LosesNoPage};
+ghost use Rattle.page_database.specs.Held.{TableAt, HoldsDatabase, contents_of, IsAllOwned};
+ghost use Rattle.page_database.specs.Changed.{DatabaseWritten, HoldsNoDatabaseIn, SpaceRefused, ReachesNone, DatabaseOwned};
 
 use crate::DatabaseError;
 use crate::error::of_change;
@@ -26,6 +27,7 @@ fn add_new<S: PageSpace>(
 ) -> Result<u32, DatabaseError>
     ensures added { (owned : List ℕ) (tables : List AnyTable) → HoldsSchema (S.pages space.old) root owned tables → IsTable table.now → IsFree table.now.name tables
         → IfOk result (SchemaWritten (S.pages space.old) (S.pages space.new) owned (with_table table.now tables)) }
+    ensures keeps { IfOk result (LosesNoPage (S.pages space.old) (S.pages space.new) root) }
     ensures limits { IfErr result ReachesNone }
     ensures whole { OnOk result (S.is_whole space.old → S.is_whole space.new) }
     ensures refusal { IfErr result (SpaceRefused (S.at_limit space.new) (HoldsNoSchemaIn (S.pages space.old) root (S.is_whole space.old)) (S.refused space.old) (S.refused space.new)) }
@@ -53,6 +55,7 @@ pub fn create_table<S: PageSpace>(
     requires rows { table.now.root ≡ 0 }
     requires indexes { AllByRecursion (λ index. index.root ≡ 0) table.now.indexes }
     ensures created { (tables : List TableAt) → HoldsDatabase (S.pages space.old) root tables → IsTable table.now → IfOk result (DatabaseWritten (S.pages space.new) (stored.with_table (contents_of tables) table.now)) }
+    ensures owned { (tables : List TableAt) → IsAllOwned (S.pages space.old) root tables → IsTable table.now → IfOk result (DatabaseOwned (S.pages space.new) (stored.with_table (contents_of tables) table.now)) }
     ensures limits { IfErr result ReachesNone }
     ensures whole { OnOk result (S.is_whole space.old → S.is_whole space.new) }
     ensures refusal { IfErr result (SpaceRefused (S.at_limit space.new) (HoldsNoDatabaseIn (S.pages space.old) root (S.is_whole space.old)) (S.refused space.old) (S.refused space.new)) }

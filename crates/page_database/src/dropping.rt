@@ -1,11 +1,11 @@
 //! A table taken away, with all of its trees.
-ghost use Rattle.std.specs.Prelude.{◌≡◌, ◌≤◌, List, IfOk, IfErr, OnOk};
+ghost use Rattle.std.specs.Prelude.{◌≡◌, ◌≤◌, List, IfOk, IfErr, OnOk, Bool, false};
 ghost use Rattle.store.specs.Contents as stored;
 ghost use Rattle.page_space.specs.Space.{ChangeRefused};
 ghost use Rattle.btree_remove.specs.Dropped.{AreDropped};
 ghost use Rattle.page_database.specs.Trees.{pages_of};
-ghost use Rattle.page_database.specs.Held.{TableAt, HoldsDatabase, contents_of, trees_of_indexes, table_trees};
-ghost use Rattle.page_database.specs.Changed.{DatabaseWritten, HoldsNoDatabaseIn, SpaceRefused, ReachesNone};
+ghost use Rattle.page_database.specs.Held.{TableAt, HoldsDatabase, contents_of, trees_of_indexes, table_trees, IsAllOwned};
+ghost use Rattle.page_database.specs.Changed.{DatabaseWritten, HoldsNoDatabaseIn, SpaceRefused, ReachesNone, DatabaseOwned};
 ghost use Rattle.page_database.specs.Exchanged.{IsTableOf};
 ghost use Rattle.page_database.specs.Dropped.{AreIndexes, AreTreesOf, TableGone, AreFreed};
 
@@ -20,9 +20,9 @@ use std::alloc::Global;
 
 /// Gives back the trees of these indexes.
 fn drop_indexes<S: PageSpace>(space: &mut S, indexes: &Items<Index>) -> Result<(), Fault>
-    ensures dropped { (h : AreIndexes (S.pages space.old) indexes.now) → OnOk result (AreDropped (S.pages space.old) (S.pages space.new) (pages_of (trees_of_indexes h.rows h.its))) }
+    ensures dropped { (alone : Bool) (h : AreIndexes alone (S.pages space.old) indexes.now) → OnOk result (AreDropped (S.pages space.old) (S.pages space.new) (pages_of (trees_of_indexes h.rows h.its))) }
     ensures whole { OnOk result (S.is_whole space.old → S.is_whole space.new) }
-    ensures refusal { IfErr result (ChangeRefused (S.at_limit space.new) (AreIndexes (S.pages space.old) indexes.now → S.is_whole space.old → ⊥) (S.refused space.old) (S.refused space.new)) }
+    ensures refusal { IfErr result (ChangeRefused (S.at_limit space.new) (AreIndexes false (S.pages space.old) indexes.now → S.is_whole space.old → ⊥) (S.refused space.old) (S.refused space.new)) }
     ensures rising { S.refused space.old ≤ S.refused space.new }
     ensures follows { S.follows space.old space.new }
 {
@@ -34,9 +34,9 @@ fn drop_indexes<S: PageSpace>(space: &mut S, indexes: &Items<Index>) -> Result<(
 
 /// Gives back the trees of a table.
 fn drop_trees<S: PageSpace>(space: &mut S, table: &Table) -> Result<(), Fault>
-    ensures dropped { (h : AreTreesOf (S.pages space.old) table.now) → OnOk result (AreDropped (S.pages space.old) (S.pages space.new) (pages_of (table_trees h.at))) }
+    ensures dropped { (alone : Bool) (h : AreTreesOf alone (S.pages space.old) table.now) → OnOk result (AreDropped (S.pages space.old) (S.pages space.new) (pages_of (table_trees h.at))) }
     ensures whole { OnOk result (S.is_whole space.old → S.is_whole space.new) }
-    ensures refusal { IfErr result (ChangeRefused (S.at_limit space.new) (AreTreesOf (S.pages space.old) table.now → S.is_whole space.old → ⊥) (S.refused space.old) (S.refused space.new)) }
+    ensures refusal { IfErr result (ChangeRefused (S.at_limit space.new) (AreTreesOf false (S.pages space.old) table.now → S.is_whole space.old → ⊥) (S.refused space.old) (S.refused space.new)) }
     ensures rising { S.refused space.old ≤ S.refused space.new }
     ensures follows { S.follows space.old space.new }
 {
@@ -53,10 +53,10 @@ fn drop_found<S: PageSpace>(
     root: u32,
     table: &Table,
 ) -> Result<u32, DatabaseError>
-    ensures dropped { (h : IsTableOf (S.pages space.old) root table.now) → IfOk result (TableGone (S.pages space.new) h.before h.at h.behind) }
+    ensures dropped { (alone : Bool) (h : IsTableOf alone (S.pages space.old) root table.now) → IfOk result (TableGone alone (S.pages space.new) h.before h.at h.behind) }
     ensures limits { IfErr result ReachesNone }
     ensures whole { OnOk result (S.is_whole space.old → S.is_whole space.new) }
-    ensures refusal { IfErr result (SpaceRefused (S.at_limit space.new) (IsTableOf (S.pages space.old) root table.now → S.is_whole space.old → ⊥) (S.refused space.old) (S.refused space.new)) }
+    ensures refusal { IfErr result (SpaceRefused (S.at_limit space.new) (IsTableOf false (S.pages space.old) root table.now → S.is_whole space.old → ⊥) (S.refused space.old) (S.refused space.new)) }
     ensures rising { S.refused space.old ≤ S.refused space.new }
     ensures follows { S.follows space.old space.new }
 {
@@ -82,6 +82,7 @@ pub fn drop_table<S: PageSpace>(
     name: &Text,
 ) -> Result<u32, DatabaseError>
     ensures dropped { (tables : List TableAt) → HoldsDatabase (S.pages space.old) root tables → IfOk result (DatabaseWritten (S.pages space.new) (stored.without_table (contents_of tables) name.now)) }
+    ensures owned { (tables : List TableAt) → IsAllOwned (S.pages space.old) root tables → IfOk result (DatabaseOwned (S.pages space.new) (stored.without_table (contents_of tables) name.now)) }
     ensures freed { (tables : List TableAt) → HoldsDatabase (S.pages space.old) root tables → OnOk result (AreFreed (S.pages space.new) name.now tables) }
     ensures limits { IfErr result ReachesNone }
     ensures whole { OnOk result (S.is_whole space.old → S.is_whole space.new) }

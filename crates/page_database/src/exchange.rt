@@ -4,6 +4,7 @@ ghost use Rattle.sqlval.specs.CodedLength.{key_length};
 ghost use Rattle.sqlval.specs.Matching.{key_of};
 ghost use Rattle.store.specs.Contents as stored;
 ghost use Rattle.index_trees.specs.Indexed.{HoldsIndex, AreWith, IndexWritten, HoldsNoIndexIn};
+ghost use Rattle.tree_entries.specs.Kept.{LosesNoPage};
 ghost use Rattle.page_database.specs.Changed.{SpaceRefused, Reaches, ReachesNone};
 ghost use Rattle.page_database.specs.Exchanged.{HasLongKeyIn, IsOpen, HasTaken, IsExchangeable};
 
@@ -32,6 +33,7 @@ fn take_row<S: PageSpace>(
     taken: &Option<NumberedRow>,
 ) -> Result<u32, DatabaseError>
     ensures taken { (h : HasTaken (S.pages space.old) root columns.now taken.now) → IfOk result (IndexWritten (S.pages space.old) (S.pages space.new) h.owned columns.now h.left) }
+    ensures keeps { IfOk result (LosesNoPage (S.pages space.old) (S.pages space.new) root) }
     ensures limits { IfErr result ReachesNone }
     ensures whole { OnOk result (S.is_whole space.old → S.is_whole space.new) }
     ensures refusal { IfErr result (SpaceRefused (S.at_limit space.new) (HasTaken (S.pages space.old) root columns.now taken.now → S.is_whole space.old → ⊥) (S.refused space.old) (S.refused space.new)) }
@@ -58,6 +60,7 @@ fn add_one<S: PageSpace>(
 ) -> Result<u32, DatabaseError>
     ensures added { (owned : List ℕ) (others rows : List stored.Entry) → HoldsIndex (S.pages space.old) root owned columns.now others → AreWith (number, row.now) others rows
         → IfOk result (IndexWritten (S.pages space.old) (S.pages space.new) owned columns.now rows) }
+    ensures keeps { IfOk result (LosesNoPage (S.pages space.old) (S.pages space.new) root) }
     ensures limits { IfErr result (Reaches ⊥ (600 < key_length (key_of columns.now row.now) + 8) ⊥) }
     ensures whole { OnOk result (S.is_whole space.old → S.is_whole space.new) }
     ensures refusal { IfErr result (SpaceRefused (S.at_limit space.new) (HoldsNoIndexIn (S.pages space.old) root columns.now (S.is_whole space.old)) (S.refused space.old) (S.refused space.new)) }
@@ -89,6 +92,7 @@ fn add_rows<S: PageSpace>(
     put: &Numbered,
 ) -> Result<u32, DatabaseError>
     ensures added { (h : IsOpen (S.pages space.old) root columns.now put.now) → IfOk result (IndexWritten (S.pages space.old) (S.pages space.new) h.owned columns.now (h.held ++ h.more)) }
+    ensures keeps { IfOk result (LosesNoPage (S.pages space.old) (S.pages space.new) root) }
     ensures limits { IfErr result (Reaches ⊥ (HasLongKeyIn columns.now put.now.rows) ⊥) }
     ensures whole { OnOk result (S.is_whole space.old → S.is_whole space.new) }
     ensures refusal { IfErr result (SpaceRefused (S.at_limit space.new) (IsOpen (S.pages space.old) root columns.now put.now → S.is_whole space.old → ⊥) (S.refused space.old) (S.refused space.new)) }
@@ -112,6 +116,7 @@ fn take_and_put<S: PageSpace>(
     exchange: &Exchange,
 ) -> Result<u32, DatabaseError>
     ensures exchanged { (h : IsExchangeable (S.pages space.old) root columns.now exchange.now) → IfOk result (IndexWritten (S.pages space.old) (S.pages space.new) h.owned columns.now (h.left ++ h.more)) }
+    ensures keeps { IfOk result (LosesNoPage (S.pages space.old) (S.pages space.new) root) }
     ensures limits { IfErr result (Reaches ⊥ (HasLongKeyIn columns.now exchange.now.put.rows) ⊥) }
     ensures whole { OnOk result (S.is_whole space.old → S.is_whole space.new) }
     ensures refusal { IfErr result (SpaceRefused (S.at_limit space.new) (IsExchangeable (S.pages space.old) root columns.now exchange.now → S.is_whole space.old → ⊥) (S.refused space.old) (S.refused space.new)) }
@@ -134,6 +139,7 @@ pub(crate) fn exchange_rows<S: PageSpace>(
     exchange: &Exchange,
 ) -> Result<u32, DatabaseError>
     ensures exchanged { (h : IsExchangeable (S.pages space.old) root columns.now exchange.now) → IfOk result (IndexWritten (S.pages space.old) (S.pages space.new) h.owned columns.now (h.left ++ h.more)) }
+    ensures keeps { IfOk result (LosesNoPage (S.pages space.old) (S.pages space.new) root) }
     ensures limits { IfErr result (Reaches ⊥ (HasLongKeyIn columns.now exchange.now.put.rows) ⊥) }
     ensures whole { OnOk result (S.is_whole space.old → S.is_whole space.new) }
     ensures refusal { IfErr result (SpaceRefused (S.at_limit space.new) (IsExchangeable (S.pages space.old) root columns.now exchange.now → S.is_whole space.old → ⊥) (S.refused space.old) (S.refused space.new)) }

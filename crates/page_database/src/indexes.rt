@@ -1,5 +1,5 @@
 //! Rows exchanged in each index of a table.
-ghost use Rattle.std.specs.Prelude.{◌≡◌, ◌≤◌, ◌++◌, map, IfOk, IfErr, OnOk};
+ghost use Rattle.std.specs.Prelude.{◌≡◌, ◌≤◌, ◌++◌, map, IfOk, IfErr, OnOk, Bool, false};
 ghost use Rattle.denote.specs.SchemaOf.{index_of};
 ghost use Rattle.store.specs.Errors.{HasLongKey};
 ghost use Rattle.page_database.specs.Changed.{SpaceRefused, Reaches};
@@ -19,11 +19,11 @@ pub(crate) fn exchange_each<S: PageSpace>(
     indexes: &Items<Index>,
     exchange: &Exchange,
 ) -> Result<Items<u32>, DatabaseError>
-    ensures exchanged { (h : AreExchangeable (S.pages space.old) indexes.now exchange.now)
-        → IfOk result (AreExchanged (S.pages space.new) h.before indexes.now h.behind (h.left ++ h.more)) }
+    ensures exchanged { (alone : Bool) (h : AreExchangeable alone (S.pages space.old) indexes.now exchange.now)
+        → IfOk result (AreExchanged alone (S.pages space.new) h.before indexes.now h.behind (h.left ++ h.more)) }
     ensures limits { IfErr result (Reaches ⊥ (HasLongKey (map index_of indexes.now) exchange.now.put.rows) ⊥) }
     ensures whole { OnOk result (S.is_whole space.old → S.is_whole space.new) }
-    ensures refusal { IfErr result (SpaceRefused (S.at_limit space.new) (AreExchangeable (S.pages space.old) indexes.now exchange.now → S.is_whole space.old → ⊥) (S.refused space.old) (S.refused space.new)) }
+    ensures refusal { IfErr result (SpaceRefused (S.at_limit space.new) (AreExchangeable false (S.pages space.old) indexes.now exchange.now → S.is_whole space.old → ⊥) (S.refused space.old) (S.refused space.new)) }
     ensures rising { S.refused space.old ≤ S.refused space.new }
     ensures follows { S.follows space.old space.new }
 {

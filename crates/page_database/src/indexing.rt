@@ -1,5 +1,5 @@
 //! An index of a table made, over the rows that are there.
-ghost use Rattle.std.specs.Prelude.{◌≡◌, ◌≤◌, ◌∷◌, [], ℕ, List, length, IfOk, IfErr, OnOk};
+ghost use Rattle.std.specs.Prelude.{◌≡◌, ◌≤◌, ◌∷◌, [], ℕ, List, length, IfOk, IfErr, OnOk, Bool, false};
 ghost use Rattle.std.specs.FinMap.{get};
 ghost use Rattle.denote.specs.SchemaOf.{index_of};
 ghost use Rattle.store.specs.Contents as stored;
@@ -8,8 +8,9 @@ ghost use Rattle.store.specs.Indexes.{entries_of};
 ghost use Rattle.tablestore.specs.Held.{HoldsRows};
 ghost use Rattle.catalog_read.specs.Keepable.{ArePlaces, AreAmong, IsTable};
 ghost use Rattle.index_trees.specs.Indexed.{IndexWritten};
-ghost use Rattle.page_database.specs.Held.{TableAt, HoldsDatabase, contents_of};
-ghost use Rattle.page_database.specs.Changed.{DatabaseWritten, HoldsNoDatabaseIn, SpaceRefused, Reaches, ReachesNone, IsOfMemory};
+ghost use Rattle.tree_entries.specs.Kept.{LosesNoPage};
+ghost use Rattle.page_database.specs.Held.{TableAt, HoldsDatabase, contents_of, IsAllOwned};
+ghost use Rattle.page_database.specs.Changed.{DatabaseWritten, HoldsNoDatabaseIn, SpaceRefused, Reaches, ReachesNone, IsOfMemory, DatabaseOwned};
 ghost use Rattle.page_database.specs.Exchanged.{IsTableOf, HasLongKeyIn, HasTable, TablePut};
 ghost use Rattle.page_database.specs.Indexed.{table_indexed, IndexMade};
 
@@ -32,6 +33,7 @@ fn filled<S: PageSpace>(
     columns: &[usize],
 ) -> Result<u32, DatabaseError>
     ensures filled { (owned : List ℕ) (held : List stored.Entry) → HoldsRows (S.pages space.old) rows owned held → IfOk result (IndexWritten (S.pages space.old) (S.pages space.new) [] columns.now held) }
+    ensures keeps { IfOk result (LosesNoPage (S.pages space.old) (S.pages space.new) 0) }
     ensures limits { (owned : List ℕ) (held : List stored.Entry) → HoldsRows (S.pages space.old) rows owned held → IfErr result (Reaches ⊥ (HasLongKeyIn columns.now (stored.rows_of held)) ⊥) }
     ensures whole { OnOk result (S.is_whole space.old → S.is_whole space.new) }
     ensures refusal { IfErr result (SpaceRefused (S.at_limit space.new) ((owned : List ℕ) (held : List stored.Entry) → HoldsRows (S.pages space.old) rows owned held → S.is_whole space.old → ⊥) (S.refused space.old) (S.refused space.new)) }
@@ -91,10 +93,10 @@ fn put_index<S: PageSpace>(
     index: Index,
     top: u32,
 ) -> Result<u32, DatabaseError>
-    ensures put { (h : HasTable (S.pages space.old) root table.now) → IsTable (table_indexed table.now index top) → IfOk result (TablePut (S.pages space.new) h.front (table_indexed table.now index top) h.back h.others) }
+    ensures put { (alone : Bool) (h : HasTable alone (S.pages space.old) root table.now) → IsTable (table_indexed table.now index top) → IfOk result (TablePut alone (S.pages space.new) h.front (table_indexed table.now index top) h.back h.others) }
     ensures limits { IfErr result ReachesNone }
     ensures whole { OnOk result (S.is_whole space.old → S.is_whole space.new) }
-    ensures refusal { IfErr result (SpaceRefused (S.at_limit space.new) (HasTable (S.pages space.old) root table.now → S.is_whole space.old → ⊥) (S.refused space.old) (S.refused space.new)) }
+    ensures refusal { IfErr result (SpaceRefused (S.at_limit space.new) (HasTable false (S.pages space.old) root table.now → S.is_whole space.old → ⊥) (S.refused space.old) (S.refused space.new)) }
     ensures rising { S.refused space.old ≤ S.refused space.new }
     ensures follows { S.follows space.old space.new }
 {
@@ -116,10 +118,10 @@ fn index_on<S: PageSpace>(
     table: &Table,
     index: Index,
 ) -> Result<u32, DatabaseError>
-    ensures indexed { (h : IsTableOf (S.pages space.old) root table.now) → ArePlaces index.columns → AreAmong (length table.now.columns) index.columns → IfOk result (IndexMade (S.pages space.new) h.before h.at h.behind index) }
-    ensures limits { (h : IsTableOf (S.pages space.old) root table.now) → IfErr result (Reaches ⊥ (HasLongKey (index_of index ∷ []) (stored.rows_of h.at.rows)) ⊥) }
+    ensures indexed { (alone : Bool) (h : IsTableOf alone (S.pages space.old) root table.now) → ArePlaces index.columns → AreAmong (length table.now.columns) index.columns → IfOk result (IndexMade alone (S.pages space.new) h.before h.at h.behind index) }
+    ensures limits { (h : IsTableOf false (S.pages space.old) root table.now) → IfErr result (Reaches ⊥ (HasLongKey (index_of index ∷ []) (stored.rows_of h.at.rows)) ⊥) }
     ensures whole { OnOk result (S.is_whole space.old → S.is_whole space.new) }
-    ensures refusal { IfErr result (SpaceRefused (S.at_limit space.new) (IsTableOf (S.pages space.old) root table.now → S.is_whole space.old → ⊥) (S.refused space.old) (S.refused space.new)) }
+    ensures refusal { IfErr result (SpaceRefused (S.at_limit space.new) (IsTableOf false (S.pages space.old) root table.now → S.is_whole space.old → ⊥) (S.refused space.old) (S.refused space.new)) }
     ensures rising { S.refused space.old ≤ S.refused space.new }
     ensures follows { S.follows space.old space.new }
 {
@@ -138,10 +140,10 @@ fn create_on<S: PageSpace>(
     table: &Table,
     index: Index,
 ) -> Result<u32, DatabaseError>
-    ensures indexed { (h : IsTableOf (S.pages space.old) root table.now) → ArePlaces index.columns → IfOk result (IndexMade (S.pages space.new) h.before h.at h.behind index) }
-    ensures limits { (h : IsTableOf (S.pages space.old) root table.now) → IfErr result (Reaches ⊥ (HasLongKey (index_of index ∷ []) (stored.rows_of h.at.rows)) ⊥) }
+    ensures indexed { (alone : Bool) (h : IsTableOf alone (S.pages space.old) root table.now) → ArePlaces index.columns → IfOk result (IndexMade alone (S.pages space.new) h.before h.at h.behind index) }
+    ensures limits { (h : IsTableOf false (S.pages space.old) root table.now) → IfErr result (Reaches ⊥ (HasLongKey (index_of index ∷ []) (stored.rows_of h.at.rows)) ⊥) }
     ensures whole { OnOk result (S.is_whole space.old → S.is_whole space.new) }
-    ensures refusal { IfErr result (SpaceRefused (S.at_limit space.new) (IsTableOf (S.pages space.old) root table.now → S.is_whole space.old → ⊥) (S.refused space.old) (S.refused space.new)) }
+    ensures refusal { IfErr result (SpaceRefused (S.at_limit space.new) (IsTableOf false (S.pages space.old) root table.now → S.is_whole space.old → ⊥) (S.refused space.old) (S.refused space.new)) }
     ensures rising { S.refused space.old ≤ S.refused space.new }
     ensures follows { S.follows space.old space.new }
 {
@@ -166,6 +168,7 @@ pub fn create_index<S: PageSpace>(
     index: Index,
 ) -> Result<u32, DatabaseError>
     ensures indexed { (tables : List TableAt) → HoldsDatabase (S.pages space.old) root tables → ArePlaces index.columns → IfOk result (DatabaseWritten (S.pages space.new) (stored.indexed (contents_of tables) name.now index)) }
+    ensures owned { (tables : List TableAt) → IsAllOwned (S.pages space.old) root tables → ArePlaces index.columns → IfOk result (DatabaseOwned (S.pages space.new) (stored.indexed (contents_of tables) name.now index)) }
     ensures limits { (tables : List TableAt) → HoldsDatabase (S.pages space.old) root tables → IfErr result (Reaches ⊥ (HasLongKey (index_of index ∷ []) (stored.rows_of (entries_of (get (contents_of tables) name.now)))) ⊥) }
     ensures whole { OnOk result (S.is_whole space.old → S.is_whole space.new) }
     ensures refusal { IfErr result (SpaceRefused (S.at_limit space.new) (HoldsNoDatabaseIn (S.pages space.old) root (S.is_whole space.old)) (S.refused space.old) (S.refused space.new)) }

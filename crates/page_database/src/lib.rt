@@ -20,7 +20,7 @@ pub use creating::create_table;
 pub use dropping::drop_table;
 pub use error::DatabaseError;
 pub use indexing::create_index;
-pub use laws::{database_stays, no_database_at_first, reads_as_tables};
+pub use laws::{database_stays, no_database_at_first, owned_pages_are_of_trees, reads_as_tables};
 pub use naming::find_table;
 pub use numbering::row_of;
 pub use replacing::replace;

@@ -1,13 +1,13 @@
 //! A row of a table replaced.
-ghost use Rattle.std.specs.Prelude.{◌≡◌, ◌≤◌, ◌∷◌, [], List, map, IfOk, IfErr, OnOk};
+ghost use Rattle.std.specs.Prelude.{◌≡◌, ◌≤◌, ◌∷◌, [], List, map, IfOk, IfErr, OnOk, Bool, false};
 ghost use Rattle.std.specs.FinMap.{get};
 ghost use Rattle.denote.specs.SchemaOf.{index_of};
 ghost use Rattle.store.specs.Contents as stored;
 ghost use Rattle.store.specs.View.{AreEntries};
 ghost use Rattle.store.specs.Errors.{HasLongRow, HasLongKey};
 ghost use Rattle.table_rows_changed.specs.Rows.{with_number};
-ghost use Rattle.page_database.specs.Held.{TableAt, HoldsDatabase, contents_of};
-ghost use Rattle.page_database.specs.Changed.{DatabaseWritten, HoldsNoDatabaseIn, SpaceRefused, Reaches, ReachesNone, StoringReaches, IsOfMemory};
+ghost use Rattle.page_database.specs.Held.{TableAt, HoldsDatabase, contents_of, IsAllOwned};
+ghost use Rattle.page_database.specs.Changed.{DatabaseWritten, HoldsNoDatabaseIn, SpaceRefused, Reaches, ReachesNone, StoringReaches, IsOfMemory, DatabaseOwned};
 ghost use Rattle.page_database.specs.Exchanged.{IsTableOf, HasRow, RowsExchanged};
 
 use crate::DatabaseError;
@@ -45,11 +45,11 @@ fn replace_row<S: PageSpace>(
     found: NumberedRow,
     row: Row,
 ) -> Result<u32, DatabaseError>
-    ensures replaced { (h : HasRow (S.pages space.old) root table.now found)
-        → IfOk result (RowsExchanged (S.pages space.new) h.its.before h.its.at h.its.behind (with_number found.number row h.its.at.rows)) }
+    ensures replaced { (alone : Bool) (h : HasRow alone (S.pages space.old) root table.now found)
+        → IfOk result (RowsExchanged alone (S.pages space.new) h.its.before h.its.at h.its.behind (with_number found.number row h.its.at.rows)) }
     ensures limits { IfErr result (Reaches (HasLongRow (row ∷ [])) (HasLongKey (map index_of table.now.indexes) (row ∷ [])) ⊥) }
     ensures whole { OnOk result (S.is_whole space.old → S.is_whole space.new) }
-    ensures refusal { IfErr result (SpaceRefused (S.at_limit space.new) (HasRow (S.pages space.old) root table.now found → S.is_whole space.old → ⊥) (S.refused space.old) (S.refused space.new)) }
+    ensures refusal { IfErr result (SpaceRefused (S.at_limit space.new) (HasRow false (S.pages space.old) root table.now found → S.is_whole space.old → ⊥) (S.refused space.old) (S.refused space.new)) }
     ensures rising { S.refused space.old ≤ S.refused space.new }
     ensures follows { S.follows space.old space.new }
 {
@@ -77,10 +77,10 @@ fn replace_in<S: PageSpace>(
     number: u64,
     row: Row,
 ) -> Result<u32, DatabaseError>
-    ensures replaced { (h : IsTableOf (S.pages space.old) root table.now) → IfOk result (RowsExchanged (S.pages space.new) h.before h.at h.behind (with_number number row h.at.rows)) }
+    ensures replaced { (alone : Bool) (h : IsTableOf alone (S.pages space.old) root table.now) → IfOk result (RowsExchanged alone (S.pages space.new) h.before h.at h.behind (with_number number row h.at.rows)) }
     ensures limits { IfErr result (Reaches (HasLongRow (row ∷ [])) (HasLongKey (map index_of table.now.indexes) (row ∷ [])) ⊥) }
     ensures whole { OnOk result (S.is_whole space.old → S.is_whole space.new) }
-    ensures refusal { IfErr result (SpaceRefused (S.at_limit space.new) (IsTableOf (S.pages space.old) root table.now → S.is_whole space.old → ⊥) (S.refused space.old) (S.refused space.new)) }
+    ensures refusal { IfErr result (SpaceRefused (S.at_limit space.new) (IsTableOf false (S.pages space.old) root table.now → S.is_whole space.old → ⊥) (S.refused space.old) (S.refused space.new)) }
     ensures rising { S.refused space.old ≤ S.refused space.new }
     ensures follows { S.follows space.old space.new }
 {
@@ -104,6 +104,7 @@ pub fn replace<S: PageSpace>(
     row: Row,
 ) -> Result<u32, DatabaseError>
     ensures replaced { (tables : List TableAt) → HoldsDatabase (S.pages space.old) root tables → IfOk result (DatabaseWritten (S.pages space.new) (stored.replaced (contents_of tables) name.now number row)) }
+    ensures owned { (tables : List TableAt) → IsAllOwned (S.pages space.old) root tables → IfOk result (DatabaseOwned (S.pages space.new) (stored.replaced (contents_of tables) name.now number row)) }
     ensures limits { IfErr result (StoringReaches (S.pages space.old) root name.now (row ∷ [])) }
     ensures whole { OnOk result (S.is_whole space.old → S.is_whole space.new) }
     ensures refusal { IfErr result (SpaceRefused (S.at_limit space.new) (HoldsNoDatabaseIn (S.pages space.old) root (S.is_whole space.old)) (S.refused space.old) (S.refused space.new)) }

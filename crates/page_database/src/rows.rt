@@ -1,5 +1,5 @@
 //! Rows of a table put behind the others, replaced, and deleted.
-ghost use Rattle.std.specs.Prelude.{◌≡◌, ◌≤◌, ◌<◌, ◌+◌, ◌++◌, ◌^◌, ◌∷◌, [], Some, List, length, map, IfOk, IfErr, OnOk};
+ghost use Rattle.std.specs.Prelude.{◌≡◌, ◌≤◌, ◌<◌, ◌+◌, ◌++◌, ◌^◌, ◌∷◌, [], Some, List, length, map, IfOk, IfErr, OnOk, Bool, false};
 ghost use Rattle.std.specs.List.{enumerate_from};
 ghost use Rattle.std.specs.FinMap.{get};
 ghost use Rattle.denote.specs.SchemaOf.{index_of};
@@ -7,8 +7,8 @@ ghost use Rattle.store.specs.Contents as stored;
 ghost use Rattle.store.specs.Errors.{HasLongRow, HasLongKey};
 ghost use Rattle.store.specs.View.{AreEntries};
 ghost use Rattle.table_rows_changed.specs.Rows.{without_number, with_number};
-ghost use Rattle.page_database.specs.Held.{TableAt, HoldsDatabase, contents_of};
-ghost use Rattle.page_database.specs.Changed.{DatabaseWritten, HoldsNoDatabaseIn, SpaceRefused, Reaches, ReachesNone, NumberingReaches};
+ghost use Rattle.page_database.specs.Held.{TableAt, HoldsDatabase, contents_of, IsAllOwned};
+ghost use Rattle.page_database.specs.Changed.{DatabaseWritten, HoldsNoDatabaseIn, SpaceRefused, Reaches, ReachesNone, NumberingReaches, DatabaseOwned};
 ghost use Rattle.page_database.specs.Exchanged.{IsTableOf, IsAppendable, IsExchangeableAt, RowsExchanged};
 
 use crate::DatabaseError;
@@ -33,12 +33,12 @@ fn put_rows<S: PageSpace>(
     table: &Table,
     exchange: &Exchange,
 ) -> Result<u32, DatabaseError>
-    ensures appended { (h : IsAppendable (S.pages space.old) root table.now exchange.now)
-        → IfOk result (RowsExchanged (S.pages space.new) h.its.before h.its.at h.its.behind (h.its.at.rows ++ enumerate_from (stored.next_number h.its.at.rows) exchange.now.put.rows)) }
+    ensures appended { (alone : Bool) (h : IsAppendable alone (S.pages space.old) root table.now exchange.now)
+        → IfOk result (RowsExchanged alone (S.pages space.new) h.its.before h.its.at h.its.behind (h.its.at.rows ++ enumerate_from (stored.next_number h.its.at.rows) exchange.now.put.rows)) }
     ensures limits { IfErr result (Reaches (HasLongRow exchange.now.put.rows) (HasLongKey (map index_of table.now.indexes) exchange.now.put.rows)
-        ((h : IsAppendable (S.pages space.old) root table.now exchange.now) → 2 ^ 63 < stored.next_number h.its.at.rows + length exchange.now.put.rows)) }
+        ((h : IsAppendable false (S.pages space.old) root table.now exchange.now) → 2 ^ 63 < stored.next_number h.its.at.rows + length exchange.now.put.rows)) }
     ensures whole { OnOk result (S.is_whole space.old → S.is_whole space.new) }
-    ensures refusal { IfErr result (SpaceRefused (S.at_limit space.new) (IsAppendable (S.pages space.old) root table.now exchange.now → S.is_whole space.old → ⊥) (S.refused space.old) (S.refused space.new)) }
+    ensures refusal { IfErr result (SpaceRefused (S.at_limit space.new) (IsAppendable false (S.pages space.old) root table.now exchange.now → S.is_whole space.old → ⊥) (S.refused space.old) (S.refused space.new)) }
     ensures rising { S.refused space.old ≤ S.refused space.new }
     ensures follows { S.follows space.old space.new }
 {
@@ -56,12 +56,12 @@ fn append_to<S: PageSpace>(
     table: &Table,
     rows: Rows,
 ) -> Result<u32, DatabaseError>
-    ensures appended { (h : IsTableOf (S.pages space.old) root table.now)
-        → IfOk result (RowsExchanged (S.pages space.new) h.before h.at h.behind (h.at.rows ++ enumerate_from (stored.next_number h.at.rows) rows)) }
+    ensures appended { (alone : Bool) (h : IsTableOf alone (S.pages space.old) root table.now)
+        → IfOk result (RowsExchanged alone (S.pages space.new) h.before h.at h.behind (h.at.rows ++ enumerate_from (stored.next_number h.at.rows) rows)) }
     ensures limits { IfErr result (Reaches (HasLongRow rows) (HasLongKey (map index_of table.now.indexes) rows)
-        ((h : IsTableOf (S.pages space.old) root table.now) → 2 ^ 63 < stored.next_number h.at.rows + length rows)) }
+        ((h : IsTableOf false (S.pages space.old) root table.now) → 2 ^ 63 < stored.next_number h.at.rows + length rows)) }
     ensures whole { OnOk result (S.is_whole space.old → S.is_whole space.new) }
-    ensures refusal { IfErr result (SpaceRefused (S.at_limit space.new) (IsTableOf (S.pages space.old) root table.now → S.is_whole space.old → ⊥) (S.refused space.old) (S.refused space.new)) }
+    ensures refusal { IfErr result (SpaceRefused (S.at_limit space.new) (IsTableOf false (S.pages space.old) root table.now → S.is_whole space.old → ⊥) (S.refused space.old) (S.refused space.new)) }
     ensures rising { S.refused space.old ≤ S.refused space.new }
     ensures follows { S.follows space.old space.new }
 {
@@ -95,6 +95,7 @@ pub fn append<S: PageSpace>(
     rows: Rows,
 ) -> Result<u32, DatabaseError>
     ensures appended { (tables : List TableAt) → HoldsDatabase (S.pages space.old) root tables → IfOk result (DatabaseWritten (S.pages space.new) (stored.appended (contents_of tables) name.now rows)) }
+    ensures owned { (tables : List TableAt) → IsAllOwned (S.pages space.old) root tables → IfOk result (DatabaseOwned (S.pages space.new) (stored.appended (contents_of tables) name.now rows)) }
     ensures limits { IfErr result (NumberingReaches (S.pages space.old) root name.now rows) }
     ensures whole { OnOk result (S.is_whole space.old → S.is_whole space.new) }
     ensures refusal { IfErr result (SpaceRefused (S.at_limit space.new) (HoldsNoDatabaseIn (S.pages space.old) root (S.is_whole space.old)) (S.refused space.old) (S.refused space.new)) }
@@ -117,11 +118,11 @@ fn delete_row<S: PageSpace>(
     number: u64,
     exchange: &Exchange,
 ) -> Result<u32, DatabaseError>
-    ensures deleted { (h : IsExchangeableAt (S.pages space.old) root table.now number exchange.now [])
-        → IfOk result (RowsExchanged (S.pages space.new) h.its.before h.its.at h.its.behind (without_number number h.its.at.rows)) }
+    ensures deleted { (alone : Bool) (h : IsExchangeableAt alone (S.pages space.old) root table.now number exchange.now [])
+        → IfOk result (RowsExchanged alone (S.pages space.new) h.its.before h.its.at h.its.behind (without_number number h.its.at.rows)) }
     ensures limits { AreEntries exchange.now.put [] → IfErr result ReachesNone }
     ensures whole { OnOk result (S.is_whole space.old → S.is_whole space.new) }
-    ensures refusal { IfErr result (SpaceRefused (S.at_limit space.new) (IsExchangeableAt (S.pages space.old) root table.now number exchange.now [] → S.is_whole space.old → ⊥) (S.refused space.old) (S.refused space.new)) }
+    ensures refusal { IfErr result (SpaceRefused (S.at_limit space.new) (IsExchangeableAt false (S.pages space.old) root table.now number exchange.now [] → S.is_whole space.old → ⊥) (S.refused space.old) (S.refused space.new)) }
     ensures rising { S.refused space.old ≤ S.refused space.new }
     ensures follows { S.follows space.old space.new }
 {
@@ -153,10 +154,10 @@ fn delete_from<S: PageSpace>(
     table: &Table,
     number: u64,
 ) -> Result<u32, DatabaseError>
-    ensures deleted { (h : IsTableOf (S.pages space.old) root table.now) → IfOk result (RowsExchanged (S.pages space.new) h.before h.at h.behind (without_number number h.at.rows)) }
+    ensures deleted { (alone : Bool) (h : IsTableOf alone (S.pages space.old) root table.now) → IfOk result (RowsExchanged alone (S.pages space.new) h.before h.at h.behind (without_number number h.at.rows)) }
     ensures limits { IfErr result ReachesNone }
     ensures whole { OnOk result (S.is_whole space.old → S.is_whole space.new) }
-    ensures refusal { IfErr result (SpaceRefused (S.at_limit space.new) (IsTableOf (S.pages space.old) root table.now → S.is_whole space.old → ⊥) (S.refused space.old) (S.refused space.new)) }
+    ensures refusal { IfErr result (SpaceRefused (S.at_limit space.new) (IsTableOf false (S.pages space.old) root table.now → S.is_whole space.old → ⊥) (S.refused space.old) (S.refused space.new)) }
     ensures rising { S.refused space.old ≤ S.refused space.new }
     ensures follows { S.follows space.old space.new }
 {
@@ -184,6 +185,7 @@ pub fn delete<S: PageSpace>(
     number: u64,
 ) -> Result<u32, DatabaseError>
     ensures deleted { (tables : List TableAt) → HoldsDatabase (S.pages space.old) root tables → IfOk result (DatabaseWritten (S.pages space.new) (stored.deleted (contents_of tables) name.now number)) }
+    ensures owned { (tables : List TableAt) → IsAllOwned (S.pages space.old) root tables → IfOk result (DatabaseOwned (S.pages space.new) (stored.deleted (contents_of tables) name.now number)) }
     ensures limits { IfErr result ReachesNone }
     ensures whole { OnOk result (S.is_whole space.old → S.is_whole space.new) }
     ensures refusal { IfErr result (SpaceRefused (S.at_limit space.new) (HoldsNoDatabaseIn (S.pages space.old) root (S.is_whole space.old)) (S.refused space.old) (S.refused space.new)) }

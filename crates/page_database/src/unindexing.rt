@@ -1,12 +1,12 @@
 //! The indexes of a name taken away.
-ghost use Rattle.std.specs.Prelude.{◌≡◌, ◌≤◌, true, false, List, IfOk, IfErr, OnOk};
+ghost use Rattle.std.specs.Prelude.{◌≡◌, ◌≤◌, true, false, List, IfOk, IfErr, OnOk, Bool};
 ghost use Rattle.sqlval.specs.Schema.{is_named};
 ghost use Rattle.btree.specs.Overfull.{IsNoTreeIn};
 ghost use Rattle.btree_remove.specs.Dropped.{Drops};
 ghost use Rattle.store.specs.Contents as stored;
 ghost use Rattle.page_space.specs.Space.{ChangeRefused};
-ghost use Rattle.page_database.specs.Held.{TableAt, HoldsDatabase, declared_of, contents_of};
-ghost use Rattle.page_database.specs.Changed.{DatabaseWritten, HoldsNoDatabaseIn, SpaceRefused, ReachesNone, IsOfMemory};
+ghost use Rattle.page_database.specs.Held.{TableAt, HoldsDatabase, declared_of, contents_of, HoldsFor, IsAllOwned};
+ghost use Rattle.page_database.specs.Changed.{DatabaseWritten, HoldsNoDatabaseIn, SpaceRefused, ReachesNone, IsOfMemory, DatabaseOwned};
 ghost use Rattle.page_database.specs.Dropped.{AreIndexes};
 ghost use Rattle.page_database.specs.Exchanged.{IsTableOf, HasTable, TablePut};
 ghost use Rattle.page_database.specs.Unindexed.{without_named, table_without, IndexesLeft, IndexesGone, TablesUnindexed};
@@ -83,9 +83,9 @@ fn drop_if_named<S: PageSpace>(space: &mut S, index: &Index, name: &Text) -> Res
 
 /// Gives back the trees of those of these indexes that have a name.
 fn drop_named<S: PageSpace>(space: &mut S, indexes: &Items<Index>, name: &Text) -> Result<(), Fault>
-    ensures left { (h : AreIndexes (S.pages space.old) indexes.now) → OnOk result (IndexesLeft (S.pages space.new) name.now h.before h.its h.behind h.rows) }
+    ensures left { (alone : Bool) (h : AreIndexes alone (S.pages space.old) indexes.now) → OnOk result (IndexesLeft alone (S.pages space.new) name.now h.before h.its h.behind h.rows) }
     ensures whole { OnOk result (S.is_whole space.old → S.is_whole space.new) }
-    ensures refusal { IfErr result (ChangeRefused (S.at_limit space.new) (AreIndexes (S.pages space.old) indexes.now → S.is_whole space.old → ⊥) (S.refused space.old) (S.refused space.new)) }
+    ensures refusal { IfErr result (ChangeRefused (S.at_limit space.new) (AreIndexes false (S.pages space.old) indexes.now → S.is_whole space.old → ⊥) (S.refused space.old) (S.refused space.new)) }
     ensures rising { S.refused space.old ≤ S.refused space.new }
     ensures follows { S.follows space.old space.new }
 {
@@ -103,10 +103,10 @@ fn put_without<S: PageSpace>(
     table: &Table,
     name: &Text,
 ) -> Result<u32, DatabaseError>
-    ensures put { (h : HasTable (S.pages space.old) root table.now) → IfOk result (TablePut (S.pages space.new) h.front (table_without name.now table.now) h.back h.others) }
+    ensures put { (alone : Bool) (h : HasTable alone (S.pages space.old) root table.now) → IfOk result (TablePut alone (S.pages space.new) h.front (table_without name.now table.now) h.back h.others) }
     ensures limits { IfErr result ReachesNone }
     ensures whole { OnOk result (S.is_whole space.old → S.is_whole space.new) }
-    ensures refusal { IfErr result (SpaceRefused (S.at_limit space.new) (HasTable (S.pages space.old) root table.now → S.is_whole space.old → ⊥) (S.refused space.old) (S.refused space.new)) }
+    ensures refusal { IfErr result (SpaceRefused (S.at_limit space.new) (HasTable false (S.pages space.old) root table.now → S.is_whole space.old → ⊥) (S.refused space.old) (S.refused space.new)) }
     ensures rising { S.refused space.old ≤ S.refused space.new }
     ensures follows { S.follows space.old space.new }
 {
@@ -128,10 +128,10 @@ fn unindex_named<S: PageSpace>(
     table: &Table,
     name: &Text,
 ) -> Result<u32, DatabaseError>
-    ensures unindexed { (h : IsTableOf (S.pages space.old) root table.now) → IfOk result (IndexesGone (S.pages space.new) name.now h.before h.at h.behind) }
+    ensures unindexed { (alone : Bool) (h : IsTableOf alone (S.pages space.old) root table.now) → IfOk result (IndexesGone alone (S.pages space.new) name.now h.before h.at h.behind) }
     ensures limits { IfErr result ReachesNone }
     ensures whole { OnOk result (S.is_whole space.old → S.is_whole space.new) }
-    ensures refusal { IfErr result (SpaceRefused (S.at_limit space.new) (IsTableOf (S.pages space.old) root table.now → S.is_whole space.old → ⊥) (S.refused space.old) (S.refused space.new)) }
+    ensures refusal { IfErr result (SpaceRefused (S.at_limit space.new) (IsTableOf false (S.pages space.old) root table.now → S.is_whole space.old → ⊥) (S.refused space.old) (S.refused space.new)) }
     ensures rising { S.refused space.old ≤ S.refused space.new }
     ensures follows { S.follows space.old space.new }
 {
@@ -152,10 +152,10 @@ fn unindex_table<S: PageSpace>(
     table: &Table,
     name: &Text,
 ) -> Result<u32, DatabaseError>
-    ensures unindexed { (h : IsTableOf (S.pages space.old) root table.now) → IfOk result (IndexesGone (S.pages space.new) name.now h.before h.at h.behind) }
+    ensures unindexed { (alone : Bool) (h : IsTableOf alone (S.pages space.old) root table.now) → IfOk result (IndexesGone alone (S.pages space.new) name.now h.before h.at h.behind) }
     ensures limits { IfErr result ReachesNone }
     ensures whole { OnOk result (S.is_whole space.old → S.is_whole space.new) }
-    ensures refusal { IfErr result (SpaceRefused (S.at_limit space.new) (IsTableOf (S.pages space.old) root table.now → S.is_whole space.old → ⊥) (S.refused space.old) (S.refused space.new)) }
+    ensures refusal { IfErr result (SpaceRefused (S.at_limit space.new) (IsTableOf false (S.pages space.old) root table.now → S.is_whole space.old → ⊥) (S.refused space.old) (S.refused space.new)) }
     ensures rising { S.refused space.old ≤ S.refused space.new }
     ensures follows { S.follows space.old space.new }
 {
@@ -173,7 +173,7 @@ fn unindex_each<S: PageSpace>(
     tables: &Items<Table>,
     name: &Text,
 ) -> Result<u32, DatabaseError>
-    ensures unindexed { (its : List TableAt) → HoldsDatabase (S.pages space.old) root its → declared_of its ≡ tables.now → IfOk result (TablesUnindexed (S.pages space.new) name.now its) }
+    ensures unindexed { (alone : Bool) (its : List TableAt) → HoldsFor alone (S.pages space.old) root its → declared_of its ≡ tables.now → IfOk result (TablesUnindexed alone (S.pages space.new) name.now its) }
     ensures limits { IfErr result ReachesNone }
     ensures whole { OnOk result (S.is_whole space.old → S.is_whole space.new) }
     ensures refusal { IfErr result (SpaceRefused (S.at_limit space.new) ((its : List TableAt) → HoldsDatabase (S.pages space.old) root its → declared_of its ≡ tables.now → S.is_whole space.old → ⊥) (S.refused space.old) (S.refused space.new)) }
@@ -200,6 +200,7 @@ pub fn drop_index<S: PageSpace>(
     name: &Text,
 ) -> Result<u32, DatabaseError>
     ensures unindexed { (tables : List TableAt) → HoldsDatabase (S.pages space.old) root tables → IfOk result (DatabaseWritten (S.pages space.new) (stored.unindexed (contents_of tables) name.now)) }
+    ensures owned { (tables : List TableAt) → IsAllOwned (S.pages space.old) root tables → IfOk result (DatabaseOwned (S.pages space.new) (stored.unindexed (contents_of tables) name.now)) }
     ensures limits { IfErr result ReachesNone }
     ensures whole { OnOk result (S.is_whole space.old → S.is_whole space.new) }
     ensures refusal { IfErr result (SpaceRefused (S.at_limit space.new) (HoldsNoDatabaseIn (S.pages space.old) root (S.is_whole space.old)) (S.refused space.old) (S.refused space.new)) }

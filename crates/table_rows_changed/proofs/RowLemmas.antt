@@ -21,7 +21,9 @@ use Rattle.btree_read.proofs.ListLemmas.{each_right}
 use Rattle.btree_read.proofs.OrderLemmas.{lt_trans, not_self}
 use Rattle.btree.specs.Written.{IsWritten}
 use Rattle.btree_remove.specs.Removed.{IsLess, IsRemoved}
+use Rattle.tree_entries.specs.Kept.{LosesNoPage}
 use Rattle.tree_entries.proofs.AscendLemmas.{root_ascends}
+use Rattle.tree_entries.proofs.KeptLemmas.{loses_left}
 use Rattle.tablestore.specs.Held.{row_entry, entries_of, IsKept, AreKept, HoldsRows}
 use Rattle.tablestore.specs.Appended.{RowsWritten, MayRefuseRow}
 use Rattle.tablestore.proofs.NumberLemmas.{number_order}
@@ -257,3 +259,7 @@ put_refused (Err e) AtLimit H G a b c r h g w = later AtLimit H G a b c r e h g 
 
 pub read_refused : (AtLimit : Fault → Type 0) (H G : Type 0) (a b : ℕ) (f : Fault) → (H → G) → ReadRefused H a b f → ChangeRefused AtLimit G a b f
 read_refused AtLimit H G a b f g w = read_as_change AtLimit H G a b f g w
+
+pub no_page_lost_by_removal : (old new : PageMap) (k : Key) (root top : ℕ) → ((owned : List ℕ) (entries : List Entry) → IsTree old root owned entries → IsRemoved old new owned entries k top) → LosesNoPage old new root top
+no_page_lost_by_removal old new k root top removes owned entries t =
+    let w = removes owned entries t in record { now_owned = w.now_owned; entries = w.now_entries; tree = w.stored; loses = loses_left old new owned w.now_owned w.gone w.others }

@@ -9,6 +9,7 @@ ghost use Rattle.btree_read.specs.Sorted.{put};
 ghost use Rattle.btree_read.specs.Tree.{IsTree};
 ghost use Rattle.btree.specs.Overfull.{IsNoTreeIn};
 ghost use Rattle.btree.specs.Written.{IsWritten};
+ghost use Rattle.tree_entries.specs.Kept.{LosesNoPage};
 ghost use Rattle.tablestore.specs.Held.{HoldsRows};
 ghost use Rattle.tablestore.specs.Appended.{RowsWritten, HoldsNoRowsIn, MayRefuseRow, IsOfRow};
 ghost use Rattle.table_rows_changed.specs.Rows.{RowsLeft, without_number, with_number};
@@ -37,6 +38,7 @@ pub fn delete<S: PageSpace>(
 ) -> Result<u32, Fault>
     ensures deleted { (owned : List ℕ) (held : List stored.Entry) → HoldsRows (S.pages space.old) root owned held
         → IfOk result (RowsLeft (S.pages space.old) (S.pages space.new) owned (without_number number held)) }
+    ensures keeps { IfOk result (LosesNoPage (S.pages space.old) (S.pages space.new) root) }
     ensures whole { OnOk result (S.is_whole space.old → S.is_whole space.new) }
     ensures refusal { IfErr result (ChangeRefused (S.at_limit space.new) (HoldsNoRowsIn (S.pages space.old) root (S.is_whole space.old)) (S.refused space.old) (S.refused space.new)) }
     ensures rising { S.refused space.old ≤ S.refused space.new }
@@ -73,6 +75,7 @@ fn put_row<S: PageSpace>(
     ensures put { (owned : List ℕ) (entries : List AnyEntry) → IsTree (S.pages space.old) root owned entries
         → IfOk result (IsWritten (S.pages space.old) (S.pages space.new) owned (put (number_code number) (row_code row.now) entries)) }
     ensures coded { OnOk result (IsCodeOf (row_code row.now) row.now) }
+    ensures keeps { IfOk result (LosesNoPage (S.pages space.old) (S.pages space.new) root) }
     ensures whole { OnOk result (S.is_whole space.old → S.is_whole space.new) }
     ensures refusal { IfErr result (MayRefuseRow (S.at_limit space.new) (IsNoTreeIn (S.pages space.old) root (S.is_whole space.old)) (S.refused space.old) (S.refused space.new) row.now) }
     ensures rising { S.refused space.old ≤ S.refused space.new }
@@ -101,6 +104,7 @@ pub fn replace<S: PageSpace>(
 ) -> Result<u32, AppendError>
     ensures replaced { (owned : List ℕ) (held : List stored.Entry) → HoldsRows (S.pages space.old) root owned held
         → IfOk result (RowsWritten (S.pages space.old) (S.pages space.new) owned (with_number number row.now held)) }
+    ensures keeps { IfOk result (LosesNoPage (S.pages space.old) (S.pages space.new) root) }
     ensures whole { OnOk result (S.is_whole space.old → S.is_whole space.new) }
     ensures refusal { IfErr result (MayRefuseRow (S.at_limit space.new) (HoldsNoRowsIn (S.pages space.old) root (S.is_whole space.old)) (S.refused space.old) (S.refused space.new) row.now) }
     ensures rising { S.refused space.old ≤ S.refused space.new }

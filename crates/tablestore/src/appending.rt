@@ -10,6 +10,7 @@ ghost use Rattle.btree_read.specs.Sorted.{put};
 ghost use Rattle.btree_read.specs.Tree.{IsTree};
 ghost use Rattle.btree.specs.Overfull.{IsNoTreeIn};
 ghost use Rattle.btree.specs.Written.{IsWritten};
+ghost use Rattle.tree_entries.specs.Kept.{LosesNoPage};
 ghost use Rattle.tablestore.specs.Held.{HoldsRows};
 ghost use Rattle.tablestore.specs.Appended.{RowsWritten, HoldsNoRowsIn, MayRefuse, MayRefuseRow, NumbersEnd, IsOfRow};
 
@@ -46,6 +47,7 @@ fn put_row<S: PageSpace>(
     ensures put { (owned : List ℕ) (entries : List AnyEntry) → IsTree (S.pages space.old) root owned entries
         → IfOk result (IsWritten (S.pages space.old) (S.pages space.new) owned (put (number_code number) (row_code row.now) entries)) }
     ensures coded { OnOk result (IsCodeOf (row_code row.now) row.now) }
+    ensures keeps { IfOk result (LosesNoPage (S.pages space.old) (S.pages space.new) root) }
     ensures whole { OnOk result (S.is_whole space.old → S.is_whole space.new) }
     ensures refusal { IfErr result (MayRefuseRow (S.at_limit space.new) (IsNoTreeIn (S.pages space.old) root (S.is_whole space.old)) (S.refused space.old) (S.refused space.new) row.now) }
     ensures rising { S.refused space.old ≤ S.refused space.new }
@@ -73,6 +75,7 @@ pub fn append<S: PageSpace>(
     ensures appended { (owned : List ℕ) (held : List stored.Entry) → HoldsRows (S.pages space.old) root owned held
         → IfOk result (RowsWritten (S.pages space.old) (S.pages space.new) owned (held ++ enumerate_from (stored.next_number held) rows.now)) }
     ensures numbers { (owned : List ℕ) (held : List stored.Entry) → HoldsRows (S.pages space.old) root owned held → IfErr result (NumbersEnd held (length rows.now)) }
+    ensures keeps { IfOk result (LosesNoPage (S.pages space.old) (S.pages space.new) root) }
     ensures whole { OnOk result (S.is_whole space.old → S.is_whole space.new) }
     ensures refusal { IfErr result (MayRefuse (S.at_limit space.new) (HoldsNoRowsIn (S.pages space.old) root (S.is_whole space.old)) (S.refused space.old) (S.refused space.new) rows.now) }
     ensures rising { S.refused space.old ≤ S.refused space.new }

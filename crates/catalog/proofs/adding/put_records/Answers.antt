@@ -3,10 +3,21 @@ use Rattle.btree_read.specs.declared.entry.Entry.{Entry}
 use Rattle.btree.specs.Written.{IsWritten}
 use Rattle.catalog.specs.Changed.{put_all}
 use Rattle.catalog.proofs.PutLemmas.{put_all_more, coded_more}
-use Rattle.tree_entries.proofs.ChangeLemmas.{written_on}
+use Rattle.tree_entries.proofs.ChangeLemmas.{written_none, written_on}
+use Rattle.tree_entries.proofs.KeptLemmas.{no_page_lost, no_page_lost_on}
 use Rattle.btree.specs.Overfull.{IsNoTreeIn}
 use Rattle.catalog.proofs.RefusalLemmas.{refused_later}
 use Rattle.catalog.proofs.adding.put_records.Goals as goal
+
+pub loop-r-init : goal.loop-r-init
+loop-r-init g c = record {
+  put = λ owned entries t. written_none _ _ owned entries t;
+  keeps = no_page_lost _ _;
+  coded = tt;
+  whole = λ h. h;
+  rising = omega arith;
+  follows = g.met.S.PageReader.follows_refl _;
+}
 
 pub loop-r-preserved : goal.loop-r-preserved
 loop-r-preserved g c =
@@ -19,6 +30,7 @@ loop-r-preserved g c =
           subst (λ (es : List Entry). IsWritten (g.S.PageReader.pages c.args.space.now) (g.S.PageReader.pages c.put_record.new.space) owned es c.in_ok-top.top)
           (sym (put_all_more c.args.records.now c.loop-r.r-index c.r-item.result entries c.loop-r-test.true c.r-item.is))
           (written_on _ _ _ owned _ _ _ _ w one);
+      keeps = no_page_lost_on _ _ _ _ _ _ known.keeps done.keeps;
       coded = coded_more c.args.records.now c.loop-r.r-index c.r-item.result c.loop-r-test.true c.r-item.is known.coded done.coded;
       whole = λ h. done.whole (known.whole h);
       rising = omega (arith, known.rising, done.rising);

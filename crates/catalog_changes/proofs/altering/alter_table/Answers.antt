@@ -1,4 +1,5 @@
 use Rattle.std.proofs.Common.{arith}
+use Rattle.tree_entries.proofs.KeptLemmas.{no_page_lost_on_by}
 use Rattle.catalog.specs.Changed.{HoldsNoSchemaIn}
 use Rattle.catalog.proofs.RefusalLemmas.{refused_later}
 use Rattle.catalog_changes.specs.Left.{HoldsNoneWith}
@@ -24,3 +25,6 @@ returns-clause-refusal g c =
     (HoldsNoneWith (g.S.PageReader.pages c.args.space.now) c.args.root c.args.table.now (g.S.PageReader.is_whole c.args.space.now))
     (g.S.PageReader.refused c.args.space.now) (g.S.PageReader.refused c.drop_table.new.space) (g.S.PageReader.refused c.add_table.new.space) c.in_ok-top.ensures.rising
     (λ none owned before behind held whole. let w = c.in_ok-top.ensures.dropped owned before behind held in none w.now_owned _ w.holds (c.in_ok-top.ensures.whole whole)) c.add_table.ensures.refusal
+
+pub returns-clause-keeps : goal.returns-clause-keeps
+returns-clause-keeps g c = no_page_lost_on_by c.add_table.result _ _ _ _ _ c.in_ok-top.ensures.keeps c.add_table.ensures.keeps

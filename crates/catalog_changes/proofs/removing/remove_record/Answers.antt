@@ -1,8 +1,9 @@
 use Rattle.std.proofs.Common.{ap, ◌∙◌}
 use Rattle.sqlrecord.specs.Key.{key_code}
 use Rattle.btree.specs.Overfull.{IsNoTreeIn}
+use Rattle.tree_entries.proofs.KeptLemmas.{no_page_lost_same}
 use Rattle.catalog.proofs.RefusalLemmas.{record_refused}
-use Rattle.catalog_changes.proofs.LeftLemmas.{one_left, not_absent, tree_removed, same_tree}
+use Rattle.catalog_changes.proofs.LeftLemmas.{one_left, not_absent, tree_removed, same_tree, no_page_lost_by_removal}
 use Rattle.catalog_changes.proofs.removing.remove_record.Goals as goal
 
 pub returns-in_err-key-clause-refusal : goal.returns-in_err-key-clause-refusal
@@ -21,3 +22,9 @@ returns-in-Ok-None-clause-removed g c = λ owned before behind value t.
 
 pub returns-in-Ok-None-clause-tree : goal.returns-in-Ok-None-clause-tree
 returns-in-Ok-None-clause-tree g c = λ h. same_tree _ _ _ (rw c.in-Ok-None.field-0-is at c.in-Ok-None.ensures.removes h.owned h.entries h.tree).1 h
+
+pub returns-in-Ok-Some-clause-keeps : goal.returns-in-Ok-Some-clause-keeps
+returns-in-Ok-Some-clause-keeps g c = no_page_lost_by_removal _ _ _ _ _ (λ owned entries t. rw c.in-Ok-Some.field-0-is at c.in-Ok-Some.ensures.removes owned entries t)
+
+pub returns-in-Ok-None-clause-keeps : goal.returns-in-Ok-None-clause-keeps
+returns-in-Ok-None-clause-keeps g c = λ owned entries t. no_page_lost_same _ _ _ (rw c.in-Ok-None.field-0-is at c.in-Ok-None.ensures.removes owned entries t).1 owned entries t

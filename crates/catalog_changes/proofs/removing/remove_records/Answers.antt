@@ -1,5 +1,6 @@
 use Rattle.std.proofs.Common.{arith}
 use Rattle.btree.specs.Overfull.{IsNoTreeIn}
+use Rattle.tree_entries.proofs.KeptLemmas.{no_page_lost, no_page_lost_on}
 use Rattle.catalog.proofs.RefusalLemmas.{refused_later}
 use Rattle.catalog_changes.proofs.LeftLemmas.{takes_first, takes_next, takes_all}
 use Rattle.catalog_changes.proofs.removing.remove_records.Goals as goal
@@ -8,6 +9,7 @@ pub loop-r-init : goal.loop-r-init
 loop-r-init g c = record {
   takes = takes_first _ _ _;
   tree = λ h. h;
+  keeps = no_page_lost _ _;
   whole = λ h. h;
   rising = omega arith;
   follows = g.met.S.PageReader.follows_refl _;
@@ -20,6 +22,7 @@ loop-r-preserved g c =
     record {
       takes = takes_next _ _ _ _ _ _ _ _ _ c.loop-r-test.true c.r-item.is known.takes done.removed;
       tree = λ h. done.tree (known.tree h);
+      keeps = no_page_lost_on _ _ _ _ _ _ known.keeps done.keeps;
       whole = λ h. done.whole (known.whole h);
       rising = omega (arith, known.rising, done.rising);
       follows = g.met.S.PageReader.follows_trans _ _ _ known.follows done.follows;

@@ -1,4 +1,5 @@
 use Rattle.std.proofs.Common.{◌≤◌}
+use Rattle.tree_entries.specs.Kept.{LosesNoPage}
 use Rattle.catalog_changes.specs.Left.{HasTree}
 use Rattle.catalog_changes.proofs.LeftLemmas.{Takes}
 use Rattle.catalog_changes.proofs.removing.remove_records.Given as goal
@@ -7,6 +8,7 @@ abbrev pub invariant-loop-r : goal.invariant-loop-r
 invariant-loop-r g l = record {
   takes : Takes (g.S.PageReader.pages l.fn.space) (g.S.PageReader.pages l.space) l.fn.root l.top l.records l.r-index;
   tree : HasTree (g.S.PageReader.pages l.fn.space) l.fn.root → HasTree (g.S.PageReader.pages l.space) l.top;
+  keeps : LosesNoPage (g.S.PageReader.pages l.fn.space) (g.S.PageReader.pages l.space) l.fn.root l.top;
   whole : g.S.PageReader.is_whole l.fn.space → g.S.PageReader.is_whole l.space;
   rising : g.S.PageReader.refused l.fn.space ≤ g.S.PageReader.refused l.space;
   follows : g.S.PageReader.follows l.fn.space l.space;

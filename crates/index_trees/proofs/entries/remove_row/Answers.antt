@@ -1,7 +1,7 @@
 use Rattle.std.proofs.Common.{IsSome, subst, ◌∙◌}
 use Rattle.btree_read.specs.Sorted.{get_of}
 use Rattle.index_trees.specs.Indexed.{HoldsNoRowIn}
-use Rattle.index_trees.proofs.EntryLemmas.{index_removed, index_absent, entry_was}
+use Rattle.index_trees.proofs.EntryLemmas.{index_removed, index_absent, entry_was, no_page_lost_by_removal}
 use Rattle.index_trees.proofs.RefusalLemmas.{key_refused}
 use Rattle.index_trees.proofs.entries.remove_row.Goals as goal
 
@@ -21,3 +21,6 @@ pub returns-in-Ok-Some-clause-there : goal.returns-in-Ok-Some-clause-there
 returns-in-Ok-Some-clause-there g c = λ owned entries tree.
     let key = c.as_slice.ensures ∙ c.in_ok-code.ensures.code in
     subst (λ k. IsSome (get_of k entries)) key (entry_was _ _ _ _ owned entries _ tree (rw c.in-Ok-Some.field-0-is at c.in-Ok-Some.ensures.removes owned entries tree))
+
+pub returns-in-Ok-Some-clause-keeps : goal.returns-in-Ok-Some-clause-keeps
+returns-in-Ok-Some-clause-keeps g c = no_page_lost_by_removal _ _ _ _ _ (λ owned entries t. rw c.in-Ok-Some.field-0-is at c.in-Ok-Some.ensures.removes owned entries t)

@@ -1,4 +1,4 @@
-use Rattle.std.proofs.Common.{arith}
+use Rattle.std.proofs.Common.{arith, false}
 use Rattle.page_tables.proofs.ChangeLemmas.{whole_later}
 use Rattle.catalog.specs.Changed.{HoldsNoSchemaIn}
 use Rattle.page_database.specs.Held.{declared_of}
@@ -10,9 +10,9 @@ use Rattle.page_database.proofs.RefusalLemmas.{fault_refused, change_refused_by,
 use Rattle.page_database.proofs.dropping.drop_found.Goals as goal
 
 pub returns-in-Ok-drop_trees-clause-dropped : goal.returns-in-Ok-drop_trees-clause-dropped
-returns-in-Ok-drop_trees-clause-dropped g c = λ h.
+returns-in-Ok-drop_trees-clause-dropped g c = λ alone h.
     let w = c.in-Ok.ensures.dropped h.holds.owned (declared_of h.before) (declared_of h.behind) (schema_of_it (g.S.PageReader.pages c.args.space.now) c.args.root c.args.table.now h) in
-    table_gone (g.S.PageReader.pages c.args.space.now) (g.S.PageReader.pages c.drop_table.new.space) c.args.root c.in-Ok.top c.args.table.now h w (g.S.PageReader.pages c.drop_trees.new.space) (c.in-Ok-drop_trees.ensures.dropped (trees_then (g.S.PageReader.pages c.args.space.now) (g.S.PageReader.pages c.drop_table.new.space) c.args.root c.in-Ok.top c.args.table.now h w))
+    table_gone (g.S.PageReader.pages c.args.space.now) (g.S.PageReader.pages c.drop_table.new.space) c.args.root c.in-Ok.top c.args.table.now h w (g.S.PageReader.pages c.drop_trees.new.space) (c.in-Ok-drop_trees.ensures.dropped _ (trees_then (g.S.PageReader.pages c.args.space.now) (g.S.PageReader.pages c.drop_table.new.space) c.args.root c.in-Ok.top c.args.table.now h w))
 
 pub returns-in-Ok-drop_trees-clause-follows : goal.returns-in-Ok-drop_trees-clause-follows
 returns-in-Ok-drop_trees-clause-follows g c = g.met.S.PageReader.follows_trans _ _ _ c.drop_table.ensures.follows c.drop_trees.ensures.follows
@@ -22,7 +22,7 @@ returns-in-Err-drop_trees-clause-follows g c = g.met.S.PageReader.follows_trans 
 
 pub returns-in-Err-drop_trees-clause-refusal : goal.returns-in-Err-drop_trees-clause-refusal
 returns-in-Err-drop_trees-clause-refusal g c =
-    fault_refused c.in-Err-drop_trees.fault (g.S.PageSpace.at_limit c.drop_trees.new.space) (AreTreesOf (g.S.PageReader.pages c.drop_table.new.space) c.args.table.now → (g.S.PageReader.is_whole c.drop_table.new.space) → ⊥) (IsTableOf (g.S.PageReader.pages c.args.space.now) c.args.root c.args.table.now → (g.S.PageReader.is_whole c.args.space.now) → ⊥) (g.S.PageReader.refused c.args.space.now) (g.S.PageReader.refused c.drop_table.new.space) (g.S.PageReader.refused c.drop_trees.new.space)
+    fault_refused c.in-Err-drop_trees.fault (g.S.PageSpace.at_limit c.drop_trees.new.space) (AreTreesOf false (g.S.PageReader.pages c.drop_table.new.space) c.args.table.now → (g.S.PageReader.is_whole c.drop_table.new.space) → ⊥) (IsTableOf false (g.S.PageReader.pages c.args.space.now) c.args.root c.args.table.now → (g.S.PageReader.is_whole c.args.space.now) → ⊥) (g.S.PageReader.refused c.args.space.now) (g.S.PageReader.refused c.drop_table.new.space) (g.S.PageReader.refused c.drop_trees.new.space)
     (λ none h whole. let w = c.in-Ok.ensures.dropped h.holds.owned (declared_of h.before) (declared_of h.behind) (schema_of_it (g.S.PageReader.pages c.args.space.now) c.args.root c.args.table.now h) in
     none (trees_then (g.S.PageReader.pages c.args.space.now) (g.S.PageReader.pages c.drop_table.new.space) c.args.root c.in-Ok.top c.args.table.now h w) (c.in-Ok.ensures.whole whole)) c.drop_table.ensures.rising c.in-Err-drop_trees.ensures.refusal
 
@@ -31,5 +31,5 @@ returns-in-Err-clause-limits g c = schema_reaches c.in-Err.error c.of_change.res
 
 pub returns-in-Err-clause-refusal : goal.returns-in-Err-clause-refusal
 returns-in-Err-clause-refusal g c =
-    change_refused_by c.in-Err.error c.of_change.result (g.S.PageSpace.at_limit c.drop_table.new.space) (HoldsNoSchemaIn (g.S.PageReader.pages c.args.space.now) c.args.root (g.S.PageReader.is_whole c.args.space.now)) (IsTableOf (g.S.PageReader.pages c.args.space.now) c.args.root c.args.table.now → (g.S.PageReader.is_whole c.args.space.now) → ⊥) (g.S.PageReader.refused c.args.space.now) (g.S.PageReader.refused c.args.space.now) (g.S.PageReader.refused c.drop_table.new.space) c.of_change.ensures
+    change_refused_by c.in-Err.error c.of_change.result (g.S.PageSpace.at_limit c.drop_table.new.space) (HoldsNoSchemaIn (g.S.PageReader.pages c.args.space.now) c.args.root (g.S.PageReader.is_whole c.args.space.now)) (IsTableOf false (g.S.PageReader.pages c.args.space.now) c.args.root c.args.table.now → (g.S.PageReader.is_whole c.args.space.now) → ⊥) (g.S.PageReader.refused c.args.space.now) (g.S.PageReader.refused c.args.space.now) (g.S.PageReader.refused c.drop_table.new.space) c.of_change.ensures
     (λ none h whole. none h.holds.owned _ (schema_of_it (g.S.PageReader.pages c.args.space.now) c.args.root c.args.table.now h) whole) (omega arith) c.in-Err.ensures.refusal

@@ -4,6 +4,7 @@ use Rattle.sqlval.specs.Value.{Row}
 use Rattle.sqlval.specs.CodedLength.{key_length}
 use Rattle.sqlval.specs.Matching.{key_of}
 use Rattle.index_trees.specs.Indexed.{HoldsNoIndexIn}
+use Rattle.tree_entries.proofs.KeptLemmas.{no_page_lost, no_page_lost_on}
 use Rattle.page_database.specs.Exchanged.{HasLongKeyIn, IsOpen}
 use Rattle.page_database.proofs.IndexLemmas.{put_first, put_next, put_all, long_at}
 use Rattle.page_database.proofs.RefusalLemmas.{exit_later, exit_reaches}
@@ -12,6 +13,7 @@ use Rattle.page_database.proofs.exchange.add_rows.Goals as goal
 pub loop-at-init : goal.loop-at-init
 loop-at-init g c = record {
   put = put_first _ _ _ _;
+  keeps = no_page_lost (g.S.PageReader.pages c.args.space.now) c.args.root;
   whole = λ h. h;
   rising = omega arith;
   follows = g.met.S.PageReader.follows_refl _;
@@ -23,6 +25,7 @@ loop-at-preserved g c =
     let done = c.in_ok-top.ensures in
     record {
       put = put_next (g.S.PageReader.pages c.args.space.now) (g.S.PageReader.pages c.loop-at.space) (g.S.PageReader.pages c.add_one.new.space) c.args.root c.loop-at.top c.in_ok-top.top c.loop-at.at c.number_at-number.result c.args.columns.now c.args.put.now c.row-item.result (subst (λ (rs : List Row). c.loop-at.at < length rs) c.as_slice-row-items.ensures c.loop-at-test.true) (c.number_at-number.ensures ∙ ap (λ (ns : List ℕ). slice_index_or ns c.loop-at.at 0) c.as_slice.ensures) (subst (λ (rs : List Row). c.row-item.result ≡ slice_index_or rs c.loop-at.at c.row-item.result) c.as_slice-row-items.ensures c.row-item.is) known.put done.added;
+      keeps = no_page_lost_on (g.S.PageReader.pages c.args.space.now) (g.S.PageReader.pages c.loop-at.space) (g.S.PageReader.pages c.add_one.new.space) c.args.root c.loop-at.top c.in_ok-top.top known.keeps done.keeps;
       whole = λ h. done.whole (known.whole h);
       rising = omega (arith, known.rising, done.rising);
       follows = g.met.S.PageReader.follows_trans _ _ _ known.follows done.follows;

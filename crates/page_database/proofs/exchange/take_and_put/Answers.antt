@@ -1,5 +1,6 @@
 use Rattle.std.proofs.Common.{arith}
 use Rattle.index_trees.specs.Indexed.{IndexWritten}
+use Rattle.tree_entries.proofs.KeptLemmas.{no_page_lost_on_by}
 use Rattle.page_database.specs.Exchanged.{HasTaken, IsOpen, IsExchangeable, HasLongKeyIn}
 use Rattle.page_database.proofs.IndexLemmas.{to_take, to_put, index_on_by}
 use Rattle.page_tables.proofs.ChangeLemmas.{whole_later}
@@ -40,3 +41,7 @@ returns-in-Err-clause-refusal g c =
     (IsExchangeable (g.S.PageReader.pages c.args.space.now) c.args.root c.args.columns.now c.args.exchange.now → g.S.PageReader.is_whole c.args.space.now → ⊥)
     (g.S.PageReader.refused c.args.space.now) (g.S.PageReader.refused c.args.space.now) (g.S.PageReader.refused c.take_row.new.space)
     (λ none h whole. none (to_take (g.S.PageReader.pages c.args.space.now) c.args.root c.args.columns.now c.args.exchange.now h) whole) (omega arith) c.in-Err.ensures.refusal
+
+pub returns-in-Ok-clause-keeps : goal.returns-in-Ok-clause-keeps
+returns-in-Ok-clause-keeps g c =
+    no_page_lost_on_by c.add_rows.result (g.S.PageReader.pages c.args.space.now) (g.S.PageReader.pages c.take_row.new.space) (g.S.PageReader.pages c.add_rows.new.space) c.args.root c.in-Ok.top c.in-Ok.ensures.keeps c.add_rows.ensures.keeps

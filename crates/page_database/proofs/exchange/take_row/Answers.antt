@@ -1,5 +1,6 @@
 use Rattle.store.specs.View.{entry_of}
 use Rattle.index_trees.specs.Indexed.{HoldsNoRowIn}
+use Rattle.tree_entries.proofs.KeptLemmas.{no_page_lost}
 use Rattle.page_database.specs.Exchanged.{HasTaken}
 use Rattle.page_database.proofs.SmallLemmas.{held_is_short}
 use Rattle.page_database.proofs.IndexLemmas.{taken_none, with_taken}
@@ -23,3 +24,6 @@ returns-in-Err-clause-refusal g c =
     (λ none h whole. none h.owned h.left h.held h.index (with_taken (g.S.PageReader.pages c.args.space.now) c.args.root c.args.columns.now c.args.taken.now c.in-Some.found c.in-Some.is h) whole)
     (λ long h whole. held_is_short (g.S.PageReader.pages c.args.space.now) c.args.root h.owned c.args.columns.now h.held (entry_of c.in-Some.found) h.index
     (with_taken (g.S.PageReader.pages c.args.space.now) c.args.root c.args.columns.now c.args.taken.now c.in-Some.found c.in-Some.is h).there long) c.in-Err.ensures.refusal
+
+pub returns-in-None-clause-keeps : goal.returns-in-None-clause-keeps
+returns-in-None-clause-keeps g c = no_page_lost (g.S.PageReader.pages c.args.space.now) c.args.root

@@ -1,4 +1,4 @@
-use Rattle.std.proofs.Common.{arith, ℕ, ◌≡◌, ◌+◌, ◌<◌, ◌++◌, ◌∙◌, ap, List, [], ◌∷◌, length, map, sym, subst}
+use Rattle.std.proofs.Common.{arith, ℕ, ◌≡◌, ◌+◌, ◌<◌, ◌++◌, ◌∙◌, ap, List, [], ◌∷◌, length, map, sym, subst, false}
 use Rattle.std.specs.Prelude.{slice_index_or}
 use Rattle.sqlval.specs.declared.schema.Index.{Index}
 use Rattle.denote.specs.SchemaOf.{index_of}
@@ -11,7 +11,7 @@ use Rattle.page_database.proofs.indexes.exchange_each.Goals as goal
 
 pub loop-index-init : goal.loop-index-init
 loop-index-init g c = record {
-  midway = subst (λ (rs : List ℕ). MidwayBy (g.S.PageReader.pages c.args.space.now) (g.S.PageReader.pages c.args.space.now) c.args.indexes.now c.args.exchange.now 0 rs) (sym c.new-roots.ensures) (midway_first (g.S.PageReader.pages c.args.space.now) c.args.indexes.now c.args.exchange.now);
+  midway = λ alone. subst (λ (rs : List ℕ). MidwayBy alone (g.S.PageReader.pages c.args.space.now) (g.S.PageReader.pages c.args.space.now) c.args.indexes.now c.args.exchange.now 0 rs) (sym c.new-roots.ensures) (midway_first (g.S.PageReader.pages c.args.space.now) c.args.indexes.now c.args.exchange.now);
   whole = λ h. h;
   rising = omega arith;
   follows = g.met.S.PageReader.follows_refl _;
@@ -22,9 +22,9 @@ loop-index-preserved g c =
     let known = c.loop-index.invariant in
     let done = c.in_ok-top.ensures in
     record {
-      midway = subst (λ (rs : List ℕ). MidwayBy (g.S.PageReader.pages c.args.space.now) (g.S.PageReader.pages c.exchange_rows.new.space) c.args.indexes.now c.args.exchange.now (c.loop-index.index-index + 1) rs) (sym c.in_ok-push.ensures.ok)
-          (midway_next (g.S.PageReader.pages c.args.space.now) (g.S.PageReader.pages c.loop-index.space) c.args.indexes.now c.args.exchange.now c.loop-index.index-index c.loop-index.roots c.index-item.result (subst (λ (xs : List Index). c.loop-index.index-index < length xs) c.as_slice-index-items.ensures c.loop-index-test.true) (subst (λ (xs : List Index). c.index-item.result ≡ slice_index_or xs c.loop-index.index-index c.index-item.result) c.as_slice-index-items.ensures c.index-item.is) (g.S.PageReader.pages c.exchange_rows.new.space) c.in_ok-top.top known.midway
-          (subst (λ (cs : List ℕ). (h : IsExchangeable (g.S.PageReader.pages c.loop-index.space) c.index-item.result.root cs c.args.exchange.now) → IndexWritten (g.S.PageReader.pages c.loop-index.space) (g.S.PageReader.pages c.exchange_rows.new.space) h.owned cs (h.left ++ h.more) c.in_ok-top.top) c.as_slice.ensures done.exchanged));
+      midway = λ alone. subst (λ (rs : List ℕ). MidwayBy alone (g.S.PageReader.pages c.args.space.now) (g.S.PageReader.pages c.exchange_rows.new.space) c.args.indexes.now c.args.exchange.now (c.loop-index.index-index + 1) rs) (sym c.in_ok-push.ensures.ok)
+          (midway_next (g.S.PageReader.pages c.args.space.now) (g.S.PageReader.pages c.loop-index.space) c.args.indexes.now c.args.exchange.now c.loop-index.index-index c.loop-index.roots c.index-item.result (subst (λ (xs : List Index). c.loop-index.index-index < length xs) c.as_slice-index-items.ensures c.loop-index-test.true) (subst (λ (xs : List Index). c.index-item.result ≡ slice_index_or xs c.loop-index.index-index c.index-item.result) c.as_slice-index-items.ensures c.index-item.is) (g.S.PageReader.pages c.exchange_rows.new.space) c.in_ok-top.top (known.midway alone)
+          (subst (λ (cs : List ℕ). (h : IsExchangeable (g.S.PageReader.pages c.loop-index.space) c.index-item.result.root cs c.args.exchange.now) → IndexWritten (g.S.PageReader.pages c.loop-index.space) (g.S.PageReader.pages c.exchange_rows.new.space) h.owned cs (h.left ++ h.more) c.in_ok-top.top) c.as_slice.ensures done.exchanged) done.keeps);
       whole = λ h. done.whole (known.whole h);
       rising = omega (arith, known.rising, done.rising);
       follows = g.met.S.PageReader.follows_trans _ _ _ known.follows done.follows;
@@ -40,10 +40,10 @@ pub returns-in_err-top-clause-refusal : goal.returns-in_err-top-clause-refusal
 returns-in_err-top-clause-refusal g c =
     let known = c.loop-index.invariant in
     exit_later _ c.in_err-top.field-0.0 (g.S.PageSpace.at_limit c.exchange_rows.new.space) (IsExchangeable (g.S.PageReader.pages c.loop-index.space) c.index-item.result.root c.as_slice.result.now c.args.exchange.now → (g.S.PageReader.is_whole c.loop-index.space) → ⊥)
-    (AreExchangeable (g.S.PageReader.pages c.args.space.now) c.args.indexes.now c.args.exchange.now → (g.S.PageReader.is_whole c.args.space.now) → ⊥) _ _ _
-    (λ none h whole. none (subst (λ (cs : List ℕ). IsExchangeable (g.S.PageReader.pages c.loop-index.space) c.index-item.result.root cs c.args.exchange.now) (sym c.as_slice.ensures) (exchange_here (g.S.PageReader.pages c.args.space.now) (g.S.PageReader.pages c.loop-index.space) c.args.indexes.now c.args.exchange.now c.loop-index.index-index c.loop-index.roots c.index-item.result (subst (λ (xs : List Index). c.loop-index.index-index < length xs) c.as_slice-index-items.ensures c.loop-index-test.true) (subst (λ (xs : List Index). c.index-item.result ≡ slice_index_or xs c.loop-index.index-index c.index-item.result) c.as_slice-index-items.ensures c.index-item.is) known.midway h)) (known.whole whole)) known.rising c.from_residual.ensures.1 c.in_err-top.ensures.refusal
+    (AreExchangeable false (g.S.PageReader.pages c.args.space.now) c.args.indexes.now c.args.exchange.now → (g.S.PageReader.is_whole c.args.space.now) → ⊥) _ _ _
+    (λ none h whole. none (subst (λ (cs : List ℕ). IsExchangeable (g.S.PageReader.pages c.loop-index.space) c.index-item.result.root cs c.args.exchange.now) (sym c.as_slice.ensures) (exchange_here (g.S.PageReader.pages c.args.space.now) (g.S.PageReader.pages c.loop-index.space) c.args.indexes.now c.args.exchange.now c.loop-index.index-index c.loop-index.roots c.index-item.result (subst (λ (xs : List Index). c.loop-index.index-index < length xs) c.as_slice-index-items.ensures c.loop-index-test.true) (subst (λ (xs : List Index). c.index-item.result ≡ slice_index_or xs c.loop-index.index-index c.index-item.result) c.as_slice-index-items.ensures c.index-item.is) (known.midway false) h)) (known.whole whole)) known.rising c.from_residual.ensures.1 c.in_err-top.ensures.refusal
 
 pub returns-clause-exchanged : goal.returns-clause-exchanged
-returns-clause-exchanged g c = λ h.
+returns-clause-exchanged g c = λ alone h.
     let end : c.loop-index.index-index ≡ length c.as_slice-index-items.result.now = omega (arith, c.loop-index-test.false, c.loop-index.auto.index-index-end) in
-    midway_end (g.S.PageReader.pages c.args.space.now) (g.S.PageReader.pages c.loop-index.space) c.args.indexes.now c.args.exchange.now c.loop-index.index-index c.loop-index.roots (end ∙ ap length c.as_slice-index-items.ensures) c.loop-index.invariant.midway h
+    midway_end (g.S.PageReader.pages c.args.space.now) (g.S.PageReader.pages c.loop-index.space) c.args.indexes.now c.args.exchange.now c.loop-index.index-index c.loop-index.roots (end ∙ ap length c.as_slice-index-items.ensures) (c.loop-index.invariant.midway alone) h

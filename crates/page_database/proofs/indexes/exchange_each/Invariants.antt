@@ -1,10 +1,10 @@
-use Rattle.std.proofs.Common.{◌≤◌}
+use Rattle.std.proofs.Common.{Bool, ◌≤◌}
 use Rattle.page_database.proofs.EachLemmas.{MidwayBy}
 use Rattle.page_database.proofs.indexes.exchange_each.Given as goal
 
 abbrev pub invariant-loop-index : goal.invariant-loop-index
 invariant-loop-index g l = record {
-  midway : MidwayBy (g.S.PageReader.pages l.fn.space) (g.S.PageReader.pages l.space) l.indexes l.exchange l.index-index l.roots;
+  midway : (alone : Bool) → MidwayBy alone (g.S.PageReader.pages l.fn.space) (g.S.PageReader.pages l.space) l.indexes l.exchange l.index-index l.roots;
   whole : g.S.PageReader.is_whole l.fn.space → g.S.PageReader.is_whole l.space;
   rising : g.S.PageReader.refused l.fn.space ≤ g.S.PageReader.refused l.space;
   follows : g.S.PageReader.follows l.fn.space l.space;

@@ -3,6 +3,7 @@ use Rattle.sqlval.specs.Value.{Row}
 use Rattle.store.specs.Contents.{Entry, rows_of}
 use Rattle.page_tables.proofs.ChangeLemmas.{whole_later}
 use Rattle.tablestore.specs.Held.{HoldsRows, HoldsNoRows}
+use Rattle.tree_entries.proofs.KeptLemmas.{no_page_lost_behind}
 use Rattle.page_database.specs.Exchanged.{HasLongKeyIn, IsExchangeable}
 use Rattle.page_database.proofs.IndexingLemmas.{from_nothing, from_old}
 use Rattle.page_database.proofs.RefusalLemmas.{refused_later, read_refused, reaches_so}
@@ -29,3 +30,7 @@ returns-in-Ok-clause-refusal g c =
 
 pub returns-in-Err-clause-refusal : goal.returns-in-Err-clause-refusal
 returns-in-Err-clause-refusal g c = read_refused c.in-Err.fault (g.S.PageSpace.at_limit c.scan.new.space) (HoldsNoRows (g.S.PageReader.pages c.args.space.now) c.args.rows) ((owned : List ℕ) (held : List Entry) → HoldsRows (g.S.PageReader.pages c.args.space.now) c.args.rows owned held → (g.S.PageReader.is_whole c.args.space.now) → ⊥) (g.S.PageReader.refused c.args.space.now) (g.S.PageReader.refused c.scan.new.space) (λ none owned held h whole. none owned held h) c.in-Err.ensures.refusal
+
+pub returns-in-Ok-clause-keeps : goal.returns-in-Ok-clause-keeps
+returns-in-Ok-clause-keeps g c =
+    no_page_lost_behind c.exchange_rows.result (g.S.PageReader.pages c.args.space.now) (g.S.PageReader.pages c.scan.new.space) (g.S.PageReader.pages c.exchange_rows.new.space) 0 c.scan.ensures.same c.exchange_rows.ensures.keeps

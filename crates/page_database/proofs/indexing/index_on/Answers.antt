@@ -1,4 +1,4 @@
-use Rattle.std.proofs.Common.{arith, ℕ, List, [], ◌∷◌, subst}
+use Rattle.std.proofs.Common.{arith, ℕ, List, [], ◌∷◌, subst, false}
 use Rattle.denote.specs.SchemaOf.{index_of}
 use Rattle.store.specs.Contents.{Entry, rows_of}
 use Rattle.store.specs.Errors.{HasLongKey}
@@ -14,12 +14,12 @@ use Rattle.page_database.proofs.RefusalLemmas.{later, refused_later, reaches, re
 use Rattle.page_database.proofs.indexing.index_on.Goals as goal
 
 pub returns-in-Ok-clause-indexed : goal.returns-in-Ok-clause-indexed
-returns-in-Ok-clause-indexed g c = λ h places among.
+returns-in-Ok-clause-indexed g c = λ alone h places among.
     let w = subst (λ (cs : List ℕ). IndexWritten (g.S.PageReader.pages c.args.space.now) (g.S.PageReader.pages c.filled.new.space) [] cs h.at.rows c.in-Ok.top) c.as_slice.ensures (c.in-Ok.ensures.filled h.at.owned h.at.rows (rows_of_it (g.S.PageReader.pages c.args.space.now) c.args.root c.args.table.now h)) in
-    let p = to_put_index (g.S.PageReader.pages c.args.space.now) (g.S.PageReader.pages c.filled.new.space) c.args.root c.args.table.now c.args.index c.in-Ok.top h w in
-    if_ok (TablePut (g.S.PageReader.pages c.put_index.new.space) p.front (table_indexed c.args.table.now c.args.index c.in-Ok.top) p.back p.others) (IndexMade (g.S.PageReader.pages c.put_index.new.space) h.before h.at h.behind c.args.index) c.put_index.result
-    (λ now put. index_made (g.S.PageReader.pages c.args.space.now) (g.S.PageReader.pages c.filled.new.space) c.args.root c.args.table.now c.args.index c.in-Ok.top h w (g.S.PageReader.pages c.put_index.new.space) now put)
-    (c.put_index.ensures.put p (range_indexed (g.S.PageReader.pages c.args.space.now) (g.S.PageReader.pages c.filled.new.space) c.args.root c.args.table.now c.args.index c.in-Ok.top h w (λ n i. g.met.S.PageReader.bounded _ n i) places among))
+    let p = to_put_index (g.S.PageReader.pages c.args.space.now) (g.S.PageReader.pages c.filled.new.space) c.args.root c.args.table.now c.args.index c.in-Ok.top h w c.in-Ok.ensures.keeps in
+    if_ok (TablePut alone (g.S.PageReader.pages c.put_index.new.space) p.front (table_indexed c.args.table.now c.args.index c.in-Ok.top) p.back p.others) (IndexMade alone (g.S.PageReader.pages c.put_index.new.space) h.before h.at h.behind c.args.index) c.put_index.result
+    (λ now put. index_made (g.S.PageReader.pages c.args.space.now) (g.S.PageReader.pages c.filled.new.space) c.args.root c.args.table.now c.args.index c.in-Ok.top h w c.in-Ok.ensures.keeps (g.S.PageReader.pages c.put_index.new.space) now put)
+    (c.put_index.ensures.put _ p (range_indexed (g.S.PageReader.pages c.args.space.now) (g.S.PageReader.pages c.filled.new.space) c.args.root c.args.table.now c.args.index c.in-Ok.top h w c.in-Ok.ensures.keeps (λ n i. g.met.S.PageReader.bounded _ n i) places among))
 
 pub returns-in-Ok-clause-limits : goal.returns-in-Ok-clause-limits
 returns-in-Ok-clause-limits g c = λ h. reaches_so c.put_index.result ⊥ ⊥ ⊥ ⊥ (HasLongKey (index_of c.args.index ∷ []) (rows_of h.at.rows)) ⊥ (λ none. none) (λ none. absurd none) (λ none. none) c.put_index.ensures.limits
@@ -32,9 +32,9 @@ returns-in-Ok-clause-follows g c = g.met.S.PageReader.follows_trans _ _ _ c.fill
 
 pub returns-in-Ok-clause-refusal : goal.returns-in-Ok-clause-refusal
 returns-in-Ok-clause-refusal g c =
-    refused_later c.put_index.result (g.S.PageSpace.at_limit c.put_index.new.space) (HasTable (g.S.PageReader.pages c.filled.new.space) c.args.root c.args.table.now → (g.S.PageReader.is_whole c.filled.new.space) → ⊥) (IsTableOf (g.S.PageReader.pages c.args.space.now) c.args.root c.args.table.now → (g.S.PageReader.is_whole c.args.space.now) → ⊥) (g.S.PageReader.refused c.args.space.now) (g.S.PageReader.refused c.filled.new.space) (g.S.PageReader.refused c.put_index.new.space)
+    refused_later c.put_index.result (g.S.PageSpace.at_limit c.put_index.new.space) (HasTable false (g.S.PageReader.pages c.filled.new.space) c.args.root c.args.table.now → (g.S.PageReader.is_whole c.filled.new.space) → ⊥) (IsTableOf false (g.S.PageReader.pages c.args.space.now) c.args.root c.args.table.now → (g.S.PageReader.is_whole c.args.space.now) → ⊥) (g.S.PageReader.refused c.args.space.now) (g.S.PageReader.refused c.filled.new.space) (g.S.PageReader.refused c.put_index.new.space)
     (λ none h whole. let w = subst (λ (cs : List ℕ). IndexWritten (g.S.PageReader.pages c.args.space.now) (g.S.PageReader.pages c.filled.new.space) [] cs h.at.rows c.in-Ok.top) c.as_slice.ensures (c.in-Ok.ensures.filled h.at.owned h.at.rows (rows_of_it (g.S.PageReader.pages c.args.space.now) c.args.root c.args.table.now h)) in
-    none (to_put_index (g.S.PageReader.pages c.args.space.now) (g.S.PageReader.pages c.filled.new.space) c.args.root c.args.table.now c.args.index c.in-Ok.top h w) (c.in-Ok.ensures.whole whole)) c.filled.ensures.rising c.put_index.ensures.refusal
+    none (to_put_index (g.S.PageReader.pages c.args.space.now) (g.S.PageReader.pages c.filled.new.space) c.args.root c.args.table.now c.args.index c.in-Ok.top h w c.in-Ok.ensures.keeps) (c.in-Ok.ensures.whole whole)) c.filled.ensures.rising c.put_index.ensures.refusal
 
 pub returns-in-Err-clause-limits : goal.returns-in-Err-clause-limits
 returns-in-Err-clause-limits g c = λ h.
@@ -43,4 +43,4 @@ returns-in-Err-clause-limits g c = λ h.
 
 pub returns-in-Err-clause-refusal : goal.returns-in-Err-clause-refusal
 returns-in-Err-clause-refusal g c =
-    later c.in-Err.error (g.S.PageSpace.at_limit c.filled.new.space) ((owned : List ℕ) (held : List Entry) → HoldsRows (g.S.PageReader.pages c.args.space.now) c.args.table.now.root owned held → (g.S.PageReader.is_whole c.args.space.now) → ⊥) (IsTableOf (g.S.PageReader.pages c.args.space.now) c.args.root c.args.table.now → (g.S.PageReader.is_whole c.args.space.now) → ⊥) (g.S.PageReader.refused c.args.space.now) (g.S.PageReader.refused c.args.space.now) (g.S.PageReader.refused c.filled.new.space) (λ none h whole. none h.at.owned h.at.rows (rows_of_it (g.S.PageReader.pages c.args.space.now) c.args.root c.args.table.now h) whole) (omega arith) c.in-Err.ensures.refusal
+    later c.in-Err.error (g.S.PageSpace.at_limit c.filled.new.space) ((owned : List ℕ) (held : List Entry) → HoldsRows (g.S.PageReader.pages c.args.space.now) c.args.table.now.root owned held → (g.S.PageReader.is_whole c.args.space.now) → ⊥) (IsTableOf false (g.S.PageReader.pages c.args.space.now) c.args.root c.args.table.now → (g.S.PageReader.is_whole c.args.space.now) → ⊥) (g.S.PageReader.refused c.args.space.now) (g.S.PageReader.refused c.args.space.now) (g.S.PageReader.refused c.filled.new.space) (λ none h whole. none h.at.owned h.at.rows (rows_of_it (g.S.PageReader.pages c.args.space.now) c.args.root c.args.table.now h) whole) (omega arith) c.in-Err.ensures.refusal

@@ -3,7 +3,10 @@ use Rattle.page_tables.proofs.SchemaLemmas.{none_at_first}
 use Rattle.page_database.proofs.laws.no_database_at_first.Goals as goal
 
 pub returns-clause-holds : goal.returns-clause-holds
-returns-clause-holds c = at_first
+returns-clause-holds c = λ pages. at_first pages (λ e. absurd (cc))
+
+pub returns-clause-owned : goal.returns-clause-owned
+returns-clause-owned c = λ pages none. at_first pages (λ e. none)
 
 pub returns-clause-shows : goal.returns-clause-shows
 returns-clause-shows c = none_at_first

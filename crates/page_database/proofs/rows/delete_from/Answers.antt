@@ -1,4 +1,4 @@
-use Rattle.std.proofs.Common.{sym, ap, ◌∙◌, [], Some}
+use Rattle.std.proofs.Common.{sym, ap, ◌∙◌, [], Some, false}
 use Rattle.std.specs.Option.{option_map}
 use Rattle.store.specs.View.{entry_of}
 use Rattle.page_tables.proofs.ChangeLemmas.{whole_later}
@@ -12,7 +12,7 @@ use Rattle.page_database.proofs.RefusalLemmas.{refused_later, read_refused}
 use Rattle.page_database.proofs.rows.delete_from.Goals as goal
 
 pub returns-in-Ok-Some-clause-deleted : goal.returns-in-Ok-Some-clause-deleted
-returns-in-Ok-Some-clause-deleted g c = λ h. c.delete_row.ensures.deleted (to_exchange_at (g.S.PageReader.pages c.args.space.now) (g.S.PageReader.pages c.row_of.new.space) c.args.root c.args.number c.args.table.now c.nothing_put-exchange.result c.in-Ok-Some.found [] c.row_of.ensures.same c.nothing_put-exchange.ensures.taken c.nothing_put-exchange.ensures.put h (sym (c.in-Ok-Some.ensures.found h.at.owned h.at.rows (rows_of_it (g.S.PageReader.pages c.args.space.now) c.args.root c.args.table.now h)) ∙ ap (option_map entry_of) c.in-Ok-Some.field-0-is))
+returns-in-Ok-Some-clause-deleted g c = λ alone h. c.delete_row.ensures.deleted _ (to_exchange_at (g.S.PageReader.pages c.args.space.now) (g.S.PageReader.pages c.row_of.new.space) c.args.root c.args.number c.args.table.now c.nothing_put-exchange.result c.in-Ok-Some.found [] c.row_of.ensures.same c.nothing_put-exchange.ensures.taken c.nothing_put-exchange.ensures.put h (sym (c.in-Ok-Some.ensures.found h.at.owned h.at.rows (rows_of_it (g.S.PageReader.pages c.args.space.now) c.args.root c.args.table.now h)) ∙ ap (option_map entry_of) c.in-Ok-Some.field-0-is))
 
 pub returns-in-Ok-Some-clause-limits : goal.returns-in-Ok-Some-clause-limits
 returns-in-Ok-Some-clause-limits g c = c.delete_row.ensures.limits c.nothing_put-exchange.ensures.put
@@ -25,11 +25,11 @@ returns-in-Ok-Some-clause-follows g c = g.met.S.PageReader.follows_trans _ _ _ c
 
 pub returns-in-Ok-Some-clause-refusal : goal.returns-in-Ok-Some-clause-refusal
 returns-in-Ok-Some-clause-refusal g c =
-    refused_later c.delete_row.result (g.S.PageSpace.at_limit c.delete_row.new.space) (IsExchangeableAt (g.S.PageReader.pages c.row_of.new.space) c.args.root c.args.table.now c.args.number c.nothing_put-exchange.result [] → (g.S.PageReader.is_whole c.row_of.new.space) → ⊥) (IsTableOf (g.S.PageReader.pages c.args.space.now) c.args.root c.args.table.now → (g.S.PageReader.is_whole c.args.space.now) → ⊥) (g.S.PageReader.refused c.args.space.now) (g.S.PageReader.refused c.row_of.new.space) (g.S.PageReader.refused c.delete_row.new.space)
+    refused_later c.delete_row.result (g.S.PageSpace.at_limit c.delete_row.new.space) (IsExchangeableAt false (g.S.PageReader.pages c.row_of.new.space) c.args.root c.args.table.now c.args.number c.nothing_put-exchange.result [] → (g.S.PageReader.is_whole c.row_of.new.space) → ⊥) (IsTableOf false (g.S.PageReader.pages c.args.space.now) c.args.root c.args.table.now → (g.S.PageReader.is_whole c.args.space.now) → ⊥) (g.S.PageReader.refused c.args.space.now) (g.S.PageReader.refused c.row_of.new.space) (g.S.PageReader.refused c.delete_row.new.space)
     (λ none h whole. none (to_exchange_at (g.S.PageReader.pages c.args.space.now) (g.S.PageReader.pages c.row_of.new.space) c.args.root c.args.number c.args.table.now c.nothing_put-exchange.result c.in-Ok-Some.found [] c.row_of.ensures.same c.nothing_put-exchange.ensures.taken c.nothing_put-exchange.ensures.put h (sym (c.in-Ok-Some.ensures.found h.at.owned h.at.rows (rows_of_it (g.S.PageReader.pages c.args.space.now) c.args.root c.args.table.now h)) ∙ ap (option_map entry_of) c.in-Ok-Some.field-0-is)) (c.row_of.ensures.whole whole)) c.row_of.ensures.rising c.delete_row.ensures.refusal
 
 pub returns-in-Ok-None-clause-deleted : goal.returns-in-Ok-None-clause-deleted
-returns-in-Ok-None-clause-deleted g c = λ h. rows_kept (g.S.PageReader.pages c.args.space.now) c.args.root c.args.table.now h (g.S.PageReader.pages c.row_of.new.space) (without_number c.args.number h.at.rows) c.row_of.ensures.same (without_none c.args.number h.at.rows (sym (c.in-Ok-None.ensures.found h.at.owned h.at.rows (rows_of_it (g.S.PageReader.pages c.args.space.now) c.args.root c.args.table.now h)) ∙ ap (option_map entry_of) c.in-Ok-None.field-0-is))
+returns-in-Ok-None-clause-deleted g c = λ alone h. rows_kept (g.S.PageReader.pages c.args.space.now) c.args.root c.args.table.now h (g.S.PageReader.pages c.row_of.new.space) (without_number c.args.number h.at.rows) c.row_of.ensures.same (without_none c.args.number h.at.rows (sym (c.in-Ok-None.ensures.found h.at.owned h.at.rows (rows_of_it (g.S.PageReader.pages c.args.space.now) c.args.root c.args.table.now h)) ∙ ap (option_map entry_of) c.in-Ok-None.field-0-is))
 
 pub returns-in-Err-clause-refusal : goal.returns-in-Err-clause-refusal
-returns-in-Err-clause-refusal g c = read_refused c.in-Err.fault (g.S.PageSpace.at_limit c.row_of.new.space) (HoldsNoRows (g.S.PageReader.pages c.args.space.now) c.args.table.now.root) (IsTableOf (g.S.PageReader.pages c.args.space.now) c.args.root c.args.table.now → (g.S.PageReader.is_whole c.args.space.now) → ⊥) (g.S.PageReader.refused c.args.space.now) (g.S.PageReader.refused c.row_of.new.space) (λ none h whole. none h.at.owned h.at.rows (rows_of_it (g.S.PageReader.pages c.args.space.now) c.args.root c.args.table.now h)) c.in-Err.ensures.refusal
+returns-in-Err-clause-refusal g c = read_refused c.in-Err.fault (g.S.PageSpace.at_limit c.row_of.new.space) (HoldsNoRows (g.S.PageReader.pages c.args.space.now) c.args.table.now.root) (IsTableOf false (g.S.PageReader.pages c.args.space.now) c.args.root c.args.table.now → (g.S.PageReader.is_whole c.args.space.now) → ⊥) (g.S.PageReader.refused c.args.space.now) (g.S.PageReader.refused c.row_of.new.space) (λ none h whole. none h.at.owned h.at.rows (rows_of_it (g.S.PageReader.pages c.args.space.now) c.args.root c.args.table.now h)) c.in-Err.ensures.refusal

@@ -1,4 +1,4 @@
-use Rattle.std.proofs.Common.{arith, map, List, [], ◌≡◌, subst}
+use Rattle.std.proofs.Common.{arith, map, List, [], ◌≡◌, subst, false}
 use Rattle.denote.specs.SchemaOf.{index_of}
 use Rattle.sqlval.specs.Value.{Row}
 use Rattle.store.specs.Errors.{HasLongKey}
@@ -13,11 +13,11 @@ use Rattle.page_database.proofs.RefusalLemmas.{refused_later, reaches_so, fault_
 use Rattle.page_database.proofs.rows.delete_row.Goals as goal
 
 pub returns-in-Ok-clause-deleted : goal.returns-in-Ok-clause-deleted
-returns-in-Ok-clause-deleted g c = λ h.
+returns-in-Ok-clause-deleted g c = λ alone h.
     let w = c.in-Ok.ensures.deleted h.its.at.owned h.its.at.rows (rows_of_it (g.S.PageReader.pages c.args.space.now) c.args.root c.args.table.now h.its) in
     let u = delete_unsettled (g.S.PageReader.pages c.args.space.now) (g.S.PageReader.pages c.delete.new.space) c.args.root c.in-Ok.top c.args.number c.args.table.now c.args.exchange.now h w in
-    if_ok (IsSettled (g.S.PageReader.pages c.settle.new.space) u.front u.back u.before u.behind u.at u.rows) (RowsExchanged (g.S.PageReader.pages c.settle.new.space) h.its.before h.its.at h.its.behind (without_number c.args.number h.its.at.rows)) c.settle.result
-    (λ now s. rows_exchanged (g.S.PageReader.pages c.args.space.now) c.args.root c.args.table.now h.its (g.S.PageReader.pages c.settle.new.space) now (without_number c.args.number h.its.at.rows) s) (c.settle.ensures.settled u)
+    if_ok (IsSettled alone (g.S.PageReader.pages c.settle.new.space) u.front u.back u.before u.behind u.at u.rows) (RowsExchanged alone (g.S.PageReader.pages c.settle.new.space) h.its.before h.its.at h.its.behind (without_number c.args.number h.its.at.rows)) c.settle.result
+    (λ now s. rows_exchanged (g.S.PageReader.pages c.args.space.now) c.args.root c.args.table.now h.its (g.S.PageReader.pages c.settle.new.space) now (without_number c.args.number h.its.at.rows) s) (c.settle.ensures.settled _ u)
 
 pub returns-in-Ok-clause-limits : goal.returns-in-Ok-clause-limits
 returns-in-Ok-clause-limits g c = λ are.
@@ -31,12 +31,12 @@ returns-in-Ok-clause-follows g c = g.met.S.PageReader.follows_trans _ _ _ c.dele
 
 pub returns-in-Ok-clause-refusal : goal.returns-in-Ok-clause-refusal
 returns-in-Ok-clause-refusal g c =
-    refused_later c.settle.result (g.S.PageSpace.at_limit c.settle.new.space) (IsUnsettled (g.S.PageReader.pages c.delete.new.space) c.args.root c.args.table.now c.in-Ok.top c.args.exchange.now → (g.S.PageReader.is_whole c.delete.new.space) → ⊥) (IsExchangeableAt (g.S.PageReader.pages c.args.space.now) c.args.root c.args.table.now c.args.number c.args.exchange.now [] → (g.S.PageReader.is_whole c.args.space.now) → ⊥) (g.S.PageReader.refused c.args.space.now) (g.S.PageReader.refused c.delete.new.space) (g.S.PageReader.refused c.settle.new.space)
+    refused_later c.settle.result (g.S.PageSpace.at_limit c.settle.new.space) (IsUnsettled false (g.S.PageReader.pages c.delete.new.space) c.args.root c.args.table.now c.in-Ok.top c.args.exchange.now → (g.S.PageReader.is_whole c.delete.new.space) → ⊥) (IsExchangeableAt false (g.S.PageReader.pages c.args.space.now) c.args.root c.args.table.now c.args.number c.args.exchange.now [] → (g.S.PageReader.is_whole c.args.space.now) → ⊥) (g.S.PageReader.refused c.args.space.now) (g.S.PageReader.refused c.delete.new.space) (g.S.PageReader.refused c.settle.new.space)
     (λ none h whole. let w = c.in-Ok.ensures.deleted h.its.at.owned h.its.at.rows (rows_of_it (g.S.PageReader.pages c.args.space.now) c.args.root c.args.table.now h.its) in
     none (delete_unsettled (g.S.PageReader.pages c.args.space.now) (g.S.PageReader.pages c.delete.new.space) c.args.root c.in-Ok.top c.args.number c.args.table.now c.args.exchange.now h w) (c.in-Ok.ensures.whole whole))
     c.delete.ensures.rising c.settle.ensures.refusal
 
 pub returns-in-Err-clause-refusal : goal.returns-in-Err-clause-refusal
 returns-in-Err-clause-refusal g c =
-    fault_refused c.in-Err.fault (g.S.PageSpace.at_limit c.delete.new.space) (HoldsNoRowsIn (g.S.PageReader.pages c.args.space.now) c.args.table.now.root (g.S.PageReader.is_whole c.args.space.now)) (IsExchangeableAt (g.S.PageReader.pages c.args.space.now) c.args.root c.args.table.now c.args.number c.args.exchange.now [] → (g.S.PageReader.is_whole c.args.space.now) → ⊥) (g.S.PageReader.refused c.args.space.now) (g.S.PageReader.refused c.args.space.now) (g.S.PageReader.refused c.delete.new.space)
+    fault_refused c.in-Err.fault (g.S.PageSpace.at_limit c.delete.new.space) (HoldsNoRowsIn (g.S.PageReader.pages c.args.space.now) c.args.table.now.root (g.S.PageReader.is_whole c.args.space.now)) (IsExchangeableAt false (g.S.PageReader.pages c.args.space.now) c.args.root c.args.table.now c.args.number c.args.exchange.now [] → (g.S.PageReader.is_whole c.args.space.now) → ⊥) (g.S.PageReader.refused c.args.space.now) (g.S.PageReader.refused c.args.space.now) (g.S.PageReader.refused c.delete.new.space)
     (λ none h whole. none h.its.at.owned h.its.at.rows (rows_of_it (g.S.PageReader.pages c.args.space.now) c.args.root c.args.table.now h.its) whole) (omega arith) c.in-Err.ensures.refusal

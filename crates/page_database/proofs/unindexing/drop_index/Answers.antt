@@ -1,15 +1,18 @@
-use Rattle.std.proofs.Common.{sym, subst, ◌≡◌, List}
+use Rattle.std.proofs.Common.{sym, subst, ◌≡◌, List, false, true}
 use Rattle.page_tables.proofs.ChangeLemmas.{whole_later}
 use Rattle.page_space.specs.Space.{PageMap}
 use Rattle.catalog.specs.Held.{HoldsNoSchema}
-use Rattle.page_database.specs.Held.{TableAt, declared_of, HoldsDatabase}
+use Rattle.page_database.specs.Held.{TableAt, declared_of, HoldsDatabase, HoldsFor}
 use Rattle.page_database.specs.Changed.{HoldsNoDatabaseIn}
 use Rattle.page_database.proofs.UnindexLemmas.{database_unindexed}
 use Rattle.page_database.proofs.RefusalLemmas.{refused_later, read_refused}
 use Rattle.page_database.proofs.unindexing.drop_index.Goals as goal
 
 pub returns-in-Ok-clause-unindexed : goal.returns-in-Ok-clause-unindexed
-returns-in-Ok-clause-unindexed g c = λ tables h. database_unindexed c.unindex_each.result (g.S.PageReader.pages c.unindex_each.new.space) c.args.name.now tables (c.unindex_each.ensures.unindexed tables (subst (λ (p : PageMap). HoldsDatabase p c.args.root tables) (sym c.read_schema.ensures.same) h) (sym (c.in-Ok.ensures.found h.owned (declared_of tables) h.trees.each.0)))
+returns-in-Ok-clause-unindexed g c = λ tables h. database_unindexed _ c.unindex_each.result (g.S.PageReader.pages c.unindex_each.new.space) c.args.name.now tables (c.unindex_each.ensures.unindexed _ tables (subst (λ (p : PageMap). HoldsFor false p c.args.root tables) (sym c.read_schema.ensures.same) h) (sym (c.in-Ok.ensures.found h.owned (declared_of tables) h.trees.each.0)))
+
+pub returns-in-Ok-clause-owned : goal.returns-in-Ok-clause-owned
+returns-in-Ok-clause-owned g c = λ tables h. database_unindexed _ c.unindex_each.result (g.S.PageReader.pages c.unindex_each.new.space) c.args.name.now tables (c.unindex_each.ensures.unindexed _ tables (subst (λ (p : PageMap). HoldsFor true p c.args.root tables) (sym c.read_schema.ensures.same) h) (sym (c.in-Ok.ensures.found h.owned (declared_of tables) h.trees.each.0)))
 
 pub returns-in-Ok-clause-whole : goal.returns-in-Ok-clause-whole
 returns-in-Ok-clause-whole g c = whole_later c.unindex_each.result (g.S.PageReader.is_whole c.args.space.now) (g.S.PageReader.is_whole c.read_schema.new.space) (g.S.PageReader.is_whole c.unindex_each.new.space) c.read_schema.ensures.whole c.unindex_each.ensures.whole

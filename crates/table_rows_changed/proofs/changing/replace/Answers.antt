@@ -1,6 +1,7 @@
 use Rattle.std.proofs.Common.{sym, subst}
 use Rattle.btree_read.specs.Tree.{IsTree}
 use Rattle.btree.specs.Overfull.{IsNoTreeIn}
+use Rattle.tree_entries.proofs.KeptLemmas.{no_page_lost_same, no_page_lost_behind}
 use Rattle.tablestore.specs.Held.{entries_of}
 use Rattle.tablestore.specs.Appended.{HoldsNoRowsIn}
 use Rattle.table_rows_changed.proofs.RowLemmas.{replaced_none, replaced_by, put_refused}
@@ -21,3 +22,9 @@ returns-in-Ok-Some-clause-refusal g c =
     (HoldsNoRowsIn (g.S.PageReader.pages c.args.space.now) c.args.root (g.S.PageReader.is_whole c.args.space.now)) (g.S.PageReader.refused c.args.space.now) (g.S.PageReader.refused c.get.new.space) (g.S.PageReader.refused c.put_row.new.space)
     c.args.row.now c.get.ensures.rising
     (λ none owned rows held whole. none owned _ (subst (λ p. IsTree p c.args.root owned (entries_of rows)) (sym c.get.ensures.same) held.tree) (c.get.ensures.whole whole)) c.put_row.ensures.refusal
+
+pub returns-in-Ok-Some-clause-keeps : goal.returns-in-Ok-Some-clause-keeps
+returns-in-Ok-Some-clause-keeps g c = no_page_lost_behind c.put_row.result _ _ _ _ c.get.ensures.same c.put_row.ensures.keeps
+
+pub returns-in-Ok-None-clause-keeps : goal.returns-in-Ok-None-clause-keeps
+returns-in-Ok-None-clause-keeps g c = no_page_lost_same _ _ _ c.get.ensures.same

@@ -1,7 +1,8 @@
-use Rattle.std.proofs.Common.{◌^◌, ◌<◌, ◌++◌, take, arith, subst, sym}
+use Rattle.std.proofs.Common.{rules, ◌^◌, ◌<◌, ◌++◌, take, arith, subst, sym}
 use Rattle.std.specs.List.{enumerate_from}
 use Rattle.store.specs.Contents as stored
 use Rattle.tablestore.specs.Held.{entries_of}
+use Rattle.tree_entries.proofs.KeptLemmas.{no_page_lost_same, no_page_lost_on}
 use Rattle.tablestore.proofs.AppendLemmas.{appends_next}
 use Rattle.std.proofs.lemmas.List.Elements.{Contains-get_or}
 use Rattle.std.specs.Prelude.{Contains}
@@ -12,6 +13,15 @@ use Rattle.tablestore.specs.Appended.{HoldsNoRowsIn}
 use Rattle.tablestore.proofs.RefusalLemmas.{read_refused, row_refused}
 use Rattle.tablestore.proofs.appending.append.Goals as goal
 
+pub loop-row-init : goal.loop-row-init
+loop-row-init g c = record {
+  appends = λ owned held h. search rules;
+  keeps = no_page_lost_same _ _ _ c.in_ok-number.ensures.same;
+  whole = c.in_ok-number.ensures.whole;
+  rising = c.in_ok-number.ensures.rising;
+  follows = c.in_ok-number.ensures.follows;
+}
+
 pub loop-row-preserved : goal.loop-row-preserved
 loop-row-preserved g c = record {
   appends = λ owned held h.
@@ -19,6 +29,7 @@ loop-row-preserved g c = record {
       let small : c.loop-row.number < 2 ^ 63 = omega arith in
       appends_next _ _ _ owned held c.args.rows.now c.loop-row.row-index c.row-item.result _ _ _ c.loop-row-test.true c.row-item.is small c.in_ok-top.ensures.coded w
       (c.in_ok-top.ensures.put w.written.now_owned (entries_of (held ++ enumerate_from (stored.next_number held) (take c.loop-row.row-index c.args.rows.now))) w.written.holds.tree);
+  keeps = no_page_lost_on _ _ _ _ _ _ c.loop-row.invariant.keeps c.in_ok-top.ensures.keeps;
   whole = λ h. c.in_ok-top.ensures.whole (c.loop-row.invariant.whole h);
   rising = omega (arith, c.loop-row.invariant.rising, c.in_ok-top.ensures.rising);
   follows = g.met.S.PageReader.follows_trans _ _ _ c.loop-row.invariant.follows c.in_ok-top.ensures.follows;
