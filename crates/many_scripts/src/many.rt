@@ -27,8 +27,8 @@ use store::Store;
 /// Carries out scripts side by side over the store on this device, each in a session and on a thread of its own, and prints for each, in their order, a line with its number and its
 /// replies. The answer is the exit status: 0; 1 where a reply was a refusal; 1 where the scripts were refused, which alone is printed then: by the limit `sessions` exactly where
 /// there are more than 64, or for want of memory for their answers; 3 where there was no memory for the texts of their calls, or the store could not be opened or closed, which is
-/// printed, or the writer refused, which a line `ERROR X0002` says where it can be written. Once scripts have run the store is closed; unless the device refuses that, what was committed last is saved then. That the device
-/// refused is said, in a reply or of the store, only where it refused a call.
+/// printed, or the writer refused, which a line `ERROR X0002` says where it can be written. Once scripts have run the store is closed; unless the device refuses that, what was committed
+/// last is saved then. That the device refused is said, in a reply or of the store, only where it refused a call.
 pub fn many_on<S: Store + Send, G: Gate + Sync, R: Threads + Wait + Sync, W: Write>(
     rt: &R,
     alloc: Global,
