@@ -6,6 +6,7 @@ mod files;
 mod malformed;
 mod refusing;
 mod sample;
+mod statements_refused;
 mod turns;
 mod worked;
 

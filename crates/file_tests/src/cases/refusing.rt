@@ -105,7 +105,12 @@ fn played(
 }
 
 /// What the next run over a device prints, which is asked this.
-fn rows_in(alloc: Global, settings: &Settings<'_>, device: MemDisk, query: &str) -> Vec<u8> {
+pub(super) fn rows_in(
+    alloc: Global,
+    settings: &Settings<'_>,
+    device: MemDisk,
+    query: &str,
+) -> Vec<u8> {
     let mut reader = query.as_bytes();
     let mut printed = Vec::new(alloc);
     let _ = run_to_end::<Paged<MemDisk>, _, _>(alloc, settings, device, &mut reader, &mut printed);
@@ -113,8 +118,8 @@ fn rows_in(alloc: Global, settings: &Settings<'_>, device: MemDisk, query: &str)
 }
 
 /// What the script leaves on an empty device where nothing is refused.
-fn left_by(alloc: Global, settings: &Settings<'_>, script: &str) -> Option<MemDisk> {
-    let mut reader = script.as_bytes();
+pub(super) fn left_by(alloc: Global, settings: &Settings<'_>, script: &[u8]) -> Option<MemDisk> {
+    let mut reader = script;
     let mut printed = Vec::new(alloc);
     let empty = MemDisk::new(alloc);
     run_to_end::<Paged<MemDisk>, _, _>(alloc, settings, empty, &mut reader, &mut printed).device
@@ -201,7 +206,7 @@ fn a_refused_call_leaves_what_was_there(rt: HostRuntime) -> Result<(), Fail> {
     let alloc = rt.alloc();
     let settings = settings(alloc, &["sqlsh", "run"])?;
     assert!(rt; holds(alloc, &settings, b"", &FLUSHED), "pages written");
-    let left = left_by(alloc, &settings, FLUSHED.script);
+    let left = left_by(alloc, &settings, FLUSHED.script.as_bytes());
     assert!(rt; holds_over(alloc, &settings, &left, &CHANGED), "changes");
     let sample = sample_device(alloc, &settings);
     assert!(rt; holds_over(alloc, &settings, &sample, &INDEXED), "indexes");

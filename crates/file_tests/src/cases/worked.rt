@@ -1,7 +1,7 @@
 //! Scripts over no tables, each with what it prints: one for each rule that is easily broken. They were computed by hand from the rules.
 
 /// Scripts of queries, INSERT and sessions.
-pub(super) const WORKED: [(&str, &str); 22] = [
+pub(super) const WORKED: [(&str, &str); 25] = [
     (
         "CREATE TABLE T (A INTEGER, B VARCHAR(5)); INSERT INTO T VALUES (1, 'x'), (2, NULL); COMMIT; SELECT A FROM T WHERE B <> 'y';",
         "00000\n00000 2\n00000\n1\n(1 rows)\n",
@@ -89,6 +89,18 @@ pub(super) const WORKED: [(&str, &str); 22] = [
     (
         "CREATE TABLE T (A INTEGER, B INTEGER, UNIQUE (A, B)); COMMIT; INSERT INTO T VALUES (1, NULL), (1, NULL); INSERT INTO T VALUES (1, 2), (1, 2); INSERT INTO T SELECT A + 1, B FROM T;",
         "00000\n00000\n00000 2\nERROR 23000 #1\n00000 2\n",
+    ),
+    (
+        "CREATE TABLE T (A INTEGER); INSERT INTO T VALUES (1); COMMIT; SELECT A FROM T WHERE ((((((((((((((((((((((((((((((((((((((((((((((((((((((((((((((((A = 1)))))))))))))))))))))))))))))))))))))))))))))))))))))))))))))))); SELECT A FROM T WHERE (((((((((((((((((((((((((((((((((((((((((((((((((((((((((((((((((A = 1)))))))))))))))))))))))))))))))))))))))))))))))))))))))))))))))));",
+        "00000\n00000 1\n00000\n1\n(1 rows)\nERROR X0003 nesting\n",
+    ),
+    (
+        "CREATE TABLE T (A INTEGER); COMMIT; SET TRANSACTION READ ONLY; INSERT INTO T VALUES (1); SELECT A FROM T; SET TRANSACTION READ WRITE; COMMIT; INSERT INTO T VALUES (1);",
+        "00000\n00000\n00000\nERROR 25000\n(0 rows)\nERROR 25000\n00000\n00000 1\n",
+    ),
+    (
+        "CREATE TABLE T (A INTEGER); COMMIT; @1 INSERT INTO T VALUES (5); @2 INSERT INTO T VALUES (6); @1 ROLLBACK; @2 INSERT INTO T VALUES (6);",
+        "00000\n00000\n00000 1\nERROR 40001\n00000\n00000 1\n",
     ),
 ];
 

@@ -2,7 +2,7 @@
 //!
 //! With ample memory these tests compare replies. `rt try --test --fail-alloc 1..` refuses each allocation in turn.
 
-use super::turns::{Turn, go};
+use super::turns::{Turn, go, go_over_pages};
 use std::test::Fail;
 
 /// Queries of each kind.
@@ -94,5 +94,11 @@ fn queries_can_be_given_again(rt: HostRuntime) -> Result<(), Fail> {
 #[test]
 fn statements_of_two_sessions_can_be_given_again(rt: HostRuntime) -> Result<(), Fail> {
     assert!(rt; go(rt.alloc(), &TWO_SESSIONS));
+    Ok(())
+}
+
+#[test]
+fn statements_over_pages_can_be_given_again(rt: HostRuntime) -> Result<(), Fail> {
+    assert!(rt; go_over_pages(rt.alloc(), &TWO_SESSIONS));
     Ok(())
 }

@@ -1,7 +1,9 @@
 //! Sessions that read what they found while another one commits.
 
 use super::turns::Seats;
+use disk::MemDisk;
 use list_store::{ListStore, Lists};
+use paged::Paged;
 use std::alloc::Global;
 use std::test::Fail;
 use store::Store;
@@ -65,6 +67,10 @@ fn the_others_read_what_they_found_while_one_commits_a_thousand_times(
     rt: HostRuntime,
 ) -> Result<(), Fail> {
     let alloc = rt.alloc();
-    assert!(rt; reads_on::<ListStore>(alloc, Lists::new(alloc)));
+    assert!(rt; reads_on::<ListStore>(alloc, Lists::new(alloc)), "lists");
+    assert!(rt;
+        reads_on::<Paged<MemDisk>>(alloc, MemDisk::new(alloc)),
+        "pages"
+    );
     Ok(())
 }

@@ -1,7 +1,9 @@
 //! Turns of several sessions over no tables.
 
+use disk::MemDisk;
 use engine::{Core, Sql};
 use list_store::{ListStore, Lists};
+use paged::Paged;
 use refusals::{Limit, Refusal};
 use replies::{Reply, print_reply};
 use sessions::{Refused, SessionId};
@@ -122,6 +124,11 @@ fn room<T: Drop>(alloc: Global) -> Result<Vec<T>, AllocError> {
 /// Whether all turns over no tables go as they say.
 pub(super) fn go(alloc: Global, turns: &[Turn]) -> bool {
     go_over::<ListStore>(alloc, Lists::new(alloc), turns)
+}
+
+/// Whether all turns over an empty device of pages go as they say.
+pub(super) fn go_over_pages(alloc: Global, turns: &[Turn]) -> bool {
+    go_over::<Paged<MemDisk>>(alloc, MemDisk::new(alloc), turns)
 }
 
 /// Whether all turns over a device go as they say.
