@@ -1,7 +1,8 @@
 //! What is printed once scripts have run.
-ghost use Rattle.std.specs.Prelude.{◌≡◌, IfOk};
+ghost use Rattle.std.specs.Prelude.{◌≡◌, ◌≤◌, ℕ, IfOk, MatchBool};
+ghost use Rattle.sessions.specs.OfCore.{IsSound, world_of};
 ghost use Rattle.many_scripts.specs.Ends.{IsStatus, Puts};
-ghost use Rattle.many_scripts.specs.Many.{Shows, status_for};
+ghost use Rattle.many_scripts.specs.Many.{HasCounted, HasRefused, IsSaved, Shows, status_for, store_of};
 
 use crate::ending::say_unless_closed;
 use crate::part::Part;
@@ -22,7 +23,9 @@ pub(crate) fn print_all<S: Store, W: Write>(
     answers: Vec<Answers>,
     writer: &mut W,
 ) -> io::Result<u8>
-    ensures shows { Puts (Shows parts.now answers.items) (W.contents writer.old) (W.contents writer.new) result }
+    ensures shows { (before : ℕ) → before ≤ S.refused (store_of core)
+        → Puts (Shows (IsSound S.is_sound S.shows core → IsSaved S.saved (world_of S.shows core).last) (HasRefused S.calls_refused S.refused before) parts.now answers.items)
+        (W.contents writer.old) (W.contents writer.new) result }
     ensures status { IfOk result IsStatus }
 {
     let shown = show_all(parts, answers, writer);
@@ -41,8 +44,10 @@ fn status_for(refused: bool) -> u8
     if refused { REFUSED } else { 0 }
 }
 
-/// Closes the core, and answers whether that was not refused. A refusal is the device's.
-fn close<S: Store>(core: Core<S>) -> bool {
+/// Closes the core, and answers whether that was not refused. A refusal is the device's, which refused a call then; and else what was committed last is saved.
+fn close<S: Store>(core: Core<S>) -> bool
+    ensures { MatchBool result (IsSound S.is_sound S.shows core → IsSaved S.saved (world_of S.shows core).last) (HasCounted S.refused (S.refused (store_of core))) }
+{
     match core.close() {
         Ok(_device) => true,
         Err(_back) => false,

@@ -1,5 +1,5 @@
 -- What was written of a text stands, whatever is flushed.
-use Rattle.std.proofs.Common.{ℕ, Bool, true, false, List, Option}
+use Rattle.std.proofs.Common.{ℕ, Bool, false, List, Option}
 use Rattle.std.specs.Io.KnownBytes.{Keeps}
 use Rattle.std.proofs.KnownBytes.{Appends-kept}
 use Rattle.replies.specs.Writes.{Writes}

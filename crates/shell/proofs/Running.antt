@@ -1,8 +1,12 @@
 -- A script is carried out, and how it ended is said.
 use Rattle.std.proofs.Common.{◌≡◌, ◌≤◌, ◌+◌, ◌-◌, ◌^◌, ℕ, Bool, false, List, Option, Result, Ok, Err, refl, sym, subst, arith}
 use Rattle.std.specs.Prelude.{IfOk, IfErr, min}
+use Rattle.std.proofs.lemmas.Bool.{true≢false}
+use Rattle.refusals.specs.declared.refusal.Refusal.{Refusal}
+use Rattle.refusals.specs.declared.refusal.Refusal.TheVariants.{Disk}
 use Rattle.denote.specs.Database.{Database, CheckReading}
 use Rattle.replies.specs.declared.reply.Reply.{Reply}
+use Rattle.session_definitions.specs.Refusals.{StopsFlush}
 use Rattle.session_definitions.specs.Rules.{Rules}
 use Rattle.session_definitions.specs.Script.{Scene, ArePlayed}
 use Rattle.session_definitions.specs.World.{World, opened}
@@ -10,14 +14,16 @@ use Rattle.session_laws.specs.Sound.{IsGoodWorld}
 use Rattle.life_laws.specs.Damage.{has_damage}
 use Rattle.store.specs.Errors.{HasRisen}
 use Rattle.store.specs.Stored.{Stored}
+use Rattle.sessions.proofs.Devices.{risen_later}
 use Rattle.sessions.specs.declared.core_of.Core.{Core}
 use Rattle.sessions.specs.OfCore.{IsSound, world_of}
 use Rattle.scripts.specs.declared.script.ScriptFault.{ScriptFault}
 use Rattle.scripts.specs.declared.script.ScriptFault.TheVariants.{Memory, Reader, Writer}
-use Rattle.scripts.specs.Played.{Streams, between, IsWhole, EndsEarly}
+use Rattle.scripts.specs.Played.{Streams, between, EndsEarly, RunsInPart, RunsWhole, replies_before}
 use Rattle.scripts.specs.Settled.{HasNoSession, IsSettled}
 use Rattle.shell.specs.Status.{status_of}
-use Rattle.shell.specs.Runs.{CarriesOut, Says, replies_before}
+use Rattle.shell.specs.Tells.{Tells}
+use Rattle.shell.specs.Runs.{CarriesOut, CarriesOutOver, HasCounted, Left, Runs, RunsRightly, Says}
 
 module _ (rules : Rules) (undamaged : (old new : Scene) (pieces : List (List ℕ)) (replies : List (Option Reply)) → ArePlayed rules old pieces replies new → has_damage replies ≡ false) where
   undamaged_before : (streams : Streams) (old : World) (fault : ScriptFault) (new : World) (early : EndsEarly rules streams old fault new)
@@ -26,19 +32,25 @@ module _ (rules : Rules) (undamaged : (old new : Scene) (pieces : List (List ℕ
   undamaged_before streams old (Reader error) new early = undamaged _ _ _ _ early.played.carried_out
   undamaged_before streams old (Writer error) new early = undamaged _ _ _ _ early.stopped.carried_out
 
-  to_the_end : (streams : Streams) (old new : World) (refused : Bool) (status : ℕ) → IsWhole rules streams old refused new → status ≡ status_of (Ok refused)
-      → CarriesOut rules streams old status new
-  to_the_end streams old new refused status all is = CarriesOut.whole refused all (undamaged _ _ _ _ all.printed.played.carried_out) is
+  to_the_end : (streams : Streams) (old : World) (before : ℕ) (new : World) (after : ℕ) (refused : Bool) (status : ℕ) → RunsWhole rules streams old before refused new after
+      → status ≡ status_of (Ok refused) → CarriesOutOver rules streams old before status new after
+  to_the_end streams old before new after refused status ran is = record {
+    carried = CarriesOut.whole refused ran.all (undamaged _ _ _ _ ran.all.printed.played.carried_out) is;
+    device = ran.device;
+  }
 
   -- by what the script answered
-  pub carries_out : (old new : World) (given left held mid holds : Option (List ℕ)) (outcome : Result Bool ScriptFault) (status : ℕ)
-      → IfOk outcome (λ refused. IsWhole rules (between given left held mid) old refused new) → IfErr outcome (λ fault. EndsEarly rules (between given left held mid) old fault new)
-      → Says outcome mid holds → status ≡ status_of outcome → CarriesOut rules (between given left held holds) old status new
-  carries_out old new given left held mid holds (Ok refused) status all early says is =
-      to_the_end (between given left held holds) old new refused status
-      (subst (λ (h : Option (List ℕ)). IsWhole rules (between given left held h) old refused new) (sym says) all) is
-  carries_out old new given left held mid holds (Err fault) status all early says is =
-      CarriesOut.early fault mid early (undamaged_before (between given left held mid) old fault new early) says is
+  pub carries_out : (old : World) (before : ℕ) (new : World) (after : ℕ) (given left held mid holds : Option (List ℕ)) (outcome : Result Bool ScriptFault) (status : ℕ)
+      → IfOk outcome (λ refused. RunsWhole rules (between given left held mid) old before refused new after)
+      → IfErr outcome (λ fault. RunsInPart rules (between given left held mid) old before fault new after)
+      → Says outcome mid holds → status ≡ status_of outcome → CarriesOutOver rules (between given left held holds) old before status new after
+  carries_out old before new after given left held mid holds (Ok refused) status all early says is =
+      to_the_end (between given left held holds) old before new after refused status
+      (subst (λ (h : Option (List ℕ)). RunsWhole rules (between given left held h) old before refused new after) (sym says) all) is
+  carries_out old before new after given left held mid holds (Err fault) status all early says is = record {
+    carried = CarriesOut.early fault mid early.some (undamaged_before (between given left held mid) old fault new early.some) says is;
+    device = early.device;
+  }
 
 -- a core that was opened
 pub is_settled : {S L D : Type 0} (is_sound : S → Type 0) (shows : S → Stored) (reading : CheckReading) (core : Core S L D) (db : Database)
@@ -53,3 +65,23 @@ rises_from top a b c d one two more = omega (arith, one, two, more)
 -- it was counted on since the store was opened, and rose when it was closed
 pub risen_since : (device start end back : ℕ) → device ≤ start → start ≤ end → HasRisen end back → HasRisen device back
 risen_since device start end back opened carried h = rises_from (2 ^ 64 - 1) device start end back opened carried h
+
+-- ---- a run, by what it did
+
+module _ (rules : Rules) (old : World) (streams : Streams) (status : ℕ) (left : Left → Type 0) (counted : Type 0) where
+  pub not_run : (refusal : Refusal) → StopsFlush refusal → streams.left ≡ streams.given → Tells refusal streams.held streams.holds → status ≡ 3
+      → left (Left.unopened refusal old.last) → RunsRightly rules old streams status left counted
+  not_run refusal stops unread told is kept = record { run = Runs.not_opened refusal stops unread told is kept; device = λ e. absurd (true≢false (sym e)) }
+
+module _ (rules : Rules) (old : World) (streams : Streams) (status : ℕ) (left : Left → Type 0) (before start : ℕ) {X : Type 0} (refused : X → ℕ) (store : X) where
+  pub closed_run : (end : World) → before ≤ start → CarriesOutOver rules streams old start status end (refused store) → left (Left.committed end.last)
+      → RunsRightly rules old streams status left (HasCounted refused before)
+  closed_run end least h kept = record { run = Runs.closed end h.carried kept; device = λ e. (store, risen_later before start (refused store) least (h.device e)) }
+
+  pub unclosed_run : (told : ℕ) (mid : Option (List ℕ)) (end : World) → before ≤ start
+      → CarriesOutOver rules (between streams.given streams.left streams.held mid) old start told end (refused store) → Tells Disk mid streams.holds → status ≡ 3 → left Left.unclosed
+      → RunsRightly rules old streams status left (HasCounted refused before)
+  unclosed_run told mid end least h tells is none = record {
+    run = Runs.not_closed told mid end h.carried tells is none;
+    device = λ e. (store, risen_later before start (refused store) least (h.device e));
+  }

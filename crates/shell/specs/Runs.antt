@@ -1,5 +1,5 @@
 -- What `sqlsh run` does over a store, from the bytes that it reads to those that it writes. All of this is our own choice.
-use Rattle.std.specs.Prelude.{◌≡◌, ℕ, Bool, false, List, [], Option, Some, None, IfSome, Result, Ok, Err}
+use Rattle.std.specs.Prelude.{◌≡◌, ℕ, Bool, true, false, List, [], Option, Some, None, IfSome, Result, Ok, Err}
 use Rattle.refusals.specs.declared.refusal.Refusal.{Refusal}
 use Rattle.refusals.specs.declared.refusal.Refusal.TheVariants.{Disk}
 use Rattle.denote.specs.Database.{Database, CheckReading, IsGood}
@@ -10,8 +10,8 @@ use Rattle.session_definitions.specs.World.{World}
 use Rattle.life_laws.specs.Damage.{has_damage}
 use Rattle.store.specs.Errors.{HasRisen}
 use Rattle.scripts.specs.declared.script.ScriptFault.{ScriptFault}
-use Rattle.scripts.specs.declared.script.ScriptFault.TheVariants.{Memory, Reader, Writer}
-use Rattle.scripts.specs.Played.{Streams, between, IsWhole, EndsEarly}
+use Rattle.scripts.specs.Device.{TellDevice, has_disk}
+use Rattle.scripts.specs.Played.{Streams, between, IsWhole, EndsEarly, replies_before}
 use Rattle.shell.specs.Status.{status_of, refusal_of}
 use Rattle.shell.specs.Tells.{Tells}
 
@@ -20,12 +20,6 @@ abbrev pub Says : Result Bool ScriptFault → Option (List ℕ) → Option (List
 Says (Ok refused) held holds = holds ≡ held
 Says (Err fault) held holds = Tells (refusal_of fault) held holds
 
--- the replies of the pieces that were carried out before a fault
-abbrev pub replies_before : (rules : Rules) (streams : Streams) (old : World) (fault : ScriptFault) (new : World) → EndsEarly rules streams old fault new → List (Option Reply)
-replies_before rules streams old Memory new early = []
-replies_before rules streams old (Reader error) new early = early.played.replies
-replies_before rules streams old (Writer error) new early = early.stopped.replies
-
 -- The script was carried out to its end, or ended early, which is then said. The status tells it, and no reply is X0004.
 pub data CarriesOut (rules : Rules) (streams : Streams) (old : World) (status : ℕ) (new : World) : Type 0 where
   whole : (refused : Bool) (all : IsWhole rules streams old refused new) → has_damage all.printed.played.replies ≡ false
@@ -33,6 +27,15 @@ pub data CarriesOut (rules : Rules) (streams : Streams) (old : World) (status : 
   early : (fault : ScriptFault) (mid : Option (List ℕ)) (some : EndsEarly rules (between streams.given streams.left streams.held mid) old fault new)
       → has_damage (replies_before rules (between streams.given streams.left streams.held mid) old fault new some) ≡ false
       → Tells (refusal_of fault) mid streams.holds → status ≡ status_of (Err fault) → CarriesOut rules streams old status new
+
+abbrev pub replies_of : (rules : Rules) (streams : Streams) (old : World) (status : ℕ) (new : World) → CarriesOut rules streams old status new → List (Option Reply)
+replies_of rules streams old status new (CarriesOut.whole refused all undamaged is) = all.printed.played.replies
+replies_of rules streams old status new (CarriesOut.early fault mid some undamaged told is) = replies_before rules (between streams.given streams.left streams.held mid) old fault new some
+
+-- It was carried out over a store whose device had refused `before` calls, and has refused `after` then. X0002 is among its replies only where it refused one.
+pub record CarriesOutOver (rules : Rules) (streams : Streams) (old : World) (before status : ℕ) (new : World) (after : ℕ) : Type 0 where
+  pub carried : CarriesOut rules streams old status new
+  pub device : TellDevice (replies_of rules streams old status new carried) before after
 
 -- What a run leaves of its device: it was not opened, for this refusal, and this database is still saved on it; it was closed, and this one is saved on it; or it was not closed, and is
 -- not handed back.
@@ -49,6 +52,22 @@ pub data Runs (rules : Rules) (old : World) (streams : Streams) (status : ℕ) (
   closed : (end : World) → CarriesOut rules streams old status end → left (Left.committed end.last) → Runs rules old streams status left
   not_closed : (before : ℕ) (mid : Option (List ℕ)) (end : World) → CarriesOut rules (between streams.given streams.left streams.held mid) old before end
       → Tells Disk mid streams.holds → status ≡ 3 → left Left.unclosed → Runs rules old streams status left
+
+-- the replies of the script; none where the store was not opened
+abbrev pub replies_in : (rules : Rules) (old : World) (streams : Streams) (status : ℕ) (left : Left → Type 0) → Runs rules old streams status left → List (Option Reply)
+replies_in rules old streams status left (Runs.not_opened refusal stops unread told is kept) = []
+replies_in rules old streams status left (Runs.closed end carried kept) = replies_of rules streams old status end carried
+replies_in rules old streams status left (Runs.not_closed before mid end carried told is none) =
+    replies_of rules (between streams.given streams.left streams.held mid) old before end carried
+
+-- A run, where X0002 is among the replies of its script only where the device refused a call, as `has_refused` says.
+pub record RunsRightly (rules : Rules) (old : World) (streams : Streams) (status : ℕ) (left : Left → Type 0) (has_refused : Type 0) : Type 0 where
+  pub run : Runs rules old streams status left
+  pub device : has_disk (replies_in rules old streams status left run) ≡ true → has_refused
+
+-- there is a store that counts more refused calls than the device did before
+abbrev pub HasCounted : {X : Type 0} → (X → ℕ) → ℕ → Type 0
+HasCounted {X} refused before = (store : X) × HasRisen before (refused store)
 
 -- ---- what is handed back
 

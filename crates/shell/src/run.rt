@@ -10,7 +10,7 @@ ghost use Rattle.scripts.specs.Played.{between};
 ghost use Rattle.scripts.specs.Settled.{HasNoSession, IsSettled, store_of};
 ghost use Rattle.store.specs.Errors.{HasRisen};
 ghost use Rattle.shell.specs.Status.{refusal_of, status_of, IsStatus};
-ghost use Rattle.shell.specs.Runs.{CarriesOut, HasRefused, IsNotOpened, Leaves, Runs, Says};
+ghost use Rattle.shell.specs.Runs.{CarriesOutOver, HasCounted, HasRefused, IsNotOpened, Leaves, RunsRightly, Says};
 ghost use Rattle.shell.specs.Tells.{Tells};
 
 use crate::options::Settings;
@@ -48,7 +48,7 @@ pub struct EndedRun<S: Store> {
 /// where it can be written. The device is handed back, with what was committed last saved on it for the next run; where the store could not be closed, the core is.
 ///
 /// Where a database was saved on the device, the store is refused for want of memory or by the device alone, and no reply is that the file is damaged. The device is said to have refused
-/// that the store was opened or closed only where it refused a call. A device that cannot be read as a store's is not opened.
+/// that the store was opened or closed, or in a reply of the script, only where it refused a call. A device that cannot be read as a store's is not opened.
 pub fn run_to_end<S: Store, R: Read, W: Write>(
     alloc: Global,
     settings: &Settings<'_>,
@@ -58,8 +58,8 @@ pub fn run_to_end<S: Store, R: Read, W: Write>(
 ) -> EndedRun<S>
     ensures status { IsStatus result.status }
     ensures runs { (rules : Rules) (db : Database) → AreRules rules → S.saved device db → IsGood rules.check db
-        → Runs rules (opened db) (between (R.remaining reader.old) (R.remaining reader.new) (W.contents writer.old) (W.contents writer.new)) result.status
-        (Leaves S.saved S.calls_refused (λ core. S.refused (store_of core)) rules.check (S.calls_refused device) result.device result.unclosed) }
+        → RunsRightly rules (opened db) (between (R.remaining reader.old) (R.remaining reader.new) (W.contents writer.old) (W.contents writer.new)) result.status
+        (Leaves S.saved S.calls_refused (λ core. S.refused (store_of core)) rules.check (S.calls_refused device) result.device result.unclosed) (HasCounted S.refused (S.calls_refused device)) }
     ensures unreadable { (S.readable device → ⊥)
         → IsNotOpened (between (R.remaining reader.old) (R.remaining reader.new) (W.contents writer.old) (W.contents writer.new)) result.status
         (HasRefused S.calls_refused (S.calls_refused device) result.device) }
@@ -135,7 +135,8 @@ fn carry_out<S: Store, R: Read, W: Write>(
 ) -> u8
     ensures status { IsStatus result }
     ensures carries_out { (rules : Rules) → AreRules rules → IsSettled S.is_sound S.shows rules.check core.old
-        → CarriesOut rules (between (R.remaining reader.old) (R.remaining reader.new) (W.contents writer.old) (W.contents writer.new)) (world_of S.shows core.old) result (world_of S.shows core.new) }
+        → CarriesOutOver rules (between (R.remaining reader.old) (R.remaining reader.new) (W.contents writer.old) (W.contents writer.new)) (world_of S.shows core.old)
+        (S.refused (store_of core.old)) result (world_of S.shows core.new) (S.refused (store_of core.new)) }
     ensures settled { (rules : Rules) → AreRules rules → IsSettled S.is_sound S.shows rules.check core.old → IsSettled S.is_sound S.shows rules.check core.new }
     ensures counts { S.refused (store_of core.old) ≤ S.refused (store_of core.new) }
 {

@@ -12,7 +12,7 @@ returns-in-Some g c = λ rules db are saved good. (
   together rules (c.reopened_runs_are_runs.ensures rules) db _ _ _ _ _ _
       (run_again g.S.Store.saved g.S.Store.calls_refused (λ core. g.S.Store.refused (store_of core)) rules are c.args.device db _ _ _ _ _
       c.run_to_end-first_status.result.device c.run_to_end-first_status.result.unclosed c.run_to_end-again.result.unclosed c.in-Some.device c.in-Some.is
-      (c.run_to_end-first_status.ensures.runs rules db are saved good) (c.run_to_end-again.ensures.runs rules)),
+      (c.run_to_end-first_status.ensures.runs rules db are saved good).run (λ next asked kept sound. (c.run_to_end-again.ensures.runs rules next asked kept sound).run)),
 )
 
 pub returns-in-None : goal.returns-in-None
@@ -23,5 +23,5 @@ returns-in-None g c = λ rules db are saved good.
       None,
       together rules (c.reopened_runs_are_runs.ensures rules) db _ _ _ _ _ _
           (run_no_more g.S.Store.saved g.S.Store.calls_refused (λ core. g.S.Store.refused (store_of core)) rules are c.args.device db _ (between reader reader writer writer) _
-          c.run_to_end-first_status.result.device c.run_to_end-first_status.result.unclosed c.in-None.is refl refl (c.run_to_end-first_status.ensures.runs rules db are saved good)),
+          c.run_to_end-first_status.result.device c.run_to_end-first_status.result.unclosed c.in-None.is refl refl (c.run_to_end-first_status.ensures.runs rules db are saved good).run),
     )
