@@ -3,8 +3,8 @@
 # (1,000 of them), set operators, an equal join by WHERE, and subqueries, over 10,000 and over 100,000 rows (the last
 # two over 3,000 and 10,000). Each is run ten times, in turn with the script that makes the tables and asks nothing,
 # whose median is taken off. For each query the medians (processor seconds) are printed, how many times sqlite3's that is, and how much the
-# time grew from the first number of rows to the second. The number of runs may be given. PROGRAM=PATH tries another
-# build of sqlsh than that of the repository.
+# time grew from the first number of rows to the second. The number of runs may be given, and behind it the queries that
+# are wanted. PROGRAM=PATH tries another build of sqlsh than that of the repository.
 set -euo pipefail
 top=$(cd "$(dirname "$0")/.." && pwd)
 program=${PROGRAM:-$top/sqlsh}
@@ -42,7 +42,8 @@ declare -A query=(
   [join]="SELECT COUNT(*) FROM T, U WHERE T.A = U.A AND T.C = 7 AND U.C = 14;"
   [subquery]="SELECT COUNT(*) FROM T WHERE A > (SELECT AVG(A) FROM U) AND C IN (SELECT C FROM U WHERE A < 20);"
 )
-names=(sort distinct group union except intersect join subquery)
+names=("${@:2}")
+[ ${#names[@]} -gt 0 ] || names=(sort distinct group union except intersect join subquery)
 
 # rows_of NAME: the two numbers of rows over which a query is timed
 rows_of() {
