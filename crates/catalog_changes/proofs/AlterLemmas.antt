@@ -1,5 +1,5 @@
 -- Tables by their names, and one exchanged for another of its name.
-use Rattle.std.proofs.Common.{◌≡◌, ◌≢◌, ℕ, Bool, true, false, List, [], ◌∷◌, ◌++◌, ◌⊎◌, inl, inr, None, IsSome, refl, sym, ap, ◌∙◌, subst, ◌≤◌, Result, Ok, Err, IfOk, IfErr}
+use Rattle.std.proofs.Common.{◌≡◌, ℕ, Bool, true, false, List, [], ◌∷◌, ◌++◌, ◌⊎◌, inl, inr, None, IsSome, refl, sym, ap, ◌∙◌, subst, ◌≤◌, Result, Ok, Err, IfOk, IfErr}
 use Rattle.std.specs.List.{AllByRecursion}
 use Rattle.std.specs.declared.cmp.Ordering.{Ordering}
 use Rattle.std.specs.declared.cmp.Ordering.TheVariants.{Less, Equal, Greater}
@@ -13,9 +13,9 @@ use Rattle.sqlrecord.specs.Key.{key_code}
 use Rattle.page_space.specs.Space.{PageMap}
 use Rattle.btree_read.specs.declared.entry.Entry.{Entry}
 use Rattle.btree_read.specs.Lists.{Has}
-use Rattle.btree_read.specs.Nodes.{Key, precedes}
+use Rattle.btree_read.specs.Nodes.{precedes}
 use Rattle.btree_read.specs.Sorted.{Ascends}
-use Rattle.btree_read.proofs.ListLemmas.{each_append, each_left, each_right}
+use Rattle.btree_read.proofs.ListLemmas.{each_right}
 use Rattle.btree_read.proofs.NodeLemmas.{not_fresh}
 use Rattle.btree_read.proofs.OrderLemmas.{not_both}
 use Rattle.btree.proofs.GrowLemmas.{has_or_not}
@@ -23,7 +23,7 @@ use Rattle.btree.proofs.LawLemmas.{tree_used}
 use Rattle.btree_remove.proofs.LawLemmas.{own_key}
 use Rattle.tree_entries.proofs.AscendLemmas.{root_ascends}
 use Rattle.catalog_read.specs.Keepable.{IsTable}
-use Rattle.catalog.specs.Held.{entry_of, entries_of, IsCoded, AreCoded, HoldsSchema}
+use Rattle.catalog.specs.Held.{entries_of, IsCoded, AreCoded, HoldsSchema}
 use Rattle.catalog.specs.Changed.{with_table, IsFree, SchemaWritten, MayRefuse}
 use Rattle.catalog.specs.declared.error.ChangeError.{ChangeError}
 use Rattle.catalog.specs.declared.error.ChangeError.TheVariants.{Space, Record, Key as LongKey}

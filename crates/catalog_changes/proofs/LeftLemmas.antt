@@ -1,5 +1,5 @@
 -- Records taken out, one after another.
-use Rattle.std.proofs.Common.{◌≡◌, ℕ, zero, suc, ◌+◌, ◌<◌, ◌≤◌, arith, add-one, drop-cons, List, [], ◌∷◌, ◌++◌, ◌⊎◌, inl, inr, Option, Some, None, length, get_or, drop, refl, sym, ap, ◌∙◌, subst, append_assoc, Result, Ok, Err, IfOk}
+use Rattle.std.proofs.Common.{◌≡◌, ℕ, zero, suc, ◌+◌, ◌<◌, ◌≤◌, arith, add-one, drop-cons, List, [], ◌∷◌, ◌++◌, ◌⊎◌, inl, inr, Some, None, length, get_or, drop, refl, sym, ap, ◌∙◌, subst, append_assoc, Result, Ok, Err, IfOk}
 use Rattle.std.specs.List.{AllByRecursion}
 use Rattle.page_space.specs.Space.{PageMap}
 use Rattle.sqlval.specs.declared.schema.Table.{Table}
@@ -10,7 +10,7 @@ use Rattle.sqlrecord.specs.Row.{row_code}
 use Rattle.btree_read.specs.declared.entry.Entry.{Entry}
 use Rattle.btree_read.specs.Lists.{Has}
 use Rattle.btree_read.specs.Nodes.{Key}
-use Rattle.btree_read.specs.Sorted.{Ascends, get_of}
+use Rattle.btree_read.specs.Sorted.{get_of}
 use Rattle.btree_read.specs.Tree.{IsTree}
 use Rattle.btree_read.proofs.ListLemmas.{each_append, each_left, each_right}
 use Rattle.btree_read.proofs.NodeLemmas.{not_fresh}

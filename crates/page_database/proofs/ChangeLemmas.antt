@@ -2,9 +2,8 @@
 use Rattle.std.proofs.Common.{◌≡◌, ℕ, ◌+◌, ◌^◌, ◌<◌, Bool, true, false, List, [], ◌∷◌, ◌++◌, ◌⊎◌, inl, inr, length, map, ◌≤◌, Option, Some, None, IsSome, refl, sym, ap, subst, ◌∙◌, arith}
 use Rattle.std.specs.Prelude.{not, if◌then◌else◌, Contains}
 use Rattle.std.specs.Bool.{◌==◌}
-use Rattle.std.specs.List.{AllByRecursion, enumerate_from}
+use Rattle.std.specs.List.{enumerate_from}
 use Rattle.sqlval.specs.declared.schema.Table.{Table}
-use Rattle.sqlval.specs.CodedLength.{row_length}
 use Rattle.sqlval.specs.Value.{Row}
 use Rattle.store.specs.Contents.{Entry, next_number}
 use Rattle.store.specs.Errors.{HasLongRow, HasLongKey}
@@ -30,7 +29,7 @@ use Rattle.page_database.specs.declared.error.DatabaseError.{DatabaseError}
 use Rattle.page_database.specs.Causes.{of_append}
 use Rattle.page_database.specs.Changed.{SpaceRefused, Reaches}
 use Rattle.page_database.specs.Trees.{IsMoved}
-use Rattle.page_database.specs.Exchanged.{IsLeft, AreMore, Exchanges, AreSameRows, IsUnsettled, IsTableOf, IsAppendable, IsExchangeableAt, HasRow}
+use Rattle.page_database.specs.Exchanged.{IsLeft, AreMore, IsUnsettled, IsTableOf, IsAppendable, IsExchangeableAt, HasRow}
 use Rattle.page_database.specs.Named.{row_numbered}
 use Rattle.page_database.proofs.RowLemmas.{each_row, numbered, numbered_is, more_apart, rows_enumerated, taken_from, without_other, with_there, one_with, exchanged_same, same_rows}
 use Rattle.page_database.proofs.DatabaseLemmas.{unsettled, rows_of_it, table_in}

@@ -11,19 +11,19 @@ use Rattle.sqlval.specs.Schema.{same_name}
 use Rattle.sqlval.specs.Value.{Row}
 use Rattle.denote.specs.Database.{Name, IndexDeclaration}
 use Rattle.denote.specs.SchemaOf.{index_of}
-use Rattle.store.specs.Contents.{Entry, StoredTable, Contents, put_back, changed, next_number, rows_of}
+use Rattle.store.specs.Contents.{Entry, StoredTable, put_back, changed, next_number, rows_of}
 use Rattle.store.specs.Errors.{HasLongKey, indexes_of}
 use Rattle.store.specs.Indexes.{entries_of}
 use Rattle.page_space.specs.Space.{PageMap}
 use Rattle.page_tables.specs.Held as plain
 use Rattle.page_tables.specs.Named.{root_named}
-use Rattle.page_tables.proofs.NameLemmas.{tied_name, name_from_tie, Named, found_at, get_none}
+use Rattle.page_tables.proofs.NameLemmas.{tied_name, name_from_tie, found_at, get_none}
 use Rattle.page_tables.proofs.ChangeLemmas.{contents_changed}
 use Rattle.page_database.specs.Held.{TableAt, declared_at, declared_of, rows_at, rows_of_tables, HoldsFor, contents_of}
 use Rattle.page_database.specs.Changed.{WrittenFor, Reaches}
 use Rattle.page_database.specs.declared.error.DatabaseError.{DatabaseError}
 use Rattle.page_database.specs.Named.{table_named}
-use Rattle.page_database.specs.Exchanged.{IsWithRows, IsTableOf, RowsExchanged}
+use Rattle.page_database.specs.Exchanged.{IsTableOf, RowsExchanged}
 use Rattle.page_database.proofs.NameLemmas.{same_itself}
 
 -- ---- the table of a name

@@ -3,7 +3,7 @@ use Rattle.std.proofs.Common.{◌≡◌, ◌≢◌, ℕ, Bool, true, false, cond
 use Rattle.std.proofs.lemmas.Cmp.{nat_list_cmp_total}
 use Rattle.std.specs.List.{AllByRecursion}
 use Rattle.std.specs.Ordering.{eq_by_cmp, is_lt}
-use Rattle.std.specs.FinMap.{find, get, insert, get-insert}
+use Rattle.std.specs.FinMap.{find, insert, get-insert}
 use Rattle.sqlval.specs.declared.schema.Index.{Index}
 use Rattle.sqlval.specs.declared.schema.Table.{Table}
 use Rattle.sqlval.specs.Comparison.{text_order}
@@ -19,7 +19,7 @@ use Rattle.tree_entries.specs.Kept.{LosesNoPage}
 use Rattle.tree_entries.proofs.KeptLemmas.{loses_known}
 use Rattle.page_tables.specs.Held as plain
 use Rattle.page_tables.proofs.NameLemmas.{name_from_tie, tie_itself, contents-get}
-use Rattle.page_database.specs.Trees.{TreeAt, Lies, IndexOf, pages_of, HoldsTrees}
+use Rattle.page_database.specs.Trees.{TreeAt, IndexOf, HoldsTrees}
 use Rattle.page_database.specs.Held.{IndexAt, TableAt, indexes_declared, declared_at, declared_of, trees_of_indexes, rows_tree, table_trees, trees_of, schema_tree, rows_at, rows_of_tables, HoldsFor, contents_of}
 use Rattle.page_database.specs.Changed.{WrittenFor}
 use Rattle.page_database.specs.Named.{table_named}

@@ -1,12 +1,12 @@
 -- A table of a database, and the others around it.
-use Rattle.std.proofs.Common.{◌≡◌, ℕ, ◌⊎◌, inl, inr, List, [], ◌∷◌, ◌++◌, map, Option, Some, None, IsSome, refl, sym, ap, subst, ◌∙◌, append_assoc, Bool, true, false}
+use Rattle.std.proofs.Common.{◌≡◌, ℕ, ◌⊎◌, inl, inr, List, [], ◌∷◌, ◌++◌, None, IsSome, refl, sym, ap, subst, ◌∙◌, append_assoc, Bool, true, false}
 use Rattle.std.proofs.lemmas.List.{map-append}
 use Rattle.std.specs.List.{AllByRecursion}
 use Rattle.sqlval.specs.declared.schema.Table.{Table}
 use Rattle.store.specs.Contents.{Entry}
 use Rattle.page_space.specs.Space.{PageMap}
 use Rattle.btree_read.specs.Lists.{Apart, Has}
-use Rattle.btree_read.proofs.ListLemmas.{each_left, each_right, has_left, has_right, has_either, Parted, apart_parts, apart_join}
+use Rattle.btree_read.proofs.ListLemmas.{each_right, has_left, has_right, has_either, apart_parts, apart_join}
 use Rattle.catalog.specs.Held.{HoldsSchema}
 use Rattle.tablestore.specs.Held.{HoldsRows}
 use Rattle.btree_read.proofs.NodeLemmas.{not_fresh}
@@ -14,8 +14,8 @@ use Rattle.tree_entries.specs.Kept.{LosesNone}
 use Rattle.page_tables.specs.Held as plain
 use Rattle.page_database.specs.declared.exchange.Exchange.{Exchange}
 use Rattle.page_database.specs.Trees.{TreeAt, Lies, pages_of, HoldsTrees, IsMoved}
-use Rattle.page_database.specs.Held.{IndexAt, TableAt, declared_at, declared_of, trees_of_indexes, rows_tree, table_trees, trees_of, schema_tree, rows_at, rows_of_tables, HoldsFor}
-use Rattle.page_database.specs.Exchanged.{Exchanges, AreSameRows, IsUnsettled, IsWithRows, IsSettled, IsTableOf, RowsExchanged}
+use Rattle.page_database.specs.Held.{TableAt, declared_at, declared_of, trees_of_indexes, rows_tree, table_trees, trees_of, schema_tree, rows_at, rows_of_tables, HoldsFor}
+use Rattle.page_database.specs.Exchanged.{Exchanges, AreSameRows, IsUnsettled, IsSettled, IsTableOf, RowsExchanged}
 use Rattle.page_database.proofs.TreeLemmas.{trees_changed, all_used, all_stay, pages_append}
 
 pub trees_middle : (before behind : List TableAt) (t : TableAt) → trees_of (before ++ t ∷ behind) ≡ trees_of before ++ (table_trees t ++ trees_of behind)

@@ -1,5 +1,5 @@
 -- Trees that are given back, and a table that goes.
-use Rattle.std.proofs.Common.{◌≡◌, ℕ, zero, suc, ◌+◌, ◌<◌, ◌≤◌, Bool, true, false, cond, List, [], ◌∷◌, ◌++◌, ◌⊎◌, inl, inr, length, map, take, drop, Option, Some, None, IsSome, Result, Ok, Err, IfOk, OnOk, refl, sym, ap, subst, ◌∙◌, arith, append_assoc, add-one}
+use Rattle.std.proofs.Common.{◌≡◌, ℕ, zero, suc, ◌+◌, ◌<◌, Bool, true, false, cond, List, [], ◌∷◌, ◌++◌, ◌⊎◌, inl, inr, length, map, take, Some, None, IsSome, Result, Ok, Err, IfOk, OnOk, refl, sym, ap, subst, ◌∙◌, arith, append_assoc, add-one}
 use Rattle.std.specs.Prelude.{slice_index_or, ⊤}
 use Rattle.std.proofs.Math.Seq.{take-length}
 use Rattle.std.proofs.lemmas.List.{map-append, append-nil as append_nil}
@@ -12,7 +12,7 @@ use Rattle.sqlval.specs.declared.schema.Table.{Table}
 use Rattle.sqlval.specs.Comparison.{text_order}
 use Rattle.sqlval.specs.Schema.{same_name}
 use Rattle.denote.specs.Database.{Name}
-use Rattle.store.specs.Contents.{Entry, StoredTable, without_table}
+use Rattle.store.specs.Contents.{without_table}
 use Rattle.store.proofs.Databases.{same_tables}
 use Rattle.page_space.specs.Space.{PageMap}
 use Rattle.btree_read.specs.declared.entry.Entry as tree
@@ -24,7 +24,6 @@ use Rattle.btree.proofs.GrowLemmas.{has_or_not}
 use Rattle.btree_remove.specs.Dropped.{AreDropped}
 use Rattle.tablestore.specs.Held.{entries_of}
 use Rattle.index_trees.specs.Indexed.{HoldsIndex}
-use Rattle.catalog.specs.Held.{HoldsSchema}
 use Rattle.catalog_changes.specs.Left.{SchemaLeft}
 use Rattle.tree_entries.proofs.KeptLemmas.{loses_left}
 use Rattle.page_tables.specs.Held as plain
@@ -36,9 +35,9 @@ use Rattle.page_database.specs.Changed.{WrittenFor}
 use Rattle.page_database.specs.Named.{table_named}
 use Rattle.page_database.specs.Exchanged.{IsTableOf}
 use Rattle.page_database.specs.Dropped.{AreIndexes, AreTreesOf, TableGone, AreFreed}
-use Rattle.page_database.proofs.TreeLemmas.{pages_append, all_stay, all_used, owned_left, first_changed}
-use Rattle.page_database.proofs.DatabaseLemmas.{around_table, declared_middle}
-use Rattle.page_database.proofs.ContentLemmas.{IsFoundAt, rows_middle, not_tied, get_absent}
+use Rattle.page_database.proofs.TreeLemmas.{pages_append, all_stay, owned_left, first_changed}
+use Rattle.page_database.proofs.DatabaseLemmas.{around_table}
+use Rattle.page_database.proofs.ContentLemmas.{IsFoundAt, not_tied, get_absent}
 
 -- ---- several trees given back
 

@@ -3,11 +3,9 @@ use Rattle.std.proofs.Common.{◌≡◌, ℕ, zero, suc, ◌+◌, ◌<◌, ◌�
 use Rattle.std.specs.Prelude.{slice_index_or}
 use Rattle.std.proofs.lemmas.List.{map-append, length-append}
 use Rattle.std.proofs.Math.Seq.{take-length}
-use Rattle.std.specs.List.{AllByRecursion}
 use Rattle.sqlval.specs.declared.schema.Index.{Index}
 use Rattle.sqlval.specs.Value.{Row}
 use Rattle.denote.specs.SchemaOf.{index_of}
-use Rattle.denote.specs.Database.{IndexDeclaration}
 use Rattle.store.specs.Contents.{Entry}
 use Rattle.store.specs.Errors.{HasLongKey}
 use Rattle.page_space.specs.Space.{PageMap}
@@ -18,7 +16,7 @@ use Rattle.tree_entries.proofs.KeptLemmas.{loses_known}
 use Rattle.page_database.specs.declared.exchange.Exchange.{Exchange}
 use Rattle.page_database.specs.Trees.{TreeAt, Lies, HoldsTrees}
 use Rattle.page_database.specs.Held.{IndexAt, indexes_declared, index_tree, trees_of_indexes}
-use Rattle.page_database.specs.Exchanged.{Exchanges, HasLongKeyIn, IsExchangeable, with_root, with_roots, AreExchangeable, AreExchanged}
+use Rattle.page_database.specs.Exchanged.{HasLongKeyIn, IsExchangeable, with_root, with_roots, AreExchangeable, AreExchanged}
 use Rattle.page_database.proofs.TreeLemmas.{trees_changed}
 use Rattle.page_database.proofs.IndexLemmas.{index_moved}
 

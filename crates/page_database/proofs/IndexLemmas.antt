@@ -1,21 +1,20 @@
 -- Rows exchanged in one index.
-use Rattle.std.proofs.Common.{◌≡◌, ℕ, zero, suc, ◌+◌, ◌<◌, ◌≤◌, List, [], ◌∷◌, ◌++◌, length, map, take, get_or, Option, Some, None, IsSome, Result, Ok, Err, IfOk, IfErr, refl, sym, ap, subst, ◌∙◌, arith, append_assoc, add-one}
-use Rattle.std.specs.Prelude.{slice_index_or, Contains}
+use Rattle.std.proofs.Common.{◌≡◌, ℕ, zero, suc, ◌+◌, ◌<◌, List, [], ◌∷◌, ◌++◌, length, map, take, Option, Some, None, Result, Ok, Err, IfOk, refl, sym, ap, subst, ◌∙◌, arith, append_assoc, add-one}
+use Rattle.std.specs.Prelude.{slice_index_or}
 use Rattle.std.proofs.lemmas.List.{append-nil as append_nil}
 use Rattle.std.proofs.Math.Seq.{take-length}
 use Rattle.sqlval.specs.CodedLength.{key_length}
 use Rattle.sqlval.specs.Matching.{key_of}
 use Rattle.sqlval.specs.Value.{Row}
 use Rattle.store.specs.Contents.{Entry, rows_of}
-use Rattle.store.specs.View.{entry_of, AreEntries}
+use Rattle.store.specs.View.{entry_of}
 use Rattle.store.specs.declared.rows.NumberedRow.{NumberedRow}
 use Rattle.store.specs.declared.rows.Numbered.{Numbered}
 use Rattle.page_space.specs.Space.{PageMap}
 use Rattle.index_trees.specs.Indexed.{HoldsIndex, AreWith, IndexWritten}
 use Rattle.page_database.specs.Trees.{IsMoved}
-use Rattle.page_database.specs.declared.error.DatabaseError.{DatabaseError}
 use Rattle.page_database.specs.declared.exchange.Exchange.{Exchange}
-use Rattle.page_database.specs.Exchanged.{IsLeft, AreMore, Exchanges, HasLongKeyIn, IsOpen, HasTaken, IsExchangeable}
+use Rattle.page_database.specs.Exchanged.{IsLeft, AreMore, HasLongKeyIn, IsOpen, HasTaken, IsExchangeable}
 use Rattle.page_database.proofs.TreeLemmas.{moved_none, moved_on}
 
 pub index_moved : (old new : PageMap) (owned columns : List ℕ) (rows : List Entry) (root : ℕ) → (w : IndexWritten old new owned columns rows root) → IsMoved old new owned w.now_owned

@@ -1,28 +1,26 @@
 -- An index made over the rows of a table.
-use Rattle.std.proofs.Common.{◌≡◌, ℕ, List, [], ◌∷◌, ◌++◌, map, length, Option, None, Result, Ok, Err, IfOk, refl, sym, ap, subst, ◌∙◌, ◌<◌, append_assoc, arith, Bool}
+use Rattle.std.proofs.Common.{◌≡◌, ℕ, List, [], ◌∷◌, ◌++◌, map, length, Option, None, Result, Ok, Err, IfOk, refl, sym, ap, subst, ◌∙◌, append_assoc, arith, Bool}
 use Rattle.std.proofs.lemmas.List.{map-append}
-use Rattle.std.specs.List.{AllByRecursion}
 use Rattle.sqlval.specs.declared.schema.Index.{Index}
 use Rattle.sqlval.specs.declared.schema.Table.{Table}
 use Rattle.denote.specs.SchemaOf.{index_of}
-use Rattle.denote.specs.Database.{Name, IndexDeclaration}
-use Rattle.store.specs.Contents.{Entry, StoredTable, with_index, changed}
+use Rattle.denote.specs.Database.{Name}
+use Rattle.store.specs.Contents.{Entry, with_index, changed}
 use Rattle.store.specs.Errors.{HasLongKey}
 use Rattle.sqlval.specs.Value.{Row}
 use Rattle.store.specs.View.{AreEntries}
 use Rattle.store.specs.declared.rows.NumberedRow.{NumberedRow}
 use Rattle.page_space.specs.Space.{PageMap}
 use Rattle.btree_read.specs.Tree.{IsTree}
-use Rattle.btree_read.proofs.ListLemmas.{each_append, each_left, each_right}
+use Rattle.btree_read.proofs.ListLemmas.{each_append, each_right}
 use Rattle.catalog_read.specs.Keepable.{ArePlaces, AreAmong, IsIndex, IsIndexOver, IsTable}
 use Rattle.tablestore.specs.Held.{HoldsRows}
 use Rattle.index_trees.specs.Indexed.{HoldsIndex, IndexWritten}
 use Rattle.tree_entries.specs.Kept.{LosesNoPage}
 use Rattle.tree_entries.proofs.KeptLemmas.{loses_known}
-use Rattle.page_tables.specs.Held.{stored_of}
 use Rattle.page_database.specs.declared.exchange.Exchange.{Exchange}
-use Rattle.page_database.specs.Trees.{TreeAt, Lies, RowsOf, IndexOf, HoldsTrees}
-use Rattle.page_database.specs.Held.{IndexAt, TableAt, indexes_declared, declared_at, declared_of, index_tree, trees_of_indexes, table_trees, trees_of, schema_tree, rows_at, HoldsFor, contents_of}
+use Rattle.page_database.specs.Trees.{TreeAt, RowsOf, IndexOf, HoldsTrees}
+use Rattle.page_database.specs.Held.{IndexAt, TableAt, indexes_declared, declared_at, declared_of, index_tree, trees_of_indexes, table_trees, trees_of, schema_tree, contents_of}
 use Rattle.page_database.specs.Changed.{WrittenFor}
 use Rattle.page_database.specs.Exchanged.{IsLeft, HasLongKeyIn, with_root, IsExchangeable, HasTable, TablePut, IsTableOf}
 use Rattle.page_database.specs.Indexed.{table_indexed, IndexMade}
@@ -31,7 +29,7 @@ use Rattle.page_database.proofs.RootLemmas.{IsBounded, small_root}
 use Rattle.page_database.proofs.SettleLemmas.{schema_held}
 use Rattle.page_database.proofs.IndexLemmas.{index_moved}
 use Rattle.page_database.proofs.RowLemmas.{more_apart, numbered}
-use Rattle.page_database.proofs.DatabaseLemmas.{zipped, unzipped, around_table}
+use Rattle.page_database.proofs.DatabaseLemmas.{unzipped, around_table}
 use Rattle.page_database.proofs.ContentLemmas.{IsFoundAt, changed_by}
 
 pub no_entries : (pages : PageMap) (columns : List ℕ) → HoldsIndex pages 0 [] columns []

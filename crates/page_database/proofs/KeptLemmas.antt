@@ -1,18 +1,17 @@
 -- An index that has the entry of a row already.
-use Rattle.std.proofs.Common.{◌≡◌, ℕ, List, [], ◌∷◌, ◌++◌, length, map, ◌⊎◌, inl, inr, Option, Some, None, refl, sym, ap, subst, ◌∙◌, arith}
+use Rattle.std.proofs.Common.{◌≡◌, ℕ, List, [], ◌∷◌, ◌++◌, length, map, ◌⊎◌, inl, inr, Option, refl, sym, ap, subst, ◌∙◌, arith}
 use Rattle.std.specs.Prelude.{slice_index_or}
 use Rattle.sqlval.specs.Matching.{key_of}
 use Rattle.sqlval.specs.Value.{Row}
 use Rattle.store.specs.Contents.{Entry, rows_of}
-use Rattle.store.specs.View.{entry_of, AreEntries}
-use Rattle.store.specs.declared.rows.Numbered.{Numbered}
+use Rattle.store.specs.View.{entry_of}
 use Rattle.store.specs.declared.rows.NumberedRow.{NumberedRow}
 use Rattle.sqlrecord.specs.Key.{index_key_code}
 use Rattle.page_space.specs.Space.{PageMap}
 use Rattle.btree_read.specs.declared.entry.Entry.{Entry as Stored}
 use Rattle.index_trees.specs.Indexed.{index_entry, Stands, IsRow, IsOfRow, HoldsIndex, AreWith, IndexWritten}
 use Rattle.page_database.specs.declared.exchange.Exchange.{Exchange}
-use Rattle.page_database.specs.Exchanged.{IsLeft, Exchanges, IsExchangeable}
+use Rattle.page_database.specs.Exchanged.{IsLeft, IsExchangeable}
 use Rattle.page_database.specs.Kept.{IsPutBack}
 
 -- ---- rows with one more behind them

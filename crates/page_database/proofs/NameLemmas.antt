@@ -1,13 +1,13 @@
 -- The table of a name.
-use Rattle.std.proofs.Common.{◌≡◌, ℕ, zero, suc, ◌+◌, ◌<◌, ◌≤◌, Bool, true, false, cond, List, [], ◌∷◌, ◌++◌, length, Option, Some, None, refl, sym, ap, subst, ◌∙◌, arith, nat_lt}
-use Rattle.std.specs.Prelude.{slice_get, if◌then◌else◌}
+use Rattle.std.proofs.Common.{◌≡◌, ℕ, zero, suc, ◌+◌, ◌<◌, Bool, true, false, cond, List, [], ◌∷◌, ◌++◌, length, Some, None, refl, sym, ap, ◌∙◌, arith}
+use Rattle.std.specs.Prelude.{slice_get}
 use Rattle.std.specs.List.{AllByRecursion, position_from}
 use Rattle.std.specs.Ordering.{eq_by_cmp}
 use Rattle.sqlval.specs.declared.schema.Table.{Table}
 use Rattle.sqlval.specs.Comparison.{text_order}
 use Rattle.sqlval.specs.Schema.{same_name}
 use Rattle.denote.specs.Database.{Name}
-use Rattle.page_tables.proofs.NameLemmas.{tied_name, name_from_tie, tie_itself}
+use Rattle.page_tables.proofs.NameLemmas.{tied_name, tie_itself}
 use Rattle.page_tables.proofs.SchemaLemmas.{AreDifferent}
 use Rattle.page_database.specs.Named.{table_named}
 

@@ -15,12 +15,9 @@ use Rattle.catalog.specs.Changed as schema
 use Rattle.index_trees.specs.declared.error.IndexError.{IndexError}
 use Rattle.index_trees.specs.declared.error.IndexError.TheVariants as index
 use Rattle.index_trees.specs.Indexed as index_trees_changed
-use Rattle.tablestore.specs.declared.error.AppendError.{AppendError}
-use Rattle.tablestore.specs.declared.error.AppendError.TheVariants as put
-use Rattle.tablestore.specs.Appended as rows_put
 use Rattle.page_database.specs.declared.error.DatabaseError.{DatabaseError}
 use Rattle.page_database.specs.declared.error.DatabaseError.TheVariants.{Space, Record, Key, Number, Schema}
-use Rattle.page_database.specs.Causes.{of_index, of_removal, of_append, of_change}
+use Rattle.page_database.specs.Causes.{of_index, of_removal, of_change}
 use Rattle.page_database.specs.Changed.{SpaceRefused, Reaches, IsOfMemory}
 
 -- ---- a refusal of the space, later and with another harm

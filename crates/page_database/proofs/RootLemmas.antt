@@ -1,21 +1,19 @@
 -- Roots put into the declaration of a table.
-use Rattle.std.proofs.Common.{◌≡◌, ℕ, zero, suc, ◌+◌, ◌<◌, ◌≤◌, ◌^◌, List, [], ◌∷◌, ◌++◌, length, map, take, Option, Some, None, IsSome, refl, sym, ap, subst, ◌∙◌, arith, add-one, inl}
+use Rattle.std.proofs.Common.{◌≡◌, ℕ, zero, suc, ◌+◌, ◌<◌, ◌^◌, List, [], ◌∷◌, length, map, take, Option, Some, None, IsSome, refl, sym, ap, subst, ◌∙◌, arith, add-one, inl}
 use Rattle.std.specs.Prelude.{slice_index_or, slice_get, slice_set}
 use Rattle.std.specs.Option.{option_map}
 use Rattle.std.proofs.Math.Seq.{take-length}
 use Rattle.std.specs.List.{AllByRecursion}
 use Rattle.sqlval.specs.declared.schema.Index.{Index}
-use Rattle.sqlval.specs.declared.schema.Table.{Table}
 use Rattle.denote.specs.SchemaOf.{index_of}
 use Rattle.store.specs.Contents.{Entry}
 use Rattle.page_space.specs.Space.{PageMap}
 use Rattle.btree_read.specs.declared.entry.Entry as tree
 use Rattle.btree_read.specs.Lists.{Has}
-use Rattle.btree_read.specs.Nodes.{Node}
 use Rattle.btree_read.specs.Tree.{Tree, page_of, nodes_of, pages_in, IsTree}
 use Rattle.btree.proofs.LawLemmas.{tree_used}
-use Rattle.catalog_read.specs.Keepable.{IsIndex, IsIndexOver, IsTable}
-use Rattle.page_database.specs.Trees.{TreeAt, Lies}
+use Rattle.catalog_read.specs.Keepable.{IsIndex, IsIndexOver}
+use Rattle.page_database.specs.Trees.{Lies}
 use Rattle.page_database.specs.Held.{IndexAt, indexes_declared, trees_of_indexes}
 use Rattle.page_database.specs.Exchanged.{with_root, root_put, with_roots}
 

@@ -1,16 +1,12 @@
 -- Rows of a table by their numbers: with more, without one, with one exchanged.
-use Rattle.std.proofs.Common.{◌≡◌, ℕ, zero, suc, ◌+◌, ◌^◌, ◌<◌, ◌≤◌, Bool, true, false, cond, List, [], ◌∷◌, ◌++◌, length, map, take, ◌⊎◌, inl, inr, Option, Some, None, refl, sym, ap, subst, ◌∙◌, arith, append_assoc, add-one}
-use Rattle.std.specs.Prelude.{not, if◌then◌else◌, slice_index_or}
+use Rattle.std.proofs.Common.{◌≡◌, ℕ, zero, suc, ◌+◌, ◌<◌, Bool, true, false, cond, List, [], ◌∷◌, ◌++◌, length, map, take, ◌⊎◌, inl, inr, Some, None, refl, sym, ap, subst, ◌∙◌, arith, append_assoc, add-one}
+use Rattle.std.specs.Prelude.{not, if◌then◌else◌}
 use Rattle.std.specs.Bool.{◌==◌}
 use Rattle.std.proofs.lemmas.Bool.{eqb-true, eq-eqb}
 use Rattle.std.proofs.lemmas.List.{append-nil as append_nil}
-use Rattle.std.proofs.Math.Seq.{take-length}
 use Rattle.std.specs.List.{AllByRecursion, enumerate_from}
 use Rattle.sqlval.specs.Value.{Row}
 use Rattle.store.specs.Contents.{Entry, rows_of}
-use Rattle.store.specs.View.{AreEntries, entry_of}
-use Rattle.store.specs.declared.rows.NumberedRow.{NumberedRow}
-use Rattle.store.specs.declared.rows.Numbered.{Numbered}
 use Rattle.sqlrecord.specs.Key.{number_code}
 use Rattle.page_space.specs.Space.{PageMap}
 use Rattle.btree_read.specs.declared.entry.Entry as tree
@@ -22,9 +18,8 @@ use Rattle.tree_entries.proofs.AscendLemmas.{root_ascends}
 use Rattle.tablestore.specs.Held.{row_entry, entries_of, IsKept, AreKept, HoldsRows}
 use Rattle.table_rows_changed.specs.Rows.{without_number, with_number}
 use Rattle.index_trees.specs.Indexed.{IsRow, AreWith}
-use Rattle.page_database.specs.declared.exchange.Exchange.{Exchange}
 use Rattle.page_database.specs.Named.{row_numbered}
-use Rattle.page_database.specs.Exchanged.{IsLeft, AreMore, Exchanges, AreSameRows}
+use Rattle.page_database.specs.Exchanged.{AreMore, AreSameRows}
 
 -- ---- one of some rows
 

@@ -1,24 +1,21 @@
 -- The indexes of a table follow its rows, and the schema its roots.
-use Rattle.std.proofs.Common.{◌≡◌, ℕ, ◌<◌, ◌^◌, List, [], ◌∷◌, ◌++◌, map, length, Option, Some, None, IsSome, Result, Ok, Err, IfOk, refl, sym, ap, subst, ◌∙◌, append_assoc, Bool}
+use Rattle.std.proofs.Common.{◌≡◌, ℕ, List, [], ◌∷◌, ◌++◌, map, length, Option, Some, None, refl, sym, ap, subst, ◌∙◌, append_assoc, Bool}
 use Rattle.std.specs.List.{AllByRecursion}
-use Rattle.sqlval.specs.declared.schema.Index.{Index}
 use Rattle.sqlval.specs.declared.schema.Table.{Table}
 use Rattle.denote.specs.SchemaOf.{index_of}
-use Rattle.store.specs.Contents.{Entry, StoredTable}
+use Rattle.store.specs.Contents.{Entry}
 use Rattle.page_space.specs.Space.{PageMap}
 use Rattle.btree_read.specs.Lists.{Has, Apart}
 use Rattle.btree_read.proofs.ListLemmas.{each_append, each_left, each_right}
-use Rattle.catalog_read.specs.Keepable.{IsIndex, IsIndexOver, IsTable}
+use Rattle.catalog_read.specs.Keepable.{IsTable}
 use Rattle.catalog.specs.Held.{HoldsSchema}
 use Rattle.catalog.specs.Changed.{SchemaWritten}
-use Rattle.index_trees.specs.Indexed.{HoldsIndex}
 use Rattle.index_trees.proofs.EntryLemmas.{index_of_rows}
 use Rattle.tree_entries.specs.Kept.{LosesNoPage}
 use Rattle.tree_entries.proofs.KeptLemmas.{loses_known}
-use Rattle.page_tables.specs.Held.{stored_of}
 use Rattle.page_database.specs.declared.exchange.Exchange.{Exchange}
 use Rattle.page_database.specs.Trees.{TreeAt, Lies, pages_of, HoldsTrees, IsMoved}
-use Rattle.page_database.specs.Held.{IndexAt, TableAt, indexes_declared, declared_at, index_tree, trees_of_indexes, rows_tree, table_trees, schema_tree, rows_at}
+use Rattle.page_database.specs.Held.{IndexAt, TableAt, indexes_declared, declared_at, trees_of_indexes, rows_tree, table_trees, schema_tree}
 use Rattle.page_database.specs.Exchanged.{with_roots, table_with, AreExchangeable, AreExchanged, HasTable, TablePut, AreSameRows, IsUnsettled, IsWithRows, IsSettled}
 use Rattle.page_database.proofs.TreeLemmas.{first_changed, pages_append}
 use Rattle.page_database.specs.Named.{table_named}

@@ -1,5 +1,5 @@
 -- What an index holds has a key that is not too long.
-use Rattle.std.proofs.Common.{◌≡◌, ℕ, zero, suc, ◌+◌, ◌<◌, ◌≤◌, List, [], ◌∷◌, ◌++◌, length, map, inl, inr, ◌⊎◌, refl, sym, ap, subst, ◌∙◌, arith}
+use Rattle.std.proofs.Common.{ℕ, zero, suc, ◌+◌, ◌<◌, List, [], ◌∷◌, inl, inr, sym, subst, arith}
 use Rattle.std.specs.List.{flat_map, AllByRecursion}
 use Rattle.sqlval.specs.CodedLength.{key_length}
 use Rattle.sqlval.specs.Matching.{key_of}
@@ -7,7 +7,7 @@ use Rattle.store.specs.Contents as stored
 use Rattle.sqlrecord.proofs.OrderLemmas.{length_index_key}
 use Rattle.page_space.specs.Space.{PageMap}
 use Rattle.btree_read.specs.declared.entry.Entry.{Entry}
-use Rattle.btree_read.specs.Nodes.{Key, IsSmall, HasNode}
+use Rattle.btree_read.specs.Nodes.{IsSmall}
 use Rattle.btree_read.specs.Tree.{Tree, kids, entries_of, nodes_of, Holds, IsTree}
 use Rattle.btree_read.proofs.ListLemmas.{each_append, each_left, each_right}
 use Rattle.index_trees.specs.Indexed.{index_entry, Stands, IsRow, HoldsIndex}

@@ -1,6 +1,6 @@
 -- Trees that lie in pages, while one of them changes, goes or comes.
-use Rattle.std.proofs.Common.{◌≡◌, ℕ, List, [], ◌∷◌, ◌++◌, ◌⊎◌, inl, inr, Option, Some, None, IsSome, refl, sym, ap, subst, ◌∙◌, append_assoc, Bool}
-use Rattle.std.specs.List.{flat_map, AllByRecursion}
+use Rattle.std.proofs.Common.{◌≡◌, ℕ, List, [], ◌∷◌, ◌++◌, ◌⊎◌, inl, inr, None, IsSome, refl, sym, ap, subst, ◌∙◌, append_assoc, Bool}
+use Rattle.std.specs.List.{AllByRecursion}
 use Rattle.page_space.specs.Space.{PageMap}
 use Rattle.btree_read.specs.Lists.{Has, Apart}
 use Rattle.btree_read.proofs.ListLemmas.{each_append, each_left, each_right, has_left, has_right, has_either, Parted, apart_parts, apart_join, apart_middle}

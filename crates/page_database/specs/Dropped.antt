@@ -1,5 +1,5 @@
 -- A table that goes, with the trees of its rows and indexes. Our own choice.
-use Rattle.std.specs.Prelude.{◌≡◌, ℕ, List, ◌∷◌, ◌++◌, None, Bool}
+use Rattle.std.specs.Prelude.{◌≡◌, ℕ, List, ◌++◌, None, Bool}
 use Rattle.std.specs.List.{AllByRecursion}
 use Rattle.sqlval.specs.declared.schema.Table.{Table}
 use Rattle.sqlval.specs.declared.schema.Index.{Index}

@@ -11,7 +11,6 @@ use Rattle.store.specs.View.{entry_of, AreEntries}
 use Rattle.store.specs.declared.rows.NumberedRow.{NumberedRow}
 use Rattle.store.specs.declared.rows.Numbered.{Numbered}
 use Rattle.page_space.specs.Space.{PageMap}
-use Rattle.catalog_read.specs.Keepable.{IsTable}
 use Rattle.index_trees.specs.Indexed.{HoldsIndex, AreWith, IsRow}
 use Rattle.page_tables.specs.Held.{stored_of}
 use Rattle.page_database.specs.declared.exchange.Exchange.{Exchange}

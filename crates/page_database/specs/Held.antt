@@ -1,5 +1,5 @@
 -- The database that pages hold: a schema, of each table its rows, and each index of it over just these rows. Our own choice.
-use Rattle.std.specs.Prelude.{◌≡◌, ℕ, List, ◌∷◌, map, Bool, true, false}
+use Rattle.std.specs.Prelude.{ℕ, List, ◌∷◌, map, Bool, true, false}
 use Rattle.std.specs.List.{flat_map}
 use Rattle.sqlval.specs.declared.schema.Table.{Table}
 use Rattle.sqlval.specs.declared.schema.Column.{Column}

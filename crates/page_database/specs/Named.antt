@@ -2,7 +2,6 @@
 use Rattle.std.specs.Prelude.{ℕ, zero, suc, ◌==◌, if◌then◌else◌, List, [], ◌∷◌, Option, None, Some}
 use Rattle.sqlval.specs.declared.schema.Table.{Table}
 use Rattle.sqlval.specs.Schema.{same_name}
-use Rattle.sqlval.specs.Value.{Row}
 use Rattle.denote.specs.Database.{Name}
 use Rattle.store.specs.Contents.{Entry}
 

@@ -1,5 +1,5 @@
 -- Rows by their numbers, with one replaced and without one.
-use Rattle.std.proofs.Common.{◌≡◌, ◌≢◌, ℕ, ◌+◌, ◌^◌, ◌<◌, ◌≤◌, Bool, true, false, List, [], ◌∷◌, ◌++◌, Option, Some, None, refl, sym, ap, ◌∙◌, subst, arith, inl, inr, ◌⊎◌}
+use Rattle.std.proofs.Common.{◌≡◌, ℕ, ◌^◌, ◌<◌, ◌≤◌, Bool, true, false, List, [], ◌∷◌, ◌++◌, Option, Some, None, refl, sym, ap, ◌∙◌, subst, arith, inl}
 use Rattle.std.specs.Prelude.{not, if◌then◌else◌, Result, Ok, Err, IfOk, OnOk, IfErr}
 use Rattle.std.specs.Bool.{◌==◌}
 use Rattle.std.specs.List.{AllByRecursion}
@@ -20,7 +20,7 @@ use Rattle.btree_read.specs.Tree.{IsTree}
 use Rattle.btree_read.proofs.ListLemmas.{each_right}
 use Rattle.btree_read.proofs.OrderLemmas.{lt_trans, not_self}
 use Rattle.btree.specs.Written.{IsWritten}
-use Rattle.btree_remove.specs.Removed.{IsLess, IsRemoved}
+use Rattle.btree_remove.specs.Removed.{IsRemoved}
 use Rattle.tree_entries.specs.Kept.{LosesNoPage}
 use Rattle.tree_entries.proofs.AscendLemmas.{root_ascends}
 use Rattle.tree_entries.proofs.KeptLemmas.{loses_left}

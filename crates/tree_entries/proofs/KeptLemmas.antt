@@ -1,5 +1,5 @@
 -- No page is lost: by one change of a tree, and by several.
-use Rattle.std.proofs.Common.{◌≡◌, ℕ, List, ◌⊎◌, inl, inr, Result, Ok, Err, IfOk, Option, Some, None, IsSome, refl, sym, subst}
+use Rattle.std.proofs.Common.{◌≡◌, ℕ, List, ◌⊎◌, inl, inr, Result, Ok, Err, IfOk, None, IsSome, sym, subst}
 use Rattle.page_space.specs.Space.{PageMap}
 use Rattle.btree_read.specs.declared.entry.Entry.{Entry}
 use Rattle.btree_read.specs.Lists.{Has}
@@ -11,7 +11,7 @@ use Rattle.btree.specs.Grow.{AreKept}
 use Rattle.btree.specs.Written.{Inserts, KeepsPages}
 use Rattle.btree.proofs.GrowLemmas.{has_or_not}
 use Rattle.btree.proofs.KeptLemmas.{one_owned}
-use Rattle.tree_entries.specs.Kept.{LosesNone, TreeLeft, LosesNoPage}
+use Rattle.tree_entries.specs.Kept.{LosesNone, LosesNoPage}
 
 -- ---- lists of pages
 

@@ -7,7 +7,7 @@ use Rattle.store.specs.Contents.{with_table}
 use Rattle.tree_entries.specs.Kept.{LosesNoPage}
 use Rattle.page_tables.proofs.ChangeLemmas.{whole_later}
 use Rattle.page_database.specs.Held.{declared_of, HoldsDatabase, contents_of, HoldsFor}
-use Rattle.page_database.specs.Changed.{DatabaseWritten, HoldsNoDatabaseIn, WrittenFor}
+use Rattle.page_database.specs.Changed.{HoldsNoDatabaseIn, WrittenFor}
 use Rattle.page_database.proofs.ContentLemmas.{is_found}
 use Rattle.page_database.proofs.CreateLemmas.{if_ok_both, created_new, created_before, name_free}
 use Rattle.page_database.proofs.RefusalLemmas.{read_refused, refused_later}

@@ -1,9 +1,8 @@
 use Rattle.std.proofs.Common.{arith, false}
-use Rattle.page_tables.proofs.ChangeLemmas.{whole_later}
 use Rattle.catalog.specs.Changed.{HoldsNoSchemaIn}
 use Rattle.page_database.specs.Held.{declared_of}
 use Rattle.page_database.specs.Exchanged.{IsTableOf}
-use Rattle.page_database.specs.Dropped.{AreTreesOf, TableGone}
+use Rattle.page_database.specs.Dropped.{AreTreesOf}
 use Rattle.page_database.proofs.DatabaseLemmas.{schema_of_it}
 use Rattle.page_database.proofs.DropLemmas.{trees_then, table_gone}
 use Rattle.page_database.proofs.RefusalLemmas.{fault_refused, change_refused_by, schema_reaches}

@@ -1,5 +1,4 @@
-use Rattle.std.proofs.Common.{arith, List, false}
-use Rattle.sqlval.specs.declared.schema.Index.{Index}
+use Rattle.std.proofs.Common.{arith, false}
 use Rattle.page_tables.proofs.ChangeLemmas.{whole_later}
 use Rattle.btree.specs.Overfull.{IsNoTreeIn}
 use Rattle.btree.proofs.RefusalLemmas.{change_refused, change_refused_on}

@@ -1,4 +1,4 @@
-use Rattle.std.proofs.Common.{arith, ℕ, ◌≡◌, ◌+◌, ◌<◌, ◌++◌, ◌∙◌, ap, sym, subst, List, take, length}
+use Rattle.std.proofs.Common.{arith, ℕ, ◌≡◌, ◌+◌, ◌<◌, ◌++◌, ◌∙◌, ap, subst, List, take, length}
 use Rattle.std.specs.Prelude.{slice_index_or}
 use Rattle.sqlval.specs.Value.{Row}
 use Rattle.sqlval.specs.CodedLength.{key_length}

@@ -1,10 +1,9 @@
 use Rattle.std.proofs.Common.{arith}
-use Rattle.index_trees.specs.Indexed.{IndexWritten}
 use Rattle.tree_entries.proofs.KeptLemmas.{no_page_lost_on_by}
 use Rattle.page_database.specs.Exchanged.{HasTaken, IsOpen, IsExchangeable, HasLongKeyIn}
 use Rattle.page_database.proofs.IndexLemmas.{to_take, to_put, index_on_by}
 use Rattle.page_tables.proofs.ChangeLemmas.{whole_later}
-use Rattle.page_database.proofs.RefusalLemmas.{later, refused_later, reaches, reaches_so}
+use Rattle.page_database.proofs.RefusalLemmas.{later, refused_later, reaches}
 use Rattle.page_database.proofs.exchange.take_and_put.Goals as goal
 
 pub returns-in-Ok-clause-exchanged : goal.returns-in-Ok-clause-exchanged

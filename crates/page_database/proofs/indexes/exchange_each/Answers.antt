@@ -1,4 +1,4 @@
-use Rattle.std.proofs.Common.{arith, ℕ, ◌≡◌, ◌+◌, ◌<◌, ◌++◌, ◌∙◌, ap, List, [], ◌∷◌, length, map, sym, subst, false}
+use Rattle.std.proofs.Common.{arith, ℕ, ◌≡◌, ◌+◌, ◌<◌, ◌++◌, ◌∙◌, ap, List, length, map, sym, subst, false}
 use Rattle.std.specs.Prelude.{slice_index_or}
 use Rattle.sqlval.specs.declared.schema.Index.{Index}
 use Rattle.denote.specs.SchemaOf.{index_of}
@@ -6,7 +6,7 @@ use Rattle.store.specs.Errors.{HasLongKey}
 use Rattle.index_trees.specs.Indexed.{IndexWritten}
 use Rattle.page_database.specs.Exchanged.{IsExchangeable, AreExchangeable, HasLongKeyIn}
 use Rattle.page_database.proofs.EachLemmas.{MidwayBy, midway_first, midway_next, midway_end, exchange_here, long_in}
-use Rattle.page_database.proofs.RefusalLemmas.{exit_later, exit_reaches, exit_memory, exit_no_limit}
+use Rattle.page_database.proofs.RefusalLemmas.{exit_later, exit_reaches}
 use Rattle.page_database.proofs.indexes.exchange_each.Goals as goal
 
 pub loop-index-init : goal.loop-index-init

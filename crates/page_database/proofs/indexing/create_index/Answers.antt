@@ -1,4 +1,4 @@
-use Rattle.std.proofs.Common.{sym, subst, refl, ◌∙◌, ◌++◌, false, true}
+use Rattle.std.proofs.Common.{sym, subst, ◌∙◌, false, true}
 use Rattle.page_tables.proofs.ChangeLemmas.{whole_later}
 use Rattle.page_space.specs.Space.{PageMap}
 use Rattle.catalog.specs.Held.{HoldsNoSchema}

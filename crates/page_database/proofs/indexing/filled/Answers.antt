@@ -1,4 +1,4 @@
-use Rattle.std.proofs.Common.{ℕ, List, [], None, refl, subst}
+use Rattle.std.proofs.Common.{ℕ, List, None, refl, subst}
 use Rattle.sqlval.specs.Value.{Row}
 use Rattle.store.specs.Contents.{Entry, rows_of}
 use Rattle.page_tables.proofs.ChangeLemmas.{whole_later}

@@ -1,4 +1,3 @@
-use Rattle.std.proofs.Common.{refl}
 use Rattle.page_database.proofs.DatabaseLemmas.{as_any, all_are_owned, owned_are_used, owned_stays}
 use Rattle.page_database.proofs.laws.owned_pages_are_of_trees.Goals as goal
 

@@ -1,4 +1,4 @@
-use Rattle.std.proofs.Common.{arith, ◌≡◌, ◌+◌, ◌++◌, ◌∷◌, [], ◌∙◌, ℕ, List, map, take, ap, sym}
+use Rattle.std.proofs.Common.{arith, ◌++◌, ◌∷◌, [], ◌∙◌, ℕ, List, map, take, ap, sym}
 use Rattle.std.specs.List.{enumerate_from}
 use Rattle.store.specs.Contents.{Entry}
 use Rattle.page_database.proofs.RowLemmas.{numbers_more}

@@ -1,4 +1,4 @@
-use Rattle.std.proofs.Common.{◌≡◌, ◌+◌, ℕ, List, map, take}
+use Rattle.std.proofs.Common.{◌≡◌, ◌+◌, map, take}
 use Rattle.std.specs.List.{enumerate_from}
 use Rattle.store.specs.Contents.{Entry}
 use Rattle.page_database.proofs.numbering.numbers_on.Given as goal

@@ -1,5 +1,4 @@
-use Rattle.std.proofs.Common.{◌∙◌, ap}
-use Rattle.btree_read.proofs.NodeLemmas.{harm_weaker}
+use Rattle.std.proofs.Common.{◌∙◌}
 use Rattle.page_database.proofs.NumberLemmas.{row_is_found}
 use Rattle.page_database.proofs.numbering.row_of.Goals as goal
 

@@ -1,7 +1,7 @@
 use Rattle.store.specs.Errors.{HasLongRow, HasLongKey, indexes_of}
 use Rattle.denote.specs.SchemaOf.{index_of}
 use Rattle.std.specs.FinMap.{get}
-use Rattle.std.proofs.Common.{[], ◌∷◌, sym, subst, refl, ◌∙◌, ◌++◌, map, List, false, true}
+use Rattle.std.proofs.Common.{[], ◌∷◌, sym, subst, refl, ◌∙◌, map, List, false, true}
 use Rattle.page_tables.proofs.ChangeLemmas.{whole_later}
 use Rattle.page_space.specs.Space.{PageMap}
 use Rattle.catalog.specs.Held.{HoldsNoSchema}

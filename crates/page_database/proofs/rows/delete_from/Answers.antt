@@ -1,4 +1,4 @@
-use Rattle.std.proofs.Common.{sym, ap, ◌∙◌, [], Some, false}
+use Rattle.std.proofs.Common.{sym, ap, ◌∙◌, [], false}
 use Rattle.std.specs.Option.{option_map}
 use Rattle.store.specs.View.{entry_of}
 use Rattle.page_tables.proofs.ChangeLemmas.{whole_later}

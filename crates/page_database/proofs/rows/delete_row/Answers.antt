@@ -1,6 +1,5 @@
-use Rattle.std.proofs.Common.{arith, map, List, [], ◌≡◌, subst, false}
+use Rattle.std.proofs.Common.{arith, map, [], false}
 use Rattle.denote.specs.SchemaOf.{index_of}
-use Rattle.sqlval.specs.Value.{Row}
 use Rattle.store.specs.Errors.{HasLongKey}
 use Rattle.btree_read.proofs.SearchLemmas.{if_ok}
 use Rattle.page_tables.proofs.ChangeLemmas.{whole_later}

@@ -7,7 +7,6 @@ use Rattle.store.specs.Errors.{HasLongRow, HasLongKey}
 use Rattle.btree_read.proofs.SearchLemmas.{if_ok}
 use Rattle.page_tables.proofs.ChangeLemmas.{whole_later}
 use Rattle.tablestore.specs.Appended.{RowsWritten, HoldsNoRowsIn}
-use Rattle.page_database.specs.Changed.{Reaches, SpaceRefused}
 use Rattle.page_database.specs.Exchanged.{IsUnsettled, IsSettled, IsAppendable, RowsExchanged}
 use Rattle.page_database.proofs.DatabaseLemmas.{rows_of_it, rows_exchanged}
 use Rattle.page_database.proofs.ChangeLemmas.{append_unsettled, append_refused, append_reaches}

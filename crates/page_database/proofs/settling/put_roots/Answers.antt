@@ -1,11 +1,10 @@
-use Rattle.std.proofs.Common.{arith, sym, ap, subst, ◌≡◌, ◌∙◌, ◌++◌, ◌∷◌, IfOk, false}
+use Rattle.std.proofs.Common.{sym, ap, subst, ◌∙◌, ◌++◌, ◌∷◌, IfOk, false}
 use Rattle.sqlval.specs.declared.schema.Table.{Table}
 use Rattle.page_tables.proofs.ChangeLemmas.{whole_later}
-use Rattle.page_space.specs.Space.{PageMap}
 use Rattle.catalog.specs.Held.{HoldsNoSchema}
 use Rattle.catalog_read.specs.Keepable.{IsTable}
 use Rattle.page_database.specs.Exchanged.{HasTable, TablePut, table_with}
-use Rattle.page_database.proofs.SettleLemmas.{schema_held, has_table, table_there, roots_there, itself_found, itself_absent}
+use Rattle.page_database.proofs.SettleLemmas.{schema_held, has_table, itself_found, itself_absent}
 use Rattle.page_database.proofs.RefusalLemmas.{refused_later, read_refused}
 use Rattle.page_database.proofs.settling.put_roots.Goals as goal
 

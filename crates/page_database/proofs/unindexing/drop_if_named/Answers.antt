@@ -1,4 +1,4 @@
-use Rattle.std.proofs.Common.{◌≡◌, ◌∙◌, sym, ap, true, false, List, ℕ}
+use Rattle.std.proofs.Common.{◌∙◌, sym, ap, List, ℕ}
 use Rattle.sqlval.specs.Schema.{is_named}
 use Rattle.page_database.proofs.UnindexLemmas.{not_both}
 use Rattle.page_database.proofs.unindexing.drop_if_named.Goals as goal

@@ -1,4 +1,4 @@
-use Rattle.std.proofs.Common.{arith, ◌≡◌, ◌+◌, ◌<◌, ◌∙◌, ℕ, List, ap, length, subst, false}
+use Rattle.std.proofs.Common.{arith, ◌≡◌, ◌<◌, ◌∙◌, List, ap, length, subst, false}
 use Rattle.std.specs.Prelude.{slice_index_or}
 use Rattle.sqlval.specs.declared.schema.Index.{Index}
 use Rattle.btree.specs.Overfull.{IsNoTreeIn}

@@ -1,4 +1,4 @@
-use Rattle.std.proofs.Common.{sym, ap, subst, ◌≡◌, ◌∙◌, ◌++◌, ◌∷◌, IfOk, false}
+use Rattle.std.proofs.Common.{sym, ap, subst, ◌∙◌, ◌++◌, ◌∷◌, IfOk, false}
 use Rattle.sqlval.specs.declared.schema.Table.{Table}
 use Rattle.page_tables.proofs.ChangeLemmas.{whole_later}
 use Rattle.catalog.specs.Held.{HoldsNoSchema}

@@ -1,5 +1,4 @@
 use Rattle.std.proofs.Common.{arith, false}
-use Rattle.page_tables.proofs.ChangeLemmas.{whole_later}
 use Rattle.page_database.specs.Dropped.{AreIndexes}
 use Rattle.page_database.specs.Exchanged.{IsTableOf, HasTable}
 use Rattle.page_database.proofs.UnindexLemmas.{to_put_without, to_drop, table_left}
