@@ -1,5 +1,6 @@
 -- One call of a session: a text, its reply, and the world after it (ISO/IEC 9075:1992, 20.1). The refusals come in this order, which is our own choice: the statement's length, its tokens,
 -- words that are not supported, nesting, grammar; the state of transaction and cursors; names and types; evaluation and constraints.
+-- Scaffolding until cursors are built: FetchesOpen, and the field closes of a refusal.
 use Rattle.std.specs.Prelude.{◌≡◌, ℕ, true, false, Option, Some}
 use Rattle.std.specs.FinMap.{get}
 use Rattle.refusals.specs.declared.refusal.Refusal.{Refusal}
