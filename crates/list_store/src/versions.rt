@@ -141,6 +141,8 @@ impl Store for ListStore {
 
     ghost readable = { λ device. ⊤ };
 
+    ghost settled = { λ device. ⊤ };
+
     ghost numbers_rise = { λ s view name table sound found. rises-seen s.commits s.changes s.committed s.marked s.readers.items view name table found };
 
     fn open(alloc: Global, device: Lists, frames: usize) -> Result<Self, Returned<Lists>> {

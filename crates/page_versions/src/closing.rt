@@ -1,5 +1,5 @@
 //! The last version, put on the device.
-ghost use Rattle.std.specs.Prelude.{◌≡◌, IsTrue, IfOk, IfErr};
+ghost use Rattle.std.specs.Prelude.{◌≡◌, ◌≤◌, IsTrue, IfOk, IfErr};
 ghost use Rattle.store.specs.Contents.{database_of};
 ghost use Rattle.pool.specs.Refused.{IsOfDevice};
 ghost use Rattle.pool.specs.Versions.{versions_of, device_of};
@@ -17,6 +17,7 @@ pub fn close_pool<D: Disk>(pool: Pool<D>) -> Result<D, CloseRefused<D>>
     ensures saved { IfOk result (λ device. IsTrue D.is_honest → IsDatabase ((versions_of pool).pages (versions_of pool).last) nothing
         → HoldsDatabase (D.bytes device) (database_of (contents_in ((versions_of pool).pages (versions_of pool).last) nothing))) }
     ensures settled { IfOk result (λ device. D.settled device) }
+    ensures rising { IfOk result (λ device. D.refused (device_of pool) ≤ D.refused device) }
     ensures versions { IfErr result (λ r. versions_of r.pool ≡ versions_of pool) }
     ensures refusal { IfErr result (λ r. IsOfDevice (D.refused (device_of pool)) (D.refused (device_of r.pool)) r.cause) }
 {

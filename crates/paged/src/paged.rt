@@ -108,6 +108,8 @@ impl<D: Disk + Drop> Store for Paged<D> {
 
     ghost readable = { λ device. IsReadable D.is_honest (D.bytes device) };
 
+    ghost settled = { λ device. D.settled device };
+
     ghost numbers_rise = { λ s view name table sound found. rises_seen _ _ _ _ _ view name table sound found };
 
     fn open(alloc: Global, device: D, frames: usize) -> Result<Self, Returned<D>> {

@@ -262,6 +262,7 @@ impl<D: Disk> Pool<D> {
         ensures refusal { IfErr result (IsOfDevice (D.refused (device_of self.old)) (D.refused (device_of self.new))) }
         ensures synced { OnOk result (HasRisen (D.synced (device_of self.old)) (D.synced (device_of self.new))) }
         ensures settles { OnOk result (D.settled (device_of self.new)) }
+        ensures rising { D.refused (device_of self.old) ≤ D.refused (device_of self.new) }
     {
         self.file.sync()?;
         Ok(())
@@ -274,6 +275,7 @@ impl<D: Disk> Pool<D> {
         ensures refusal { IfErr result (IsOfDevice (D.refused (device_of self.old)) (D.refused (device_of self.new))) }
         ensures synced { OnOk result (HasRisen (D.synced (device_of self.old)) (D.synced (device_of self.new))) }
         ensures settles { OnOk result (D.settled (device_of self.new)) }
+        ensures rising { D.refused (device_of self.old) ≤ D.refused (device_of self.new) }
     {
         self.write_all()?;
         self.sync_file()
@@ -287,6 +289,7 @@ impl<D: Disk> Pool<D> {
         ensures size { IfOk result (λ disk. IsTrue D.is_honest → (m : ℕ) → ((n : ℕ) → m ≤ n → (versions_of self).pages (versions_of self).last n ≡ None) → length (D.bytes disk) ≤ 4096 * m) }
         ensures synced { IfOk result (λ disk. HasRisen (D.synced (device_of self)) (D.synced disk)) }
         ensures settled { IfOk result (λ disk. D.settled disk) }
+        ensures rising { IfOk result (λ disk. D.refused (device_of self) ≤ D.refused disk) }
         ensures versions { IfErr result (λ r. versions_of r.pool ≡ versions_of self) }
         ensures refusal { IfErr result (λ r. IsOfDevice (D.refused (device_of self)) (D.refused (device_of r.pool)) r.cause) }
     {

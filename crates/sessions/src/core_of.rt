@@ -141,6 +141,8 @@ impl<S: Store, L: Language + Changes<S>> Core<S, L> {
     /// Ends all sessions, writes all that is committed, and hands back the device. A refusal is that of the device; it hands back the core, whose sessions have ended. Takes no memory.
     pub fn close(self) -> Result<S::Device, Refused<Core<S, L>>>
         ensures closed { IfOk result (λ device. IsSound S.is_sound S.shows self → S.saved device (world_of S.shows self).last) }
+        ensures settled { IfOk result (λ device. S.settled device) }
+        ensures counts { IfOk result (λ device. S.refused self.store ≤ S.calls_refused device) }
         ensures fails { IfErr result (λ back. (back.refusal ≡ Disk) × (world_of S.shows back.value ≡ without_sessions (world_of S.shows self))) }
         ensures sound { IfErr result (λ back. IsSound S.is_sound S.shows self → IsSound S.is_sound S.shows back.value) }
         ensures device { IfErr result (λ back. HasRisen (S.refused self.store) (S.refused back.value.store)) }

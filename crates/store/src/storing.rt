@@ -65,6 +65,9 @@ pub trait Store: Drop {
     /// That a device is empty, or holds what has the form of a store's tables: no other one is opened.
     ghost readable: { Self.Device → Type 0 };
 
+    /// That a device was synced, and nothing was to be written on it since.
+    ghost settled: { Self.Device → Type 0 };
+
     /// The store on a device, with room for so many pages in memory. A refusal hands the device back, saved as it was.
     fn open(
         alloc: Global,
@@ -79,10 +82,12 @@ pub trait Store: Drop {
         ensures left { IfErr result (λ back. (db : Database) → saved device db → saved back.value db) }
         ensures refused { IfErr result (λ back. MayFail ((db : Database) × saved device db) (calls_refused device) (calls_refused back.value) Never back.error) };
 
-    /// Writes all that is committed, and hands the device back. A refusal is that of the device, and hands the store back: all readers and the writer have ended, and
+    /// Writes all that is committed, syncs behind it, and hands the device back. A refusal is that of the device, and hands the store back: all readers and the writer have ended, and
     /// what was committed is as before. Takes no memory.
     fn close(self) -> Result<Self::Device, Returned<Self>>
         ensures closed { IfOk result (λ device. is_sound self → saved device (database_of (shows self).last)) }
+        ensures settled { IfOk result (λ device. settled device) }
+        ensures counts { IfOk result (λ device. refused self ≤ calls_refused device) }
         ensures left { IfErr result (λ back. (shows back.value ≡ closed (shows self)) × (is_sound self → is_sound back.value)) }
         ensures refused { IfErr result (λ back. (back.error ≡ OfDevice) × HasRisen (refused self) (refused back.value)) };
 
