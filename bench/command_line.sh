@@ -41,44 +41,17 @@ echo "COMMIT;" > "$work/in"
 check "a reply" 0 "^00000$" "" run
 echo "COMMIT; SELECT;" > "$work/in"
 check "a refusal" 1 "^ERROR 42000 syntax$" "" run
-# The deepest chain of set operators that 65,536 bytes and the limits allow, alone and as a subquery of IN and of EXISTS: 50
-# parentheses round chains of 64 operands.
-chain() {
-  awk -v before="$1" -v after="$2" 'BEGIN {
-    query = "SELECT*FROM T"; operator = " UNION "; others = ""; text = before
-    for (turn = 1; turn < 64; turn++) others = others operator query
-    for (depth = 0; depth < 50; depth++) text = text "("
-    text = text query others
-    for (depth = 0; depth < 50; depth++) text = text ")" others
-    print "CREATE TABLE T (A INTEGER); INSERT INTO T VALUES (1);" text after ";"
-  }'
-}
-chain "" "" > "$work/in"
+# The deepest and widest queries.
+. "$top/bench/deep_texts.sh"
+deepest_chain "" "" > "$work/in"
 check "the deepest chain of set operators" 0 "^(1 rows)$" "" run
-chain "SELECT A FROM T WHERE A IN (" ")" > "$work/in"
+deepest_chain "SELECT A FROM T WHERE A IN (" ")" > "$work/in"
 check "the deepest chain inside IN" 0 "^(1 rows)$" "" run
-chain "SELECT A FROM T WHERE EXISTS (" ")" > "$work/in"
+deepest_chain "SELECT A FROM T WHERE EXISTS (" ")" > "$work/in"
 check "the deepest chain inside EXISTS" 0 "^(1 rows)$" "" run
-# Subqueries in subqueries, as deep as parentheses may stand, each asked at a row of the one round it.
-awk 'BEGIN {
-  text = ""
-  for (depth = 0; depth < 64; depth++) text = text "SELECT A FROM T X" depth " WHERE EXISTS ("
-  text = text "SELECT A FROM T WHERE X63.A=A AND X0.A=A"
-  for (depth = 0; depth < 64; depth++) text = text ")"
-  print "CREATE TABLE T (A INTEGER); INSERT INTO T VALUES (1);" text ";"
-}' > "$work/in"
+deepest_subqueries > "$work/in"
 check "subqueries in subqueries" 0 "^(1 rows)$" "" run
-# Eight tables, 256 set functions and a condition of 64 chains of 64 operands.
-awk 'BEGIN {
-  items = "SUM(A.A+H.A)"
-  for (item = 1; item < 256; item++) items = items ",SUM(A.A+H.A)"
-  either = "A.A=H.A+1"
-  for (turn = 2; turn < 64; turn++) either = either " OR B.A=G.A+1"
-  either = "(" either " OR C.A=F.A)"
-  all = either
-  for (turn = 1; turn < 64; turn++) all = all " AND " either
-  print "CREATE TABLE T (A INTEGER); INSERT INTO T VALUES (1);SELECT " items " FROM T A,T B,T C,T D,T E,T F,T G,T H WHERE " all ";"
-}' > "$work/in"
+widest_query > "$work/in"
 check "the widest query over eight tables" 0 "^(1 rows)$" "" run
 # Tables in a file, by a path of the caller's folder.
 cd "$work"

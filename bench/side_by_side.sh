@@ -1,6 +1,6 @@
 #!/usr/bin/env bash
 # Runs sqlmany and looks at what no contract says of a program: that it reads the files that it is asked for, what it prints of help and of wrong words, where it prints it, and
-# the exit statuses. Each check prints a line; the status is 1 where one fails. PROGRAM=PATH tries another build of sqlmany than that of the repository.
+# the exit statuses; and that the deepest queries run on a spawned thread. Each check prints a line; the status is 1 where one fails. PROGRAM=PATH tries another build of sqlmany than that of the repository.
 set -uo pipefail
 top=$(cd "$(dirname "$0")/.." && pwd)
 program=$(realpath "${PROGRAM:-$top/sqlmany}")
@@ -85,6 +85,23 @@ if [ "$found" -le 1 ] && [ ! -s err ] && ! grep ERROR out | grep -v -q -e '^ERRO
 else
   echo "scripts that write at once: status $found"; cat out err; failed=1
 fi
+
+# the deepest and widest queries, each on a thread of its own: one row comes of each
+. "$top/bench/deep_texts.sh"
+printf -- '-- 1\n00000\n00000 1\n1\n(1 rows)\n' > wanted
+deepest_chain "" "" > deep.sql
+same "the deepest chain of set operators" 0 deep.sql
+deepest_chain "SELECT A FROM T WHERE A IN (" ")" > deep.sql
+same "the deepest chain inside IN" 0 deep.sql
+deepest_subqueries > deep.sql
+same "subqueries in subqueries" 0 deep.sql
+widest_query > deep.sql
+{
+  printf -- '-- 1\n00000\n00000 1\n2'
+  for ((k = 1; k < 256; k++)); do printf '|2'; done
+  printf '\n(1 rows)\n'
+} > wanted
+same "the widest query over eight tables" 0 deep.sql
 
 "$program" one.sql > /dev/full 2> err
 found=$?
