@@ -1,7 +1,7 @@
 -- What closing leaves on the device.
 use Rattle.std.proofs.Common.{◌≡◌, ◌∙◌, ℕ, ◌+◌, ◌*◌, ◌<◌, ◌≤◌, Bool, true, false, List, length, Option, Some, None, IsTrue, IsSome, Result, Ok, Err, IfOk, refl, sym, ap, subst, arith, suc, zero, [], ◌∷◌, ◌⊎◌, inl, inr}
 use Rattle.std.specs.Prelude.{nat_le, nat_lt, ◌&&◌, if◌then◌else◌}
-use Rattle.std.proofs.lemmas.Bool.{leb-true}
+use Rattle.std.proofs.lemmas.Bool.{leb-true, ltb-true, ltb-false}
 use Rattle.std.specs.Option.{is_some}
 use Rattle.denote.specs.Database.{Database}
 use Rattle.store.specs.Contents.{Contents, database_of}
@@ -18,8 +18,8 @@ use Rattle.overlay.specs.Whole.{IsIn, IsFreeList, IsWhole, HasFreeList}
 use Rattle.overlay.proofs.InUseLemmas.{in_use-read}
 use Rattle.overlay.proofs.WholeLemmas.{list_same, list_there}
 use Rattle.page_database.specs.Held as database
-use Rattle.page_database.proofs.DatabaseLemmas.{as_tables}
-use Rattle.page_versions.specs.Databases.{nothing, root_in, root_of, contents_in, IsDatabase}
+use Rattle.page_database.proofs.DatabaseLemmas.{as_tables, owned_stays}
+use Rattle.page_versions.specs.Databases.{nothing, root_in, root_of, contents_in, IsDatabase, IsOwned}
 use Rattle.page_versions.specs.Saved.{HoldsDatabase}
 use Rattle.page_versions.proofs.HeldLemmas.{TheyStay, TheyAreRead, TheyRise, is_database}
 
@@ -89,9 +89,35 @@ module _ (p : PageMap) (f : List ℕ) (stored : (n : ℕ) (page : List ℕ) → 
             (as_tables (in_use (page_of f) nothing) (root_of (page_of f) nothing) d.tables holds) ∙ sym d.read);
       }
 
+  -- the file has no other pages
+  all_same : (n : ℕ) → page_of f n ≡ p n
+  all_same n = by (nat_lt n header.page_count) refl
+    where
+      by : (b : Bool) → nat_lt n header.page_count ≡ b → page_of f n ≡ p n
+      by true e = same_page n (w.all n (ltb-true n header.page_count e))
+      by false e =
+          let behind : header.page_count ≤ n = ltb-false n header.page_count e in
+          let is = fits in
+          page_behind f n (omega (arith, is, behind)) ∙ sym (w.ends n behind)
+
+  pub file_owned : TheyStay → TheyAreRead → TheyRise → (tables : List database.TableAt) → database.IsAllOwned (in_use p nothing) (root_of p nothing) tables → IsOwned (page_of f) nothing
+  file_owned stay read rise tables owned = record {
+    is = (file_holds stay read rise).is;
+    tables = tables;
+    owned = subst (λ (r : ℕ). database.IsAllOwned (in_use (page_of f) nothing) r tables) (sym (ap root_in (all_same 0)))
+        (owned_stays (in_use p nothing) (in_use (page_of f) nothing) (root_of p nothing) tables (λ n. same_use p (page_of f) n (all_same 0) (all_same n)) owned);
+  }
+
 pub closed_holds : {A E : Type 0} → TheyStay → TheyAreRead → TheyRise → (result : Result A E) (honest : Bool) (bytes : A → List ℕ) (p : PageMap)
     → IfOk result (λ a. IsTrue honest → (n : ℕ) (page : List ℕ) → p n ≡ Some page → page_of (bytes a) n ≡ Some page)
     → IfOk result (λ a. IsTrue honest → (m : ℕ) → ((n : ℕ) → m ≤ n → p n ≡ None) → length (bytes a) ≤ 4096 * m)
     → IfOk result (λ a. IsTrue honest → IsDatabase p nothing → HoldsDatabase (bytes a) (database_of (contents_in p nothing)))
 closed_holds stay read rise (Ok a) honest bytes p stored size = λ h d. file_holds p (bytes a) (stored h) (size h) d stay read rise
 closed_holds stay read rise (Err e) honest bytes p stored size = stored
+
+pub closed_owned : {A E : Type 0} → TheyStay → TheyAreRead → TheyRise → (result : Result A E) (honest : Bool) (bytes : A → List ℕ) (p : PageMap)
+    → IfOk result (λ a. IsTrue honest → (n : ℕ) (page : List ℕ) → p n ≡ Some page → page_of (bytes a) n ≡ Some page)
+    → IfOk result (λ a. IsTrue honest → (m : ℕ) → ((n : ℕ) → m ≤ n → p n ≡ None) → length (bytes a) ≤ 4096 * m)
+    → IfOk result (λ a. IsTrue honest → IsOwned p nothing → IsOwned (page_of (bytes a)) nothing)
+closed_owned stay read rise (Ok a) honest bytes p stored size = λ h d. file_owned p (bytes a) (stored h) (size h) d.is stay read rise d.tables d.owned
+closed_owned stay read rise (Err e) honest bytes p stored size = stored

@@ -15,12 +15,12 @@ use Rattle.btree_read.specs.declared.entry.Entry.{Entry}
 use Rattle.btree_read.specs.Nodes.{Node, HasNode}
 use Rattle.btree_read.specs.Tree.{Tree, page_of, nodes_of, Holds, IsTree, IsTreeOf}
 use Rattle.page_tables.specs.Held as plain
-use Rattle.page_database.specs.Held.{TableAt, rows_of_tables, HoldsDatabase, contents_of}
-use Rattle.page_database.specs.Changed.{DatabaseWritten}
-use Rattle.page_database.proofs.DatabaseLemmas.{as_tables}
+use Rattle.page_database.specs.Held.{TableAt, rows_of_tables, HoldsDatabase, IsAllOwned, contents_of}
+use Rattle.page_database.specs.Changed.{DatabaseWritten, DatabaseOwned}
+use Rattle.page_database.proofs.DatabaseLemmas.{as_tables, as_any, owned_stays}
 use Rattle.page_contents.specs.Contents.{contents_at}
 use Rattle.page_versions.specs.Changed.{IsNow}
-use Rattle.page_versions.specs.Databases.{root_in, root_of, contents_in, IsDatabase}
+use Rattle.page_versions.specs.Databases.{root_in, root_of, contents_in, IsDatabase, IsOwned}
 
 -- ---- what the laws of databases and tables say
 
@@ -81,3 +81,17 @@ becomes stay read rise version written next root contents same has whole put =
     (stay (in_use version written) (in_use version next) root put.tables (λ n there. same n) put.holds) in
     let is : IsDatabase version next = is_database read rise version next put.tables whole holds in
     record { is = is; shows = read (in_use version next) (root_of version next) (rows_of_tables put.tables) (λ n there. in_use-bounded version next n there) (as_tables (in_use version next) (root_of version next) put.tables holds) ∙ put.shows }
+
+-- where all pages are owned
+pub written_any : (pages : PageMap) (contents : Contents) (root : ℕ) → DatabaseOwned pages contents root → DatabaseWritten pages contents root
+written_any pages contents root put = record { tables = put.tables; holds = as_any pages root put.tables put.holds; shows = put.shows }
+
+pub becomes_owned : (version written next : PageMap) (root : ℕ) (contents : Contents) → ((n : ℕ) → in_use version next n ≡ in_use version written n)
+    → HasRoot (over next version 0) root → IsWhole (over next version) → IsNow version next contents → DatabaseOwned (in_use version written) contents root → IsOwned version next
+becomes_owned version written next root contents same has whole now put =
+    let is_root : root_of version next ≡ root = named_root (over next version 0) root whole.1.first whole.1.there has in
+    record {
+      is = now.is;
+      tables = put.tables;
+      owned = subst (λ (r : ℕ). IsAllOwned (in_use version next) r put.tables) (sym is_root) (owned_stays (in_use version written) (in_use version next) root put.tables same put.holds);
+    }

@@ -20,11 +20,12 @@ use Rattle.overlay.specs.Layers.{size_of}
 use Rattle.overlay.specs.Whole.{IsWhole, AtLimit}
 use Rattle.page_tables.specs.Held as plain
 use Rattle.page_database.specs.declared.error.DatabaseError.{DatabaseError}
-use Rattle.page_database.specs.Held.{TableAt, rows_of_tables, HoldsDatabase, HoldsNoDatabase, contents_of}
-use Rattle.page_database.specs.Changed.{DatabaseWritten, HoldsNoDatabaseIn, SpaceRefused, StoringReaches, NumberingReaches}
+use Rattle.page_database.specs.Held.{TableAt, rows_of_tables, HoldsDatabase, HoldsNoDatabase, IsAllOwned, contents_of}
+use Rattle.page_database.specs.Changed.{DatabaseWritten, DatabaseOwned, HoldsNoDatabaseIn, SpaceRefused, StoringReaches, NumberingReaches}
 use Rattle.page_versions.specs.Changed.{IsNow}
-use Rattle.page_versions.specs.Databases.{contents_in, IsDatabase}
+use Rattle.page_versions.specs.Databases.{root_of, contents_in, IsDatabase, IsOwned}
 use Rattle.page_versions.specs.Refusals.{of_fault, of_rows, of_change, IsReached, IsCounted, RowsReach, NumbersEnd, NewRowsReach}
+use Rattle.page_versions.proofs.HeldLemmas.{root_is}
 use Rattle.page_versions.proofs.RefusalLemmas.{held_at, tables_held_at, read_fails, tables_fail, rows_refused, row_refused, table_refused, root_refused}
 
 -- an error that is this one
@@ -85,6 +86,19 @@ module _ (change : Contents → Contents) (v0 v1 v2 written mid : PageMap) (head
       (root_refused v0 mid next ((contents : Contents) → IsWhole (over mid v2) → DatabaseWritten (in_use v2 mid) contents top → ⊥) (IsDatabase v0 written) reached k m n f less
       (λ d never. never (change (contents_in v0 written)) (whole_now d) (put_now d)) pages private
       (subst (λ (v : PageMap). ChangeRefused (AtLimit (over next v 0) (size_of next)) ((contents : Contents) → IsWhole (over mid v2) → DatabaseWritten (in_use v2 mid) contents top → ⊥) m n f) (second ∙ first) h))
+
+-- the same where all pages are owned
+pub owned_of : (change : Contents → Contents) (v0 v1 v2 written mid : PageMap) (header : FileHeader) (top : ℕ) → Says v0 written header → v1 ≡ v0 → v2 ≡ v1
+    → ((tables : List TableAt) → IsAllOwned (in_use v1 written) header.catalog_root tables → DatabaseOwned (in_use v1 mid) (change (contents_of tables)) top)
+    → (IsWhole (over written v1) → IsWhole (over mid v1))
+    → (next : PageMap) → ((contents : Contents) → IsWhole (over mid v2) → DatabaseOwned (in_use v2 mid) contents top → IsOwned v2 next) → IsOwned v0 written → IsOwned v0 next
+owned_of change v0 v1 v2 written mid header top says first second made whole next put d =
+    let root : root_of v0 written ≡ header.catalog_root = root_is v0 written header says d.is.whole in
+    let held : IsAllOwned (in_use v1 written) header.catalog_root d.tables = subst (λ (v : PageMap). IsAllOwned (in_use v written) header.catalog_root d.tables) (sym first)
+    (subst (λ (r : ℕ). IsAllOwned (in_use v0 written) r d.tables) root d.owned) in
+    let whole_mid : IsWhole (over mid v2) = subst (λ (v : PageMap). IsWhole (over mid v)) (sym second) (whole (subst (λ (v : PageMap). IsWhole (over written v)) (sym first) d.is.whole)) in
+    let put_mid : DatabaseOwned (in_use v2 mid) (change (contents_of d.tables)) top = subst (λ (v : PageMap). DatabaseOwned (in_use v mid) (change (contents_of d.tables)) top) (sym second) (made d.tables held) in
+    subst (λ (v : PageMap). IsOwned v next) (second ∙ first) (put (change (contents_of d.tables)) whole_mid put_mid)
 
 module _ (v0 v1 written next : PageMap) (header : FileHeader) (k m n : ℕ) (cause : DatabaseError) (error : StoreError) (says : Says v0 written header) (first : v1 ≡ v0) (less : k ≤ m)
     (h : SpaceRefused (AtLimit (over next v1 0) (size_of next)) (HoldsNoDatabaseIn (in_use v1 written) header.catalog_root (IsWhole (over written v1))) m n cause) where

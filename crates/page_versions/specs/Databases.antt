@@ -7,7 +7,7 @@ use Rattle.pagefile.specs.Number.{number_at}
 use Rattle.pool.specs.Pages.{PageMap, over}
 use Rattle.overlay.specs.InUse.{in_use}
 use Rattle.overlay.specs.Whole.{IsWhole}
-use Rattle.page_database.specs.Held.{TableAt, HoldsDatabase, contents_of}
+use Rattle.page_database.specs.Held.{TableAt, HoldsDatabase, IsAllOwned, contents_of}
 use Rattle.page_contents.specs.Contents.{contents_at}
 
 -- no page
@@ -38,3 +38,9 @@ pub record IsDatabase (version written : PageMap) : Type 0 where
   pub holds : HoldsDatabase (in_use version written) (root_of version written) tables
   pub read : contents_in version written ≡ contents_of tables
   pub rise : (name : Name) (table : StoredTable) → get (contents_of tables) name ≡ Some table → Rises table.entries
+
+-- it is a database, and each page in use is one of its trees: none is lost
+pub record IsOwned (version written : PageMap) : Type 0 where
+  pub is : IsDatabase version written
+  pub tables : List TableAt
+  pub owned : IsAllOwned (in_use version written) (root_of version written) tables

@@ -10,10 +10,10 @@ ghost use Rattle.overlay.specs.Changes.{private_of, settled_of};
 ghost use Rattle.overlay.specs.InUse.{in_use};
 ghost use Rattle.overlay.specs.Layers.{size_of};
 ghost use Rattle.overlay.specs.Whole.{IsWhole, AtLimit};
-ghost use Rattle.page_database.specs.Held.{TableAt, HoldsDatabase, contents_of};
-ghost use Rattle.page_database.specs.Changed.{DatabaseWritten, HoldsNoDatabaseIn, SpaceRefused};
+ghost use Rattle.page_database.specs.Held.{TableAt, HoldsDatabase, IsAllOwned, contents_of};
+ghost use Rattle.page_database.specs.Changed.{DatabaseWritten, DatabaseOwned, HoldsNoDatabaseIn, SpaceRefused};
 ghost use Rattle.page_versions.specs.Changed.{IsNow};
-ghost use Rattle.page_versions.specs.Databases.{IsDatabase, contents_in};
+ghost use Rattle.page_versions.specs.Databases.{IsDatabase, IsOwned, contents_in};
 ghost use Rattle.page_versions.specs.Refusals.{IsCounted};
 
 use crate::causes::{of_change, of_fault};
@@ -39,6 +39,7 @@ fn create_from<D: Disk>(
     requires rows { table.now.root ≡ 0 }
     requires indexes { AllByRecursion (λ index. index.root ≡ 0) table.now.indexes }
     ensures created { (tables : List TableAt) → HoldsDatabase (in_use ((versions_of pool.old).pages at) (private_of changes.old)) root tables → IsTable table.now → IfOk result (DatabaseWritten (in_use ((versions_of pool.old).pages at) (private_of changes.new)) (with_table (contents_of tables) table.now)) }
+    ensures owned { (tables : List TableAt) → IsAllOwned (in_use ((versions_of pool.old).pages at) (private_of changes.old)) root tables → IsTable table.now → IfOk result (DatabaseOwned (in_use ((versions_of pool.old).pages at) (private_of changes.new)) (with_table (contents_of tables) table.now)) }
     ensures whole { OnOk result (IsWhole (over (private_of changes.old) ((versions_of pool.old).pages at)) → IsWhole (over (private_of changes.new) ((versions_of pool.old).pages at))) }
     ensures settled { settled_of changes.new ≡ settled_of changes.old }
     ensures versions { versions_of pool.new ≡ versions_of pool.old }
@@ -62,6 +63,7 @@ pub fn create_table<D: Disk>(
     requires indexes { AllByRecursion (λ index. index.root ≡ 0) table.now.indexes }
     requires range { IsTable table.now }
     ensures created { IsDatabase ((versions_of pool.old).pages at) (private_of changes.old) → OnOk result (IsNow ((versions_of pool.old).pages at) (private_of changes.new) (with_table (contents_in ((versions_of pool.old).pages at) (private_of changes.old)) table.now)) }
+    ensures owned { IsOwned ((versions_of pool.old).pages at) (private_of changes.old) → OnOk result (IsOwned ((versions_of pool.old).pages at) (private_of changes.new)) }
     ensures settled { settled_of changes.new ≡ settled_of changes.old }
     ensures versions { versions_of pool.new ≡ versions_of pool.old }
     ensures refused { IfErr result (MayFail (IsDatabase ((versions_of pool.old).pages at) (private_of changes.old)) (D.refused (device_of pool.old)) (D.refused (device_of pool.new)) (ChangingReaches (IsCounted ((versions_of pool.old).pages at) (private_of changes.new)))) }
@@ -89,6 +91,7 @@ fn drop_from<D: Disk>(
     name: &Text,
 ) -> Result<u32, DatabaseError>
     ensures dropped { (tables : List TableAt) → HoldsDatabase (in_use ((versions_of pool.old).pages at) (private_of changes.old)) root tables → IfOk result (DatabaseWritten (in_use ((versions_of pool.old).pages at) (private_of changes.new)) (without_table (contents_of tables) name.now)) }
+    ensures owned { (tables : List TableAt) → IsAllOwned (in_use ((versions_of pool.old).pages at) (private_of changes.old)) root tables → IfOk result (DatabaseOwned (in_use ((versions_of pool.old).pages at) (private_of changes.new)) (without_table (contents_of tables) name.now)) }
     ensures whole { OnOk result (IsWhole (over (private_of changes.old) ((versions_of pool.old).pages at)) → IsWhole (over (private_of changes.new) ((versions_of pool.old).pages at))) }
     ensures settled { settled_of changes.new ≡ settled_of changes.old }
     ensures versions { versions_of pool.new ≡ versions_of pool.old }
@@ -109,6 +112,7 @@ pub fn drop_table<D: Disk>(
     name: &Text,
 ) -> Result<(), StoreError>
     ensures dropped { IsDatabase ((versions_of pool.old).pages at) (private_of changes.old) → OnOk result (IsNow ((versions_of pool.old).pages at) (private_of changes.new) (without_table (contents_in ((versions_of pool.old).pages at) (private_of changes.old)) name.now)) }
+    ensures owned { IsOwned ((versions_of pool.old).pages at) (private_of changes.old) → OnOk result (IsOwned ((versions_of pool.old).pages at) (private_of changes.new)) }
     ensures settled { settled_of changes.new ≡ settled_of changes.old }
     ensures versions { versions_of pool.new ≡ versions_of pool.old }
     ensures refused { IfErr result (MayFail (IsDatabase ((versions_of pool.old).pages at) (private_of changes.old)) (D.refused (device_of pool.old)) (D.refused (device_of pool.new)) (ChangingReaches (IsCounted ((versions_of pool.old).pages at) (private_of changes.new)))) }
@@ -137,6 +141,7 @@ fn index_from<D: Disk>(
     index: Index,
 ) -> Result<u32, DatabaseError>
     ensures indexed { (tables : List TableAt) → HoldsDatabase (in_use ((versions_of pool.old).pages at) (private_of changes.old)) root tables → ArePlaces index.columns → IfOk result (DatabaseWritten (in_use ((versions_of pool.old).pages at) (private_of changes.new)) (indexed (contents_of tables) name.now index)) }
+    ensures owned { (tables : List TableAt) → IsAllOwned (in_use ((versions_of pool.old).pages at) (private_of changes.old)) root tables → ArePlaces index.columns → IfOk result (DatabaseOwned (in_use ((versions_of pool.old).pages at) (private_of changes.new)) (indexed (contents_of tables) name.now index)) }
     ensures whole { OnOk result (IsWhole (over (private_of changes.old) ((versions_of pool.old).pages at)) → IsWhole (over (private_of changes.new) ((versions_of pool.old).pages at))) }
     ensures settled { settled_of changes.new ≡ settled_of changes.old }
     ensures versions { versions_of pool.new ≡ versions_of pool.old }
@@ -159,6 +164,7 @@ pub fn create_index<D: Disk>(
 ) -> Result<(), StoreError>
     requires { ArePlaces index.columns }
     ensures indexed { IsDatabase ((versions_of pool.old).pages at) (private_of changes.old) → OnOk result (IsNow ((versions_of pool.old).pages at) (private_of changes.new) (indexed (contents_in ((versions_of pool.old).pages at) (private_of changes.old)) name.now index)) }
+    ensures owned { IsOwned ((versions_of pool.old).pages at) (private_of changes.old) → OnOk result (IsOwned ((versions_of pool.old).pages at) (private_of changes.new)) }
     ensures settled { settled_of changes.new ≡ settled_of changes.old }
     ensures versions { versions_of pool.new ≡ versions_of pool.old }
     ensures refused { IfErr result (MayFail (IsDatabase ((versions_of pool.old).pages at) (private_of changes.old)) (D.refused (device_of pool.old)) (D.refused (device_of pool.new)) (ChangingReaches (IsCounted ((versions_of pool.old).pages at) (private_of changes.new)))) }
@@ -186,6 +192,7 @@ fn unindex_from<D: Disk>(
     name: &Text,
 ) -> Result<u32, DatabaseError>
     ensures unindexed { (tables : List TableAt) → HoldsDatabase (in_use ((versions_of pool.old).pages at) (private_of changes.old)) root tables → IfOk result (DatabaseWritten (in_use ((versions_of pool.old).pages at) (private_of changes.new)) (unindexed (contents_of tables) name.now)) }
+    ensures owned { (tables : List TableAt) → IsAllOwned (in_use ((versions_of pool.old).pages at) (private_of changes.old)) root tables → IfOk result (DatabaseOwned (in_use ((versions_of pool.old).pages at) (private_of changes.new)) (unindexed (contents_of tables) name.now)) }
     ensures whole { OnOk result (IsWhole (over (private_of changes.old) ((versions_of pool.old).pages at)) → IsWhole (over (private_of changes.new) ((versions_of pool.old).pages at))) }
     ensures settled { settled_of changes.new ≡ settled_of changes.old }
     ensures versions { versions_of pool.new ≡ versions_of pool.old }
@@ -206,6 +213,7 @@ pub fn drop_index<D: Disk>(
     name: &Text,
 ) -> Result<(), StoreError>
     ensures unindexed { IsDatabase ((versions_of pool.old).pages at) (private_of changes.old) → OnOk result (IsNow ((versions_of pool.old).pages at) (private_of changes.new) (unindexed (contents_in ((versions_of pool.old).pages at) (private_of changes.old)) name.now)) }
+    ensures owned { IsOwned ((versions_of pool.old).pages at) (private_of changes.old) → OnOk result (IsOwned ((versions_of pool.old).pages at) (private_of changes.new)) }
     ensures settled { settled_of changes.new ≡ settled_of changes.old }
     ensures versions { versions_of pool.new ≡ versions_of pool.old }
     ensures refused { IfErr result (MayFail (IsDatabase ((versions_of pool.old).pages at) (private_of changes.old)) (D.refused (device_of pool.old)) (D.refused (device_of pool.new)) (ChangingReaches (IsCounted ((versions_of pool.old).pages at) (private_of changes.new)))) }

@@ -8,7 +8,7 @@ use Rattle.overlay.specs.InUse.{in_use}
 use Rattle.overlay.specs.Layers.{size_of}
 use Rattle.overlay.specs.Whole.{IsWhole, AtLimit}
 use Rattle.page_database.specs.Held.{contents_of}
-use Rattle.page_database.specs.Changed.{DatabaseWritten, HoldsNoDatabaseIn, SpaceRefused}
+use Rattle.page_database.specs.Changed.{DatabaseWritten, DatabaseOwned, HoldsNoDatabaseIn, SpaceRefused}
 use Rattle.page_versions.proofs.StepLemmas.{same_pages}
 use Rattle.page_versions.proofs.rows.delete_from.Goals as goal
 
@@ -18,6 +18,13 @@ returns-clause-deleted g c = λ tables h.
     let now = c.changes-1.given.1 (sym follows.3) in
     subst (λ (w : PageMap). IfOk c.delete.result (DatabaseWritten (in_use ((versions_of c.args.pool.now).pages c.args.at) w) (deleted (contents_of tables) c.args.name.now c.args.number))) (sym (ap (λ (k : Changes). private_of k) now))
     (subst (λ (v : PageMap). IfOk c.delete.result (DatabaseWritten (in_use v (private_of c.delete.new.space.changes.now)) (deleted (contents_of tables) c.args.name.now c.args.number))) (same_pages _ _ _ _ follows.0.versions follows.4) (c.delete.ensures.deleted tables h))
+
+pub returns-clause-owned : goal.returns-clause-owned
+returns-clause-owned g c = λ tables h.
+    let follows = c.delete.ensures.follows in
+    let now = c.changes-1.given.1 (sym follows.3) in
+    subst (λ (w : PageMap). IfOk c.delete.result (DatabaseOwned (in_use ((versions_of c.args.pool.now).pages c.args.at) w) (deleted (contents_of tables) c.args.name.now c.args.number))) (sym (ap (λ (k : Changes). private_of k) now))
+    (subst (λ (v : PageMap). IfOk c.delete.result (DatabaseOwned (in_use v (private_of c.delete.new.space.changes.now)) (deleted (contents_of tables) c.args.name.now c.args.number))) (same_pages _ _ _ _ follows.0.versions follows.4) (c.delete.ensures.owned tables h))
 
 pub returns-clause-whole : goal.returns-clause-whole
 returns-clause-whole g c =

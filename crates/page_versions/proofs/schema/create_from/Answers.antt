@@ -8,7 +8,7 @@ use Rattle.overlay.specs.InUse.{in_use}
 use Rattle.overlay.specs.Layers.{size_of}
 use Rattle.overlay.specs.Whole.{IsWhole, AtLimit}
 use Rattle.page_database.specs.Held.{contents_of}
-use Rattle.page_database.specs.Changed.{DatabaseWritten, HoldsNoDatabaseIn, SpaceRefused}
+use Rattle.page_database.specs.Changed.{DatabaseWritten, DatabaseOwned, HoldsNoDatabaseIn, SpaceRefused}
 use Rattle.page_versions.proofs.StepLemmas.{same_pages}
 use Rattle.page_versions.proofs.schema.create_from.Goals as goal
 
@@ -18,6 +18,13 @@ returns-clause-created g c = λ tables h good.
     let now = c.changes-1.given.1 (sym follows.3) in
     subst (λ (w : PageMap). IfOk c.create_table.result (DatabaseWritten (in_use ((versions_of c.args.pool.now).pages c.args.at) w) (with_table (contents_of tables) c.args.table.now))) (sym (ap (λ (k : Changes). private_of k) now))
     (subst (λ (v : PageMap). IfOk c.create_table.result (DatabaseWritten (in_use v (private_of c.create_table.new.space.changes.now)) (with_table (contents_of tables) c.args.table.now))) (same_pages _ _ _ _ follows.0.versions follows.4) (c.create_table.ensures.created tables h good))
+
+pub returns-clause-owned : goal.returns-clause-owned
+returns-clause-owned g c = λ tables h good.
+    let follows = c.create_table.ensures.follows in
+    let now = c.changes-1.given.1 (sym follows.3) in
+    subst (λ (w : PageMap). IfOk c.create_table.result (DatabaseOwned (in_use ((versions_of c.args.pool.now).pages c.args.at) w) (with_table (contents_of tables) c.args.table.now))) (sym (ap (λ (k : Changes). private_of k) now))
+    (subst (λ (v : PageMap). IfOk c.create_table.result (DatabaseOwned (in_use v (private_of c.create_table.new.space.changes.now)) (with_table (contents_of tables) c.args.table.now))) (same_pages _ _ _ _ follows.0.versions follows.4) (c.create_table.ensures.owned tables h good))
 
 pub returns-clause-whole : goal.returns-clause-whole
 returns-clause-whole g c =

@@ -8,7 +8,7 @@ use Rattle.overlay.specs.InUse.{in_use}
 use Rattle.overlay.specs.Layers.{size_of}
 use Rattle.overlay.specs.Whole.{IsWhole, AtLimit}
 use Rattle.page_database.specs.Held.{contents_of}
-use Rattle.page_database.specs.Changed.{DatabaseWritten, HoldsNoDatabaseIn, SpaceRefused}
+use Rattle.page_database.specs.Changed.{DatabaseWritten, DatabaseOwned, HoldsNoDatabaseIn, SpaceRefused}
 use Rattle.page_versions.proofs.StepLemmas.{same_pages}
 use Rattle.page_versions.proofs.schema.unindex_from.Goals as goal
 
@@ -18,6 +18,13 @@ returns-clause-unindexed g c = λ tables h.
     let now = c.changes-1.given.1 (sym follows.3) in
     subst (λ (w : PageMap). IfOk c.drop_index.result (DatabaseWritten (in_use ((versions_of c.args.pool.now).pages c.args.at) w) (unindexed (contents_of tables) c.args.name.now))) (sym (ap (λ (k : Changes). private_of k) now))
     (subst (λ (v : PageMap). IfOk c.drop_index.result (DatabaseWritten (in_use v (private_of c.drop_index.new.space.changes.now)) (unindexed (contents_of tables) c.args.name.now))) (same_pages _ _ _ _ follows.0.versions follows.4) (c.drop_index.ensures.unindexed tables h))
+
+pub returns-clause-owned : goal.returns-clause-owned
+returns-clause-owned g c = λ tables h.
+    let follows = c.drop_index.ensures.follows in
+    let now = c.changes-1.given.1 (sym follows.3) in
+    subst (λ (w : PageMap). IfOk c.drop_index.result (DatabaseOwned (in_use ((versions_of c.args.pool.now).pages c.args.at) w) (unindexed (contents_of tables) c.args.name.now))) (sym (ap (λ (k : Changes). private_of k) now))
+    (subst (λ (v : PageMap). IfOk c.drop_index.result (DatabaseOwned (in_use v (private_of c.drop_index.new.space.changes.now)) (unindexed (contents_of tables) c.args.name.now))) (same_pages _ _ _ _ follows.0.versions follows.4) (c.drop_index.ensures.owned tables h))
 
 pub returns-clause-whole : goal.returns-clause-whole
 returns-clause-whole g c =
