@@ -21,7 +21,7 @@ use Rattle.pool.specs.Pages.{PageMap, over, only, known}
 use Rattle.pool.specs.Versions.{Versions}
 use Rattle.overlay.specs.Bounded.{in_use-bounded}
 use Rattle.overlay.specs.InUse.{in_use}
-use Rattle.overlay.specs.Whole.{IsWhole, HasFreeList}
+use Rattle.overlay.specs.Whole.{IsWholeFor, IsFull, HasFreeList}
 use Rattle.overlay.proofs.InUseLemmas.{in_use-read}
 use Rattle.overlay.proofs.LayerLemmas.{only_apart}
 use Rattle.page_database.specs.Held as database
@@ -46,8 +46,8 @@ new_header = record { page_count = 1; first_free = 0; catalog_root = 0 }
 abbrev pub TheyBegin : Type 0
 TheyBegin = (pages : PageMap) → database.HoldsDatabase pages 0 []
 
-first_whole : (first : List ℕ) → IsHeader first new_header → IsWhole (only 0 first)
-first_whole first says = (
+first_whole : (full : Bool) (first : List ℕ) → IsHeader first new_header → IsWholeFor full (only 0 first)
+first_whole full first says = (
   new_header,
   record {
     first = first;
@@ -60,11 +60,15 @@ first_whole first says = (
     within = λ n i. absurd i;
     all = λ n less. subst (λ (k : ℕ). IsSome (only 0 first k)) (zero_is n less) refl;
     ends = λ n behind. only_apart 0 n first (above n behind);
+    lists = λ e n bytes some less there kind. absurd (no_other n some less);
   },
 )
   where
     zero_is : (n : ℕ) → n < 1 → 0 ≡ n
     zero_is n less = omega (arith, less)
+
+    no_other : (n : ℕ) → 0 < n → n < 1 → ⊥
+    no_other n some less = omega (arith, some, less)
 
     above : (n : ℕ) → 1 ≤ n → n ≢ 0
     above n behind = omega (arith, behind)
@@ -73,7 +77,7 @@ first_holds : TheyBegin → (first : List ℕ) → IsHeader first new_header →
 first_holds begin first says = subst (λ (r : ℕ). database.HoldsDatabase (in_use (only 0 first) nothing) r []) (sym says.catalog_root) (begin (in_use (only 0 first) nothing))
 
 first_database : TheyBegin → TheyAreRead → TheyRise → (first : List ℕ) → IsHeader first new_header → IsDatabase (only 0 first) nothing
-first_database begin read rise first says = is_database read rise (only 0 first) nothing [] (first_whole first says) (first_holds begin first says)
+first_database begin read rise first says = is_database read rise (only 0 first) nothing [] (record { whole = first_whole false first says; full = λ start. start }) (first_holds begin first says)
 
 first_shows : TheyBegin → TheyAreRead → database.contents_of [] ≡ empty → (first : List ℕ) → IsHeader first new_header → database_of (contents_in (only 0 first) nothing) ≡ empty
 first_shows begin read none first says =
@@ -94,6 +98,7 @@ first_none first n = by (in_use (only 0 first) nothing n) refl
 first_owned : TheyBegin → TheyAreRead → TheyRise → (first : List ℕ) → IsHeader first new_header → IsOwned (only 0 first) nothing
 first_owned begin read rise first says = record {
   is = first_database begin read rise first says;
+  start = first_whole true first says;
   tables = [];
   owned = subst (λ (r : ℕ). database.IsAllOwned (in_use (only 0 first) nothing) r []) (sym says.catalog_root) (at_first (in_use (only 0 first) nothing) (λ alone n. first_none first n));
 }

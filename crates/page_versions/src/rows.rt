@@ -8,7 +8,7 @@ ghost use Rattle.pool.specs.Versions.{versions_of, device_of};
 ghost use Rattle.overlay.specs.Changes.{private_of, settled_of};
 ghost use Rattle.overlay.specs.InUse.{in_use};
 ghost use Rattle.overlay.specs.Layers.{size_of};
-ghost use Rattle.overlay.specs.Whole.{IsWhole, AtLimit};
+ghost use Rattle.overlay.specs.Whole.{IsWholeOver, AtLimit};
 ghost use Rattle.page_database.specs.Held.{TableAt, HoldsDatabase, IsAllOwned, contents_of};
 ghost use Rattle.page_database.specs.Changed.{DatabaseWritten, DatabaseOwned, HoldsNoDatabaseIn, SpaceRefused, StoringReaches, NumberingReaches};
 ghost use Rattle.page_versions.specs.Changed.{IsNow};
@@ -39,10 +39,10 @@ fn append_from<D: Disk>(
     ensures appended { (tables : List TableAt) → HoldsDatabase (in_use ((versions_of pool.old).pages at) (private_of changes.old)) root tables → IfOk result (DatabaseWritten (in_use ((versions_of pool.old).pages at) (private_of changes.new)) (appended (contents_of tables) name.now rows)) }
     ensures owned { (tables : List TableAt) → IsAllOwned (in_use ((versions_of pool.old).pages at) (private_of changes.old)) root tables → IfOk result (DatabaseOwned (in_use ((versions_of pool.old).pages at) (private_of changes.new)) (appended (contents_of tables) name.now rows)) }
     ensures limits { IfErr result (NumberingReaches (in_use ((versions_of pool.old).pages at) (private_of changes.old)) root name.now rows) }
-    ensures whole { OnOk result (IsWhole (over (private_of changes.old) ((versions_of pool.old).pages at)) → IsWhole (over (private_of changes.new) ((versions_of pool.old).pages at))) }
+    ensures whole { OnOk result (IsWholeOver ((versions_of pool.old).pages at) (private_of changes.old) → IsWholeOver ((versions_of pool.old).pages at) (private_of changes.new)) }
     ensures settled { settled_of changes.new ≡ settled_of changes.old }
     ensures versions { versions_of pool.new ≡ versions_of pool.old }
-    ensures refusal { IfErr result (SpaceRefused (AtLimit (over (private_of changes.new) ((versions_of pool.old).pages at) 0) (size_of (private_of changes.new))) (HoldsNoDatabaseIn (in_use ((versions_of pool.old).pages at) (private_of changes.old)) root (IsWhole (over (private_of changes.old) ((versions_of pool.old).pages at)))) (D.refused (device_of pool.old)) (D.refused (device_of pool.new))) }
+    ensures refusal { IfErr result (SpaceRefused (AtLimit (over (private_of changes.new) ((versions_of pool.old).pages at) 0) (size_of (private_of changes.new))) (HoldsNoDatabaseIn (in_use ((versions_of pool.old).pages at) (private_of changes.old)) root (IsWholeOver ((versions_of pool.old).pages at) (private_of changes.old))) (D.refused (device_of pool.old)) (D.refused (device_of pool.new))) }
     ensures rising { D.refused (device_of pool.old) ≤ D.refused (device_of pool.new) }
 {
     let mut space = Overlay { pool, changes, at };
@@ -92,10 +92,10 @@ fn replace_from<D: Disk>(
     ensures replaced { (tables : List TableAt) → HoldsDatabase (in_use ((versions_of pool.old).pages at) (private_of changes.old)) root tables → IfOk result (DatabaseWritten (in_use ((versions_of pool.old).pages at) (private_of changes.new)) (replaced (contents_of tables) name.now number row)) }
     ensures owned { (tables : List TableAt) → IsAllOwned (in_use ((versions_of pool.old).pages at) (private_of changes.old)) root tables → IfOk result (DatabaseOwned (in_use ((versions_of pool.old).pages at) (private_of changes.new)) (replaced (contents_of tables) name.now number row)) }
     ensures limits { IfErr result (StoringReaches (in_use ((versions_of pool.old).pages at) (private_of changes.old)) root name.now (row ∷ [])) }
-    ensures whole { OnOk result (IsWhole (over (private_of changes.old) ((versions_of pool.old).pages at)) → IsWhole (over (private_of changes.new) ((versions_of pool.old).pages at))) }
+    ensures whole { OnOk result (IsWholeOver ((versions_of pool.old).pages at) (private_of changes.old) → IsWholeOver ((versions_of pool.old).pages at) (private_of changes.new)) }
     ensures settled { settled_of changes.new ≡ settled_of changes.old }
     ensures versions { versions_of pool.new ≡ versions_of pool.old }
-    ensures refusal { IfErr result (SpaceRefused (AtLimit (over (private_of changes.new) ((versions_of pool.old).pages at) 0) (size_of (private_of changes.new))) (HoldsNoDatabaseIn (in_use ((versions_of pool.old).pages at) (private_of changes.old)) root (IsWhole (over (private_of changes.old) ((versions_of pool.old).pages at)))) (D.refused (device_of pool.old)) (D.refused (device_of pool.new))) }
+    ensures refusal { IfErr result (SpaceRefused (AtLimit (over (private_of changes.new) ((versions_of pool.old).pages at) 0) (size_of (private_of changes.new))) (HoldsNoDatabaseIn (in_use ((versions_of pool.old).pages at) (private_of changes.old)) root (IsWholeOver ((versions_of pool.old).pages at) (private_of changes.old))) (D.refused (device_of pool.old)) (D.refused (device_of pool.new))) }
     ensures rising { D.refused (device_of pool.old) ≤ D.refused (device_of pool.new) }
 {
     let mut space = Overlay { pool, changes, at };
@@ -153,10 +153,10 @@ fn delete_from<D: Disk>(
 ) -> Result<u32, DatabaseError>
     ensures deleted { (tables : List TableAt) → HoldsDatabase (in_use ((versions_of pool.old).pages at) (private_of changes.old)) root tables → IfOk result (DatabaseWritten (in_use ((versions_of pool.old).pages at) (private_of changes.new)) (deleted (contents_of tables) name.now number)) }
     ensures owned { (tables : List TableAt) → IsAllOwned (in_use ((versions_of pool.old).pages at) (private_of changes.old)) root tables → IfOk result (DatabaseOwned (in_use ((versions_of pool.old).pages at) (private_of changes.new)) (deleted (contents_of tables) name.now number)) }
-    ensures whole { OnOk result (IsWhole (over (private_of changes.old) ((versions_of pool.old).pages at)) → IsWhole (over (private_of changes.new) ((versions_of pool.old).pages at))) }
+    ensures whole { OnOk result (IsWholeOver ((versions_of pool.old).pages at) (private_of changes.old) → IsWholeOver ((versions_of pool.old).pages at) (private_of changes.new)) }
     ensures settled { settled_of changes.new ≡ settled_of changes.old }
     ensures versions { versions_of pool.new ≡ versions_of pool.old }
-    ensures refusal { IfErr result (SpaceRefused (AtLimit (over (private_of changes.new) ((versions_of pool.old).pages at) 0) (size_of (private_of changes.new))) (HoldsNoDatabaseIn (in_use ((versions_of pool.old).pages at) (private_of changes.old)) root (IsWhole (over (private_of changes.old) ((versions_of pool.old).pages at)))) (D.refused (device_of pool.old)) (D.refused (device_of pool.new))) }
+    ensures refusal { IfErr result (SpaceRefused (AtLimit (over (private_of changes.new) ((versions_of pool.old).pages at) 0) (size_of (private_of changes.new))) (HoldsNoDatabaseIn (in_use ((versions_of pool.old).pages at) (private_of changes.old)) root (IsWholeOver ((versions_of pool.old).pages at) (private_of changes.old))) (D.refused (device_of pool.old)) (D.refused (device_of pool.new))) }
     ensures rising { D.refused (device_of pool.old) ≤ D.refused (device_of pool.new) }
 {
     let mut space = Overlay { pool, changes, at };

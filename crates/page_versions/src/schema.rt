@@ -9,7 +9,7 @@ ghost use Rattle.pool.specs.Versions.{versions_of, device_of};
 ghost use Rattle.overlay.specs.Changes.{private_of, settled_of};
 ghost use Rattle.overlay.specs.InUse.{in_use};
 ghost use Rattle.overlay.specs.Layers.{size_of};
-ghost use Rattle.overlay.specs.Whole.{IsWhole, AtLimit};
+ghost use Rattle.overlay.specs.Whole.{IsWholeOver, AtLimit};
 ghost use Rattle.page_database.specs.Held.{TableAt, HoldsDatabase, IsAllOwned, contents_of};
 ghost use Rattle.page_database.specs.Changed.{DatabaseWritten, DatabaseOwned, HoldsNoDatabaseIn, SpaceRefused};
 ghost use Rattle.page_versions.specs.Changed.{IsNow};
@@ -40,10 +40,10 @@ fn create_from<D: Disk>(
     requires indexes { AllByRecursion (λ index. index.root ≡ 0) table.now.indexes }
     ensures created { (tables : List TableAt) → HoldsDatabase (in_use ((versions_of pool.old).pages at) (private_of changes.old)) root tables → IsTable table.now → IfOk result (DatabaseWritten (in_use ((versions_of pool.old).pages at) (private_of changes.new)) (with_table (contents_of tables) table.now)) }
     ensures owned { (tables : List TableAt) → IsAllOwned (in_use ((versions_of pool.old).pages at) (private_of changes.old)) root tables → IsTable table.now → IfOk result (DatabaseOwned (in_use ((versions_of pool.old).pages at) (private_of changes.new)) (with_table (contents_of tables) table.now)) }
-    ensures whole { OnOk result (IsWhole (over (private_of changes.old) ((versions_of pool.old).pages at)) → IsWhole (over (private_of changes.new) ((versions_of pool.old).pages at))) }
+    ensures whole { OnOk result (IsWholeOver ((versions_of pool.old).pages at) (private_of changes.old) → IsWholeOver ((versions_of pool.old).pages at) (private_of changes.new)) }
     ensures settled { settled_of changes.new ≡ settled_of changes.old }
     ensures versions { versions_of pool.new ≡ versions_of pool.old }
-    ensures refusal { IfErr result (SpaceRefused (AtLimit (over (private_of changes.new) ((versions_of pool.old).pages at) 0) (size_of (private_of changes.new))) (HoldsNoDatabaseIn (in_use ((versions_of pool.old).pages at) (private_of changes.old)) root (IsWhole (over (private_of changes.old) ((versions_of pool.old).pages at)))) (D.refused (device_of pool.old)) (D.refused (device_of pool.new))) }
+    ensures refusal { IfErr result (SpaceRefused (AtLimit (over (private_of changes.new) ((versions_of pool.old).pages at) 0) (size_of (private_of changes.new))) (HoldsNoDatabaseIn (in_use ((versions_of pool.old).pages at) (private_of changes.old)) root (IsWholeOver ((versions_of pool.old).pages at) (private_of changes.old))) (D.refused (device_of pool.old)) (D.refused (device_of pool.new))) }
     ensures rising { D.refused (device_of pool.old) ≤ D.refused (device_of pool.new) }
 {
     let mut space = Overlay { pool, changes, at };
@@ -92,10 +92,10 @@ fn drop_from<D: Disk>(
 ) -> Result<u32, DatabaseError>
     ensures dropped { (tables : List TableAt) → HoldsDatabase (in_use ((versions_of pool.old).pages at) (private_of changes.old)) root tables → IfOk result (DatabaseWritten (in_use ((versions_of pool.old).pages at) (private_of changes.new)) (without_table (contents_of tables) name.now)) }
     ensures owned { (tables : List TableAt) → IsAllOwned (in_use ((versions_of pool.old).pages at) (private_of changes.old)) root tables → IfOk result (DatabaseOwned (in_use ((versions_of pool.old).pages at) (private_of changes.new)) (without_table (contents_of tables) name.now)) }
-    ensures whole { OnOk result (IsWhole (over (private_of changes.old) ((versions_of pool.old).pages at)) → IsWhole (over (private_of changes.new) ((versions_of pool.old).pages at))) }
+    ensures whole { OnOk result (IsWholeOver ((versions_of pool.old).pages at) (private_of changes.old) → IsWholeOver ((versions_of pool.old).pages at) (private_of changes.new)) }
     ensures settled { settled_of changes.new ≡ settled_of changes.old }
     ensures versions { versions_of pool.new ≡ versions_of pool.old }
-    ensures refusal { IfErr result (SpaceRefused (AtLimit (over (private_of changes.new) ((versions_of pool.old).pages at) 0) (size_of (private_of changes.new))) (HoldsNoDatabaseIn (in_use ((versions_of pool.old).pages at) (private_of changes.old)) root (IsWhole (over (private_of changes.old) ((versions_of pool.old).pages at)))) (D.refused (device_of pool.old)) (D.refused (device_of pool.new))) }
+    ensures refusal { IfErr result (SpaceRefused (AtLimit (over (private_of changes.new) ((versions_of pool.old).pages at) 0) (size_of (private_of changes.new))) (HoldsNoDatabaseIn (in_use ((versions_of pool.old).pages at) (private_of changes.old)) root (IsWholeOver ((versions_of pool.old).pages at) (private_of changes.old))) (D.refused (device_of pool.old)) (D.refused (device_of pool.new))) }
     ensures rising { D.refused (device_of pool.old) ≤ D.refused (device_of pool.new) }
 {
     let mut space = Overlay { pool, changes, at };
@@ -142,10 +142,10 @@ fn index_from<D: Disk>(
 ) -> Result<u32, DatabaseError>
     ensures indexed { (tables : List TableAt) → HoldsDatabase (in_use ((versions_of pool.old).pages at) (private_of changes.old)) root tables → ArePlaces index.columns → IfOk result (DatabaseWritten (in_use ((versions_of pool.old).pages at) (private_of changes.new)) (indexed (contents_of tables) name.now index)) }
     ensures owned { (tables : List TableAt) → IsAllOwned (in_use ((versions_of pool.old).pages at) (private_of changes.old)) root tables → ArePlaces index.columns → IfOk result (DatabaseOwned (in_use ((versions_of pool.old).pages at) (private_of changes.new)) (indexed (contents_of tables) name.now index)) }
-    ensures whole { OnOk result (IsWhole (over (private_of changes.old) ((versions_of pool.old).pages at)) → IsWhole (over (private_of changes.new) ((versions_of pool.old).pages at))) }
+    ensures whole { OnOk result (IsWholeOver ((versions_of pool.old).pages at) (private_of changes.old) → IsWholeOver ((versions_of pool.old).pages at) (private_of changes.new)) }
     ensures settled { settled_of changes.new ≡ settled_of changes.old }
     ensures versions { versions_of pool.new ≡ versions_of pool.old }
-    ensures refusal { IfErr result (SpaceRefused (AtLimit (over (private_of changes.new) ((versions_of pool.old).pages at) 0) (size_of (private_of changes.new))) (HoldsNoDatabaseIn (in_use ((versions_of pool.old).pages at) (private_of changes.old)) root (IsWhole (over (private_of changes.old) ((versions_of pool.old).pages at)))) (D.refused (device_of pool.old)) (D.refused (device_of pool.new))) }
+    ensures refusal { IfErr result (SpaceRefused (AtLimit (over (private_of changes.new) ((versions_of pool.old).pages at) 0) (size_of (private_of changes.new))) (HoldsNoDatabaseIn (in_use ((versions_of pool.old).pages at) (private_of changes.old)) root (IsWholeOver ((versions_of pool.old).pages at) (private_of changes.old))) (D.refused (device_of pool.old)) (D.refused (device_of pool.new))) }
     ensures rising { D.refused (device_of pool.old) ≤ D.refused (device_of pool.new) }
 {
     let mut space = Overlay { pool, changes, at };
@@ -193,10 +193,10 @@ fn unindex_from<D: Disk>(
 ) -> Result<u32, DatabaseError>
     ensures unindexed { (tables : List TableAt) → HoldsDatabase (in_use ((versions_of pool.old).pages at) (private_of changes.old)) root tables → IfOk result (DatabaseWritten (in_use ((versions_of pool.old).pages at) (private_of changes.new)) (unindexed (contents_of tables) name.now)) }
     ensures owned { (tables : List TableAt) → IsAllOwned (in_use ((versions_of pool.old).pages at) (private_of changes.old)) root tables → IfOk result (DatabaseOwned (in_use ((versions_of pool.old).pages at) (private_of changes.new)) (unindexed (contents_of tables) name.now)) }
-    ensures whole { OnOk result (IsWhole (over (private_of changes.old) ((versions_of pool.old).pages at)) → IsWhole (over (private_of changes.new) ((versions_of pool.old).pages at))) }
+    ensures whole { OnOk result (IsWholeOver ((versions_of pool.old).pages at) (private_of changes.old) → IsWholeOver ((versions_of pool.old).pages at) (private_of changes.new)) }
     ensures settled { settled_of changes.new ≡ settled_of changes.old }
     ensures versions { versions_of pool.new ≡ versions_of pool.old }
-    ensures refusal { IfErr result (SpaceRefused (AtLimit (over (private_of changes.new) ((versions_of pool.old).pages at) 0) (size_of (private_of changes.new))) (HoldsNoDatabaseIn (in_use ((versions_of pool.old).pages at) (private_of changes.old)) root (IsWhole (over (private_of changes.old) ((versions_of pool.old).pages at)))) (D.refused (device_of pool.old)) (D.refused (device_of pool.new))) }
+    ensures refusal { IfErr result (SpaceRefused (AtLimit (over (private_of changes.new) ((versions_of pool.old).pages at) 0) (size_of (private_of changes.new))) (HoldsNoDatabaseIn (in_use ((versions_of pool.old).pages at) (private_of changes.old)) root (IsWholeOver ((versions_of pool.old).pages at) (private_of changes.old))) (D.refused (device_of pool.old)) (D.refused (device_of pool.new))) }
     ensures rising { D.refused (device_of pool.old) ≤ D.refused (device_of pool.new) }
 {
     let mut space = Overlay { pool, changes, at };

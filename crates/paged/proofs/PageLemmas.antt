@@ -44,7 +44,7 @@ known_committed false base written now is first = refl
 pub database_committed : (honest : Bool) (base written now : PageMap) → now ≡ known honest (over written base) → IsTrue honest → IsSome (base 0)
     → IsDatabase base written → IsDatabase now nothing
 database_committed true base written now is device first d = subst (λ (p : PageMap). IsDatabase p nothing) (sym is) (record {
-  whole = d.whole;
+  whole = record { whole = d.whole.whole; full = λ start. start };
   tables = d.tables;
   holds = subst (λ (pages : PageMap). HoldsDatabase pages (root_of base written) d.tables) (sym (use_committed base written first)) d.holds;
   read = contents_committed base written first ∙ d.read;
@@ -56,6 +56,7 @@ pub owned_committed : (honest : Bool) (base written now : PageMap) → now ≡ k
     → IsOwned base written → IsOwned now nothing
 owned_committed true base written now is device first d = subst (λ (p : PageMap). IsOwned p nothing) (sym is) (record {
   is = database_committed true base written (over written base) refl device first d.is;
+  start = d.is.whole.full d.start;
   tables = d.tables;
   owned = subst (λ (pages : PageMap). IsAllOwned pages (root_of base written) d.tables) (sym (use_committed base written first)) d.owned;
 })
