@@ -6,7 +6,7 @@ use Rattle.pagefile.specs.Pages.{page_of}
 use Rattle.page_versions.specs.Databases.{nothing, IsOwned}
 use Rattle.page_versions.specs.Saved.{HoldsDatabase, IsSaved, IsSavedOwned}
 
--- A file that is this database, and each page in use is one of its trees: of the catalogue's, of a table's or of an index's. None is lost.
+-- A file that is this database, each page in use is one of its trees, of the catalogue's, of a table's or of an index's, and each free page stands in the list of free pages: none is lost.
 pub record HoldsAlone (file : List ℕ) (db : Database) : Type 0 where
   pub holds : HoldsDatabase file db
   pub owned : IsOwned (page_of file) nothing
