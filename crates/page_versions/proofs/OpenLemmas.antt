@@ -21,7 +21,7 @@ use Rattle.pool.specs.Pages.{PageMap, over, only, known}
 use Rattle.pool.specs.Versions.{Versions}
 use Rattle.overlay.specs.Bounded.{in_use-bounded}
 use Rattle.overlay.specs.InUse.{in_use}
-use Rattle.overlay.specs.Whole.{IsWholeFor, IsFull, HasFreeList}
+use Rattle.overlay.specs.Whole.{IsWholeFor, HasFreeList}
 use Rattle.overlay.proofs.InUseLemmas.{in_use-read}
 use Rattle.overlay.proofs.LayerLemmas.{only_apart}
 use Rattle.page_database.specs.Held as database
