@@ -1,5 +1,5 @@
 -- What a page that was freed leaves.
-use Rattle.std.proofs.Common.{◌≡◌, ◌≢◌, ℕ, ◌<◌, ◌≤◌, arith, Result, Ok, Err, OnOk, OnErr, Option, Some, None, List, IsSome, refl, sym, ap, subst, ◌∙◌, inl, inr}
+use Rattle.std.proofs.Common.{◌≡◌, ◌≢◌, ℕ, ◌<◌, ◌≤◌, Bool, arith, Result, Ok, Err, OnOk, OnErr, Option, Some, None, List, IsSome, refl, sym, ap, subst, ◌∙◌, inl, inr}
 use Rattle.pagefile.specs.declared.header.FileHeader.{FileHeader}
 use Rattle.pagefile.specs.Header.{IsHeader, IsInBounds}
 use Rattle.pagefile.specs.Free.{IsFree}
@@ -8,7 +8,7 @@ use Rattle.page_space.specs.declared.fault.Fault.TheVariants.{Memory, Disk, Dama
 use Rattle.page_space.specs.Space.{ReadRefused, ChangeRefused}
 use Rattle.pool.specs.Pages.{PageMap, over, only, pick}
 use Rattle.overlay.specs.InUse.{in_use}
-use Rattle.overlay.specs.Whole.{IsWhole, IsWritable, IsSaid}
+use Rattle.overlay.specs.Whole.{IsWholeFor, IsWhole, IsWritable, IsSaid}
 use Rattle.overlay.specs.Puts.{PutsBoth, PutsAtMost, Freed, Frees, WritesAtMost, with_first_free}
 use Rattle.overlay.proofs.LayerLemmas.{over_twice}
 use Rattle.overlay.proofs.WholeLemmas.{kind_of_free}
@@ -56,14 +56,14 @@ freed_others_after (Err e) version next_version written next page is f left = λ
     by (inl same) n differs = ap (λ (p : PageMap). in_use version p n) same
     by (inr one) n differs = others_at_most version written next page one.1.0 one.0 (inr one.1.1) n differs
 
-pub freed_whole_after : {E : Type 0} (result : Result (Unit {0}) E) (version next_version written next : PageMap) (page : ℕ) → next_version ≡ version → OnOk result (Frees (over written version) page written next)
-    → OnOk result (IsWhole (over written version) → IsWhole (over next next_version))
-freed_whole_after (Ok done) version next_version written next page is f = λ whole.
-    subst (λ (v : PageMap). IsWhole (over next v)) (sym is)
-    (subst IsWhole (sym (ap (λ (w : PageMap). over w version) f.freed.both.puts ∙ over_twice (only 0 f.freed.both.first) (over (only page f.freed.bytes) written) version
+pub freed_whole_after : {E : Type 0} (full : Bool) (result : Result (Unit {0}) E) (version next_version written next : PageMap) (page : ℕ) → next_version ≡ version → OnOk result (Frees (over written version) page written next)
+    → OnOk result (IsWholeFor full (over written version) → IsWholeFor full (over next next_version))
+freed_whole_after full (Ok done) version next_version written next page is f = λ whole.
+    subst (λ (v : PageMap). IsWholeFor full (over next v)) (sym is)
+    (subst (IsWholeFor full) (sym (ap (λ (w : PageMap). over w version) f.freed.both.puts ∙ over_twice (only 0 f.freed.both.first) (over (only page f.freed.bytes) written) version
     ∙ ap (λ (p : PageMap). over (only 0 f.freed.both.first) p) (over_twice (only page f.freed.bytes) written version)))
     (whole_freed (over written version) page f.freed.bytes f.freed.both.first f.header f.some f.can f.freed.free f.freed.both.says f.says f.bounds whole))
-freed_whole_after (Err e) version next_version written next page is f = f
+freed_whole_after full (Err e) version next_version written next page is f = f
 
 pub never_used : (o : Option (List ℕ)) → o ≡ None → IsSome o → ⊥
 never_used o e there = not_none (subst (λ (p : Option (List ℕ)). IsSome p) e there)

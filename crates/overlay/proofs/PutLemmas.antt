@@ -9,11 +9,11 @@ use Rattle.pagefile.specs.Number.{number_at}
 use Rattle.pool.specs.Pages.{PageMap, over, only, pick}
 use Rattle.overlay.specs.InUse.{in_use, is_counted}
 use Rattle.overlay.specs.Bounded.{some_is}
-use Rattle.overlay.specs.Whole.{IsIn, HasFreeList, IsWhole, IsWritable}
+use Rattle.overlay.specs.Whole.{IsIn, HasFreeList, IsWholeFor, IsWritable}
 use Rattle.overlay.specs.Puts.{PutsBoth, PutsAtMost, with_first_free}
 use Rattle.overlay.proofs.LayerLemmas.{put_here, put_apart, over_twice}
 use Rattle.overlay.proofs.InUseLemmas.{in_use-apart, in_use-others, in_use-freed, none_outside}
-use Rattle.overlay.proofs.WholeLemmas.{list_same, in_list, still_there, same_header, writable_below, writable_apart}
+use Rattle.overlay.proofs.WholeLemmas.{list_same, in_list, still_there, same_header, writable_below, writable_apart, same_or_apart}
 
 -- both were put
 pub puts_both : {E : Type 0} (result : Result (Unit {0}) E) (page : ℕ) (bytes first : List ℕ) (header : FileHeader) (old mid new : PageMap) → IsHeader first header
@@ -68,9 +68,9 @@ freed_both version written next page bytes new some kind both = in_use-freed ver
     (ap (λ (p : PageMap). p page) both.puts ∙ put_apart 0 page both.first (over (only page bytes) written) (above page some) ∙ put_here page bytes written) kind
 
 -- the list with one page more
-pub whole_freed : (p : PageMap) (page : ℕ) (bytes first : List ℕ) (h : FileHeader) → 0 < page → IsWritable p page → IsFree bytes h.first_free → IsHeader first (with_first_free h page)
-    → ((f : List ℕ) → p 0 ≡ Some f → IsHeader f h) → IsInBounds h → IsWhole p → IsWhole (over (only 0 first) (over (only page bytes) p))
-whole_freed p page bytes first h some can free head says bounds (g, was) = (
+pub whole_freed : {full : Bool} (p : PageMap) (page : ℕ) (bytes first : List ℕ) (h : FileHeader) → 0 < page → IsWritable p page → IsFree bytes h.first_free → IsHeader first (with_first_free h page)
+    → ((f : List ℕ) → p 0 ≡ Some f → IsHeader f h) → IsInBounds h → IsWholeFor full p → IsWholeFor full (over (only 0 first) (over (only page bytes) p))
+whole_freed {full} p page bytes first h some can free head says bounds (g, was) = (
   with_first_free h page,
   record {
     first = first;
@@ -91,14 +91,19 @@ whole_freed p page bytes first h some can free head says bounds (g, was) = (
     within = λ n i. inside n i;
     all = λ n less. still_there (only 0 first) (over (only page bytes) p) n (still_there (only page bytes) p n (w.all n less));
     ends = λ n behind. other n (above n (positive n h.page_count bounds.some behind)) (behind_apart n page h.page_count behind (writable_below p h page w can)) ∙ w.ends n behind;
+    lists = λ e n b more less there kind. listed_in e n b more less there kind (same_or_apart n page);
   },
 )
   where
-    w : HasFreeList p h
+    w : HasFreeList full p h
     w = same_header p g h says bounds was
 
     other : (n : ℕ) → n ≢ 0 → n ≢ page → over (only 0 first) (over (only page bytes) p) n ≡ p n
     other n a b = put_apart 0 n first (over (only page bytes) p) a ∙ put_apart page n bytes p b
+
+    listed_in : full ≡ true → (n : ℕ) (b : List ℕ) → 0 < n → n < h.page_count → over (only 0 first) (over (only page bytes) p) n ≡ Some b → slice_index b 0 ≡ 3 → (n ≡ page) ⊎ (n ≢ page) → (n ≡ page) ⊎ IsIn n w.free
+    listed_in e n b more less there kind (inl is) = inl is
+    listed_in e n b more less there kind (inr differs) = inr (w.lists e n b more less (sym (other n (above n more) differs) ∙ there) kind)
 
     inside : (n : ℕ) → (n ≡ page) ⊎ IsIn n w.free → n < h.page_count
     inside n (inl e) = subst (λ (k : ℕ). k < h.page_count) (sym e) (writable_below p h page w can)

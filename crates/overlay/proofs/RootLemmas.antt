@@ -6,7 +6,7 @@ use Rattle.pagefile.specs.Number.{number_at}
 use Rattle.pool.specs.Pages.{PageMap, over, only, pick}
 use Rattle.overlay.specs.InUse.{in_use}
 use Rattle.overlay.specs.Bounded.{some_is}
-use Rattle.overlay.specs.Whole.{HasFreeList, IsWhole, HasRoot}
+use Rattle.overlay.specs.Whole.{HasFreeList, IsWholeFor, IsWhole, HasRoot}
 use Rattle.overlay.specs.Puts.{Rooted, PutsHeader, with_root}
 use Rattle.overlay.proofs.LayerLemmas.{put_here, put_apart, over_twice}
 use Rattle.overlay.proofs.InUseLemmas.{in_use-read, none_outside}
@@ -55,7 +55,7 @@ rooted_others version written next root r n = by r.which
     by (inl before) = ap (λ (p : PageMap). in_use version p n) before.1
     by (inr put) = put_others put (n == 0) refl
 
-put_whole : (p : PageMap) (first : List ℕ) (h : FileHeader) (root : ℕ) → root < h.page_count → IsInBounds h → IsHeader first (with_root h root) → HasFreeList p h → IsWhole (over (only 0 first) p)
+put_whole : {full : Bool} (p : PageMap) (first : List ℕ) (h : FileHeader) (root : ℕ) → root < h.page_count → IsInBounds h → IsHeader first (with_root h root) → HasFreeList full p h → IsWholeFor full (over (only 0 first) p)
 put_whole p first h root below bounds head w = (
   with_root h root,
   record {
@@ -69,15 +69,16 @@ put_whole p first h root below bounds head w = (
     within = w.within;
     all = λ n less. still_there (only 0 first) p n (w.all n less);
     ends = λ n behind. let least = bounds.some in put_apart 0 n first p (omega (arith, least, behind)) ∙ w.ends n behind;
+    lists = λ e n b more less there kind. w.lists e n b more less (sym (put_apart 0 n first p (apart_from_0 n more)) ∙ there) kind;
   },
 )
 
-pub rooted_whole : (version written next : PageMap) (root : ℕ) → Rooted (over written version) root written next → IsWhole (over written version) → IsWhole (over next version)
-rooted_whole version written next root r (g, was) = by r.which
+pub rooted_whole : {full : Bool} (version written next : PageMap) (root : ℕ) → Rooted (over written version) root written next → IsWholeFor full (over written version) → IsWholeFor full (over next version)
+rooted_whole {full} version written next root r (g, was) = by r.which
   where
-    by : ((r.header.catalog_root ≡ root) × (next ≡ written)) ⊎ PutsHeader (with_root r.header root) written next → IsWhole (over next version)
-    by (inl before) = subst (λ (p : PageMap). IsWhole (over p version)) (sym before.1) (g, was)
-    by (inr put) = subst IsWhole (sym (ap (λ (w : PageMap). over w version) put.puts ∙ over_twice (only 0 put.first) written version))
+    by : ((r.header.catalog_root ≡ root) × (next ≡ written)) ⊎ PutsHeader (with_root r.header root) written next → IsWholeFor full (over next version)
+    by (inl before) = subst (λ (p : PageMap). IsWholeFor full (over p version)) (sym before.1) (g, was)
+    by (inr put) = subst (IsWholeFor full) (sym (ap (λ (w : PageMap). over w version) put.puts ∙ over_twice (only 0 put.first) written version))
         (put_whole (over written version) put.first r.header root r.below r.bounds put.is (same_header (over written version) g r.header r.says r.bounds was))
 
 -- a root in use lies below the page count
@@ -86,7 +87,7 @@ pub never_above : (version written : PageMap) (h : FileHeader) (root : ℕ) → 
 never_above version written h root says bounds above (g, was) (inl none) = let least = bounds.some in omega (arith, above, none, least)
 never_above version written h root says bounds above (g, was) (inr there) =
     let page = some_is (in_use version written root) there in
-    let w : HasFreeList (over written version) h = same_header (over written version) g h says bounds was in
+    let w : HasFreeList false (over written version) h = same_header (over written version) g h says bounds was in
     let bad : None ≡ Some page.0 = sym (w.ends root above) ∙ in_use-read version written root page.0 page.1 in cc
 
 -- after a call
@@ -100,7 +101,7 @@ pub root_others_after : {E : Type 0} (result : Result (Unit {0}) E) (version nex
 root_others_after (Ok done) version next_version written next root is r left n = ap (λ (v : PageMap). in_use v next n) is ∙ rooted_others version written next root r n
 root_others_after (Err e) version next_version written next root is r left n = ap (λ (v : PageMap). in_use v next n) is ∙ ap (λ (p : PageMap). in_use version p n) left
 
-pub root_whole_after : {E : Type 0} (result : Result (Unit {0}) E) (version next_version written next : PageMap) (root : ℕ) → next_version ≡ version → OnOk result (Rooted (over written version) root written next)
-    → OnOk result (IsWhole (over written version) → IsWhole (over next next_version))
-root_whole_after (Ok done) version next_version written next root is r = λ whole. subst (λ (v : PageMap). IsWhole (over next v)) (sym is) (rooted_whole version written next root r whole)
-root_whole_after (Err e) version next_version written next root is r = r
+pub root_whole_after : {E : Type 0} (full : Bool) (result : Result (Unit {0}) E) (version next_version written next : PageMap) (root : ℕ) → next_version ≡ version → OnOk result (Rooted (over written version) root written next)
+    → OnOk result (IsWholeFor full (over written version) → IsWholeFor full (over next next_version))
+root_whole_after full (Ok done) version next_version written next root is r = λ whole. subst (λ (v : PageMap). IsWholeFor full (over next v)) (sym is) (rooted_whole version written next root r whole)
+root_whole_after full (Err e) version next_version written next root is r = r

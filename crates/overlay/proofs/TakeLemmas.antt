@@ -11,11 +11,11 @@ use Rattle.page_space.specs.Space.{IsFresh}
 use Rattle.pool.specs.Pages.{PageMap, over, only, pick}
 use Rattle.pool.proofs.SlotLemmas.{lt-true, lt-false}
 use Rattle.overlay.specs.InUse.{in_use, is_counted}
-use Rattle.overlay.specs.Whole.{IsIn, AreApart, IsFreeList, HasFreeList, IsWhole, HasMostPages, IsNext}
+use Rattle.overlay.specs.Whole.{IsIn, AreApart, IsFreeList, ListsAll, HasFreeList, IsWholeFor, IsWhole, HasMostPages, IsNext}
 use Rattle.overlay.specs.Puts.{PutsBoth, PutsLeaf, PutsLeafAtMost, Takes, TakesFirst, TakesNew, Took, TookAtMost}
 use Rattle.overlay.proofs.LayerLemmas.{put_here, put_apart, over_twice}
 use Rattle.overlay.proofs.InUseLemmas.{in_use-here, in_use-others, none_free, none_behind}
-use Rattle.overlay.proofs.WholeLemmas.{kind_of_free, list_same, in_list, still_there, same_header}
+use Rattle.overlay.proofs.WholeLemmas.{kind_of_free, list_same, in_list, still_there, same_header, same_or_apart, not_written}
 use Rattle.overlay.proofs.PutLemmas.{others_both}
 
 above : (k : ℕ) → 0 < k → k ≢ 0
@@ -66,7 +66,7 @@ pub never_first : (p : PageMap) (h : FileHeader) (read : List ℕ) → 0 < h.fir
     → ((bytes : List ℕ) → p h.first_free ≡ Some bytes → read ≡ bytes) → ((next : ℕ) → IsFree read next → next < h.page_count → ⊥) → IsWhole p → ⊥
 never_first p h read some says bounds value none (g, was) = by w.free w.listed w.within
   where
-    w : HasFreeList p h
+    w : HasFreeList false p h
     w = same_header p g h says bounds was
 
     next_below : (next : ℕ) (rest : List ℕ) → IsFreeList p next rest → ((n : ℕ) → IsIn n rest → n < h.page_count) → 1 ≤ h.page_count → next < h.page_count
@@ -84,7 +84,7 @@ never_first p h read some says bounds value none (g, was) = by w.free w.listed w
 pub never_behind : (p : PageMap) (h : FileHeader) → ((first : List ℕ) → p 0 ≡ Some first → IsHeader first h) → IsInBounds h → IsSome (p h.page_count) → IsWhole p → ⊥
 never_behind p h says bounds there (g, was) = not_none (subst (λ (o : Option (List ℕ)). IsSome o) (w.ends h.page_count (omega arith)) there)
   where
-    w : HasFreeList p h
+    w : HasFreeList false p h
     w = same_header p g h says bounds was
 
     not_none : IsSome {T = List ℕ} None → ⊥
@@ -161,12 +161,12 @@ left_kept version written next (inr (page, (bytes, (some, unused, put)))) n ther
 -- ---- the list of free pages
 
 -- without its first page
-whole_first : (p : PageMap) (page : ℕ) (bytes first : List ℕ) (h new : FileHeader) → (w : HasFreeList p h) → 0 < page → IsInBounds new → IsHeader first new → TakesFirst p h page new
+whole_first : (full : Bool) (p : PageMap) (page : ℕ) (bytes first : List ℕ) (h new : FileHeader) → (w : HasFreeList full p h) → 0 < page → slice_index bytes 0 ≢ 3 → IsInBounds new → IsHeader first new → TakesFirst p h page new
     → (free : List ℕ) → IsFreeList p h.first_free free → AreApart free → ((n : ℕ) → IsIn n free → n < h.page_count)
-    → IsWhole (over (only 0 first) (over (only page bytes) p))
-whole_first p page bytes first h new w some bounds head takes [] ends apart within =
+    → (full ≡ true → ListsAll p h.page_count free) → IsWholeFor full (over (only 0 first) (over (only page bytes) p))
+whole_first full p page bytes first h new w some kind bounds head takes [] ends apart within lists =
     let zero_is : h.first_free ≡ 0 = ends in let is = takes.first in absurd (omega (arith, some, zero_is, is))
-whole_first p page bytes first h new w some bounds head takes (x ∷ xs) listed apart within = (
+whole_first full p page bytes first h new w some kind bounds head takes (x ∷ xs) listed apart within lists = (
   new,
   record {
     first = first;
@@ -182,6 +182,7 @@ whole_first p page bytes first h new w some bounds head takes (x ∷ xs) listed 
     all = λ n less. still_there (only 0 first) (over (only page bytes) p) n (still_there (only page bytes) p n (w.all n (subst (λ (k : ℕ). n < k) takes.count less)));
     ends = λ n behind. let more : h.page_count ≤ n = subst (λ (k : ℕ). k ≤ n) takes.count behind in
         other n (positive n h.page_count w.bounds.some more) (λ e. let less : page < h.page_count = subst (λ (k : ℕ). k < h.page_count) (sym is) (within x (inl refl)) in omega (arith, more, less, e)) ∙ w.ends n more;
+    lists = λ e n b more less there free. listed_in e n b more less there free (same_or_apart n page);
   },
 )
   where
@@ -197,10 +198,19 @@ whole_first p page bytes first h new w some bounds head takes (x ∷ xs) listed 
     positive : (n count : ℕ) → 1 ≤ count → count ≤ n → n ≢ 0
     positive n count some behind = omega arith
 
+    rest : (n : ℕ) → n ≢ page → (n ≡ x) ⊎ IsIn n xs → IsIn n xs
+    rest n differs (inl e) = absurd (differs (e ∙ sym is))
+    rest n differs (inr i) = i
+
+    listed_in : full ≡ true → (n : ℕ) (b : List ℕ) → 0 < n → n < new.page_count → over (only 0 first) (over (only page bytes) p) n ≡ Some b → slice_index b 0 ≡ 3 → (n ≡ page) ⊎ (n ≢ page) → IsIn n xs
+    listed_in e n b more less there free (inl same) =
+        absurd (not_written p page bytes b kind (ap (over (only page bytes) p) (sym same) ∙ sym (put_apart 0 n first (over (only page bytes) p) (above n more)) ∙ there) free)
+    listed_in e n b more less there free (inr differs) = rest n differs (lists e n b more (subst (λ (k : ℕ). n < k) takes.count less) (sym (other n (above n more) differs) ∙ there) free)
+
 -- with one page more behind the last
-whole_grown : (p : PageMap) (page : ℕ) (bytes first : List ℕ) (h new : FileHeader) → (w : HasFreeList p h) → 0 < page → IsInBounds new → IsHeader first new → TakesNew h page new
-    → IsWhole (over (only 0 first) (over (only page bytes) p))
-whole_grown p page bytes first h new w some bounds head takes = (
+whole_grown : (full : Bool) (p : PageMap) (page : ℕ) (bytes first : List ℕ) (h new : FileHeader) → (w : HasFreeList full p h) → 0 < page → slice_index bytes 0 ≢ 3 → IsInBounds new → IsHeader first new → TakesNew h page new
+    → IsWholeFor full (over (only 0 first) (over (only page bytes) p))
+whole_grown full p page bytes first h new w some kind bounds head takes = (
   new,
   record {
     first = first;
@@ -216,11 +226,20 @@ whole_grown p page bytes first h new w some bounds head takes = (
     all = λ n less. still_there (only 0 first) (over (only page bytes) p) n (below n less (cases_lt n h.page_count));
     ends = λ n behind. let more = takes.count in let is = takes.behind in
         other n (omega (arith, behind, more)) (omega (arith, behind, more, is)) ∙ w.ends n (omega (arith, behind, more));
+    lists = λ e n b more less there free. listed_in e n b more less there free (same_or_apart n page);
   },
 )
   where
     other : (n : ℕ) → n ≢ 0 → n ≢ page → over (only 0 first) (over (only page bytes) p) n ≡ p n
     other n a b = put_apart 0 n first (over (only page bytes) p) a ∙ put_apart page n bytes p b
+
+    counted : (n : ℕ) → n < new.page_count → n ≢ page → n < h.page_count
+    counted n less differs = let more = takes.count in let is = takes.behind in omega (arith, less, more, is, differs)
+
+    listed_in : full ≡ true → (n : ℕ) (b : List ℕ) → 0 < n → n < new.page_count → over (only 0 first) (over (only page bytes) p) n ≡ Some b → slice_index b 0 ≡ 3 → (n ≡ page) ⊎ (n ≢ page) → IsIn n w.free
+    listed_in e n b more less there free (inl same) =
+        absurd (not_written p page bytes b kind (ap (over (only page bytes) p) (sym same) ∙ sym (put_apart 0 n first (over (only page bytes) p) (above n more)) ∙ there) free)
+    listed_in e n b more less there free (inr differs) = w.lists e n b more (counted n less differs) (sym (other n (above n more) differs) ∙ there) free
 
     last : (n : ℕ) → n < new.page_count → h.page_count ≤ n → n ≡ page
     last n less behind = let more = takes.count in let is = takes.behind in omega (arith, less, more, behind, is)
@@ -229,22 +248,22 @@ whole_grown p page bytes first h new w some bounds head takes = (
     below n less (inl within) = still_there (only page bytes) p n (w.all n within)
     below n less (inr behind) = ap (λ (o : Option (List ℕ)). is_some o) (ap (over (only page bytes) p) (last n less behind) ∙ put_here page bytes p)
 
-whole_taken : (version written : PageMap) (page : ℕ) (bytes first : List ℕ) (h new : FileHeader) → ((f : List ℕ) → over written version 0 ≡ Some f → IsHeader f h) → IsInBounds h → IsHeader first new
-    → Takes version written h page new → IsWhole (over written version) → IsWhole (over (only 0 first) (over (only page bytes) (over written version)))
-whole_taken version written page bytes first h new says bounds head takes (g, was) = by takes.which
+whole_taken : {full : Bool} (version written : PageMap) (page : ℕ) (bytes first : List ℕ) (h new : FileHeader) → ((f : List ℕ) → over written version 0 ≡ Some f → IsHeader f h) → IsInBounds h → IsHeader first new
+    → Takes version written h page new → slice_index bytes 0 ≢ 3 → IsWholeFor full (over written version) → IsWholeFor full (over (only 0 first) (over (only page bytes) (over written version)))
+whole_taken {full} version written page bytes first h new says bounds head takes kind (g, was) = by takes.which
   where
-    w : HasFreeList (over written version) h
+    w : HasFreeList full (over written version) h
     w = same_header (over written version) g h says bounds was
 
-    by : TakesFirst (over written version) h page new ⊎ TakesNew h page new → IsWhole (over (only 0 first) (over (only page bytes) (over written version)))
-    by (inl one) = whole_first (over written version) page bytes first h new w takes.some takes.bounds head one w.free w.listed w.apart w.within
-    by (inr one) = whole_grown (over written version) page bytes first h new w takes.some takes.bounds head one
+    by : TakesFirst (over written version) h page new ⊎ TakesNew h page new → IsWholeFor full (over (only 0 first) (over (only page bytes) (over written version)))
+    by (inl one) = whole_first full (over written version) page bytes first h new w takes.some kind takes.bounds head one w.free w.listed w.apart w.within w.lists
+    by (inr one) = whole_grown full (over written version) page bytes first h new w takes.some kind takes.bounds head one
 
-pub took_whole : (version written next : PageMap) (page : ℕ) → Took version written page next → IsWhole (over written version) → IsWhole (over next version)
-took_whole version written next page t whole =
-    subst IsWhole (sym (ap (λ (w : PageMap). over w version) t.leaf.both.puts ∙ over_twice (only 0 t.leaf.both.first) (over (only page t.leaf.bytes) written) version
+pub took_whole : {full : Bool} (version written next : PageMap) (page : ℕ) → Took version written page next → IsWholeFor full (over written version) → IsWholeFor full (over next version)
+took_whole {full} version written next page t whole =
+    subst (IsWholeFor full) (sym (ap (λ (w : PageMap). over w version) t.leaf.both.puts ∙ over_twice (only 0 t.leaf.both.first) (over (only page t.leaf.bytes) written) version
     ∙ ap (λ (p : PageMap). over (only 0 t.leaf.both.first) p) (over_twice (only page t.leaf.bytes) written version)))
-    (whole_taken version written page t.leaf.bytes t.leaf.both.first t.header t.new t.says t.bounds t.leaf.both.says t.takes whole)
+    (whole_taken version written page t.leaf.bytes t.leaf.both.first t.header t.new t.says t.bounds t.leaf.both.says t.takes t.leaf.kind whole)
 
 -- ---- after a call
 
@@ -292,10 +311,10 @@ pub kept_after : {E : Type 0} (result : Result ℕ E) (version next_version writ
 kept_after (Ok page) version next_version written next is left = left
 kept_after (Err e) version next_version written next is left = λ n there. ap (λ (v : PageMap). in_use v next n) is ∙ left_kept version written next left n there
 
-pub taken_whole_after : {E : Type 0} (result : Result ℕ E) (version next_version written next : PageMap) → next_version ≡ version → IfOk result (λ page. Took version written page next)
-    → OnOk result (IsWhole (over written version) → IsWhole (over next next_version))
-taken_whole_after (Ok page) version next_version written next is took = λ whole. subst (λ (v : PageMap). IsWhole (over next v)) (sym is) (took_whole version written next page took whole)
-taken_whole_after (Err e) version next_version written next is took = took
+pub taken_whole_after : {E : Type 0} (full : Bool) (result : Result ℕ E) (version next_version written next : PageMap) → next_version ≡ version → IfOk result (λ page. Took version written page next)
+    → OnOk result (IsWholeFor full (over written version) → IsWholeFor full (over next next_version))
+taken_whole_after full (Ok page) version next_version written next is took = λ whole. subst (λ (v : PageMap). IsWholeFor full (over next v)) (sym is) (took_whole version written next page took whole)
+taken_whole_after full (Err e) version next_version written next is took = took
 
 pub next_after : {E : Type 0} (result : Result ℕ E) (version written next : PageMap) → IfOk result (λ page. Took version written page next) → IfOk result (IsNext (over written version 0))
 next_after (Ok page) version written next took = took_next version written next page took

@@ -1,15 +1,15 @@
 -- The list of free pages, after a page was written, freed or taken.
-use Rattle.std.proofs.Common.{◌≡◌, ◌≢◌, ℕ, ◌+◌, ◌<◌, ◌≤◌, Option, Some, None, List, [], ◌∷◌, IsSome, refl, sym, ap, subst, ◌∙◌, arith, ◌⊎◌, inl, inr, take}
+use Rattle.std.proofs.Common.{◌≡◌, ◌≢◌, ℕ, ◌+◌, ◌<◌, ◌≤◌, ◌==◌, Bool, true, false, Result, Ok, Err, OnOk, Option, Some, None, List, [], ◌∷◌, IsSome, refl, sym, ap, subst, ◌∙◌, arith, ◌⊎◌, inl, inr, take, eqb-true, eq-eqb}
 use Rattle.std.specs.Prelude.{slice_index}
 use Rattle.pagefile.specs.declared.header.FileHeader.{FileHeader}
 use Rattle.pagefile.specs.Header.{IsHeader, IsInBounds, magic}
 use Rattle.pagefile.specs.Free.{IsFree, free_mark}
 use Rattle.pagefile.specs.Number.{number_at}
 use Rattle.pool.specs.Pages.{PageMap, over, only, pick}
-use Rattle.overlay.specs.Whole.{IsIn, AreApart, FreeAt, IsFreeList, HasFreeList, IsWhole, IsWritable}
+use Rattle.overlay.specs.Whole.{IsIn, AreApart, FreeAt, IsFreeList, ListsAll, HasFreeList, IsWholeFor, IsWhole, IsFull, IsWholeOver, IsWritable}
 use Rattle.overlay.proofs.LayerLemmas.{put_here, put_apart}
 
-some_same : (a b : List ℕ) → Some a ≡ Some b → a ≡ b
+pub some_same : (a b : List ℕ) → Some a ≡ Some b → a ≡ b
 some_same a b h = cc
 
 pub kind_of_free : (bytes : List ℕ) (next : ℕ) → IsFree bytes next → slice_index bytes 0 ≡ 3
@@ -55,7 +55,7 @@ still_there top p n there = by (top n) (p n) there
     by None b there = there
 
 -- the header that was read is that of the list
-pub same_header : (p : PageMap) (g h : FileHeader) → ((first : List ℕ) → p 0 ≡ Some first → IsHeader first h) → IsInBounds h → HasFreeList p g → HasFreeList p h
+pub same_header : {full : Bool} (p : PageMap) (g h : FileHeader) → ((first : List ℕ) → p 0 ≡ Some first → IsHeader first h) → IsInBounds h → HasFreeList full p g → HasFreeList full p h
 same_header p g h says bounds w =
     let is = says w.first w.there in
     let count : g.page_count ≡ h.page_count = sym w.says.page_count ∙ is.page_count in
@@ -70,10 +70,11 @@ same_header p g h says bounds w =
       within = λ n i. subst (λ (k : ℕ). n < k) count (w.within n i);
       all = λ n less. w.all n (subst (λ (k : ℕ). n < k) (sym count) less);
       ends = λ n behind. w.ends n (subst (λ (k : ℕ). k ≤ n) (sym count) behind);
+      lists = λ e n bytes some less there kind. w.lists e n bytes some (subst (λ (k : ℕ). n < k) (sym count) less) there kind;
     }
 
 -- what can be written lies below the page count, and is none of the list
-pub writable_below : (p : PageMap) (h : FileHeader) (page : ℕ) → HasFreeList p h → IsWritable p page → page < h.page_count
+pub writable_below : {full : Bool} (p : PageMap) (h : FileHeader) (page : ℕ) → HasFreeList full p h → IsWritable p page → page < h.page_count
 writable_below p h page w can = by (p page) refl
   where
     less : (a b : ℕ) → (b ≤ a → ⊥) → a < b
@@ -83,13 +84,43 @@ writable_below p h page w can = by (p page) refl
     by None e = subst (λ (k : ℕ). page < k) w.says.page_count (can.place w.first w.there e)
     by (Some bytes) e = less page h.page_count (λ behind. let none = w.ends page behind in let bad : Some bytes ≡ None = sym e ∙ none in cc)
 
-pub writable_apart : (p : PageMap) (h : FileHeader) (page : ℕ) → (w : HasFreeList p h) → IsWritable p page → IsIn page w.free → ⊥
+pub writable_apart : {full : Bool} (p : PageMap) (h : FileHeader) (page : ℕ) → (w : HasFreeList full p h) → IsWritable p page → IsIn page w.free → ⊥
 writable_apart p h page w can i = let here = list_there p h.first_free w.free w.listed page i in
     can.kind here.0 here.1 ((in_list p h.first_free w.free w.listed page i).1 here.0 here.1)
 
--- after a write
-pub whole_written : (p : PageMap) (page : ℕ) (bytes : List ℕ) → 0 < page → IsWritable p page → IsWhole p → IsWhole (over (only page bytes) p)
-whole_written p page bytes some can (h, w) = (
+-- ---- each page that is free stands in the list
+
+pub same_or_apart : (a b : ℕ) → (a ≡ b) ⊎ (a ≢ b)
+same_or_apart a b = by (a == b) refl
+  where
+    by : (c : Bool) → (a == b) ≡ c → (a ≡ b) ⊎ (a ≢ b)
+    by true e = inl (eqb-true a b e)
+    by false e = inr (λ z. let bad : true ≡ false = sym (eq-eqb a b z) ∙ e in cc)
+
+-- a page that was written, and not as a free one, is not free
+pub not_written : (p : PageMap) (page : ℕ) (bytes b : List ℕ) → slice_index bytes 0 ≢ 3 → over (only page bytes) p page ≡ Some b → slice_index b 0 ≡ 3 → ⊥
+not_written p page bytes b differs there kind = differs (subst (λ (x : List ℕ). slice_index x 0 ≡ 3) (some_same b bytes (sym there ∙ put_here page bytes p)) kind)
+
+-- a free page under one that was written lay there
+pub lists_under : (p : PageMap) (page count : ℕ) (bytes free : List ℕ) → slice_index bytes 0 ≢ 3 → ListsAll p count free
+    → (n : ℕ) (b : List ℕ) → 0 < n → n < count → over (only page bytes) p n ≡ Some b → slice_index b 0 ≡ 3 → IsIn n free
+lists_under p page count bytes free differs lists n b some less there kind = by (same_or_apart n page)
+  where
+    by : (n ≡ page) ⊎ (n ≢ page) → IsIn n free
+    by (inl is) = absurd (not_written p page bytes b differs (ap (over (only page bytes) p) (sym is) ∙ there) kind)
+    by (inr apart) = lists n b some less (sym (put_apart page n bytes p apart) ∙ there) kind
+
+-- after a call: the list is one, and full where it was
+pub whole_over : {X E : Type 0} (result : Result X E) (version next_version written next : PageMap) → next_version ≡ version
+    → OnOk result (IsWhole (over written version) → IsWhole (over next next_version)) → OnOk result (IsFull (over written version) → IsFull (over next next_version))
+    → OnOk result (IsWholeOver version written → IsWholeOver next_version next)
+whole_over (Ok x) version next_version written next is whole full = λ w. record { whole = whole w.whole; full = λ start. full (w.full (subst IsFull is start)) }
+whole_over (Err e) version next_version written next is whole full = whole
+
+-- ---- after a write
+
+pub whole_written : {full : Bool} (p : PageMap) (page : ℕ) (bytes : List ℕ) → 0 < page → slice_index bytes 0 ≢ 3 → IsWritable p page → IsWholeFor full p → IsWholeFor full (over (only page bytes) p)
+whole_written p page bytes some differs can (h, w) = (
   h,
   record {
     first = w.first;
@@ -103,6 +134,7 @@ whole_written p page bytes some can (h, w) = (
     within = w.within;
     all = λ n less. still_there (only page bytes) p n (w.all n less);
     ends = λ n behind. put_apart page n bytes p (behind_apart n page h.page_count behind (writable_below p h page w can)) ∙ w.ends n behind;
+    lists = λ e. lists_under p page h.page_count bytes w.free differs (w.lists e);
   },
 )
   where

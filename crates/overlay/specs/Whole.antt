@@ -1,12 +1,12 @@
 -- Files whose list of free pages is one.
-use Rattle.std.specs.Prelude.{◌≡◌, ◌≢◌, Option, ℕ, ◌<◌, ◌≤◌, List, [], ◌∷◌, Some, None, IsSome, ⊤, ◌⊎◌, slice_index}
+use Rattle.std.specs.Prelude.{◌≡◌, ◌≢◌, Bool, true, false, Option, ℕ, ◌<◌, ◌≤◌, List, [], ◌∷◌, Some, None, IsSome, ⊤, ◌⊎◌, slice_index}
 use Rattle.page_space.specs.declared.fault.Fault.{Fault}
 use Rattle.page_space.specs.declared.fault.Fault.TheVariants.{Memory, Disk, Damaged, Pages, Private}
 use Rattle.pagefile.specs.Number.{number_at}
 use Rattle.pagefile.specs.declared.header.FileHeader.{FileHeader}
 use Rattle.pagefile.specs.Header.{IsHeader, IsInBounds}
 use Rattle.pagefile.specs.Free.{IsFree}
-use Rattle.pool.specs.Pages.{PageMap}
+use Rattle.pool.specs.Pages.{PageMap, over}
 
 -- a number is among these
 abbrev pub IsIn : ℕ → List ℕ → Type 0
@@ -30,8 +30,12 @@ abbrev pub IsFreeList : PageMap → ℕ → List ℕ → Type 0
 IsFreeList pages first [] = first ≡ 0
 IsFreeList pages first (p ∷ ps) = (first ≡ p) × (0 < p) × ((link : FreeAt pages p) × IsFreeList pages link.next ps)
 
--- Page 0 is this header, and the free pages are a list in which none stands twice. Each page below the page count is there, and none behind it.
-pub record HasFreeList (pages : PageMap) (header : FileHeader) : Type 0 where
+-- each page from 1 to below this count that is of the kind free is among these
+abbrev pub ListsAll : PageMap → ℕ → List ℕ → Type 0
+ListsAll pages count free = (n : ℕ) (bytes : List ℕ) → 0 < n → n < count → pages n ≡ Some bytes → slice_index bytes 0 ≡ 3 → IsIn n free
+
+-- Page 0 is this header, and the free pages are a list in which none stands twice. Each page below the page count is there, and none behind it. If the list is full, each page of the kind free stands in it.
+pub record HasFreeList (full : Bool) (pages : PageMap) (header : FileHeader) : Type 0 where
   pub first : List ℕ
   pub there : pages 0 ≡ Some first
   pub says : IsHeader first header
@@ -42,10 +46,23 @@ pub record HasFreeList (pages : PageMap) (header : FileHeader) : Type 0 where
   pub within : (n : ℕ) → IsIn n free → n < header.page_count
   pub all : (n : ℕ) → n < header.page_count → IsSome (pages n)
   pub ends : (n : ℕ) → header.page_count ≤ n → pages n ≡ None
+  pub lists : full ≡ true → ListsAll pages header.page_count free
+
+abbrev pub IsWholeFor : Bool → PageMap → Type 0
+IsWholeFor full pages = (header : FileHeader) × HasFreeList full pages header
 
 -- the list of free pages is one
 abbrev pub IsWhole : PageMap → Type 0
-IsWhole pages = (header : FileHeader) × HasFreeList pages header
+IsWhole = IsWholeFor false
+
+-- and each free page stands in it: none of them is lost
+abbrev pub IsFull : PageMap → Type 0
+IsFull = IsWholeFor true
+
+-- with written pages over a version: the list is one, and where that of the version alone is full, so is this one
+pub record IsWholeOver (version written : PageMap) : Type 0 where
+  pub whole : IsWhole (over written version)
+  pub full : IsFull version → IsFull (over written version)
 
 -- a page that is not free, and lies below the page count or is there
 pub record IsWritable (pages : PageMap) (page : ℕ) : Type 0 where

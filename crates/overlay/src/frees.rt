@@ -7,7 +7,7 @@ ghost use Rattle.pool.specs.Versions.{versions_of, device_of};
 ghost use Rattle.overlay.specs.Changes.{settled_of, private_of};
 ghost use Rattle.overlay.specs.Layers.{size_of, IsNotKept};
 ghost use Rattle.overlay.specs.InUse.{in_use};
-ghost use Rattle.overlay.specs.Whole.{IsWhole, AtLimit};
+ghost use Rattle.overlay.specs.Whole.{IsWhole, IsFull, AtLimit};
 ghost use Rattle.overlay.specs.Puts.{PutsBoth, PutsAtMost, Freed, Frees, WritesAtMost};
 
 use crate::changes::Changes;
@@ -92,6 +92,7 @@ pub fn free_page<D: Disk>(
     ensures freed { OnOk result (in_use ((versions_of pool.new).pages at) (private_of changes.new) page ≡ None) }
     ensures others { (n : ℕ) → n ≢ page → in_use ((versions_of pool.new).pages at) (private_of changes.new) n ≡ in_use ((versions_of pool.old).pages at) (private_of changes.old) n }
     ensures whole { OnOk result (IsWhole (over (private_of changes.old) ((versions_of pool.old).pages at)) → IsWhole (over (private_of changes.new) ((versions_of pool.new).pages at))) }
+    ensures full { OnOk result (IsFull (over (private_of changes.old) ((versions_of pool.old).pages at)) → IsFull (over (private_of changes.new) ((versions_of pool.new).pages at))) }
     ensures settled { settled_of changes.new ≡ settled_of changes.old }
     ensures versions { versions_of pool.new ≡ versions_of pool.old }
     ensures refusal { IfErr result (ChangeRefused (AtLimit (over (private_of changes.new) ((versions_of pool.new).pages at) 0) (size_of (private_of changes.new)))

@@ -19,12 +19,11 @@ pub struct Overlay<'a, D: Disk> {
 
 impl<'a, D: Disk> PageReader for Overlay<'a, D> {
     ghost use Rattle.std.proofs.Common.{refl, ◌∙◌};
-    ghost use Rattle.pool.specs.Pages.{over};
     ghost use Rattle.pool.specs.Versions.{versions_of, device_of};
     ghost use Rattle.overlay.specs.Changes.{private_of};
     ghost use Rattle.overlay.specs.InUse.{in_use};
     ghost use Rattle.overlay.specs.Bounded.{in_use-bounded};
-    ghost use Rattle.overlay.specs.Whole.{IsWhole};
+    ghost use Rattle.overlay.specs.Whole.{IsWholeOver};
     ghost use Rattle.overlay.specs.Follows.{IsRead, read_none, read_on, IsAfterMark, mark_none, mark_on};
 
     ghost pages = { λ s. in_use ((versions_of s.pool.now).pages s.at) (private_of s.changes.now) };
@@ -34,7 +33,7 @@ impl<'a, D: Disk> PageReader for Overlay<'a, D> {
     ghost follows = { λ a b. IsRead (versions_of a.pool.now) (versions_of b.pool.now) (D.refused (device_of a.pool.now)) (D.refused (device_of b.pool.now))
         × IsAfterMark a.changes.now b.changes.now × (b.pool.ghost_name ≡ a.pool.ghost_name) × (b.changes.ghost_name ≡ a.changes.ghost_name) × (b.at ≡ a.at) };
 
-    ghost is_whole = { λ s. IsWhole (over (private_of s.changes.now) ((versions_of s.pool.now).pages s.at)) };
+    ghost is_whole = { λ s. IsWholeOver ((versions_of s.pool.now).pages s.at) (private_of s.changes.now) };
 
     ghost bounded = { λ s n h. in_use-bounded ((versions_of s.pool.now).pages s.at) (private_of s.changes.now) n h };
 

@@ -8,7 +8,7 @@ ghost use Rattle.pool.specs.Versions.{versions_of, device_of};
 ghost use Rattle.overlay.specs.Changes.{settled_of, private_of};
 ghost use Rattle.overlay.specs.Layers.{size_of, IsNotKept};
 ghost use Rattle.overlay.specs.InUse.{in_use};
-ghost use Rattle.overlay.specs.Whole.{IsWhole, AtLimit, IsNext};
+ghost use Rattle.overlay.specs.Whole.{IsWhole, IsFull, AtLimit, IsNext};
 ghost use Rattle.overlay.specs.Puts.{PutsLeaf, PutsLeafAtMost, Takes, Took, TookAtMost};
 
 use crate::changes::Changes;
@@ -180,6 +180,7 @@ pub fn allocate_page<D: Disk>(
     ensures kept { OnErr result ((n : ℕ) → IsSome (in_use ((versions_of pool.old).pages at) (private_of changes.old) n)
         → in_use ((versions_of pool.new).pages at) (private_of changes.new) n ≡ in_use ((versions_of pool.old).pages at) (private_of changes.old) n) }
     ensures whole { OnOk result (IsWhole (over (private_of changes.old) ((versions_of pool.old).pages at)) → IsWhole (over (private_of changes.new) ((versions_of pool.new).pages at))) }
+    ensures full { OnOk result (IsFull (over (private_of changes.old) ((versions_of pool.old).pages at)) → IsFull (over (private_of changes.new) ((versions_of pool.new).pages at))) }
     ensures settled { settled_of changes.new ≡ settled_of changes.old }
     ensures versions { versions_of pool.new ≡ versions_of pool.old }
     ensures refusal { IfErr result (ChangeRefused (AtLimit (over (private_of changes.new) ((versions_of pool.new).pages at) 0) (size_of (private_of changes.new)))

@@ -10,17 +10,17 @@ use Rattle.pagefile.specs.Header.{IsHeader}
 use Rattle.pool.specs.Pages.{PageMap, over}
 use Rattle.overlay.specs.Bounded.{in_use-bounded}
 use Rattle.overlay.specs.InUse.{in_use}
-use Rattle.overlay.specs.Whole.{IsWhole, HasRoot}
+use Rattle.overlay.specs.Whole.{IsFull, IsWholeOver, HasRoot}
 use Rattle.btree_read.specs.declared.entry.Entry.{Entry}
 use Rattle.btree_read.specs.Nodes.{Node, HasNode}
 use Rattle.btree_read.specs.Tree.{Tree, page_of, nodes_of, Holds, IsTree, IsTreeOf}
 use Rattle.page_tables.specs.Held as plain
-use Rattle.page_database.specs.Held.{TableAt, rows_of_tables, HoldsDatabase, contents_of}
-use Rattle.page_database.specs.Changed.{DatabaseWritten}
-use Rattle.page_database.proofs.DatabaseLemmas.{as_tables}
+use Rattle.page_database.specs.Held.{TableAt, rows_of_tables, HoldsDatabase, IsAllOwned, contents_of}
+use Rattle.page_database.specs.Changed.{DatabaseWritten, DatabaseOwned}
+use Rattle.page_database.proofs.DatabaseLemmas.{as_tables, as_any, owned_stays}
 use Rattle.page_contents.specs.Contents.{contents_at}
 use Rattle.page_versions.specs.Changed.{IsNow}
-use Rattle.page_versions.specs.Databases.{root_in, root_of, contents_in, IsDatabase}
+use Rattle.page_versions.specs.Databases.{root_in, root_of, contents_in, IsDatabase, IsOwned}
 
 -- ---- what the laws of databases and tables say
 
@@ -39,8 +39,8 @@ some_same : (a b : List ℕ) → Some a ≡ Some b → a ≡ b
 some_same a b h = cc
 
 -- page 0 names the root that its header has
-pub root_is : (version written : PageMap) (h : FileHeader) → ((first : List ℕ) → over written version 0 ≡ Some first → IsHeader first h) → IsWhole (over written version) → root_of version written ≡ h.catalog_root
-root_is version written h says whole = ap root_in whole.1.there ∙ (says whole.1.first whole.1.there).catalog_root
+pub root_is : (version written : PageMap) (h : FileHeader) → ((first : List ℕ) → over written version 0 ≡ Some first → IsHeader first h) → IsWholeOver version written → root_of version written ≡ h.catalog_root
+root_is version written h says whole = let w = whole.whole.1 in ap root_in w.there ∙ (says w.first w.there).catalog_root
 
 pub named_root : (o : Option (List ℕ)) (root : ℕ) (first : List ℕ) → o ≡ Some first → HasRoot o root → root_in o ≡ root
 named_root None root first there has = absurd (cc)
@@ -63,7 +63,7 @@ root_there pages root tables h = by root h.owned _ h.trees.each.0.tree
 
 -- ---- a database
 
-pub is_database : TheyAreRead → TheyRise → (version written : PageMap) (tables : List TableAt) → IsWhole (over written version) → HoldsDatabase (in_use version written) (root_of version written) tables
+pub is_database : TheyAreRead → TheyRise → (version written : PageMap) (tables : List TableAt) → IsWholeOver version written → HoldsDatabase (in_use version written) (root_of version written) tables
     → IsDatabase version written
 is_database read rise version written tables whole holds = record {
   whole = whole;
@@ -74,10 +74,25 @@ is_database read rise version written tables whole holds = record {
 }
 
 pub becomes : TheyStay → TheyAreRead → TheyRise → (version written next : PageMap) (root : ℕ) (contents : Contents) → ((n : ℕ) → in_use version next n ≡ in_use version written n)
-    → HasRoot (over next version 0) root → IsWhole (over next version) → DatabaseWritten (in_use version written) contents root → IsNow version next contents
+    → HasRoot (over next version 0) root → IsWholeOver version next → DatabaseWritten (in_use version written) contents root → IsNow version next contents
 becomes stay read rise version written next root contents same has whole put =
-    let is_root : root_of version next ≡ root = named_root (over next version 0) root whole.1.first whole.1.there has in
+    let is_root : root_of version next ≡ root = named_root (over next version 0) root whole.whole.1.first whole.whole.1.there has in
     let holds : HoldsDatabase (in_use version next) (root_of version next) put.tables = subst (λ (r : ℕ). HoldsDatabase (in_use version next) r put.tables) (sym is_root)
     (stay (in_use version written) (in_use version next) root put.tables (λ n there. same n) put.holds) in
     let is : IsDatabase version next = is_database read rise version next put.tables whole holds in
     record { is = is; shows = read (in_use version next) (root_of version next) (rows_of_tables put.tables) (λ n there. in_use-bounded version next n there) (as_tables (in_use version next) (root_of version next) put.tables holds) ∙ put.shows }
+
+-- where all pages are owned
+pub written_any : (pages : PageMap) (contents : Contents) (root : ℕ) → DatabaseOwned pages contents root → DatabaseWritten pages contents root
+written_any pages contents root put = record { tables = put.tables; holds = as_any pages root put.tables put.holds; shows = put.shows }
+
+pub becomes_owned : (version written next : PageMap) (root : ℕ) (contents : Contents) → ((n : ℕ) → in_use version next n ≡ in_use version written n)
+    → HasRoot (over next version 0) root → IsWholeOver version next → IsNow version next contents → IsFull version → DatabaseOwned (in_use version written) contents root → IsOwned version next
+becomes_owned version written next root contents same has whole now start put =
+    let is_root : root_of version next ≡ root = named_root (over next version 0) root whole.whole.1.first whole.whole.1.there has in
+    record {
+      is = now.is;
+      start = start;
+      tables = put.tables;
+      owned = subst (λ (r : ℕ). IsAllOwned (in_use version next) r put.tables) (sym is_root) (owned_stays (in_use version written) (in_use version next) root put.tables same put.holds);
+    }

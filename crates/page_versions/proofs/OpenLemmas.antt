@@ -21,14 +21,15 @@ use Rattle.pool.specs.Pages.{PageMap, over, only, known}
 use Rattle.pool.specs.Versions.{Versions}
 use Rattle.overlay.specs.Bounded.{in_use-bounded}
 use Rattle.overlay.specs.InUse.{in_use}
-use Rattle.overlay.specs.Whole.{IsWhole, HasFreeList}
+use Rattle.overlay.specs.Whole.{IsWholeFor, HasFreeList}
+use Rattle.overlay.proofs.InUseLemmas.{in_use-read}
 use Rattle.overlay.proofs.LayerLemmas.{only_apart}
 use Rattle.page_database.specs.Held as database
-use Rattle.page_database.proofs.DatabaseLemmas.{as_tables}
-use Rattle.page_versions.specs.Databases.{nothing, root_of, contents_in, IsDatabase}
-use Rattle.page_versions.specs.Opened.{Begins, IsReadable}
+use Rattle.page_database.proofs.DatabaseLemmas.{as_tables, at_first}
+use Rattle.page_versions.specs.Databases.{nothing, root_of, contents_in, IsDatabase, IsOwned}
+use Rattle.page_versions.specs.Opened.{Begins, BeginsOwned, IsReadable}
 use Rattle.page_versions.specs.Refusals.{of_open}
-use Rattle.page_versions.specs.Saved.{HoldsDatabase, IsSaved}
+use Rattle.page_versions.specs.Saved.{HoldsDatabase, IsSaved, IsSavedOwned}
 use Rattle.page_versions.proofs.HeldLemmas.{TheyAreRead, TheyRise, is_database}
 use Rattle.page_versions.proofs.RefusalLemmas.{fail_weaker}
 
@@ -45,8 +46,8 @@ new_header = record { page_count = 1; first_free = 0; catalog_root = 0 }
 abbrev pub TheyBegin : Type 0
 TheyBegin = (pages : PageMap) → database.HoldsDatabase pages 0 []
 
-first_whole : (first : List ℕ) → IsHeader first new_header → IsWhole (only 0 first)
-first_whole first says = (
+first_whole : (full : Bool) (first : List ℕ) → IsHeader first new_header → IsWholeFor full (only 0 first)
+first_whole full first says = (
   new_header,
   record {
     first = first;
@@ -59,11 +60,15 @@ first_whole first says = (
     within = λ n i. absurd i;
     all = λ n less. subst (λ (k : ℕ). IsSome (only 0 first k)) (zero_is n less) refl;
     ends = λ n behind. only_apart 0 n first (above n behind);
+    lists = λ e n bytes some less there kind. absurd (no_other n some less);
   },
 )
   where
     zero_is : (n : ℕ) → n < 1 → 0 ≡ n
     zero_is n less = omega (arith, less)
+
+    no_other : (n : ℕ) → 0 < n → n < 1 → ⊥
+    no_other n some less = omega (arith, some, less)
 
     above : (n : ℕ) → 1 ≤ n → n ≢ 0
     above n behind = omega (arith, behind)
@@ -72,12 +77,31 @@ first_holds : TheyBegin → (first : List ℕ) → IsHeader first new_header →
 first_holds begin first says = subst (λ (r : ℕ). database.HoldsDatabase (in_use (only 0 first) nothing) r []) (sym says.catalog_root) (begin (in_use (only 0 first) nothing))
 
 first_database : TheyBegin → TheyAreRead → TheyRise → (first : List ℕ) → IsHeader first new_header → IsDatabase (only 0 first) nothing
-first_database begin read rise first says = is_database read rise (only 0 first) nothing [] (first_whole first says) (first_holds begin first says)
+first_database begin read rise first says = is_database read rise (only 0 first) nothing [] (record { whole = first_whole false first says; full = λ start. start }) (first_holds begin first says)
 
 first_shows : TheyBegin → TheyAreRead → database.contents_of [] ≡ empty → (first : List ℕ) → IsHeader first new_header → database_of (contents_in (only 0 first) nothing) ≡ empty
 first_shows begin read none first says =
     ap database_of (read (in_use (only 0 first) nothing) (root_of (only 0 first) nothing) [] (λ n there. in_use-bounded (only 0 first) nothing n there)
     (as_tables (in_use (only 0 first) nothing) (root_of (only 0 first) nothing) [] (first_holds begin first says)) ∙ none) ∙ database-empty
+
+-- no page of a new file is in use, so none is lost
+first_none : (first : List ℕ) (n : ℕ) → in_use (only 0 first) nothing n ≡ None
+first_none first n = by (in_use (only 0 first) nothing n) refl
+  where
+    by : (o : Option (List ℕ)) → in_use (only 0 first) nothing n ≡ o → in_use (only 0 first) nothing n ≡ None
+    by None e = e
+    by (Some page) e =
+        let some : 0 < n = (in_use-bounded (only 0 first) nothing n (ap (λ (o : Option (List ℕ)). is_some o) e)).0 in
+        let differs : n ≢ 0 = omega (arith, some) in
+        let bad : None ≡ Some page = sym (only_apart 0 n first differs) ∙ in_use-read (only 0 first) nothing n page e in absurd (cc)
+
+first_owned : TheyBegin → TheyAreRead → TheyRise → (first : List ℕ) → IsHeader first new_header → IsOwned (only 0 first) nothing
+first_owned begin read rise first says = record {
+  is = first_database begin read rise first says;
+  start = first_whole true first says;
+  tables = [];
+  owned = subst (λ (r : ℕ). database.IsAllOwned (in_use (only 0 first) nothing) r []) (sym says.catalog_root) (at_first (in_use (only 0 first) nothing) (λ alone n. first_none first n));
+}
 
 -- nothing lies on an empty device
 no_page : (bytes first : List ℕ) → bytes ≡ [] → page_of bytes 0 ≡ Some first → ⊥
@@ -100,7 +124,18 @@ new_begins begin read rise none honest bytes first v empty_is says last pages pi
     is_empty db (inl both) gone = both.1
     is_empty db (inr held) gone = absurd (no_page bytes held.whole.first gone held.whole.there)
 
+pub new_owned : TheyBegin → TheyAreRead → TheyRise → (honest : Bool) (bytes first : List ℕ) (v : Versions) → IsHeader first new_header → v.pages ≡ (λ c. known honest (only 0 first)) → BeginsOwned honest bytes v
+new_owned begin read rise honest bytes first v says pages = λ h saved.
+    subst (λ (p : PageMap). IsOwned p nothing) (sym (ap (λ (p : ℕ → PageMap). p 0) pages ∙ known_of honest (only 0 first) h)) (first_owned begin read rise first says)
+
 -- ---- a file
+
+pub old_owned : (honest : Bool) (bytes now : List ℕ) (v : Versions) → (IsTrue honest → bytes ≡ [] → ⊥) → (IsTrue honest → now ≡ bytes) → v.pages ≡ (λ c. known honest (page_of now)) → BeginsOwned honest bytes v
+old_owned honest bytes now v some same pages = λ h saved. by h saved
+  where
+    by : IsTrue honest → IsSavedOwned bytes → IsOwned (v.pages 0) nothing
+    by h (inl none) = absurd (some h none)
+    by h (inr it) = subst (λ (p : PageMap). IsOwned p nothing) (sym (ap (λ (p : ℕ → PageMap). p 0) pages ∙ known_of honest (page_of now) h ∙ ap page_of (same h))) it
 
 pub old_begins : (honest : Bool) (bytes now : List ℕ) (header : FileHeader) (v : Versions) → (IsTrue honest → bytes ≡ [] → ⊥) → (IsTrue honest → now ≡ bytes) → (IsTrue honest → file.IsWhole bytes header)
     → v.last ≡ 0 → v.pages ≡ (λ c. known honest (page_of now)) → v.pins ≡ (λ c. 0) → Begins honest bytes v
@@ -170,6 +205,13 @@ module _ {A E : Type 0} (result : Result A E) (honest : Bool) (now bytes : List 
     where
       by : (r : Result A E) → IfOk r (λ a. Begins honest now (v a)) → IfOk r (λ a. Begins honest bytes (v a))
       by (Ok a) h = begins_from honest now bytes (v a) same h
+      by (Err e) h = h
+
+  pub owned_after : (v : A → Versions) → IfOk result (λ a. BeginsOwned honest now (v a)) → IfOk result (λ a. BeginsOwned honest bytes (v a))
+  owned_after v h = by result h
+    where
+      by : (r : Result A E) → IfOk r (λ a. BeginsOwned honest now (v a)) → IfOk r (λ a. BeginsOwned honest bytes (v a))
+      by (Ok a) b = λ h saved. b h (subst IsSavedOwned (sym (same h)) saved)
       by (Err e) h = h
 
   pub readable_after : IfOk result (λ a. IsReadable honest now) → IfOk result (λ a. IsReadable honest bytes)

@@ -24,7 +24,7 @@ use Rattle.pool.specs.declared.error.PoolError.{PoolError}
 use Rattle.pool.specs.declared.error.PoolError.TheVariants as pool
 use Rattle.overlay.specs.InUse.{in_use}
 use Rattle.overlay.specs.Layers.{size_of}
-use Rattle.overlay.specs.Whole.{IsWhole, IsSaid, AtLimit}
+use Rattle.overlay.specs.Whole.{IsWholeOver, IsSaid, AtLimit}
 use Rattle.page_tables.specs.Held as plain
 use Rattle.page_database.specs.declared.error.DatabaseError.{DatabaseError}
 use Rattle.page_database.specs.declared.error.DatabaseError.TheVariants as change
@@ -52,7 +52,7 @@ read_fails sound harm reached k m n fault.Private less never h = absurd h
 pub header_fails : (version written : PageMap) (reached : StoreLimit → Type 0) (k n : ℕ) (f : Fault) → ReadRefused ((header : FileHeader) → IsSaid (over written version 0) header → ⊥) k n f
     → MayFail (IsDatabase version written) k n reached (of_fault f)
 header_fails version written reached k n f h = read_fails (IsDatabase version written) ((header : FileHeader) → IsSaid (over written version 0) header → ⊥) reached k k n f (omega arith)
-    (λ d harm. harm d.whole.0 (said (over written version 0) d.whole.1.first d.whole.0 d.whole.1.there (d.whole.1.says, d.whole.1.bounds))) h
+    (λ d harm. let w = d.whole.whole in harm w.0 (said (over written version 0) w.1.first w.0 w.1.there (w.1.says, w.1.bounds))) h
   where
     said : (o : Option (List ℕ)) (first : List ℕ) (header : FileHeader) → o ≡ Some first → IsSaid (Some first) header → IsSaid o header
     said o first header there is = subst (λ (p : Option (List ℕ)). IsSaid p header) (sym there) is
@@ -83,7 +83,7 @@ numbers_end version written header name rows says numbers d =
 
 pub rows_refused : (version written next : PageMap) (header : FileHeader) (k m n : ℕ) (name : Name) (rows : List Row) (error : DatabaseError)
     → ((first : List ℕ) → over written version 0 ≡ Some first → IsHeader first header) → k ≤ m → NumberingReaches (in_use version written) header.catalog_root name rows error
-    → SpaceRefused (AtLimit (over next version 0) (size_of next)) (HoldsNoDatabaseIn (in_use version written) header.catalog_root (IsWhole (over written version))) m n error
+    → SpaceRefused (AtLimit (over next version 0) (size_of next)) (HoldsNoDatabaseIn (in_use version written) header.catalog_root (IsWholeOver version written)) m n error
     → MayFail (IsDatabase version written) k n (NewRowsReach (IsCounted version next) (NumbersEnd version written name rows) rows) (of_rows error)
 rows_refused version written next header k m n name rows (change.Space fault.Memory) says less numbers h = tt
 rows_refused version written next header k m n name rows (change.Space fault.Disk) says less numbers h = has_risen k m n less h
@@ -98,7 +98,7 @@ rows_refused version written next header k m n name rows change.Number says less
 -- where no number is given, none is refused
 pub row_refused : (version written next : PageMap) (header : FileHeader) (k m n : ℕ) (name : Name) (rows : List Row) (error : DatabaseError)
     → ((first : List ℕ) → over written version 0 ≡ Some first → IsHeader first header) → k ≤ m → StoringReachesIn (in_use version written) header.catalog_root name rows error
-    → SpaceRefused (AtLimit (over next version 0) (size_of next)) (HoldsNoDatabaseIn (in_use version written) header.catalog_root (IsWhole (over written version))) m n error
+    → SpaceRefused (AtLimit (over next version 0) (size_of next)) (HoldsNoDatabaseIn (in_use version written) header.catalog_root (IsWholeOver version written)) m n error
     → MayFail (IsDatabase version written) k n (RowsReach (IsCounted version next) rows) (of_rows error)
 row_refused version written next header k m n name rows (change.Space fault.Memory) says less limits h = tt
 row_refused version written next header k m n name rows (change.Space fault.Disk) says less limits h = has_risen k m n less h
@@ -112,7 +112,7 @@ row_refused version written next header k m n name rows change.Number says less 
 
 pub table_refused : (version written next : PageMap) (header : FileHeader) (k m n : ℕ) (error : DatabaseError)
     → ((first : List ℕ) → over written version 0 ≡ Some first → IsHeader first header) → k ≤ m
-    → SpaceRefused (AtLimit (over next version 0) (size_of next)) (HoldsNoDatabaseIn (in_use version written) header.catalog_root (IsWhole (over written version))) m n error
+    → SpaceRefused (AtLimit (over next version 0) (size_of next)) (HoldsNoDatabaseIn (in_use version written) header.catalog_root (IsWholeOver version written)) m n error
     → MayFail (IsDatabase version written) k n (ChangingReaches (IsCounted version next)) (of_change error)
 table_refused version written next header k m n (change.Space fault.Memory) says less h = tt
 table_refused version written next header k m n (change.Space fault.Disk) says less h = has_risen k m n less h

@@ -17,14 +17,15 @@ use Rattle.pool.specs.Pages.{PageMap, over}
 use Rattle.pool.specs.Versions.{Versions}
 use Rattle.overlay.specs.InUse.{in_use}
 use Rattle.overlay.specs.Layers.{size_of}
-use Rattle.overlay.specs.Whole.{IsWhole, AtLimit}
+use Rattle.overlay.specs.Whole.{IsFull, IsWholeOver, AtLimit}
 use Rattle.page_tables.specs.Held as plain
 use Rattle.page_database.specs.declared.error.DatabaseError.{DatabaseError}
-use Rattle.page_database.specs.Held.{TableAt, rows_of_tables, HoldsDatabase, HoldsNoDatabase, contents_of}
-use Rattle.page_database.specs.Changed.{DatabaseWritten, HoldsNoDatabaseIn, SpaceRefused, StoringReaches, NumberingReaches}
+use Rattle.page_database.specs.Held.{TableAt, rows_of_tables, HoldsDatabase, HoldsNoDatabase, IsAllOwned, contents_of}
+use Rattle.page_database.specs.Changed.{DatabaseWritten, DatabaseOwned, HoldsNoDatabaseIn, SpaceRefused, StoringReaches, NumberingReaches}
 use Rattle.page_versions.specs.Changed.{IsNow}
-use Rattle.page_versions.specs.Databases.{contents_in, IsDatabase}
+use Rattle.page_versions.specs.Databases.{root_of, contents_in, IsDatabase, IsOwned}
 use Rattle.page_versions.specs.Refusals.{of_fault, of_rows, of_change, IsReached, IsCounted, RowsReach, NumbersEnd, NewRowsReach}
+use Rattle.page_versions.proofs.HeldLemmas.{root_is}
 use Rattle.page_versions.proofs.RefusalLemmas.{held_at, tables_held_at, read_fails, tables_fail, rows_refused, row_refused, table_refused, root_refused}
 
 -- an error that is this one
@@ -64,33 +65,46 @@ database_fail_at version next written header reached k m n f error is says same 
 
 module _ (change : Contents → Contents) (v0 v1 v2 written mid : PageMap) (header : FileHeader) (top : ℕ) (says : Says v0 written header) (first : v1 ≡ v0) (second : v2 ≡ v1)
     (made : (tables : List TableAt) → HoldsDatabase (in_use v1 written) header.catalog_root tables → DatabaseWritten (in_use v1 mid) (change (contents_of tables)) top)
-    (whole : IsWhole (over written v1) → IsWhole (over mid v1)) where
-  whole_now : IsDatabase v0 written → IsWhole (over mid v2)
-  whole_now d = subst (λ (v : PageMap). IsWhole (over mid v)) (sym second) (whole (subst (λ (v : PageMap). IsWhole (over written v)) (sym first) d.whole))
+    (whole : IsWholeOver v1 written → IsWholeOver v1 mid) where
+  whole_now : IsDatabase v0 written → IsWholeOver v2 mid
+  whole_now d = subst (λ (v : PageMap). IsWholeOver v mid) (sym second) (whole (subst (λ (v : PageMap). IsWholeOver v written) (sym first) d.whole))
 
   put_now : (d : IsDatabase v0 written) → DatabaseWritten (in_use v2 mid) (change (contents_in v0 written)) top
   put_now d = subst (λ (v : PageMap). DatabaseWritten (in_use v mid) (change (contents_in v0 written)) top) (sym second)
       (subst (λ (c : Contents). DatabaseWritten (in_use v1 mid) (change c) top) (sym d.read)
       (made d.tables (subst (λ (v : PageMap). HoldsDatabase (in_use v written) header.catalog_root d.tables) (sym first) (held_at v0 written header says d))))
 
-  pub changed_of : (next : PageMap) → ((contents : Contents) → IsWhole (over mid v2) → DatabaseWritten (in_use v2 mid) contents top → IsNow v2 next contents) → IsDatabase v0 written → IsNow v0 next (change (contents_in v0 written))
+  pub changed_of : (next : PageMap) → ((contents : Contents) → IsWholeOver v2 mid → DatabaseWritten (in_use v2 mid) contents top → IsNow v2 next contents) → IsDatabase v0 written → IsNow v0 next (change (contents_in v0 written))
   changed_of next put d = subst (λ (v : PageMap). IsNow v next (change (contents_in v0 written))) (second ∙ first) (put (change (contents_in v0 written)) (whole_now d) (put_now d))
 
   pub root_fails : (next : PageMap) (reached : StoreLimit → Type 0) (k m n : ℕ) (f : Fault) (error : StoreError) → error ≡ of_fault f → k ≤ m
       → (IsReached v0 next fault.Pages → reached limit.Pages) → (IsReached v0 next fault.Private → reached limit.Private)
-      → ChangeRefused (AtLimit (over next v2 0) (size_of next)) ((contents : Contents) → IsWhole (over mid v2) → DatabaseWritten (in_use v2 mid) contents top → ⊥) m n f
+      → ChangeRefused (AtLimit (over next v2 0) (size_of next)) ((contents : Contents) → IsWholeOver v2 mid → DatabaseWritten (in_use v2 mid) contents top → ⊥) m n f
       → MayFail (IsDatabase v0 written) k n reached error
   root_fails next reached k m n f error is less pages private h =
       fails_as (IsDatabase v0 written) k n reached error (of_fault f) is
-      (root_refused v0 mid next ((contents : Contents) → IsWhole (over mid v2) → DatabaseWritten (in_use v2 mid) contents top → ⊥) (IsDatabase v0 written) reached k m n f less
+      (root_refused v0 mid next ((contents : Contents) → IsWholeOver v2 mid → DatabaseWritten (in_use v2 mid) contents top → ⊥) (IsDatabase v0 written) reached k m n f less
       (λ d never. never (change (contents_in v0 written)) (whole_now d) (put_now d)) pages private
-      (subst (λ (v : PageMap). ChangeRefused (AtLimit (over next v 0) (size_of next)) ((contents : Contents) → IsWhole (over mid v2) → DatabaseWritten (in_use v2 mid) contents top → ⊥) m n f) (second ∙ first) h))
+      (subst (λ (v : PageMap). ChangeRefused (AtLimit (over next v 0) (size_of next)) ((contents : Contents) → IsWholeOver v2 mid → DatabaseWritten (in_use v2 mid) contents top → ⊥) m n f) (second ∙ first) h))
+
+-- the same where all pages are owned
+pub owned_of : (change : Contents → Contents) (v0 v1 v2 written mid : PageMap) (header : FileHeader) (top : ℕ) → Says v0 written header → v1 ≡ v0 → v2 ≡ v1
+    → ((tables : List TableAt) → IsAllOwned (in_use v1 written) header.catalog_root tables → DatabaseOwned (in_use v1 mid) (change (contents_of tables)) top)
+    → (IsWholeOver v1 written → IsWholeOver v1 mid)
+    → (next : PageMap) → ((contents : Contents) → IsFull v2 → IsWholeOver v2 mid → DatabaseOwned (in_use v2 mid) contents top → IsOwned v2 next) → IsOwned v0 written → IsOwned v0 next
+owned_of change v0 v1 v2 written mid header top says first second made whole next put d =
+    let root : root_of v0 written ≡ header.catalog_root = root_is v0 written header says d.is.whole in
+    let held : IsAllOwned (in_use v1 written) header.catalog_root d.tables = subst (λ (v : PageMap). IsAllOwned (in_use v written) header.catalog_root d.tables) (sym first)
+    (subst (λ (r : ℕ). IsAllOwned (in_use v0 written) r d.tables) root d.owned) in
+    let whole_mid : IsWholeOver v2 mid = subst (λ (v : PageMap). IsWholeOver v mid) (sym second) (whole (subst (λ (v : PageMap). IsWholeOver v written) (sym first) d.is.whole)) in
+    let put_mid : DatabaseOwned (in_use v2 mid) (change (contents_of d.tables)) top = subst (λ (v : PageMap). DatabaseOwned (in_use v mid) (change (contents_of d.tables)) top) (sym second) (made d.tables held) in
+    subst (λ (v : PageMap). IsOwned v next) (second ∙ first) (put (change (contents_of d.tables)) (subst IsFull (sym (second ∙ first)) d.start) whole_mid put_mid)
 
 module _ (v0 v1 written next : PageMap) (header : FileHeader) (k m n : ℕ) (cause : DatabaseError) (error : StoreError) (says : Says v0 written header) (first : v1 ≡ v0) (less : k ≤ m)
-    (h : SpaceRefused (AtLimit (over next v1 0) (size_of next)) (HoldsNoDatabaseIn (in_use v1 written) header.catalog_root (IsWhole (over written v1))) m n cause) where
-  refused_there : SpaceRefused (AtLimit (over next v0 0) (size_of next)) (HoldsNoDatabaseIn (in_use v0 written) header.catalog_root (IsWhole (over written v0))) m n cause
+    (h : SpaceRefused (AtLimit (over next v1 0) (size_of next)) (HoldsNoDatabaseIn (in_use v1 written) header.catalog_root (IsWholeOver v1 written)) m n cause) where
+  refused_there : SpaceRefused (AtLimit (over next v0 0) (size_of next)) (HoldsNoDatabaseIn (in_use v0 written) header.catalog_root (IsWholeOver v0 written)) m n cause
   refused_there =
-      subst (λ (v : PageMap). SpaceRefused (AtLimit (over next v 0) (size_of next)) (HoldsNoDatabaseIn (in_use v written) header.catalog_root (IsWhole (over written v))) m n cause) first h
+      subst (λ (v : PageMap). SpaceRefused (AtLimit (over next v 0) (size_of next)) (HoldsNoDatabaseIn (in_use v written) header.catalog_root (IsWholeOver v written)) m n cause) first h
 
   pub rows_fail : (name : Name) (rows : List Row) → error ≡ of_rows cause → NumberingReaches (in_use v1 written) header.catalog_root name rows cause
       → MayFail (IsDatabase v0 written) k n (NewRowsReach (IsCounted v0 next) (NumbersEnd v0 written name rows) rows) error

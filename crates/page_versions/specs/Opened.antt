@@ -5,8 +5,8 @@ use Rattle.store.specs.Contents.{database_of}
 use Rattle.pagefile.specs.declared.header.FileHeader.{FileHeader}
 use Rattle.pagefile.specs.Whole.{IsWhole}
 use Rattle.pool.specs.Versions.{Versions}
-use Rattle.page_versions.specs.Databases.{nothing, contents_in, IsDatabase}
-use Rattle.page_versions.specs.Saved.{IsSaved}
+use Rattle.page_versions.specs.Databases.{nothing, contents_in, IsDatabase, IsOwned}
+use Rattle.page_versions.specs.Saved.{IsSaved, IsSavedOwned}
 
 -- no commit yet and no pin; page 0 is there; and the version is the database that was saved
 pub record Begins (honest : Bool) (bytes : List ℕ) (v : Versions) : Type 0 where
@@ -19,3 +19,7 @@ pub record Begins (honest : Bool) (bytes : List ℕ) (v : Versions) : Type 0 whe
 -- where the device is honest, it is empty or its bytes are those of a whole file
 abbrev pub IsReadable : Bool → List ℕ → Type 0
 IsReadable honest bytes = IsTrue honest → (bytes ≡ []) ⊎ ((header : FileHeader) × IsWhole bytes header)
+
+-- of what was saved without a page lost, the first version has none lost
+abbrev pub BeginsOwned : Bool → List ℕ → Versions → Type 0
+BeginsOwned honest bytes v = IsTrue honest → IsSavedOwned bytes → IsOwned (v.pages 0) nothing

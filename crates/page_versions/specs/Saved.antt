@@ -6,7 +6,7 @@ use Rattle.store.specs.Contents.{database_of}
 use Rattle.pagefile.specs.declared.header.FileHeader.{FileHeader}
 use Rattle.pagefile.specs.Pages.{page_of}
 use Rattle.pagefile.specs.Whole.{IsWhole}
-use Rattle.page_versions.specs.Databases.{nothing, contents_in, IsDatabase}
+use Rattle.page_versions.specs.Databases.{nothing, contents_in, IsDatabase, IsOwned}
 
 -- a file that is a database
 pub record HoldsDatabase (file : List ℕ) (db : Database) : Type 0 where
@@ -18,3 +18,7 @@ pub record HoldsDatabase (file : List ℕ) (db : Database) : Type 0 where
 -- the device gives back what was written, and it is empty, or a file that is this database; the empty one is the database without tables
 abbrev pub IsSaved : Bool → List ℕ → Database → Type 0
 IsSaved honest bytes db = IsTrue honest × (((bytes ≡ []) × (db ≡ empty)) ⊎ HoldsDatabase bytes db)
+
+-- the device is empty, or its file is a database of which no page is lost
+abbrev pub IsSavedOwned : List ℕ → Type 0
+IsSavedOwned bytes = (bytes ≡ []) ⊎ IsOwned (page_of bytes) nothing

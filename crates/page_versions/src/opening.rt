@@ -3,7 +3,7 @@ ghost use Rattle.std.specs.Prelude.{◌≡◌, ◌≤◌, [], IsTrue, IfOk, IfEr
 ghost use Rattle.denote.specs.Database.{Database};
 ghost use Rattle.store.specs.Errors.{MayFail, Never};
 ghost use Rattle.pool.specs.Versions.{versions_of, device_of};
-ghost use Rattle.page_versions.specs.Opened.{Begins, IsReadable};
+ghost use Rattle.page_versions.specs.Opened.{Begins, BeginsOwned, IsReadable};
 ghost use Rattle.page_versions.specs.Refusals.{of_open};
 ghost use Rattle.page_versions.specs.Saved.{IsSaved};
 
@@ -22,6 +22,7 @@ fn new_pool<D: Disk>(alloc: Global, device: D, frames: u32) -> Result<Pool<D>, R
     requires most { frames ≤ 4096 }
     requires empty { IsTrue D.is_honest → D.bytes device ≡ [] }
     ensures begins { IfOk result (λ pool. Begins D.is_honest (D.bytes device) (versions_of pool)) }
+    ensures owned { IfOk result (λ pool. BeginsOwned D.is_honest (D.bytes device) (versions_of pool)) }
     ensures readable { IfOk result (λ pool. IsReadable D.is_honest (D.bytes device)) }
     ensures counts { IfOk result (λ pool. D.refused device ≤ D.refused (device_of pool)) }
     ensures left { IfErr result (λ back. back.value ≡ device) }
@@ -55,6 +56,7 @@ fn old_pool<D: Disk>(alloc: Global, device: D, frames: u32) -> Result<Pool<D>, R
     requires most { frames ≤ 4096 }
     requires some { IsTrue D.is_honest → D.bytes device ≡ [] → ⊥ }
     ensures begins { IfOk result (λ pool. Begins D.is_honest (D.bytes device) (versions_of pool)) }
+    ensures owned { IfOk result (λ pool. BeginsOwned D.is_honest (D.bytes device) (versions_of pool)) }
     ensures readable { IfOk result (λ pool. IsReadable D.is_honest (D.bytes device)) }
     ensures counts { IfOk result (λ pool. D.refused device ≤ D.refused (device_of pool)) }
     ensures left { IfErr result (λ back. IsTrue D.is_honest → D.bytes back.value ≡ D.bytes device) }
@@ -74,6 +76,7 @@ pub fn pool_over<D: Disk>(alloc: Global, mut device: D, frames: u32) -> Result<P
     requires least { 16 ≤ frames }
     requires most { frames ≤ 4096 }
     ensures begins { IfOk result (λ pool. Begins D.is_honest (D.bytes device) (versions_of pool)) }
+    ensures owned { IfOk result (λ pool. BeginsOwned D.is_honest (D.bytes device) (versions_of pool)) }
     ensures readable { IfOk result (λ pool. IsReadable D.is_honest (D.bytes device)) }
     ensures counts { IfOk result (λ pool. D.refused device ≤ D.refused (device_of pool)) }
     ensures left { IfErr result (λ back. IsTrue D.is_honest → D.bytes back.value ≡ D.bytes device) }

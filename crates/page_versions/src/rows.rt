@@ -8,11 +8,11 @@ ghost use Rattle.pool.specs.Versions.{versions_of, device_of};
 ghost use Rattle.overlay.specs.Changes.{private_of, settled_of};
 ghost use Rattle.overlay.specs.InUse.{in_use};
 ghost use Rattle.overlay.specs.Layers.{size_of};
-ghost use Rattle.overlay.specs.Whole.{IsWhole, AtLimit};
-ghost use Rattle.page_database.specs.Held.{TableAt, HoldsDatabase, contents_of};
-ghost use Rattle.page_database.specs.Changed.{DatabaseWritten, HoldsNoDatabaseIn, SpaceRefused, StoringReaches, NumberingReaches};
+ghost use Rattle.overlay.specs.Whole.{IsWholeOver, AtLimit};
+ghost use Rattle.page_database.specs.Held.{TableAt, HoldsDatabase, IsAllOwned, contents_of};
+ghost use Rattle.page_database.specs.Changed.{DatabaseWritten, DatabaseOwned, HoldsNoDatabaseIn, SpaceRefused, StoringReaches, NumberingReaches};
 ghost use Rattle.page_versions.specs.Changed.{IsNow};
-ghost use Rattle.page_versions.specs.Databases.{IsDatabase, contents_in};
+ghost use Rattle.page_versions.specs.Databases.{IsDatabase, IsOwned, contents_in};
 ghost use Rattle.page_versions.specs.Refusals.{IsCounted, RowsReach, NumbersEnd, NewRowsReach};
 
 use crate::causes::{of_change, of_fault, of_rows};
@@ -37,11 +37,12 @@ fn append_from<D: Disk>(
     rows: Rows,
 ) -> Result<u32, DatabaseError>
     ensures appended { (tables : List TableAt) → HoldsDatabase (in_use ((versions_of pool.old).pages at) (private_of changes.old)) root tables → IfOk result (DatabaseWritten (in_use ((versions_of pool.old).pages at) (private_of changes.new)) (appended (contents_of tables) name.now rows)) }
+    ensures owned { (tables : List TableAt) → IsAllOwned (in_use ((versions_of pool.old).pages at) (private_of changes.old)) root tables → IfOk result (DatabaseOwned (in_use ((versions_of pool.old).pages at) (private_of changes.new)) (appended (contents_of tables) name.now rows)) }
     ensures limits { IfErr result (NumberingReaches (in_use ((versions_of pool.old).pages at) (private_of changes.old)) root name.now rows) }
-    ensures whole { OnOk result (IsWhole (over (private_of changes.old) ((versions_of pool.old).pages at)) → IsWhole (over (private_of changes.new) ((versions_of pool.old).pages at))) }
+    ensures whole { OnOk result (IsWholeOver ((versions_of pool.old).pages at) (private_of changes.old) → IsWholeOver ((versions_of pool.old).pages at) (private_of changes.new)) }
     ensures settled { settled_of changes.new ≡ settled_of changes.old }
     ensures versions { versions_of pool.new ≡ versions_of pool.old }
-    ensures refusal { IfErr result (SpaceRefused (AtLimit (over (private_of changes.new) ((versions_of pool.old).pages at) 0) (size_of (private_of changes.new))) (HoldsNoDatabaseIn (in_use ((versions_of pool.old).pages at) (private_of changes.old)) root (IsWhole (over (private_of changes.old) ((versions_of pool.old).pages at)))) (D.refused (device_of pool.old)) (D.refused (device_of pool.new))) }
+    ensures refusal { IfErr result (SpaceRefused (AtLimit (over (private_of changes.new) ((versions_of pool.old).pages at) 0) (size_of (private_of changes.new))) (HoldsNoDatabaseIn (in_use ((versions_of pool.old).pages at) (private_of changes.old)) root (IsWholeOver ((versions_of pool.old).pages at) (private_of changes.old))) (D.refused (device_of pool.old)) (D.refused (device_of pool.new))) }
     ensures rising { D.refused (device_of pool.old) ≤ D.refused (device_of pool.new) }
 {
     let mut space = Overlay { pool, changes, at };
@@ -59,6 +60,7 @@ pub fn append_rows<D: Disk>(
     rows: Rows,
 ) -> Result<(), StoreError>
     ensures appended { IsDatabase ((versions_of pool.old).pages at) (private_of changes.old) → OnOk result (IsNow ((versions_of pool.old).pages at) (private_of changes.new) (appended (contents_in ((versions_of pool.old).pages at) (private_of changes.old)) name.now rows)) }
+    ensures owned { IsOwned ((versions_of pool.old).pages at) (private_of changes.old) → OnOk result (IsOwned ((versions_of pool.old).pages at) (private_of changes.new)) }
     ensures settled { settled_of changes.new ≡ settled_of changes.old }
     ensures versions { versions_of pool.new ≡ versions_of pool.old }
     ensures refused { IfErr result (MayFail (IsDatabase ((versions_of pool.old).pages at) (private_of changes.old)) (D.refused (device_of pool.old)) (D.refused (device_of pool.new)) (NewRowsReach (IsCounted ((versions_of pool.old).pages at) (private_of changes.new)) (NumbersEnd ((versions_of pool.old).pages at) (private_of changes.old) name.now rows) rows)) }
@@ -88,11 +90,12 @@ fn replace_from<D: Disk>(
     row: Row,
 ) -> Result<u32, DatabaseError>
     ensures replaced { (tables : List TableAt) → HoldsDatabase (in_use ((versions_of pool.old).pages at) (private_of changes.old)) root tables → IfOk result (DatabaseWritten (in_use ((versions_of pool.old).pages at) (private_of changes.new)) (replaced (contents_of tables) name.now number row)) }
+    ensures owned { (tables : List TableAt) → IsAllOwned (in_use ((versions_of pool.old).pages at) (private_of changes.old)) root tables → IfOk result (DatabaseOwned (in_use ((versions_of pool.old).pages at) (private_of changes.new)) (replaced (contents_of tables) name.now number row)) }
     ensures limits { IfErr result (StoringReaches (in_use ((versions_of pool.old).pages at) (private_of changes.old)) root name.now (row ∷ [])) }
-    ensures whole { OnOk result (IsWhole (over (private_of changes.old) ((versions_of pool.old).pages at)) → IsWhole (over (private_of changes.new) ((versions_of pool.old).pages at))) }
+    ensures whole { OnOk result (IsWholeOver ((versions_of pool.old).pages at) (private_of changes.old) → IsWholeOver ((versions_of pool.old).pages at) (private_of changes.new)) }
     ensures settled { settled_of changes.new ≡ settled_of changes.old }
     ensures versions { versions_of pool.new ≡ versions_of pool.old }
-    ensures refusal { IfErr result (SpaceRefused (AtLimit (over (private_of changes.new) ((versions_of pool.old).pages at) 0) (size_of (private_of changes.new))) (HoldsNoDatabaseIn (in_use ((versions_of pool.old).pages at) (private_of changes.old)) root (IsWhole (over (private_of changes.old) ((versions_of pool.old).pages at)))) (D.refused (device_of pool.old)) (D.refused (device_of pool.new))) }
+    ensures refusal { IfErr result (SpaceRefused (AtLimit (over (private_of changes.new) ((versions_of pool.old).pages at) 0) (size_of (private_of changes.new))) (HoldsNoDatabaseIn (in_use ((versions_of pool.old).pages at) (private_of changes.old)) root (IsWholeOver ((versions_of pool.old).pages at) (private_of changes.old))) (D.refused (device_of pool.old)) (D.refused (device_of pool.new))) }
     ensures rising { D.refused (device_of pool.old) ≤ D.refused (device_of pool.new) }
 {
     let mut space = Overlay { pool, changes, at };
@@ -111,6 +114,7 @@ pub fn replace_row<D: Disk>(
     row: Row,
 ) -> Result<(), StoreError>
     ensures replaced { IsDatabase ((versions_of pool.old).pages at) (private_of changes.old) → OnOk result (IsNow ((versions_of pool.old).pages at) (private_of changes.new) (replaced (contents_in ((versions_of pool.old).pages at) (private_of changes.old)) name.now number row)) }
+    ensures owned { IsOwned ((versions_of pool.old).pages at) (private_of changes.old) → OnOk result (IsOwned ((versions_of pool.old).pages at) (private_of changes.new)) }
     ensures settled { settled_of changes.new ≡ settled_of changes.old }
     ensures versions { versions_of pool.new ≡ versions_of pool.old }
     ensures refused { IfErr result (MayFail (IsDatabase ((versions_of pool.old).pages at) (private_of changes.old)) (D.refused (device_of pool.old)) (D.refused (device_of pool.new)) (RowsReach (IsCounted ((versions_of pool.old).pages at) (private_of changes.new)) (row ∷ []))) }
@@ -148,10 +152,11 @@ fn delete_from<D: Disk>(
     number: u64,
 ) -> Result<u32, DatabaseError>
     ensures deleted { (tables : List TableAt) → HoldsDatabase (in_use ((versions_of pool.old).pages at) (private_of changes.old)) root tables → IfOk result (DatabaseWritten (in_use ((versions_of pool.old).pages at) (private_of changes.new)) (deleted (contents_of tables) name.now number)) }
-    ensures whole { OnOk result (IsWhole (over (private_of changes.old) ((versions_of pool.old).pages at)) → IsWhole (over (private_of changes.new) ((versions_of pool.old).pages at))) }
+    ensures owned { (tables : List TableAt) → IsAllOwned (in_use ((versions_of pool.old).pages at) (private_of changes.old)) root tables → IfOk result (DatabaseOwned (in_use ((versions_of pool.old).pages at) (private_of changes.new)) (deleted (contents_of tables) name.now number)) }
+    ensures whole { OnOk result (IsWholeOver ((versions_of pool.old).pages at) (private_of changes.old) → IsWholeOver ((versions_of pool.old).pages at) (private_of changes.new)) }
     ensures settled { settled_of changes.new ≡ settled_of changes.old }
     ensures versions { versions_of pool.new ≡ versions_of pool.old }
-    ensures refusal { IfErr result (SpaceRefused (AtLimit (over (private_of changes.new) ((versions_of pool.old).pages at) 0) (size_of (private_of changes.new))) (HoldsNoDatabaseIn (in_use ((versions_of pool.old).pages at) (private_of changes.old)) root (IsWhole (over (private_of changes.old) ((versions_of pool.old).pages at)))) (D.refused (device_of pool.old)) (D.refused (device_of pool.new))) }
+    ensures refusal { IfErr result (SpaceRefused (AtLimit (over (private_of changes.new) ((versions_of pool.old).pages at) 0) (size_of (private_of changes.new))) (HoldsNoDatabaseIn (in_use ((versions_of pool.old).pages at) (private_of changes.old)) root (IsWholeOver ((versions_of pool.old).pages at) (private_of changes.old))) (D.refused (device_of pool.old)) (D.refused (device_of pool.new))) }
     ensures rising { D.refused (device_of pool.old) ≤ D.refused (device_of pool.new) }
 {
     let mut space = Overlay { pool, changes, at };
@@ -169,6 +174,7 @@ pub fn delete_row<D: Disk>(
     number: u64,
 ) -> Result<(), StoreError>
     ensures deleted { IsDatabase ((versions_of pool.old).pages at) (private_of changes.old) → OnOk result (IsNow ((versions_of pool.old).pages at) (private_of changes.new) (deleted (contents_in ((versions_of pool.old).pages at) (private_of changes.old)) name.now number)) }
+    ensures owned { IsOwned ((versions_of pool.old).pages at) (private_of changes.old) → OnOk result (IsOwned ((versions_of pool.old).pages at) (private_of changes.new)) }
     ensures settled { settled_of changes.new ≡ settled_of changes.old }
     ensures versions { versions_of pool.new ≡ versions_of pool.old }
     ensures refused { IfErr result (MayFail (IsDatabase ((versions_of pool.old).pages at) (private_of changes.old)) (D.refused (device_of pool.old)) (D.refused (device_of pool.new)) (ChangingReaches (IsCounted ((versions_of pool.old).pages at) (private_of changes.new)))) }

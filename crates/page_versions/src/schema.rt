@@ -9,11 +9,11 @@ ghost use Rattle.pool.specs.Versions.{versions_of, device_of};
 ghost use Rattle.overlay.specs.Changes.{private_of, settled_of};
 ghost use Rattle.overlay.specs.InUse.{in_use};
 ghost use Rattle.overlay.specs.Layers.{size_of};
-ghost use Rattle.overlay.specs.Whole.{IsWhole, AtLimit};
-ghost use Rattle.page_database.specs.Held.{TableAt, HoldsDatabase, contents_of};
-ghost use Rattle.page_database.specs.Changed.{DatabaseWritten, HoldsNoDatabaseIn, SpaceRefused};
+ghost use Rattle.overlay.specs.Whole.{IsWholeOver, AtLimit};
+ghost use Rattle.page_database.specs.Held.{TableAt, HoldsDatabase, IsAllOwned, contents_of};
+ghost use Rattle.page_database.specs.Changed.{DatabaseWritten, DatabaseOwned, HoldsNoDatabaseIn, SpaceRefused};
 ghost use Rattle.page_versions.specs.Changed.{IsNow};
-ghost use Rattle.page_versions.specs.Databases.{IsDatabase, contents_in};
+ghost use Rattle.page_versions.specs.Databases.{IsDatabase, IsOwned, contents_in};
 ghost use Rattle.page_versions.specs.Refusals.{IsCounted};
 
 use crate::causes::{of_change, of_fault};
@@ -39,10 +39,11 @@ fn create_from<D: Disk>(
     requires rows { table.now.root ≡ 0 }
     requires indexes { AllByRecursion (λ index. index.root ≡ 0) table.now.indexes }
     ensures created { (tables : List TableAt) → HoldsDatabase (in_use ((versions_of pool.old).pages at) (private_of changes.old)) root tables → IsTable table.now → IfOk result (DatabaseWritten (in_use ((versions_of pool.old).pages at) (private_of changes.new)) (with_table (contents_of tables) table.now)) }
-    ensures whole { OnOk result (IsWhole (over (private_of changes.old) ((versions_of pool.old).pages at)) → IsWhole (over (private_of changes.new) ((versions_of pool.old).pages at))) }
+    ensures owned { (tables : List TableAt) → IsAllOwned (in_use ((versions_of pool.old).pages at) (private_of changes.old)) root tables → IsTable table.now → IfOk result (DatabaseOwned (in_use ((versions_of pool.old).pages at) (private_of changes.new)) (with_table (contents_of tables) table.now)) }
+    ensures whole { OnOk result (IsWholeOver ((versions_of pool.old).pages at) (private_of changes.old) → IsWholeOver ((versions_of pool.old).pages at) (private_of changes.new)) }
     ensures settled { settled_of changes.new ≡ settled_of changes.old }
     ensures versions { versions_of pool.new ≡ versions_of pool.old }
-    ensures refusal { IfErr result (SpaceRefused (AtLimit (over (private_of changes.new) ((versions_of pool.old).pages at) 0) (size_of (private_of changes.new))) (HoldsNoDatabaseIn (in_use ((versions_of pool.old).pages at) (private_of changes.old)) root (IsWhole (over (private_of changes.old) ((versions_of pool.old).pages at)))) (D.refused (device_of pool.old)) (D.refused (device_of pool.new))) }
+    ensures refusal { IfErr result (SpaceRefused (AtLimit (over (private_of changes.new) ((versions_of pool.old).pages at) 0) (size_of (private_of changes.new))) (HoldsNoDatabaseIn (in_use ((versions_of pool.old).pages at) (private_of changes.old)) root (IsWholeOver ((versions_of pool.old).pages at) (private_of changes.old))) (D.refused (device_of pool.old)) (D.refused (device_of pool.new))) }
     ensures rising { D.refused (device_of pool.old) ≤ D.refused (device_of pool.new) }
 {
     let mut space = Overlay { pool, changes, at };
@@ -62,6 +63,7 @@ pub fn create_table<D: Disk>(
     requires indexes { AllByRecursion (λ index. index.root ≡ 0) table.now.indexes }
     requires range { IsTable table.now }
     ensures created { IsDatabase ((versions_of pool.old).pages at) (private_of changes.old) → OnOk result (IsNow ((versions_of pool.old).pages at) (private_of changes.new) (with_table (contents_in ((versions_of pool.old).pages at) (private_of changes.old)) table.now)) }
+    ensures owned { IsOwned ((versions_of pool.old).pages at) (private_of changes.old) → OnOk result (IsOwned ((versions_of pool.old).pages at) (private_of changes.new)) }
     ensures settled { settled_of changes.new ≡ settled_of changes.old }
     ensures versions { versions_of pool.new ≡ versions_of pool.old }
     ensures refused { IfErr result (MayFail (IsDatabase ((versions_of pool.old).pages at) (private_of changes.old)) (D.refused (device_of pool.old)) (D.refused (device_of pool.new)) (ChangingReaches (IsCounted ((versions_of pool.old).pages at) (private_of changes.new)))) }
@@ -89,10 +91,11 @@ fn drop_from<D: Disk>(
     name: &Text,
 ) -> Result<u32, DatabaseError>
     ensures dropped { (tables : List TableAt) → HoldsDatabase (in_use ((versions_of pool.old).pages at) (private_of changes.old)) root tables → IfOk result (DatabaseWritten (in_use ((versions_of pool.old).pages at) (private_of changes.new)) (without_table (contents_of tables) name.now)) }
-    ensures whole { OnOk result (IsWhole (over (private_of changes.old) ((versions_of pool.old).pages at)) → IsWhole (over (private_of changes.new) ((versions_of pool.old).pages at))) }
+    ensures owned { (tables : List TableAt) → IsAllOwned (in_use ((versions_of pool.old).pages at) (private_of changes.old)) root tables → IfOk result (DatabaseOwned (in_use ((versions_of pool.old).pages at) (private_of changes.new)) (without_table (contents_of tables) name.now)) }
+    ensures whole { OnOk result (IsWholeOver ((versions_of pool.old).pages at) (private_of changes.old) → IsWholeOver ((versions_of pool.old).pages at) (private_of changes.new)) }
     ensures settled { settled_of changes.new ≡ settled_of changes.old }
     ensures versions { versions_of pool.new ≡ versions_of pool.old }
-    ensures refusal { IfErr result (SpaceRefused (AtLimit (over (private_of changes.new) ((versions_of pool.old).pages at) 0) (size_of (private_of changes.new))) (HoldsNoDatabaseIn (in_use ((versions_of pool.old).pages at) (private_of changes.old)) root (IsWhole (over (private_of changes.old) ((versions_of pool.old).pages at)))) (D.refused (device_of pool.old)) (D.refused (device_of pool.new))) }
+    ensures refusal { IfErr result (SpaceRefused (AtLimit (over (private_of changes.new) ((versions_of pool.old).pages at) 0) (size_of (private_of changes.new))) (HoldsNoDatabaseIn (in_use ((versions_of pool.old).pages at) (private_of changes.old)) root (IsWholeOver ((versions_of pool.old).pages at) (private_of changes.old))) (D.refused (device_of pool.old)) (D.refused (device_of pool.new))) }
     ensures rising { D.refused (device_of pool.old) ≤ D.refused (device_of pool.new) }
 {
     let mut space = Overlay { pool, changes, at };
@@ -109,6 +112,7 @@ pub fn drop_table<D: Disk>(
     name: &Text,
 ) -> Result<(), StoreError>
     ensures dropped { IsDatabase ((versions_of pool.old).pages at) (private_of changes.old) → OnOk result (IsNow ((versions_of pool.old).pages at) (private_of changes.new) (without_table (contents_in ((versions_of pool.old).pages at) (private_of changes.old)) name.now)) }
+    ensures owned { IsOwned ((versions_of pool.old).pages at) (private_of changes.old) → OnOk result (IsOwned ((versions_of pool.old).pages at) (private_of changes.new)) }
     ensures settled { settled_of changes.new ≡ settled_of changes.old }
     ensures versions { versions_of pool.new ≡ versions_of pool.old }
     ensures refused { IfErr result (MayFail (IsDatabase ((versions_of pool.old).pages at) (private_of changes.old)) (D.refused (device_of pool.old)) (D.refused (device_of pool.new)) (ChangingReaches (IsCounted ((versions_of pool.old).pages at) (private_of changes.new)))) }
@@ -137,10 +141,11 @@ fn index_from<D: Disk>(
     index: Index,
 ) -> Result<u32, DatabaseError>
     ensures indexed { (tables : List TableAt) → HoldsDatabase (in_use ((versions_of pool.old).pages at) (private_of changes.old)) root tables → ArePlaces index.columns → IfOk result (DatabaseWritten (in_use ((versions_of pool.old).pages at) (private_of changes.new)) (indexed (contents_of tables) name.now index)) }
-    ensures whole { OnOk result (IsWhole (over (private_of changes.old) ((versions_of pool.old).pages at)) → IsWhole (over (private_of changes.new) ((versions_of pool.old).pages at))) }
+    ensures owned { (tables : List TableAt) → IsAllOwned (in_use ((versions_of pool.old).pages at) (private_of changes.old)) root tables → ArePlaces index.columns → IfOk result (DatabaseOwned (in_use ((versions_of pool.old).pages at) (private_of changes.new)) (indexed (contents_of tables) name.now index)) }
+    ensures whole { OnOk result (IsWholeOver ((versions_of pool.old).pages at) (private_of changes.old) → IsWholeOver ((versions_of pool.old).pages at) (private_of changes.new)) }
     ensures settled { settled_of changes.new ≡ settled_of changes.old }
     ensures versions { versions_of pool.new ≡ versions_of pool.old }
-    ensures refusal { IfErr result (SpaceRefused (AtLimit (over (private_of changes.new) ((versions_of pool.old).pages at) 0) (size_of (private_of changes.new))) (HoldsNoDatabaseIn (in_use ((versions_of pool.old).pages at) (private_of changes.old)) root (IsWhole (over (private_of changes.old) ((versions_of pool.old).pages at)))) (D.refused (device_of pool.old)) (D.refused (device_of pool.new))) }
+    ensures refusal { IfErr result (SpaceRefused (AtLimit (over (private_of changes.new) ((versions_of pool.old).pages at) 0) (size_of (private_of changes.new))) (HoldsNoDatabaseIn (in_use ((versions_of pool.old).pages at) (private_of changes.old)) root (IsWholeOver ((versions_of pool.old).pages at) (private_of changes.old))) (D.refused (device_of pool.old)) (D.refused (device_of pool.new))) }
     ensures rising { D.refused (device_of pool.old) ≤ D.refused (device_of pool.new) }
 {
     let mut space = Overlay { pool, changes, at };
@@ -159,6 +164,7 @@ pub fn create_index<D: Disk>(
 ) -> Result<(), StoreError>
     requires { ArePlaces index.columns }
     ensures indexed { IsDatabase ((versions_of pool.old).pages at) (private_of changes.old) → OnOk result (IsNow ((versions_of pool.old).pages at) (private_of changes.new) (indexed (contents_in ((versions_of pool.old).pages at) (private_of changes.old)) name.now index)) }
+    ensures owned { IsOwned ((versions_of pool.old).pages at) (private_of changes.old) → OnOk result (IsOwned ((versions_of pool.old).pages at) (private_of changes.new)) }
     ensures settled { settled_of changes.new ≡ settled_of changes.old }
     ensures versions { versions_of pool.new ≡ versions_of pool.old }
     ensures refused { IfErr result (MayFail (IsDatabase ((versions_of pool.old).pages at) (private_of changes.old)) (D.refused (device_of pool.old)) (D.refused (device_of pool.new)) (ChangingReaches (IsCounted ((versions_of pool.old).pages at) (private_of changes.new)))) }
@@ -186,10 +192,11 @@ fn unindex_from<D: Disk>(
     name: &Text,
 ) -> Result<u32, DatabaseError>
     ensures unindexed { (tables : List TableAt) → HoldsDatabase (in_use ((versions_of pool.old).pages at) (private_of changes.old)) root tables → IfOk result (DatabaseWritten (in_use ((versions_of pool.old).pages at) (private_of changes.new)) (unindexed (contents_of tables) name.now)) }
-    ensures whole { OnOk result (IsWhole (over (private_of changes.old) ((versions_of pool.old).pages at)) → IsWhole (over (private_of changes.new) ((versions_of pool.old).pages at))) }
+    ensures owned { (tables : List TableAt) → IsAllOwned (in_use ((versions_of pool.old).pages at) (private_of changes.old)) root tables → IfOk result (DatabaseOwned (in_use ((versions_of pool.old).pages at) (private_of changes.new)) (unindexed (contents_of tables) name.now)) }
+    ensures whole { OnOk result (IsWholeOver ((versions_of pool.old).pages at) (private_of changes.old) → IsWholeOver ((versions_of pool.old).pages at) (private_of changes.new)) }
     ensures settled { settled_of changes.new ≡ settled_of changes.old }
     ensures versions { versions_of pool.new ≡ versions_of pool.old }
-    ensures refusal { IfErr result (SpaceRefused (AtLimit (over (private_of changes.new) ((versions_of pool.old).pages at) 0) (size_of (private_of changes.new))) (HoldsNoDatabaseIn (in_use ((versions_of pool.old).pages at) (private_of changes.old)) root (IsWhole (over (private_of changes.old) ((versions_of pool.old).pages at)))) (D.refused (device_of pool.old)) (D.refused (device_of pool.new))) }
+    ensures refusal { IfErr result (SpaceRefused (AtLimit (over (private_of changes.new) ((versions_of pool.old).pages at) 0) (size_of (private_of changes.new))) (HoldsNoDatabaseIn (in_use ((versions_of pool.old).pages at) (private_of changes.old)) root (IsWholeOver ((versions_of pool.old).pages at) (private_of changes.old))) (D.refused (device_of pool.old)) (D.refused (device_of pool.new))) }
     ensures rising { D.refused (device_of pool.old) ≤ D.refused (device_of pool.new) }
 {
     let mut space = Overlay { pool, changes, at };
@@ -206,6 +213,7 @@ pub fn drop_index<D: Disk>(
     name: &Text,
 ) -> Result<(), StoreError>
     ensures unindexed { IsDatabase ((versions_of pool.old).pages at) (private_of changes.old) → OnOk result (IsNow ((versions_of pool.old).pages at) (private_of changes.new) (unindexed (contents_in ((versions_of pool.old).pages at) (private_of changes.old)) name.now)) }
+    ensures owned { IsOwned ((versions_of pool.old).pages at) (private_of changes.old) → OnOk result (IsOwned ((versions_of pool.old).pages at) (private_of changes.new)) }
     ensures settled { settled_of changes.new ≡ settled_of changes.old }
     ensures versions { versions_of pool.new ≡ versions_of pool.old }
     ensures refused { IfErr result (MayFail (IsDatabase ((versions_of pool.old).pages at) (private_of changes.old)) (D.refused (device_of pool.old)) (D.refused (device_of pool.new)) (ChangingReaches (IsCounted ((versions_of pool.old).pages at) (private_of changes.new)))) }

@@ -23,7 +23,7 @@ module _ (honest : Bool) (v : Versions) (numbers : FinMap nat_cmp ℕ) (written 
       → IsSound honest v numbers written settled → IsNow (v.pages v.last) now (change (known_contents honest (v.pages v.last) written))
   changed_here change now made sound =
       subst (λ (c : Contents). IsNow (v.pages v.last) now (change c)) (sym (known_is honest (v.pages v.last) written sound.device))
-      (subst (λ (n : ℕ). IsDatabase (v.pages n) written → IsNow (v.pages n) now (change (contents_in (v.pages n) written))) last made sound.working)
+      (subst (λ (n : ℕ). IsDatabase (v.pages n) written → IsNow (v.pages n) now (change (contents_in (v.pages n) written))) last made sound.working.is)
 
 -- want of memory
 pub memory_fails : (sound : Type 0) (k n : ℕ) (reached : StoreLimit → Type 0) (error : StoreError) (cause : PoolError) → error ≡ of_pool cause → cause ≡ pool.Memory → MayFail sound k n reached error

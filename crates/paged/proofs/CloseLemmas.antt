@@ -8,15 +8,17 @@ use Rattle.store.specs.Errors.{HasRisen}
 use Rattle.store.specs.Stored.{closed}
 use Rattle.store.specs.declared.error.StoreError.{StoreError}
 use Rattle.store.specs.declared.error.StoreError.TheVariants as refused
+use Rattle.pagefile.specs.Pages.{page_of}
 use Rattle.pool.specs.Pages.{PageMap, over}
 use Rattle.pool.specs.Refused.{IsOfDevice}
 use Rattle.pool.specs.Versions.{Versions}
 use Rattle.pool.specs.declared.error.PoolError.{PoolError}
 use Rattle.page_readers.specs.Pinned.{KeepsFound}
-use Rattle.page_versions.specs.Databases.{nothing, contents_in, known_contents, IsDatabase}
+use Rattle.page_versions.specs.Databases.{nothing, contents_in, known_contents, IsDatabase, IsOwned}
 use Rattle.page_versions.specs.Refusals.{of_pool}
-use Rattle.page_versions.specs.Saved.{HoldsDatabase, IsSaved}
+use Rattle.page_versions.specs.Saved.{HoldsDatabase}
 use Rattle.page_versions.proofs.RefusalLemmas.{of_device}
+use Rattle.paged.specs.Saved.{HoldsAlone, IsSavedAlone}
 use Rattle.paged.specs.SeenLemmas.{known_is}
 use Rattle.paged.specs.Shown.{stored}
 use Rattle.paged.specs.Sound.{IsSound}
@@ -25,14 +27,18 @@ use Rattle.paged.proofs.ShownLemmas.{shown_closed}
 use Rattle.paged.proofs.SoundLemmas.{sound_alone, sound_moved}
 
 pub closed_saved : (honest : Bool) (file : List ℕ) (v w : Versions) (numbers now : FinMap nat_cmp ℕ) (written settled : PageMap)
-    → (IsTrue honest → IsDatabase (w.pages w.last) nothing → HoldsDatabase file (database_of (contents_in (w.pages w.last) nothing))) → KeepsFound now v w
-    → IsSound honest v numbers written settled → IsSaved honest file (database_of (known_contents honest (v.pages v.last) nothing))
-closed_saved honest file v w numbers now written settled held kept sound =
-    let newest : w.pages w.last ≡ v.pages v.last = newest_kept v w kept.last kept.newest in (
+    → (IsTrue honest → IsDatabase (w.pages w.last) nothing → HoldsDatabase file (database_of (contents_in (w.pages w.last) nothing)))
+    → (IsTrue honest → IsOwned (w.pages w.last) nothing → IsOwned (page_of file) nothing) → KeepsFound now v w
+    → IsSound honest v numbers written settled → IsSavedAlone honest file (database_of (known_contents honest (v.pages v.last) nothing))
+closed_saved honest file v w numbers now written settled held owned kept sound =
+    let newest : w.pages w.last ≡ v.pages v.last = newest_kept v w kept.last kept.newest in
+    let last : IsOwned (w.pages w.last) nothing = subst (λ (p : PageMap). IsOwned p nothing) (sym newest) sound.last in (
       sound.device,
-      inr (subst (λ (db : Database). HoldsDatabase file db)
-          (ap database_of (ap (λ (p : PageMap). contents_in p nothing) newest ∙ sym (known_is honest (v.pages v.last) nothing sound.device)))
-          (held sound.device (subst (λ (p : PageMap). IsDatabase p nothing) (sym newest) sound.last))),
+      inr (record {
+        holds = subst (λ (db : Database). HoldsDatabase file db)
+            (ap database_of (ap (λ (p : PageMap). contents_in p nothing) newest ∙ sym (known_is honest (v.pages v.last) nothing sound.device))) (held sound.device last.is);
+        owned = owned sound.device last;
+      }),
     )
 
 module _ (honest : Bool) (v w x : Versions) (numbers now : FinMap nat_cmp ℕ) (written settled fresh_now settled_now : PageMap) (none : now ≡ empty) (kept : KeepsFound now v w) (same : x ≡ w)

@@ -18,7 +18,7 @@ use Rattle.pool.specs.Pages.{PageMap}
 use Rattle.pool.specs.Versions.{Versions}
 use Rattle.overlay.specs.Undone.{Undone, AreUndone}
 use Rattle.page_versions.specs.Changed.{IsNow}
-use Rattle.page_versions.specs.Databases.{contents_in, known_contents, IsDatabase}
+use Rattle.page_versions.specs.Databases.{contents_in, known_contents, IsDatabase, IsOwned}
 use Rattle.page_versions.specs.Refusals.{IsCounted as Reached, RowsReach, NumbersEnd, NewRowsReach}
 use Rattle.page_versions.proofs.RefusalLemmas.{fail_weaker, rows_reach}
 use Rattle.page_versions.proofs.UndoneLemmas.{was_counted}
@@ -61,14 +61,13 @@ module _ (honest : Bool) (v w : Versions) (numbers : FinMap nat_cmp ℕ) (writte
   done_undone result done told back =
       subst (λ (r : Done). OnErr r (stored honest w numbers next next_settled ≡ undone (stored honest v numbers written settled))) (sym told) (undone_by done back)
 
-  pub done_sound : (done : Done) → OnOk done (next ≡ mid) → OnErr done (next ≡ mid_settled)
-      → (IsDatabase (v.pages commits) written → OnOk done (IsNow (v.pages commits) mid (change (contents_in (v.pages commits) written))))
+  pub done_sound : (done : Done) → OnOk done (next ≡ mid) → OnErr done (next ≡ mid_settled) → (IsOwned (v.pages commits) written → OnOk done (IsOwned (v.pages commits) mid))
       → IsSound honest v numbers written settled → IsSound honest w numbers next next_settled
-  done_sound (Ok u) moved back made sound =
+  done_sound (Ok u) moved back owned sound =
       sound_with honest v w numbers written settled next next_settled same
-      (λ s. subst (λ (p : PageMap). IsDatabase (v.pages v.last) p) (sym moved) (changed_here honest v numbers written settled commits last change mid made s).is)
-      (λ s. subst (λ (p : PageMap). IsDatabase (v.pages v.last) p) (sym (left ∙ kept)) s.marked) sound
-  done_sound (Err e) moved back made sound = sound_moved honest v w numbers written settled next next_settled same (inr (inl (back ∙ kept))) (inr (inl (left ∙ kept))) sound
+      (λ s. subst (λ (p : PageMap). IsOwned (v.pages v.last) p) (sym moved) (subst (λ (n : ℕ). IsOwned (v.pages n) written → IsOwned (v.pages n) mid) last owned s.working))
+      (λ s. subst (λ (p : PageMap). IsOwned (v.pages v.last) p) (sym (left ∙ kept)) s.marked) sound
+  done_sound (Err e) moved back owned sound = sound_moved honest v w numbers written settled next next_settled same (inr (inl (back ∙ kept))) (inr (inl (left ∙ kept))) sound
 
   steady_by : (done : Done) → OnOk done (next ≡ mid) → OnErr done (next ≡ mid_settled)
       → (IsDatabase (v.pages commits) written → OnOk done (IsNow (v.pages commits) mid (change (contents_in (v.pages commits) written))))
@@ -99,7 +98,7 @@ module _ (honest : Bool) (v w : Versions) (numbers : FinMap nat_cmp ℕ) (writte
   counted u limit.Key a h = h
 
   working : IsSound honest v numbers written settled → IsDatabase (v.pages commits) written
-  working sound = subst (λ (m : ℕ). IsDatabase (v.pages m) written) (sym last) sound.working
+  working sound = subst (λ (m : ℕ). IsDatabase (v.pages m) written) (sym last) sound.working.is
 
   -- a refusal of one kind as one of another
   fails : (reached : StoreLimit → Type 0) (more : StoreLimit → Type 0) (u : Undone) → ((l : StoreLimit) → AreUndone mid u → reached l → more l)

@@ -5,10 +5,10 @@ use Rattle.pool.specs.Pages.{PageMap, pick, over, known}
 use Rattle.pool.specs.Versions.{Versions}
 use Rattle.overlay.specs.Bounded as bounded
 use Rattle.overlay.specs.InUse.{in_use}
-use Rattle.page_database.specs.Held.{HoldsDatabase}
+use Rattle.page_database.specs.Held.{HoldsDatabase, IsAllOwned}
 use Rattle.page_contents.specs.Contents.{contents_at}
 use Rattle.page_readers.specs.Pinned.{KeepsFound}
-use Rattle.page_versions.specs.Databases.{nothing, root_of, contents_in, known_contents, IsDatabase}
+use Rattle.page_versions.specs.Databases.{nothing, root_of, contents_in, known_contents, IsDatabase, IsOwned}
 
 -- ---- changes
 
@@ -44,13 +44,23 @@ known_committed false base written now is first = refl
 pub database_committed : (honest : Bool) (base written now : PageMap) → now ≡ known honest (over written base) → IsTrue honest → IsSome (base 0)
     → IsDatabase base written → IsDatabase now nothing
 database_committed true base written now is device first d = subst (λ (p : PageMap). IsDatabase p nothing) (sym is) (record {
-  whole = d.whole;
+  whole = record { whole = d.whole.whole; full = λ start. start };
   tables = d.tables;
   holds = subst (λ (pages : PageMap). HoldsDatabase pages (root_of base written) d.tables) (sym (use_committed base written first)) d.holds;
   read = contents_committed base written first ∙ d.read;
   rise = d.rise;
 })
 database_committed false base written now is device first d = let bad : false ≡ true = device in absurd (cc)
+
+pub owned_committed : (honest : Bool) (base written now : PageMap) → now ≡ known honest (over written base) → IsTrue honest → IsSome (base 0)
+    → IsOwned base written → IsOwned now nothing
+owned_committed true base written now is device first d = subst (λ (p : PageMap). IsOwned p nothing) (sym is) (record {
+  is = database_committed true base written (over written base) refl device first d.is;
+  start = d.is.whole.full d.start;
+  tables = d.tables;
+  owned = subst (λ (pages : PageMap). IsAllOwned pages (root_of base written) d.tables) (sym (use_committed base written first)) d.owned;
+})
+owned_committed false base written now is device first d = let bad : false ≡ true = device in absurd (cc)
 
 pub first_committed : (honest : Bool) (base written now : PageMap) → now ≡ known honest (over written base) → (IsTrue honest → IsSome (base 0)) → IsTrue honest → IsSome (now 0)
 first_committed true base written now is first device = subst (λ (p : PageMap). IsSome (p 0)) (sym is) (some_over (written 0) (base 0) (first device))

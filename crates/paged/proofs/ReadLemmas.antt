@@ -19,7 +19,7 @@ use Rattle.paged.specs.SeenLemmas.{known_is, seen_found, database_found}
 
 module _ (honest : Bool) (v : Versions) (numbers : FinMap nat_cmp ℕ) (written settled : PageMap) (commits : ℕ) (last : commits ≡ v.last) where
   pub working_there : IsSound honest v numbers written settled → IsDatabase (v.pages commits) written
-  working_there sound = subst (λ (n : ℕ). IsDatabase (v.pages n) written) (sym last) sound.working
+  working_there sound = subst (λ (n : ℕ). IsDatabase (v.pages n) written) (sym last) sound.working.is
 
   pub read_working : (P : Contents → Type 0) (view : View) → view ≡ at.Working → (IsDatabase (v.pages commits) written → P (contents_in (v.pages commits) written))
       → IsSound honest v numbers written settled → P (seen_by (stored honest v numbers written settled) view)

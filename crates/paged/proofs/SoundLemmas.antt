@@ -9,9 +9,9 @@ use Rattle.store.specs.Contents.{Contents, database_of}
 use Rattle.pool.specs.Pages.{PageMap, over, known}
 use Rattle.pool.specs.Versions.{Versions}
 use Rattle.page_readers.specs.Pinned.{with_reader, KeepsFound}
-use Rattle.page_versions.specs.Databases.{nothing, contents_in, known_contents, IsDatabase}
+use Rattle.page_versions.specs.Databases.{nothing, contents_in, known_contents, IsOwned}
 use Rattle.paged.specs.Sound.{IsSound}
-use Rattle.paged.proofs.PageLemmas.{newest_kept, database_committed}
+use Rattle.paged.proofs.PageLemmas.{newest_kept, owned_committed}
 
 -- ---- readers begin and end
 
@@ -24,17 +24,17 @@ sound_among : (honest : Bool) (v w : Versions) (numbers now : FinMap nat_cmp ℕ
 sound_among honest v w numbers now written settled among kept sound = record {
   device = sound.device;
   last = here nothing sound.last;
-  readers = λ q n e. subst (λ (p : PageMap). IsDatabase p nothing) (sym (kept.found q n e)) (by q n (among q n e));
+  readers = λ q n e. subst (λ (p : PageMap). IsOwned p nothing) (sym (kept.found q n e)) (by q n (among q n e));
   working = here written sound.working;
   marked = here settled sound.marked;
 }
   where
-    here : (pages : PageMap) → IsDatabase (v.pages v.last) pages → IsDatabase (w.pages w.last) pages
-    here pages d = subst (λ (p : PageMap). IsDatabase p pages) (sym (newest_kept v w kept.last kept.newest)) d
+    here : (pages : PageMap) → IsOwned (v.pages v.last) pages → IsOwned (w.pages w.last) pages
+    here pages d = subst (λ (p : PageMap). IsOwned p pages) (sym (newest_kept v w kept.last kept.newest)) d
 
-    by : (q n : ℕ) → (get numbers q ≡ Some n) ⊎ (n ≡ v.last) → IsDatabase (v.pages n) nothing
+    by : (q n : ℕ) → (get numbers q ≡ Some n) ⊎ (n ≡ v.last) → IsOwned (v.pages n) nothing
     by q n (inl e) = sound.readers q n e
-    by q n (inr e) = subst (λ (k : ℕ). IsDatabase (v.pages k) nothing) (sym e) sound.last
+    by q n (inr e) = subst (λ (k : ℕ). IsOwned (v.pages k) nothing) (sym e) sound.last
 
 among_same : (numbers now : FinMap nat_cmp ℕ) (last : ℕ) → now ≡ numbers → AreAmong now last numbers
 among_same numbers now last same = λ q n e. inl (ap (λ (m : FinMap nat_cmp ℕ). get m q) (sym same) ∙ e)
@@ -75,9 +75,9 @@ module _ (honest : Bool) (v w : Versions) (numbers now : FinMap nat_cmp ℕ) (wr
 
 -- ---- the writer
 
--- the same versions, with other written pages over which the last one is a database
+-- the same versions, with other written pages over which the last one is a database of which no page is lost
 pub sound_with : (honest : Bool) (v w : Versions) (numbers : FinMap nat_cmp ℕ) (written settled written_now settled_now : PageMap) → w ≡ v
-    → (IsSound honest v numbers written settled → IsDatabase (v.pages v.last) written_now) → (IsSound honest v numbers written settled → IsDatabase (v.pages v.last) settled_now)
+    → (IsSound honest v numbers written settled → IsOwned (v.pages v.last) written_now) → (IsSound honest v numbers written settled → IsOwned (v.pages v.last) settled_now)
     → IsSound honest v numbers written settled → IsSound honest w numbers written_now settled_now
 sound_with honest v w numbers written settled written_now settled_now same working marked sound =
     subst (λ (x : Versions). IsSound honest x numbers written_now settled_now) (sym same)
@@ -90,22 +90,22 @@ pub sound_moved : (honest : Bool) (v w : Versions) (numbers : FinMap nat_cmp ℕ
 sound_moved honest v w numbers written settled written_now settled_now same working marked sound =
     sound_with honest v w numbers written settled written_now settled_now same (λ s. by written_now working s) (λ s. by settled_now marked s) sound
   where
-    by : (now : PageMap) → (now ≡ written) ⊎ ((now ≡ settled) ⊎ (now ≡ nothing)) → IsSound honest v numbers written settled → IsDatabase (v.pages v.last) now
-    by now (inl e) s = subst (λ (p : PageMap). IsDatabase (v.pages v.last) p) (sym e) s.working
-    by now (inr (inl e)) s = subst (λ (p : PageMap). IsDatabase (v.pages v.last) p) (sym e) s.marked
-    by now (inr (inr e)) s = subst (λ (p : PageMap). IsDatabase (v.pages v.last) p) (sym e) s.last
+    by : (now : PageMap) → (now ≡ written) ⊎ ((now ≡ settled) ⊎ (now ≡ nothing)) → IsSound honest v numbers written settled → IsOwned (v.pages v.last) now
+    by now (inl e) s = subst (λ (p : PageMap). IsOwned (v.pages v.last) p) (sym e) s.working
+    by now (inr (inl e)) s = subst (λ (p : PageMap). IsOwned (v.pages v.last) p) (sym e) s.marked
+    by now (inr (inr e)) s = subst (λ (p : PageMap). IsOwned (v.pages v.last) p) (sym e) s.last
 
 pub sound_committed : (honest : Bool) (v w : Versions) (numbers : FinMap nat_cmp ℕ) (written settled written_now settled_now : PageMap)
     → w.pages w.last ≡ known honest (over written (v.pages v.last)) → ((q n : ℕ) → get numbers q ≡ Some n → w.pages n ≡ v.pages n) → (IsTrue honest → IsSome (v.pages v.last 0))
     → written_now ≡ nothing → settled_now ≡ nothing → IsSound honest v numbers written settled → IsSound honest w numbers written_now settled_now
 sound_committed honest v w numbers written settled written_now settled_now newest kept first b c sound =
-    let d : IsDatabase (w.pages w.last) nothing = database_committed honest (v.pages v.last) written (w.pages w.last) newest sound.device (first sound.device) sound.working in
+    let d : IsOwned (w.pages w.last) nothing = owned_committed honest (v.pages v.last) written (w.pages w.last) newest sound.device (first sound.device) sound.working in
     record {
       device = sound.device;
       last = d;
-      readers = λ q n e. subst (λ (p : PageMap). IsDatabase p nothing) (sym (kept q n e)) (sound.readers q n e);
-      working = subst (λ (p : PageMap). IsDatabase (w.pages w.last) p) (sym b) d;
-      marked = subst (λ (p : PageMap). IsDatabase (w.pages w.last) p) (sym c) d;
+      readers = λ q n e. subst (λ (p : PageMap). IsOwned p nothing) (sym (kept q n e)) (sound.readers q n e);
+      working = subst (λ (p : PageMap). IsOwned (w.pages w.last) p) (sym b) d;
+      marked = subst (λ (p : PageMap). IsOwned (w.pages w.last) p) (sym c) d;
     }
 
 -- the same versions

@@ -54,8 +54,8 @@ pub database_found : (honest : Bool) (v : Versions) (numbers : FinMap nat_cmp �
 database_found honest v numbers written settled q sound = by (get numbers q) refl
   where
     by : (o : Option ℕ) → get numbers q ≡ o → IsDatabase (v.pages (unwrap_or o v.last)) nothing
-    by None e = sound.last
-    by (Some number) e = sound.readers q number e
+    by None e = sound.last.is
+    by (Some number) e = (sound.readers q number e).is
 
 -- ---- rows stand in the order of their numbers
 
@@ -65,7 +65,7 @@ rises_in version written contents name table d is found = d.rise name table (ap 
 pub rises_seen : (honest : Bool) (v : Versions) (numbers : FinMap nat_cmp ℕ) (written settled : PageMap) (view : View) (name : Name) (table : StoredTable)
     → IsSound honest v numbers written settled → get (seen_by (stored honest v numbers written settled) view) name ≡ Some table → Rises table.entries
 rises_seen honest v numbers written settled at.Working name table sound found =
-    rises_in (v.pages v.last) written _ name table sound.working (known_is honest (v.pages v.last) written sound.device) found
+    rises_in (v.pages v.last) written _ name table sound.working.is (known_is honest (v.pages v.last) written sound.device) found
 rises_seen honest v numbers written settled (at.Found q) name table sound found =
     rises_in (v.pages (unwrap_or (get numbers q) v.last)) nothing _ name table (database_found honest v numbers written settled q sound)
     (seen_found honest v numbers written settled q ∙ known_is honest (v.pages (unwrap_or (get numbers q) v.last)) nothing sound.device) found

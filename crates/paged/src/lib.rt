@@ -2,9 +2,11 @@
 #![tactic(auto)]
 
 mod keeping;
+mod laws;
 mod paged;
 mod seen;
 mod undoing;
 mod writing;
 
+pub use laws::no_page_is_lost;
 pub use paged::Paged;

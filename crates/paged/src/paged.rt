@@ -79,8 +79,8 @@ impl<D: Disk + Drop> Store for Paged<D> {
     ghost use Rattle.pool.specs.Versions.{versions_of, device_of, unwritten_of};
     ghost use Rattle.overlay.specs.Changes.{settled_of, undone_of};
     ghost use Rattle.page_versions.specs.Opened.{IsReadable};
-    ghost use Rattle.page_versions.specs.Saved.{IsSaved};
     ghost use Rattle.paged.specs.Counted.{IsCounted};
+    ghost use Rattle.paged.specs.Saved.{IsSavedAlone};
     ghost use Rattle.paged.specs.Store.{shown_of, sound_of};
     ghost use Rattle.paged.specs.SeenLemmas.{rises_seen};
 
@@ -104,7 +104,7 @@ impl<D: Disk + Drop> Store for Paged<D> {
 
     ghost room = { λ s. s.frames };
 
-    ghost saved = { λ device db. IsSaved D.is_honest (D.bytes device) db };
+    ghost saved = { λ device db. IsSavedAlone D.is_honest (D.bytes device) db };
 
     ghost readable = { λ device. IsReadable D.is_honest (D.bytes device) };
 

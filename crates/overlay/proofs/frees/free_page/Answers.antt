@@ -1,4 +1,4 @@
-use Rattle.std.proofs.Common.{ap}
+use Rattle.std.proofs.Common.{true, false, ap}
 use Rattle.pool.specs.Versions.{Versions, versions_of}
 use Rattle.overlay.specs.Changes.{private_of}
 use Rattle.overlay.proofs.FreeLemmas.{none_after, freed_others_after, freed_whole_after}
@@ -17,5 +17,10 @@ returns-clause-others g c =
 
 pub returns-clause-whole : goal.returns-clause-whole
 returns-clause-whole g c =
-    freed_whole_after c.free_used.result ((versions_of c.args.pool.now).pages c.args.at) ((versions_of c.free_used.new.pool).pages c.args.at)
+    freed_whole_after false c.free_used.result ((versions_of c.args.pool.now).pages c.args.at) ((versions_of c.free_used.new.pool).pages c.args.at)
+    (private_of c.args.changes.now) (private_of c.free_used.new.changes) c.args.page (ap (λ (v : Versions). v.pages c.args.at) c.free_used.ensures.versions) c.free_used.ensures.written
+
+pub returns-clause-full : goal.returns-clause-full
+returns-clause-full g c =
+    freed_whole_after true c.free_used.result ((versions_of c.args.pool.now).pages c.args.at) ((versions_of c.free_used.new.pool).pages c.args.at)
     (private_of c.args.changes.now) (private_of c.free_used.new.changes) c.args.page (ap (λ (v : Versions). v.pages c.args.at) c.free_used.ensures.versions) c.free_used.ensures.written

@@ -1,4 +1,4 @@
-use Rattle.std.proofs.Common.{ap}
+use Rattle.std.proofs.Common.{true, false, ap}
 use Rattle.pool.specs.Versions.{Versions, versions_of}
 use Rattle.overlay.specs.Changes.{private_of}
 use Rattle.overlay.proofs.TakeLemmas.{next_after, fresh_after, taken_others_after, kept_after, taken_whole_after}
@@ -17,4 +17,7 @@ pub returns-clause-kept : goal.returns-clause-kept
 returns-clause-kept g c = kept_after c.take_page.result ((versions_of c.args.pool.now).pages c.args.at) ((versions_of c.take_page.new.pool).pages c.args.at) (private_of c.args.changes.now) (private_of c.take_page.new.changes) (ap (λ (v : Versions). v.pages c.args.at) c.take_page.ensures.versions) c.take_page.ensures.left
 
 pub returns-clause-whole : goal.returns-clause-whole
-returns-clause-whole g c = taken_whole_after c.take_page.result ((versions_of c.args.pool.now).pages c.args.at) ((versions_of c.take_page.new.pool).pages c.args.at) (private_of c.args.changes.now) (private_of c.take_page.new.changes) (ap (λ (v : Versions). v.pages c.args.at) c.take_page.ensures.versions) c.take_page.ensures.taken
+returns-clause-whole g c = taken_whole_after false c.take_page.result ((versions_of c.args.pool.now).pages c.args.at) ((versions_of c.take_page.new.pool).pages c.args.at) (private_of c.args.changes.now) (private_of c.take_page.new.changes) (ap (λ (v : Versions). v.pages c.args.at) c.take_page.ensures.versions) c.take_page.ensures.taken
+
+pub returns-clause-full : goal.returns-clause-full
+returns-clause-full g c = taken_whole_after true c.take_page.result ((versions_of c.args.pool.now).pages c.args.at) ((versions_of c.take_page.new.pool).pages c.args.at) (private_of c.args.changes.now) (private_of c.take_page.new.changes) (ap (λ (v : Versions). v.pages c.args.at) c.take_page.ensures.versions) c.take_page.ensures.taken

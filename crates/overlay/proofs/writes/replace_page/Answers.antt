@@ -1,4 +1,4 @@
-use Rattle.std.proofs.Common.{ap}
+use Rattle.std.proofs.Common.{true, false, ap}
 use Rattle.pool.specs.Versions.{Versions, versions_of}
 use Rattle.overlay.specs.Changes.{private_of}
 use Rattle.overlay.proofs.WriteLemmas.{shown_after, others_after, whole_after}
@@ -18,6 +18,12 @@ returns-clause-others g c =
 
 pub returns-clause-whole : goal.returns-clause-whole
 returns-clause-whole g c =
-    whole_after c.write_page.result ((versions_of c.args.pool.now).pages c.args.at) ((versions_of c.write_page.new.pool).pages c.args.at)
+    whole_after false c.write_page.result ((versions_of c.args.pool.now).pages c.args.at) ((versions_of c.write_page.new.pool).pages c.args.at)
     (private_of c.args.changes.now) (private_of c.write_page.new.changes) c.args.page c.args.bytes.now
-    (ap (λ (v : Versions). v.pages c.args.at) c.write_page.ensures.versions) c.write_page.ensures.written c.write_page.ensures.used c.write_page.ensures.within
+    (ap (λ (v : Versions). v.pages c.args.at) c.write_page.ensures.versions) c.requires c.write_page.ensures.written c.write_page.ensures.used c.write_page.ensures.within
+
+pub returns-clause-full : goal.returns-clause-full
+returns-clause-full g c =
+    whole_after true c.write_page.result ((versions_of c.args.pool.now).pages c.args.at) ((versions_of c.write_page.new.pool).pages c.args.at)
+    (private_of c.args.changes.now) (private_of c.write_page.new.changes) c.args.page c.args.bytes.now
+    (ap (λ (v : Versions). v.pages c.args.at) c.write_page.ensures.versions) c.requires c.write_page.ensures.written c.write_page.ensures.used c.write_page.ensures.within

@@ -1,7 +1,7 @@
 use Rattle.std.proofs.Common.{List, ap, sym, refl, ◌∙◌, inl}
 use Rattle.pagefile.specs.File.{disk_of}
 use Rattle.pool.specs.Versions.{versions_of, device_of}
-use Rattle.page_versions.proofs.OpenLemmas.{new_begins, no_less}
+use Rattle.page_versions.proofs.OpenLemmas.{new_begins, new_owned, no_less}
 use Rattle.page_versions.proofs.opening.new_pool.Goals as goal
 
 pub returns-in-Ok-clause-begins : goal.returns-in-Ok-clause-begins
@@ -18,3 +18,7 @@ returns-in-Ok-clause-readable g c = λ h. inl (c.requires.empty h)
 
 pub returns-in-Ok-clause-counts : goal.returns-in-Ok-clause-counts
 returns-in-Ok-clause-counts g c = no_less (g.D.Disk.refused c.args.device) (g.D.Disk.refused (disk_of c.over-file.result)) (g.D.Disk.refused (device_of c.in-Ok.pool)) (ap g.D.Disk.refused c.over-file.ensures) (ap g.D.Disk.refused c.in-Ok.ensures.device)
+
+pub returns-in-Ok-clause-owned : goal.returns-in-Ok-clause-owned
+returns-in-Ok-clause-owned g c =
+    new_owned c.no_database_at_first.ensures.holds c.contents_are_read.ensures c.numbers_rise.ensures g.D.Disk.is_honest (g.D.Disk.bytes c.args.device) c.encode.result (versions_of c.in-Ok.pool) c.encode.ensures.reads_back c.in-Ok.ensures.pages

@@ -1,7 +1,7 @@
 use Rattle.std.proofs.Common.{ap, sym, refl, ◌∙◌, length, inr}
 use Rattle.pagefile.specs.File.{disk_of}
 use Rattle.pool.specs.Versions.{versions_of, device_of}
-use Rattle.page_versions.proofs.OpenLemmas.{old_begins, open_refused, no_less}
+use Rattle.page_versions.proofs.OpenLemmas.{old_begins, old_owned, open_refused, no_less}
 use Rattle.page_versions.proofs.opening.old_pool.Goals as goal
 
 pub new-requires-clause-size : goal.new-requires-clause-size
@@ -23,3 +23,7 @@ returns-in-Ok-clause-readable g c = λ h. inr (c.in-Ok.header, c.in-Ok.ensures.w
 
 pub returns-in-Ok-clause-counts : goal.returns-in-Ok-clause-counts
 returns-in-Ok-clause-counts g c = no_less (g.D.Disk.refused c.args.device) (g.D.Disk.refused (disk_of c.in-Ok.file)) (g.D.Disk.refused (device_of c.new.result)) c.in-Ok.ensures.count (ap g.D.Disk.refused c.new.ensures.device)
+
+pub returns-in-Ok-clause-owned : goal.returns-in-Ok-clause-owned
+returns-in-Ok-clause-owned g c =
+    old_owned g.D.Disk.is_honest (g.D.Disk.bytes c.args.device) (g.D.Disk.bytes (disk_of c.in-Ok.file)) (versions_of c.new.result) c.requires.some c.in-Ok.ensures.same c.new.ensures.pages

@@ -1,6 +1,6 @@
 use Rattle.std.proofs.Common.{List, ap, sym, length, ◌∙◌}
 use Rattle.pool.specs.Versions.{versions_of, device_of}
-use Rattle.page_versions.proofs.OpenLemmas.{empty_of, begins_after, readable_after, counts_after, left_after, left_same, refused_after, memory_fails}
+use Rattle.page_versions.proofs.OpenLemmas.{empty_of, begins_after, owned_after, readable_after, counts_after, left_after, left_same, refused_after, memory_fails}
 use Rattle.page_versions.proofs.opening.pool_over.Goals as goal
 
 pub new_pool-requires-clause-empty : goal.new_pool-requires-clause-empty
@@ -54,3 +54,11 @@ pub returns-else-len-eq0-clause-counts : goal.returns-else-len-eq0-clause-counts
 returns-else-len-eq0-clause-counts g c =
     counts_after c.old_pool.result g.D.Disk.is_honest (g.D.Disk.bytes c.len.new.self) (g.D.Disk.bytes c.args.device) c.len.ensures.same (λ pool. g.D.Disk.refused (device_of pool))
     (g.D.Disk.refused c.args.device) (g.D.Disk.refused c.len.new.self) c.in-Ok.ensures.count c.old_pool.ensures.counts
+
+pub returns-then-len-eq0-clause-owned : goal.returns-then-len-eq0-clause-owned
+returns-then-len-eq0-clause-owned g c =
+    owned_after c.new_pool.result g.D.Disk.is_honest (g.D.Disk.bytes c.len.new.self) (g.D.Disk.bytes c.args.device) c.len.ensures.same (λ pool. versions_of pool) c.new_pool.ensures.owned
+
+pub returns-else-len-eq0-clause-owned : goal.returns-else-len-eq0-clause-owned
+returns-else-len-eq0-clause-owned g c =
+    owned_after c.old_pool.result g.D.Disk.is_honest (g.D.Disk.bytes c.len.new.self) (g.D.Disk.bytes c.args.device) c.len.ensures.same (λ pool. versions_of pool) c.old_pool.ensures.owned

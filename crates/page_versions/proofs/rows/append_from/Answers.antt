@@ -6,9 +6,9 @@ use Rattle.overlay.specs.declared.changes.Changes.{Changes}
 use Rattle.overlay.specs.Changes.{private_of}
 use Rattle.overlay.specs.InUse.{in_use}
 use Rattle.overlay.specs.Layers.{size_of}
-use Rattle.overlay.specs.Whole.{IsWhole, AtLimit}
+use Rattle.overlay.specs.Whole.{IsWholeOver, AtLimit}
 use Rattle.page_database.specs.Held.{contents_of}
-use Rattle.page_database.specs.Changed.{DatabaseWritten, HoldsNoDatabaseIn, SpaceRefused}
+use Rattle.page_database.specs.Changed.{DatabaseWritten, DatabaseOwned, HoldsNoDatabaseIn, SpaceRefused}
 use Rattle.page_versions.proofs.StepLemmas.{same_pages}
 use Rattle.page_versions.proofs.rows.append_from.Goals as goal
 
@@ -19,6 +19,13 @@ returns-clause-appended g c = λ tables h.
     subst (λ (w : PageMap). IfOk c.append.result (DatabaseWritten (in_use ((versions_of c.args.pool.now).pages c.args.at) w) (appended (contents_of tables) c.args.name.now c.args.rows))) (sym (ap (λ (k : Changes). private_of k) now))
     (subst (λ (v : PageMap). IfOk c.append.result (DatabaseWritten (in_use v (private_of c.append.new.space.changes.now)) (appended (contents_of tables) c.args.name.now c.args.rows))) (same_pages _ _ _ _ follows.0.versions follows.4) (c.append.ensures.appended tables h))
 
+pub returns-clause-owned : goal.returns-clause-owned
+returns-clause-owned g c = λ tables h.
+    let follows = c.append.ensures.follows in
+    let now = c.changes-1.given.1 (sym follows.3) in
+    subst (λ (w : PageMap). IfOk c.append.result (DatabaseOwned (in_use ((versions_of c.args.pool.now).pages c.args.at) w) (appended (contents_of tables) c.args.name.now c.args.rows))) (sym (ap (λ (k : Changes). private_of k) now))
+    (subst (λ (v : PageMap). IfOk c.append.result (DatabaseOwned (in_use v (private_of c.append.new.space.changes.now)) (appended (contents_of tables) c.args.name.now c.args.rows))) (same_pages _ _ _ _ follows.0.versions follows.4) (c.append.ensures.owned tables h))
+
 pub returns-clause-limits : goal.returns-clause-limits
 returns-clause-limits g c = c.append.ensures.limits
 
@@ -26,14 +33,14 @@ pub returns-clause-whole : goal.returns-clause-whole
 returns-clause-whole g c =
     let follows = c.append.ensures.follows in
     let now = c.changes-1.given.1 (sym follows.3) in
-    subst (λ (w : PageMap). OnOk c.append.result (IsWhole (over (private_of c.args.changes.now) ((versions_of c.args.pool.now).pages c.args.at)) → IsWhole (over w ((versions_of c.args.pool.now).pages c.args.at)))) (sym (ap (λ (k : Changes). private_of k) now))
-    (subst (λ (v : PageMap). OnOk c.append.result (IsWhole (over (private_of c.args.changes.now) ((versions_of c.args.pool.now).pages c.args.at)) → IsWhole (over (private_of c.append.new.space.changes.now) v))) (same_pages _ _ _ _ follows.0.versions follows.4) c.append.ensures.whole)
+    subst (λ (w : PageMap). OnOk c.append.result (IsWholeOver ((versions_of c.args.pool.now).pages c.args.at) (private_of c.args.changes.now) → IsWholeOver ((versions_of c.args.pool.now).pages c.args.at) w)) (sym (ap (λ (k : Changes). private_of k) now))
+    (subst (λ (v : PageMap). OnOk c.append.result (IsWholeOver ((versions_of c.args.pool.now).pages c.args.at) (private_of c.args.changes.now) → IsWholeOver v (private_of c.append.new.space.changes.now))) (same_pages _ _ _ _ follows.0.versions follows.4) c.append.ensures.whole)
 
 pub returns-clause-refusal : goal.returns-clause-refusal
 returns-clause-refusal g c =
     let follows = c.append.ensures.follows in
     let now = c.changes-1.given.1 (sym follows.3) in
     let pool = c.pool-1.given.1 (sym follows.2) in
-    subst (λ (n : ℕ). IfErr c.append.result (SpaceRefused (AtLimit (over (private_of c.changes-1.given.0) ((versions_of c.args.pool.now).pages c.args.at) 0) (size_of (private_of c.changes-1.given.0))) (HoldsNoDatabaseIn (in_use ((versions_of c.args.pool.now).pages c.args.at) (private_of c.args.changes.now)) c.args.root (IsWhole (over (private_of c.args.changes.now) ((versions_of c.args.pool.now).pages c.args.at)))) (g.D.Disk.refused (device_of c.args.pool.now)) n)) (sym (ap (λ p. g.D.Disk.refused (device_of p)) pool))
-    (subst (λ (w : PageMap). IfErr c.append.result (SpaceRefused (AtLimit (over w ((versions_of c.args.pool.now).pages c.args.at) 0) (size_of w)) (HoldsNoDatabaseIn (in_use ((versions_of c.args.pool.now).pages c.args.at) (private_of c.args.changes.now)) c.args.root (IsWhole (over (private_of c.args.changes.now) ((versions_of c.args.pool.now).pages c.args.at)))) (g.D.Disk.refused (device_of c.args.pool.now)) (g.D.Disk.refused (device_of c.append.new.space.pool.now)))) (sym (ap (λ (k : Changes). private_of k) now))
-    (subst (λ (v : PageMap). IfErr c.append.result (SpaceRefused (AtLimit (over (private_of c.append.new.space.changes.now) v 0) (size_of (private_of c.append.new.space.changes.now))) (HoldsNoDatabaseIn (in_use ((versions_of c.args.pool.now).pages c.args.at) (private_of c.args.changes.now)) c.args.root (IsWhole (over (private_of c.args.changes.now) ((versions_of c.args.pool.now).pages c.args.at)))) (g.D.Disk.refused (device_of c.args.pool.now)) (g.D.Disk.refused (device_of c.append.new.space.pool.now)))) (same_pages _ _ _ _ follows.0.versions follows.4) c.append.ensures.refusal))
+    subst (λ (n : ℕ). IfErr c.append.result (SpaceRefused (AtLimit (over (private_of c.changes-1.given.0) ((versions_of c.args.pool.now).pages c.args.at) 0) (size_of (private_of c.changes-1.given.0))) (HoldsNoDatabaseIn (in_use ((versions_of c.args.pool.now).pages c.args.at) (private_of c.args.changes.now)) c.args.root (IsWholeOver ((versions_of c.args.pool.now).pages c.args.at) (private_of c.args.changes.now))) (g.D.Disk.refused (device_of c.args.pool.now)) n)) (sym (ap (λ p. g.D.Disk.refused (device_of p)) pool))
+    (subst (λ (w : PageMap). IfErr c.append.result (SpaceRefused (AtLimit (over w ((versions_of c.args.pool.now).pages c.args.at) 0) (size_of w)) (HoldsNoDatabaseIn (in_use ((versions_of c.args.pool.now).pages c.args.at) (private_of c.args.changes.now)) c.args.root (IsWholeOver ((versions_of c.args.pool.now).pages c.args.at) (private_of c.args.changes.now))) (g.D.Disk.refused (device_of c.args.pool.now)) (g.D.Disk.refused (device_of c.append.new.space.pool.now)))) (sym (ap (λ (k : Changes). private_of k) now))
+    (subst (λ (v : PageMap). IfErr c.append.result (SpaceRefused (AtLimit (over (private_of c.append.new.space.changes.now) v 0) (size_of (private_of c.append.new.space.changes.now))) (HoldsNoDatabaseIn (in_use ((versions_of c.args.pool.now).pages c.args.at) (private_of c.args.changes.now)) c.args.root (IsWholeOver ((versions_of c.args.pool.now).pages c.args.at) (private_of c.args.changes.now))) (g.D.Disk.refused (device_of c.args.pool.now)) (g.D.Disk.refused (device_of c.append.new.space.pool.now)))) (same_pages _ _ _ _ follows.0.versions follows.4) c.append.ensures.refusal))

@@ -6,7 +6,7 @@ use Rattle.overlay.specs.Changes.{private_of}
 use Rattle.page_versions.specs.Databases.{contents_in, IsDatabase}
 use Rattle.page_versions.specs.Refusals.{of_fault, IsCounted}
 use Rattle.page_versions.proofs.RefusalLemmas.{header_fails}
-use Rattle.page_versions.proofs.StepLemmas.{fails_as, changed_of, root_fails, table_fail}
+use Rattle.page_versions.proofs.StepLemmas.{fails_as, changed_of, owned_of, root_fails, table_fail}
 use Rattle.page_versions.proofs.schema.create_index.Goals as goal
 
 pub returns-in-Ok-put_root-clause-indexed : goal.returns-in-Ok-put_root-clause-indexed
@@ -14,6 +14,12 @@ returns-in-Ok-put_root-clause-indexed g c =
     changed_of (λ (t : Contents). indexed t c.args.name.now c.args.index) ((versions_of c.args.pool.now).pages c.args.at) ((versions_of c.read_header.new.pool).pages c.args.at) ((versions_of c.index_from.new.pool).pages c.args.at) (private_of c.args.changes.now) (private_of c.index_from.new.changes) c.in-Ok.header c.in-Ok-index_from.top c.in-Ok.ensures.says
     (ap (λ (v : Versions). v.pages c.args.at) c.read_header.ensures.versions) (ap (λ (v : Versions). v.pages c.args.at) c.index_from.ensures.versions) (λ tables h. c.in-Ok-index_from.ensures.indexed tables h c.requires) c.in-Ok-index_from.ensures.whole
     (private_of c.put_root.new.changes) c.in-Ok-put_root.ensures.put
+
+pub returns-in-Ok-put_root-clause-owned : goal.returns-in-Ok-put_root-clause-owned
+returns-in-Ok-put_root-clause-owned g c =
+    owned_of (λ (t : Contents). indexed t c.args.name.now c.args.index) ((versions_of c.args.pool.now).pages c.args.at) ((versions_of c.read_header.new.pool).pages c.args.at) ((versions_of c.index_from.new.pool).pages c.args.at) (private_of c.args.changes.now) (private_of c.index_from.new.changes) c.in-Ok.header c.in-Ok-index_from.top c.in-Ok.ensures.says
+    (ap (λ (v : Versions). v.pages c.args.at) c.read_header.ensures.versions) (ap (λ (v : Versions). v.pages c.args.at) c.index_from.ensures.versions) (λ tables h. c.in-Ok-index_from.ensures.owned tables h c.requires) c.in-Ok-index_from.ensures.whole
+    (private_of c.put_root.new.changes) c.in-Ok-put_root.ensures.owned
 
 pub returns-in-Ok-put_root-clause-versions : goal.returns-in-Ok-put_root-clause-versions
 returns-in-Ok-put_root-clause-versions g c = c.put_root.ensures.versions ∙ c.index_from.ensures.versions ∙ c.read_header.ensures.versions

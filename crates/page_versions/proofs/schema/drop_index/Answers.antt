@@ -6,7 +6,7 @@ use Rattle.overlay.specs.Changes.{private_of}
 use Rattle.page_versions.specs.Databases.{contents_in, IsDatabase}
 use Rattle.page_versions.specs.Refusals.{of_fault, IsCounted}
 use Rattle.page_versions.proofs.RefusalLemmas.{header_fails}
-use Rattle.page_versions.proofs.StepLemmas.{fails_as, changed_of, root_fails, table_fail}
+use Rattle.page_versions.proofs.StepLemmas.{fails_as, changed_of, owned_of, root_fails, table_fail}
 use Rattle.page_versions.proofs.schema.drop_index.Goals as goal
 
 pub returns-in-Ok-put_root-clause-unindexed : goal.returns-in-Ok-put_root-clause-unindexed
@@ -14,6 +14,12 @@ returns-in-Ok-put_root-clause-unindexed g c =
     changed_of (λ (t : Contents). unindexed t c.args.name.now) ((versions_of c.args.pool.now).pages c.args.at) ((versions_of c.read_header.new.pool).pages c.args.at) ((versions_of c.unindex_from.new.pool).pages c.args.at) (private_of c.args.changes.now) (private_of c.unindex_from.new.changes) c.in-Ok.header c.in-Ok-unindex_from.top c.in-Ok.ensures.says
     (ap (λ (v : Versions). v.pages c.args.at) c.read_header.ensures.versions) (ap (λ (v : Versions). v.pages c.args.at) c.unindex_from.ensures.versions) c.in-Ok-unindex_from.ensures.unindexed c.in-Ok-unindex_from.ensures.whole
     (private_of c.put_root.new.changes) c.in-Ok-put_root.ensures.put
+
+pub returns-in-Ok-put_root-clause-owned : goal.returns-in-Ok-put_root-clause-owned
+returns-in-Ok-put_root-clause-owned g c =
+    owned_of (λ (t : Contents). unindexed t c.args.name.now) ((versions_of c.args.pool.now).pages c.args.at) ((versions_of c.read_header.new.pool).pages c.args.at) ((versions_of c.unindex_from.new.pool).pages c.args.at) (private_of c.args.changes.now) (private_of c.unindex_from.new.changes) c.in-Ok.header c.in-Ok-unindex_from.top c.in-Ok.ensures.says
+    (ap (λ (v : Versions). v.pages c.args.at) c.read_header.ensures.versions) (ap (λ (v : Versions). v.pages c.args.at) c.unindex_from.ensures.versions) c.in-Ok-unindex_from.ensures.owned c.in-Ok-unindex_from.ensures.whole
+    (private_of c.put_root.new.changes) c.in-Ok-put_root.ensures.owned
 
 pub returns-in-Ok-put_root-clause-versions : goal.returns-in-Ok-put_root-clause-versions
 returns-in-Ok-put_root-clause-versions g c = c.put_root.ensures.versions ∙ c.unindex_from.ensures.versions ∙ c.read_header.ensures.versions

@@ -1,9 +1,8 @@
 use Rattle.std.proofs.Common.{ap, sym, subst}
-use Rattle.pool.specs.Pages.{over}
 use Rattle.pool.specs.Versions.{Versions, versions_of}
 use Rattle.overlay.specs.Changes.{private_of}
 use Rattle.overlay.specs.InUse.{in_use}
-use Rattle.overlay.specs.Whole.{IsWhole}
+use Rattle.overlay.specs.Whole.{IsWholeOver}
 use Rattle.overlay.proofs.InUseLemmas.{reads_in_use}
 use Rattle.overlay.proofs.space.OverlayPageReader.read.Goals as goal
 
@@ -15,4 +14,4 @@ pub returns-clause-same : goal.returns-clause-same
 returns-clause-same g c = ap (λ (v : Versions). in_use (v.pages c.args.self.now.at) (private_of c.args.self.now.changes.now)) c.read_changed.ensures.versions
 
 pub returns-clause-whole : goal.returns-clause-whole
-returns-clause-whole g c = subst (λ (v : Versions). IsWhole (over (private_of c.args.self.now.changes.now) (v.pages c.args.self.now.at))) (sym c.read_changed.ensures.versions)
+returns-clause-whole g c = subst (λ (v : Versions). IsWholeOver (v.pages c.args.self.now.at) (private_of c.args.self.now.changes.now)) (sym c.read_changed.ensures.versions)

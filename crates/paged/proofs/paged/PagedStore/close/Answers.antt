@@ -10,7 +10,7 @@ use Rattle.paged.proofs.paged.PagedStore.close.Goals as goal
 pub returns-in-Ok-clause-closed : goal.returns-in-Ok-clause-closed
 returns-in-Ok-clause-closed g c =
     let s = c.args.self in
-    closed_saved g.D.Disk.is_honest (g.D.Disk.bytes c.in-Ok.device) (versions_of s.pool) (versions_of c.end_all.new.pool) (numbers_of s.readers) (numbers_of c.end_all.new.self) (private_of s.changes) (settled_of s.changes) c.in-Ok.ensures.saved c.end_all.ensures.kept
+    closed_saved g.D.Disk.is_honest (g.D.Disk.bytes c.in-Ok.device) (versions_of s.pool) (versions_of c.end_all.new.pool) (numbers_of s.readers) (numbers_of c.end_all.new.self) (private_of s.changes) (settled_of s.changes) c.in-Ok.ensures.saved c.in-Ok.ensures.owned c.end_all.ensures.kept
 
 pub returns-clause-left : goal.returns-clause-left
 returns-clause-left g c =

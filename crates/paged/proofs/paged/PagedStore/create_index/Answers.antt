@@ -29,7 +29,7 @@ returns-clause-sound g c =
     let s = c.args.self.now in
     done_sound g.D.Disk.is_honest (versions_of s.pool) (versions_of c.create_index-done.new.pool) (numbers_of s.readers) (private_of s.changes) (settled_of s.changes) (private_of c.create_index-done.new.changes) (settled_of c.create_index-done.new.changes) (private_of c.undo_refused.new.changes) (settled_of c.undo_refused.new.changes)
     s.commits s.ordered.counted c.create_index-done.ensures.versions c.create_index-done.ensures.settled c.undo_refused.ensures.settled (λ (x : Contents). indexed x c.args.name.now c.args.index)
-    c.create_index-done.result c.undo_refused.ensures.made c.undo_refused.ensures.left c.create_index-done.ensures.indexed
+    c.create_index-done.result c.undo_refused.ensures.made c.undo_refused.ensures.left c.create_index-done.ensures.owned
 
 pub returns-clause-refused : goal.returns-clause-refused
 returns-clause-refused g c =

@@ -25,7 +25,7 @@ returns-clause-sound g c =
     let s = c.args.self.now in
     done_sound g.D.Disk.is_honest (versions_of s.pool) (versions_of c.create_table-done.new.pool) (numbers_of s.readers) (private_of s.changes) (settled_of s.changes) (private_of c.create_table-done.new.changes) (settled_of c.create_table-done.new.changes) (private_of c.undo_refused.new.changes) (settled_of c.undo_refused.new.changes)
     s.commits s.ordered.counted c.create_table-done.ensures.versions c.create_table-done.ensures.settled c.undo_refused.ensures.settled (λ (x : Contents). with_table x c.args.table)
-    c.create_table-done.result c.undo_refused.ensures.made c.undo_refused.ensures.left c.create_table-done.ensures.created
+    c.create_table-done.result c.undo_refused.ensures.made c.undo_refused.ensures.left c.create_table-done.ensures.owned
 
 pub returns-clause-refused : goal.returns-clause-refused
 returns-clause-refused g c =

@@ -25,7 +25,7 @@ returns-clause-sound g c =
     let s = c.args.self.now in
     done_sound g.D.Disk.is_honest (versions_of s.pool) (versions_of c.drop_index-done.new.pool) (numbers_of s.readers) (private_of s.changes) (settled_of s.changes) (private_of c.drop_index-done.new.changes) (settled_of c.drop_index-done.new.changes) (private_of c.undo_refused.new.changes) (settled_of c.undo_refused.new.changes)
     s.commits s.ordered.counted c.drop_index-done.ensures.versions c.drop_index-done.ensures.settled c.undo_refused.ensures.settled (λ (x : Contents). unindexed x c.args.name.now)
-    c.drop_index-done.result c.undo_refused.ensures.made c.undo_refused.ensures.left c.drop_index-done.ensures.unindexed
+    c.drop_index-done.result c.undo_refused.ensures.made c.undo_refused.ensures.left c.drop_index-done.ensures.owned
 
 pub returns-clause-refused : goal.returns-clause-refused
 returns-clause-refused g c =

@@ -3,7 +3,7 @@ use Rattle.pool.specs.Versions.{versions_of, device_of}
 use Rattle.overlay.specs.Changes.{fresh_of, settled_of, private_of}
 use Rattle.page_readers.specs.Pinned.{numbers_of}
 use Rattle.paged.proofs.PageLemmas.{none_private}
-use Rattle.paged.proofs.OpenLemmas.{opened_orderly, opened_sound, opened_shows, saved_again}
+use Rattle.paged.proofs.OpenLemmas.{opened_orderly, opened_sound, opened_shows, saved_again, open_fails}
 use Rattle.paged.proofs.SteadyLemmas.{steady_none}
 use Rattle.paged.proofs.paged.PagedStore.open.Goals as goal
 
@@ -12,9 +12,9 @@ invariant_of-result g c = record { ordered = opened_orderly g.D.Disk.is_honest (
 
 pub returns-in-Ok-clause-opened : goal.returns-in-Ok-clause-opened
 returns-in-Ok-clause-opened g c = λ db saved. (
-  opened_sound g.D.Disk.is_honest (g.D.Disk.bytes c.args.device) (versions_of c.in-Ok.pool) (numbers_of c.new-in-Ok.result) (private_of c.new.result) (settled_of c.new.result) db c.in-Ok.ensures.begins c.new-in-Ok.ensures.none
+  opened_sound g.D.Disk.is_honest (g.D.Disk.bytes c.args.device) (versions_of c.in-Ok.pool) (numbers_of c.new-in-Ok.result) (private_of c.new.result) (settled_of c.new.result) db c.in-Ok.ensures.begins c.in-Ok.ensures.owned c.new-in-Ok.ensures.none
       (none_private (fresh_of c.new.result) (settled_of c.new.result) c.new.ensures.fresh c.new.ensures.settled) c.new.ensures.settled saved,
-  opened_shows g.D.Disk.is_honest (g.D.Disk.bytes c.args.device) (versions_of c.in-Ok.pool) (numbers_of c.new-in-Ok.result) (private_of c.new.result) (settled_of c.new.result) db c.in-Ok.ensures.begins c.new-in-Ok.ensures.none
+  opened_shows g.D.Disk.is_honest (g.D.Disk.bytes c.args.device) (versions_of c.in-Ok.pool) (numbers_of c.new-in-Ok.result) (private_of c.new.result) (settled_of c.new.result) db c.in-Ok.ensures.begins c.in-Ok.ensures.owned c.new-in-Ok.ensures.none
       (none_private (fresh_of c.new.result) (settled_of c.new.result) c.new.ensures.fresh c.new.ensures.settled) c.new.ensures.settled saved,
 )
 
@@ -26,3 +26,6 @@ returns-in-Ok-clause-readable g c = c.in-Ok.ensures.readable
 
 pub returns-in-Ok-clause-counts : goal.returns-in-Ok-clause-counts
 returns-in-Ok-clause-counts g c = c.in-Ok.ensures.counts
+
+pub returns-in-Err-clause-refused : goal.returns-in-Err-clause-refused
+returns-in-Err-clause-refused g c = open_fails g.D.Disk.is_honest (g.D.Disk.bytes c.args.device) (g.D.Disk.refused c.args.device) (g.D.Disk.refused c.in-Err.back.value) c.in-Err.back.error c.in-Err.ensures.refused

@@ -28,7 +28,7 @@ returns-clause-sound g c =
     let s = c.args.self.now in
     done_sound g.D.Disk.is_honest (versions_of s.pool) (versions_of c.replace_row-done.new.pool) (numbers_of s.readers) (private_of s.changes) (settled_of s.changes) (private_of c.replace_row-done.new.changes) (settled_of c.replace_row-done.new.changes) (private_of c.undo_refused.new.changes) (settled_of c.undo_refused.new.changes)
     s.commits s.ordered.counted c.replace_row-done.ensures.versions c.replace_row-done.ensures.settled c.undo_refused.ensures.settled (λ (x : Contents). replaced x c.args.name.now c.args.number c.args.row)
-    c.replace_row-done.result c.undo_refused.ensures.made c.undo_refused.ensures.left c.replace_row-done.ensures.replaced
+    c.replace_row-done.result c.undo_refused.ensures.made c.undo_refused.ensures.left c.replace_row-done.ensures.owned
 
 pub returns-clause-refused : goal.returns-clause-refused
 returns-clause-refused g c =
