@@ -2,7 +2,7 @@ ghost use Rattle.std.specs.Prelude.{◌≡◌, ◌≤◌, ◌<◌, ◌+◌, ℕ,
 ghost use Rattle.std.specs.Option.{is_some, option_copied};
 ghost use Rattle.pool.specs.Pages.{over, only, pages_in};
 ghost use Rattle.overlay.specs.Layers.{size_of, AreListed, IsNotKept};
-ghost use Rattle.overlay.specs.Undone.{counts_in, AreUndone};
+ghost use Rattle.overlay.specs.Undone.{counts_in, none_undone, AreUndone};
 
 use crate::PRIVATE_PAGES;
 use crate::layers::{list_number, settle_all};
@@ -59,6 +59,7 @@ impl Changes {
     pub fn new(alloc: Global) -> Changes
         ensures fresh { fresh_of result ≡ (λ n. None) }
         ensures settled { settled_of result ≡ (λ n. None) }
+        ensures undone { undone_of result ≡ none_undone }
     {
         Changes {
             alloc,
@@ -175,6 +176,7 @@ impl Changes {
         ensures settled { OnOk result (settled_of self.new ≡ private_of self.old) }
         ensures fresh { OnOk result (fresh_of self.new ≡ (λ n. None)) }
         ensures left { OnErr result (settled_of self.new ≡ settled_of self.old) }
+        ensures undone { undone_of self.new ≡ undone_of self.old }
     {
         settle_all(
             &mut self.older,

@@ -7,7 +7,7 @@ ghost use Rattle.pool.specs.Versions.{versions_of, device_of};
 ghost use Rattle.overlay.specs.Changes.{settled_of, private_of};
 ghost use Rattle.overlay.specs.Layers.{size_of, IsNotKept};
 ghost use Rattle.overlay.specs.InUse.{in_use};
-ghost use Rattle.overlay.specs.Whole.{IsWhole, AtLimit};
+ghost use Rattle.overlay.specs.Whole.{IsWhole, IsFirstFree, AtLimit};
 ghost use Rattle.overlay.specs.Puts.{PutsBoth, PutsAtMost, Freed, Frees, WritesAtMost};
 
 use crate::changes::Changes;
@@ -90,6 +90,7 @@ pub fn free_page<D: Disk>(
     page: u32,
 ) -> Result<(), Fault>
     ensures freed { OnOk result (in_use ((versions_of pool.new).pages at) (private_of changes.new) page ≡ None) }
+    ensures first { OnOk result (IsFirstFree (over (private_of changes.old) ((versions_of pool.old).pages at)) (over (private_of changes.new) ((versions_of pool.new).pages at)) page) }
     ensures others { (n : ℕ) → n ≢ page → in_use ((versions_of pool.new).pages at) (private_of changes.new) n ≡ in_use ((versions_of pool.old).pages at) (private_of changes.old) n }
     ensures whole { OnOk result (IsWhole (over (private_of changes.old) ((versions_of pool.old).pages at)) → IsWhole (over (private_of changes.new) ((versions_of pool.new).pages at))) }
     ensures settled { settled_of changes.new ≡ settled_of changes.old }

@@ -40,6 +40,8 @@ fn set_root<D: Disk>(
     root: u32,
 ) -> Result<(), Fault>
     ensures written { OnOk result (Rooted (over (private_of changes.old) ((versions_of pool.old).pages at)) root (private_of changes.old) (private_of changes.new)) }
+    ensures same { IsSome (over (private_of changes.old) ((versions_of pool.old).pages at) 0) → HasRoot (over (private_of changes.old) ((versions_of pool.old).pages at) 0) root
+        → OnOk result (private_of changes.new ≡ private_of changes.old) }
     ensures left { OnErr result (private_of changes.new ≡ private_of changes.old) }
     ensures settled { settled_of changes.new ≡ settled_of changes.old }
     ensures versions { versions_of pool.new ≡ versions_of pool.old }
@@ -72,6 +74,9 @@ pub fn set_catalog_root<D: Disk>(
     root: u32,
 ) -> Result<(), Fault>
     ensures root { OnOk result (HasRoot (over (private_of changes.new) ((versions_of pool.new).pages at) 0) root) }
+    ensures same { IsSome (over (private_of changes.old) ((versions_of pool.old).pages at) 0) → HasRoot (over (private_of changes.old) ((versions_of pool.old).pages at) 0) root
+        → OnOk result (private_of changes.new ≡ private_of changes.old) }
+    ensures left { OnErr result (private_of changes.new ≡ private_of changes.old) }
     ensures others { (n : ℕ) → in_use ((versions_of pool.new).pages at) (private_of changes.new) n ≡ in_use ((versions_of pool.old).pages at) (private_of changes.old) n }
     ensures whole { OnOk result (IsWhole (over (private_of changes.old) ((versions_of pool.old).pages at)) → IsWhole (over (private_of changes.new) ((versions_of pool.new).pages at))) }
     ensures settled { settled_of changes.new ≡ settled_of changes.old }

@@ -1,5 +1,5 @@
 //! Pages written over a version.
-ghost use Rattle.std.specs.Prelude.{◌≡◌, ◌≢◌, ◌≤◌, ℕ, Some, None, IsSome, slice_index, OnOk, IfErr};
+ghost use Rattle.std.specs.Prelude.{◌≡◌, ◌≢◌, ◌≤◌, ℕ, Some, None, IsSome, slice_index, OnOk, OnErr, IfErr};
 ghost use Rattle.page_space.specs.Space.{ChangeRefused};
 ghost use Rattle.pool.specs.Pages.{over};
 ghost use Rattle.pool.specs.Versions.{versions_of, device_of};
@@ -30,6 +30,7 @@ pub fn replace_page<D: Disk>(
         → in_use ((versions_of pool.new).pages at) (private_of changes.new) page ≡ Some bytes.now) }
     ensures others { (n : ℕ) → n ≢ page → in_use ((versions_of pool.new).pages at) (private_of changes.new) n ≡ in_use ((versions_of pool.old).pages at) (private_of changes.old) n }
     ensures whole { OnOk result (IsWhole (over (private_of changes.old) ((versions_of pool.old).pages at)) → IsWhole (over (private_of changes.new) ((versions_of pool.new).pages at))) }
+    ensures left { OnErr result (private_of changes.new ≡ private_of changes.old) }
     ensures settled { settled_of changes.new ≡ settled_of changes.old }
     ensures versions { versions_of pool.new ≡ versions_of pool.old }
     ensures refusal { IfErr result (ChangeRefused (AtLimit (over (private_of changes.new) ((versions_of pool.new).pages at) 0) (size_of (private_of changes.new)))
