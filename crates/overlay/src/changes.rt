@@ -109,6 +109,7 @@ impl Changes {
         requires { IsSome (private_of self.old number) }
         ensures put { OnOk result (private_of self.new ≡ over (only number page.now) (private_of self.old)) }
         ensures settled { settled_of self.new ≡ settled_of self.old }
+        ensures undone { undone_of self.new ≡ undone_of self.old }
         ensures left { OnErr result (private_of self.new ≡ private_of self.old) }
     {
         list_number(&mut self.fresh_numbers, &self.fresh, number)?;
@@ -122,6 +123,7 @@ impl Changes {
         requires room { size_of (private_of self.old) < 1024 }
         ensures put { OnOk result (private_of self.new ≡ over (only number page.now) (private_of self.old)) }
         ensures settled { settled_of self.new ≡ settled_of self.old }
+        ensures undone { undone_of self.new ≡ undone_of self.old }
         ensures left { OnErr result (private_of self.new ≡ private_of self.old) }
     {
         list_number(&mut self.fresh_numbers, &self.fresh, number)?;
@@ -142,6 +144,7 @@ impl Changes {
     pub(crate) fn put(&mut self, number: u32, page: &Page) -> Result<(), Fault>
         ensures put { OnOk result (private_of self.new ≡ over (only number page.now) (private_of self.old)) }
         ensures settled { settled_of self.new ≡ settled_of self.old }
+        ensures undone { undone_of self.new ≡ undone_of self.old }
         ensures left { OnErr result (private_of self.new ≡ private_of self.old) }
         ensures refusal { IfErr result (IsNotKept (size_of (private_of self.new))) }
     {

@@ -5,7 +5,7 @@ ghost use Rattle.pagefile.specs.Free.{IsFree};
 ghost use Rattle.pagefile.specs.Header.{IsHeader, IsInBounds};
 ghost use Rattle.pool.specs.Pages.{over};
 ghost use Rattle.pool.specs.Versions.{versions_of, device_of};
-ghost use Rattle.overlay.specs.Changes.{settled_of, private_of};
+ghost use Rattle.overlay.specs.Changes.{settled_of, private_of, undone_of};
 ghost use Rattle.overlay.specs.Layers.{size_of, IsNotKept};
 ghost use Rattle.overlay.specs.InUse.{in_use};
 ghost use Rattle.overlay.specs.Whole.{IsWhole, AtLimit, IsNext};
@@ -118,6 +118,7 @@ fn put_leaf(changes: &mut Changes, page: u32, new: FileHeader) -> Result<u32, Fa
     ensures written { OnOk result (PutsLeaf page new (private_of changes.old) (private_of changes.new)) }
     ensures left { OnErr result (PutsLeafAtMost page (private_of changes.old) (private_of changes.new)) }
     ensures settled { settled_of changes.new ≡ settled_of changes.old }
+    ensures undone { undone_of changes.new ≡ undone_of changes.old }
     ensures refusal { IfErr result (IsNotKept (size_of (private_of changes.new))) }
 {
     match put_with_header(changes, page, &new_leaf(), new) {
@@ -138,6 +139,7 @@ fn take_by<D: Disk>(
     ensures taken { IfOk result (λ page. Took ((versions_of pool.old).pages at) (private_of changes.old) page (private_of changes.new)) }
     ensures left { OnErr result (TookAtMost ((versions_of pool.old).pages at) (private_of changes.old) (private_of changes.new)) }
     ensures settled { settled_of changes.new ≡ settled_of changes.old }
+    ensures undone { undone_of changes.new ≡ undone_of changes.old }
     ensures versions { versions_of pool.new ≡ versions_of pool.old }
     ensures refusal { IfErr result (ChangeRefused (AtLimit (over (private_of changes.new) ((versions_of pool.new).pages at) 0) (size_of (private_of changes.new)))
         (IsWhole (over (private_of changes.old) ((versions_of pool.old).pages at)) → ⊥) (D.refused (device_of pool.old)) (D.refused (device_of pool.new))) }
@@ -154,6 +156,7 @@ fn take_page<D: Disk>(pool: &mut Pool<D>, changes: &mut Changes, at: u64) -> Res
     ensures taken { IfOk result (λ page. Took ((versions_of pool.old).pages at) (private_of changes.old) page (private_of changes.new)) }
     ensures left { OnErr result (TookAtMost ((versions_of pool.old).pages at) (private_of changes.old) (private_of changes.new)) }
     ensures settled { settled_of changes.new ≡ settled_of changes.old }
+    ensures undone { undone_of changes.new ≡ undone_of changes.old }
     ensures versions { versions_of pool.new ≡ versions_of pool.old }
     ensures refusal { IfErr result (ChangeRefused (AtLimit (over (private_of changes.new) ((versions_of pool.new).pages at) 0) (size_of (private_of changes.new)))
         (IsWhole (over (private_of changes.old) ((versions_of pool.old).pages at)) → ⊥) (D.refused (device_of pool.old)) (D.refused (device_of pool.new))) }
@@ -181,6 +184,7 @@ pub fn allocate_page<D: Disk>(
         → in_use ((versions_of pool.new).pages at) (private_of changes.new) n ≡ in_use ((versions_of pool.old).pages at) (private_of changes.old) n) }
     ensures whole { OnOk result (IsWhole (over (private_of changes.old) ((versions_of pool.old).pages at)) → IsWhole (over (private_of changes.new) ((versions_of pool.new).pages at))) }
     ensures settled { settled_of changes.new ≡ settled_of changes.old }
+    ensures undone { undone_of changes.new ≡ undone_of changes.old }
     ensures versions { versions_of pool.new ≡ versions_of pool.old }
     ensures refusal { IfErr result (ChangeRefused (AtLimit (over (private_of changes.new) ((versions_of pool.new).pages at) 0) (size_of (private_of changes.new)))
         (IsWhole (over (private_of changes.old) ((versions_of pool.old).pages at)) → ⊥) (D.refused (device_of pool.old)) (D.refused (device_of pool.new))) }
