@@ -8,7 +8,7 @@ ghost use Rattle.pool.specs.Versions.{versions_of, device_of};
 ghost use Rattle.overlay.specs.Changes.{settled_of, private_of, undone_of};
 ghost use Rattle.overlay.specs.Layers.{size_of, IsNotKept};
 ghost use Rattle.overlay.specs.InUse.{in_use};
-ghost use Rattle.overlay.specs.Whole.{IsWhole, AtLimit, IsNext};
+ghost use Rattle.overlay.specs.Whole.{IsWhole, AtLimit, IsNext, NamesRest};
 ghost use Rattle.overlay.specs.Puts.{PutsLeaf, PutsLeafAtMost, Takes, Took, TookAtMost};
 
 use crate::changes::Changes;
@@ -178,6 +178,7 @@ pub fn allocate_page<D: Disk>(
     at: u64,
 ) -> Result<u32, Fault>
     ensures next { IfOk result (IsNext (over (private_of changes.old) ((versions_of pool.old).pages at) 0)) }
+    ensures list { IfOk result (NamesRest (over (private_of changes.old) ((versions_of pool.old).pages at)) (over (private_of changes.new) ((versions_of pool.new).pages at))) }
     ensures fresh { IfOk result (IsFresh (in_use ((versions_of pool.old).pages at) (private_of changes.old)) (in_use ((versions_of pool.new).pages at) (private_of changes.new))) }
     ensures others { IfOk result (λ page. (n : ℕ) → n ≢ page → in_use ((versions_of pool.new).pages at) (private_of changes.new) n ≡ in_use ((versions_of pool.old).pages at) (private_of changes.old) n) }
     ensures kept { OnErr result ((n : ℕ) → IsSome (in_use ((versions_of pool.old).pages at) (private_of changes.old) n)
