@@ -1,4 +1,4 @@
-ghost use Rattle.std.specs.Prelude.{◌≡◌, ℕ, ◌+◌, ◌*◌, ◌-◌, ◌<◌, ◌≤◌, ◌==◌, ◌^◌, [], ◌∷◌, List, length, Some, None, IsTrue, IfOk, IfErr, OnOk, OnErr, min, if◌then◌else◌};
+ghost use Rattle.std.specs.Prelude.{◌≡◌, ℕ, ◌+◌, ◌*◌, ◌-◌, ◌<◌, ◌≤◌, ◌==◌, ◌^◌, [], ◌∷◌, List, length, Some, None, IsTrue, IfOk, IfErr, IsOk, OnOk, OnErr, min, if◌then◌else◌};
 ghost use Rattle.pagefile.specs.File.{disk_of};
 ghost use Rattle.pool.specs.Pins.{pins_at};
 ghost use Rattle.pool.specs.Stands.{Stands};
@@ -54,7 +54,7 @@ impl<D: Disk> Pool<D> {
     ghost use Rattle.pool.specs.Pages.{known, over, only, pages_in};
     ghost use Rattle.pagefile.specs.Pages.{page_of};
     ghost use Rattle.disk.specs.Refused.{HasRisen};
-    ghost use Rattle.pool.specs.Refused.{IsRefused, IsOfDevice};
+    ghost use Rattle.pool.specs.Refused.{IsRefused, IsOfDevice, IsNotOfDevice, IsTold};
     ghost use Rattle.pool.specs.Versions.{IsKept, versions_of, device_of, unwritten_of};
 
     /// A pool over a file of this many pages. `frames`, from 16 to 4,096, is how many pages it may keep in memory.
@@ -142,6 +142,8 @@ impl<D: Disk> Pool<D> {
         ensures versions { versions_of self.new ≡ versions_of self.old }
         ensures unwritten { unwritten_of self.new ≡ unwritten_of self.old }
         ensures refusal { IfErr result (IsRefused ⊥ ⊥ (D.refused (device_of self.old)) (D.refused (device_of self.new))) }
+        ensures read_always { IsTrue D.is_honest → IsTrue D.always_reads → IfErr result IsNotOfDevice }
+        ensures cause { IfErr result (IsTold (D.told (device_of self.new))) }
         ensures rising { D.refused (device_of self.old) ≤ D.refused (device_of self.new) }
     {
         fetch(
@@ -167,7 +169,12 @@ impl<D: Disk> Pool<D> {
         ensures pins { (versions_of self.new).pins ≡ (versions_of self.old).pins }
         ensures refused { OnErr result (versions_of self.new ≡ versions_of self.old) }
         ensures left { OnErr result (set.new ≡ set.old) }
+        ensures more { OnOk result (unwritten_of self.old ≤ unwritten_of self.new) }
+        ensures most { OnOk result (unwritten_of self.new ≤ unwritten_of self.old + length set.old) }
+        ensures unwritten { OnErr result (unwritten_of self.new ≡ unwritten_of self.old) }
         ensures refusal { IfErr result (IsRefused ((versions_of self.old).last ≡ 2 ^ 64 - 1) ⊥ (D.refused (device_of self.old)) (D.refused (device_of self.new))) }
+        ensures read_always { IsTrue D.is_honest → IsTrue D.always_reads → IfErr result IsNotOfDevice }
+        ensures cause { IfErr result (IsTold (D.told (device_of self.new))) }
         ensures rising { D.refused (device_of self.old) ≤ D.refused (device_of self.new) }
     {
         if self.last == u64::MAX {
@@ -194,8 +201,10 @@ impl<D: Disk> Pool<D> {
     fn write_one(&mut self) -> Result<(), PoolError>
         ensures versions { versions_of self.new ≡ versions_of self.old }
         ensures written { OnOk result (unwritten_of self.new ≡ unwritten_of self.old - 1) }
+        ensures none { unwritten_of self.old ≡ 0 → IsOk result }
         ensures refused { OnErr result (unwritten_of self.new ≡ unwritten_of self.old) }
         ensures refusal { IfErr result (IsOfDevice (D.refused (device_of self.old)) (D.refused (device_of self.new))) }
+        ensures cause { IfErr result (IsTold (D.told (device_of self.new))) }
         ensures rising { D.refused (device_of self.old) ≤ D.refused (device_of self.new) }
         ensures synced { D.synced (device_of self.new) ≡ D.synced (device_of self.old) }
     {
@@ -231,8 +240,11 @@ impl<D: Disk> Pool<D> {
         ensures left { IfOk result (λ left. left ≡ min (unwritten_of self.new) (2 ^ 32 - 1)) }
         ensures written { OnOk result (unwritten_of self.new ≡ unwritten_of self.old - 4) }
         ensures fewer { unwritten_of self.new ≤ unwritten_of self.old }
+        ensures stored { unwritten_of self.new ≡ 0 → IsTrue D.is_honest → (n : ℕ) (page : List ℕ) → (versions_of self.new).pages (versions_of self.new).last n ≡ Some page → page_of (D.bytes (device_of self.new)) n ≡ Some page }
+        ensures idle { unwritten_of self.old ≡ 0 → IsOk result }
         ensures versions { versions_of self.new ≡ versions_of self.old }
         ensures refusal { IfErr result (IsOfDevice (D.refused (device_of self.old)) (D.refused (device_of self.new))) }
+        ensures cause { IfErr result (IsTold (D.told (device_of self.new))) }
         ensures rising { D.refused (device_of self.old) ≤ D.refused (device_of self.new) }
     {
         'written: for _page in 0..PAGES_A_STEP {
@@ -246,6 +258,7 @@ impl<D: Disk> Pool<D> {
         ensures versions { versions_of self.new ≡ versions_of self.old }
         ensures written { OnOk result (unwritten_of self.new ≡ 0) }
         ensures refusal { IfErr result (IsOfDevice (D.refused (device_of self.old)) (D.refused (device_of self.new))) }
+        ensures cause { IfErr result (IsTold (D.told (device_of self.new))) }
         ensures rising { D.refused (device_of self.old) ≤ D.refused (device_of self.new) }
         ensures synced { D.synced (device_of self.new) ≡ D.synced (device_of self.old) }
     {
@@ -260,6 +273,7 @@ impl<D: Disk> Pool<D> {
         ensures versions { versions_of self.new ≡ versions_of self.old }
         ensures unwritten { unwritten_of self.new ≡ unwritten_of self.old }
         ensures refusal { IfErr result (IsOfDevice (D.refused (device_of self.old)) (D.refused (device_of self.new))) }
+        ensures cause { IfErr result (IsTold (D.told (device_of self.new))) }
         ensures synced { OnOk result (HasRisen (D.synced (device_of self.old)) (D.synced (device_of self.new))) }
         ensures settles { OnOk result (D.settled (device_of self.new)) }
         ensures rising { D.refused (device_of self.old) ≤ D.refused (device_of self.new) }
@@ -273,6 +287,7 @@ impl<D: Disk> Pool<D> {
         ensures versions { versions_of self.new ≡ versions_of self.old }
         ensures written { OnOk result (unwritten_of self.new ≡ 0) }
         ensures refusal { IfErr result (IsOfDevice (D.refused (device_of self.old)) (D.refused (device_of self.new))) }
+        ensures cause { IfErr result (IsTold (D.told (device_of self.new))) }
         ensures synced { OnOk result (HasRisen (D.synced (device_of self.old)) (D.synced (device_of self.new))) }
         ensures settles { OnOk result (D.settled (device_of self.new)) }
         ensures rising { D.refused (device_of self.old) ≤ D.refused (device_of self.new) }
@@ -292,6 +307,7 @@ impl<D: Disk> Pool<D> {
         ensures rising { IfOk result (λ disk. D.refused (device_of self) ≤ D.refused disk) }
         ensures versions { IfErr result (λ r. versions_of r.pool ≡ versions_of self) }
         ensures refusal { IfErr result (λ r. IsOfDevice (D.refused (device_of self)) (D.refused (device_of r.pool)) r.cause) }
+        ensures cause { IfErr result (λ r. IsTold (D.told (device_of r.pool)) r.cause) }
     {
         match self.sync_all() {
             Ok(()) => {
