@@ -13,7 +13,10 @@ use Rattle.pool.specs.declared.slot.Newest.TheVariants.{InFile, Clean, Dirty}
 use Rattle.pool.specs.Slots.{file_page, pages_at, seen, slot_at, newest_page, newest_at, empty_slot, ReadsNone}
 use Rattle.pool.specs.Stands.{Stands, StaysAs, IsLoaded}
 use Rattle.pool.proofs.SlotLemmas.{in_memory, lt-true}
-use Rattle.pool.specs.Versions.{Versions}
+use Rattle.disk.specs.declared.device.Disk.{Ghosts}
+use Rattle.pagefile.specs.File.{disk_of}
+use Rattle.pool.specs.declared.pool.Pool.{Pool}
+use Rattle.pool.specs.Versions.{Versions, versions_of, device_of, unwritten_of}
 
 pub known_same : (honest : Bool) (p q : PageMap) → (IsTrue honest → (n : ℕ) → p n ≡ q n) → known honest p ≡ known honest q
 known_same true p q f = λ i n. f (search rules) n i
@@ -150,3 +153,11 @@ same_last v w n o same e = ap (λ (u : Versions). u.pages u.last n) same ∙ e
 pub empty_of : (xs : List ℕ) → length xs ≡ 0 → xs ≡ []
 empty_of [] e = refl
 empty_of (x ∷ xs) e = absurd (omega arith)
+
+-- where no page of a pool is to be written, the device has the pages of the last commit
+pub stored_of : {D : Type 0} {device : Ghosts D} (pool : Pool D device) → unwritten_of pool ≡ 0 → IsTrue device.is_honest → (n : ℕ) (page : List ℕ)
+    → (versions_of pool).pages (versions_of pool).last n ≡ Some page → page_of (device.bytes (device_of pool)) n ≡ Some page
+stored_of {D} {device} pool none honest n page e =
+    all_stored (device.bytes (disk_of pool.file)) pool.began pool.last pool.slots pool.unwritten.items (pool.stands honest)
+    (empty_of pool.unwritten.items (omega (arith, pool.unwritten.ok.0, none))) n page
+    (sym (known_at device.is_honest (pages_at (device.bytes (disk_of pool.file)) pool.began pool.slots pool.last) n honest) ∙ e)

@@ -14,6 +14,8 @@ loop-page-preserved c = record {
       ∙ c.loop-page.invariant.newest n;
   images = λ n. images_placed c.loop-page.set c.pop_first.new.self c.loop-page.slots c.set_newest.new.slots c.in-Some.page c.in-Some.bytes c.in-Some.ensures.some c.in-Some.ensures.gone c.set_newest.ensures.here c.set_newest.ensures.others n
       ∙ c.loop-page.invariant.images n;
+  more = let was = c.loop-page.invariant.more in let now = c.list_unwritten.ensures.more in omega arith;
+  most = let was = c.loop-page.invariant.most in let long = ap length c.in-Some.ensures.some in let more = c.list_unwritten.ensures.len in omega arith;
   listed = λ were. listed_placed c.loop-page.set c.pop_first.new.self c.loop-page.slots c.set_newest.new.slots c.in-Some.page c.in-Some.bytes c.in-Some.ensures.some c.in-Some.ensures.gone c.set_newest.ensures.here c.set_newest.ensures.others
       c.loop-page.unwritten.items c.list_unwritten.new.unwritten.items (c.loop-page.invariant.listed were) c.list_unwritten.ensures.kept
       (c.list_unwritten.ensures.here (λ bytes e. c.loop-page.invariant.listed were c.in-Some.page bytes (ap (λ (slots : List Slot). (slot_at slots c.in-Some.page).newest) (sym c.as_slice.ensures) ∙ e)));

@@ -11,6 +11,8 @@ invariant-loop-page l = record {
   space : vec_len l.unwritten + length l.set ≤ vec_capacity l.unwritten;
   newest : (n : ℕ) → placed (pages_in l.set n) (slot_at l.slots n).newest ≡ placed (pages_in l.fn.set n) (slot_at l.fn.slots n).newest;
   images : (n : ℕ) → (slot_at l.slots n).images ≡ (slot_at l.fn.slots n).images;
+  more : vec_len l.fn.unwritten ≤ vec_len l.unwritten;
+  most : vec_len l.unwritten + length l.set ≤ vec_len l.fn.unwritten + length l.fn.set;
   listed : AreListed l.fn.slots l.fn.unwritten.items → AreListed l.slots l.unwritten.items;
 }
 

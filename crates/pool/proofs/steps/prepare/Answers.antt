@@ -1,4 +1,6 @@
-use Rattle.std.proofs.Common.{below_more, arith}
+use Rattle.std.proofs.Common.{below_more, arith, sym, subst}
+use Rattle.std.proofs.lemmas.Result.{err_from_is_err_and}
+use Rattle.pool.specs.Refused.{IsNotOfDevice}
 use Rattle.pool.proofs.SlotLemmas.{stays}
 use Rattle.pool.proofs.steps.prepare.Goals as goal
 
@@ -6,6 +8,11 @@ pub returns-in_err-prepare_page-clause-same : goal.returns-in_err-prepare_page-c
 returns-in_err-prepare_page-clause-same g c = λ honest unwritten stands.
     let before = c.loop-page.invariant.same honest unwritten stands in
     stays _ _ _ _ _ _ _ _ _ before (c.prepare_page.ensures.same honest unwritten before.stands)
+
+pub returns-in_err-prepare_page-clause-read_always : goal.returns-in_err-prepare_page-clause-read_always
+returns-in_err-prepare_page-clause-read_always g c = λ honest always unwritten stands.
+    let p = err_from_is_err_and c.from_residual.result c.from_residual.ensures.1 in
+    rw p.1 (subst IsNotOfDevice (sym p.2) (c.in_err-prepare_page.ensures.read_always honest always (c.loop-page.invariant.same honest unwritten stands).stands.size))
 
 pub loop-page-preserved : goal.loop-page-preserved
 loop-page-preserved g c = record {

@@ -1,4 +1,4 @@
-use Rattle.std.proofs.Common.{sym, ap, ◌∙◌}
+use Rattle.std.proofs.Common.{sym, ap, ◌∙◌, arith}
 use Rattle.pagefile.specs.File.{disk_of}
 use Rattle.pagefile.specs.declared.file.PageFile.{PageFile}
 use Rattle.pool.proofs.CommitLemmas.{wrote, not_written}
@@ -13,3 +13,6 @@ pub returns-in-Err-clause-same : goal.returns-in-Err-clause-same
 returns-in-Err-clause-same g c = λ honest began last stands.
     not_written _ _ _ _ _ _ c.args.unwritten.now.items c.put_last.new.list.items c.in-Some.page c.write_at.ensures.images c.write_at.ensures.newest c.in-Err.ensures.refused.0 c.in-Err.ensures.refused.1
     (c.write_at.ensures.others honest) (c.put_last.ensures.items ∙ sym c.in-Some.ensures.items) stands
+
+pub returns-in-Err-clause-none : goal.returns-in-Err-clause-none
+returns-in-Err-clause-none g c = λ none. let one = c.in-Some.ensures.cases in absurd (omega (arith, one, none))

@@ -6,6 +6,7 @@ use Rattle.pool.specs.declared.slot.Slot.{Slot}
 use Rattle.pool.specs.Pages.{pages_in, numbers_of, over, known, pick}
 use Rattle.pool.specs.Pins.{pins_at}
 use Rattle.pool.specs.Ready.{IsReady}
+use Rattle.pool.specs.Refused.{IsNotOfDevice}
 use Rattle.pool.specs.Slots.{pages_at}
 use Rattle.pool.specs.Stands.{Stands, AreListed}
 use Rattle.pool.proofs.PoolLemmas.{same_versions, known_same, known_at}
@@ -27,6 +28,11 @@ returns-in_err-prepare-clause-refused g c =
     (pages_at (g.D.Disk.bytes (disk_of c.prepare.new.file)) c.args.self.now.began c.prepare.new.slots)
     (pages_at (g.D.Disk.bytes (disk_of c.args.self.now.file)) c.args.self.now.began c.args.self.now.slots)
     (λ honest. (c.prepare.ensures.same honest c.args.self.now.unwritten.items (c.args.self.now.stands honest)).versions))
+
+pub returns-in_err-prepare-clause-read_always : goal.returns-in_err-prepare-clause-read_always
+returns-in_err-prepare-clause-read_always g c = λ honest always.
+    let p = err_from_is_err_and c.from_residual-in_err-prepare.result c.from_residual-in_err-prepare.ensures.1 in
+    rw p.1 (subst IsNotOfDevice (sym p.2) (c.in_err-prepare.ensures.read_always honest always c.args.self.now.unwritten.items (c.args.self.now.stands honest)))
 
 ready : (slots : List Slot) (pins other_pins : List Pin) (set : List (ℕ × List ℕ)) (numbers shown : List ℕ) → other_pins ≡ pins → shown ≡ numbers → numbers ≡ numbers_of set
     → ((k : ℕ) → k < length shown → IsReady slots other_pins (get_or shown k 0)) → (n : ℕ) → IsSome (pages_in set n) → IsReady slots pins n
