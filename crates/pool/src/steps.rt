@@ -1,5 +1,5 @@
 //! The steps of reads, commits and writes.
-ghost use Rattle.std.specs.Prelude.{◌≡◌, ◌≢◌, ◌⊎◌, ℕ, ◌+◌, ◌-◌, ◌*◌, ◌<◌, ◌≤◌, ◌++◌, ◌∷◌, ◌==◌, ◌^◌, [], List, true, length, OnOk, OnErr, IfOk, IfErr, IsOk, IsTrue, IsSome, MatchBool, None, Some, vec_len, vec_capacity, slice_index};
+ghost use Rattle.std.specs.Prelude.{◌≡◌, ◌≢◌, ◌⊎◌, ℕ, ◌+◌, ◌-◌, ◌*◌, ◌<◌, ◌≤◌, ◌++◌, ◌∷◌, ◌==◌, ◌^◌, [], List, true, length, OnOk, OnErr, IfOk, IfErr, IsOk, IsTrue, IsSome, MatchBool, None, Some, vec_len, vec_capacity, slice_index, if◌then◌else◌};
 ghost use Rattle.std.specs.List.{list_any};
 ghost use Rattle.disk.specs.Refused.{CountsRefusal};
 ghost use Rattle.pagefile.specs.File.{disk_of};
@@ -9,6 +9,7 @@ ghost use Rattle.pool.specs.Pins.{pins_at};
 ghost use Rattle.pool.specs.Ready.{IsReady};
 ghost use Rattle.pool.specs.Refused.{IsRefused, IsNotOfDevice, IsTold};
 ghost use Rattle.pool.specs.Slots.{slot_at, newest_page, placed, cleaned, Covered, IsDirty};
+ghost use Rattle.pool.specs.Unwritten.{one_at, times_in, to_write, new_in, AreCounted};
 ghost use Rattle.pool.specs.Stands.{Stands, StaysAs, IsLoaded, AreListed};
 
 use crate::images::{images_at, is_needed, note};
@@ -44,6 +45,7 @@ pub(crate) fn load<D: Disk>(
     requires { page < length slots.old }
     ensures same { IsTrue D.is_honest → (last : ℕ) (unwritten : List ℕ) → Stands (D.bytes (disk_of file.old)) began last slots.old unwritten
         → StaysAs began last unwritten (D.bytes (disk_of file.old)) slots.old (D.bytes (disk_of file.new)) slots.new }
+    ensures unwritten { (n : ℕ) → to_write (slot_at slots.new n).newest ≡ to_write (slot_at slots.old n).newest }
     ensures images { (n : ℕ) → (slot_at slots.new n).images ≡ (slot_at slots.old n).images }
     ensures loaded { OnOk result (IsLoaded began page slots.new) }
     ensures len { length slots.new ≡ length slots.old }
@@ -77,6 +79,7 @@ fn prepare_page<D: Disk>(
     requires pinned { (c : ℕ) → 0 < pins_at pins.now c → c ≤ last }
     ensures same { IsTrue D.is_honest → (unwritten : List ℕ) → Stands (D.bytes (disk_of file.old)) began last slots.old unwritten
         → StaysAs began last unwritten (D.bytes (disk_of file.old)) slots.old (D.bytes (disk_of file.new)) slots.new }
+    ensures unwritten { (n : ℕ) → to_write (slot_at slots.new n).newest ≡ to_write (slot_at slots.old n).newest }
     ensures room { OnOk result (page < length slots.new) }
     ensures longer { length slots.old ≤ length slots.new }
     ensures covered { OnOk result ((c : ℕ) → 0 < pins_at pins.now c → Covered c (slot_at slots.new page).images) }
@@ -111,6 +114,7 @@ pub(crate) fn prepare<D: Disk>(
     requires pinned { (c : ℕ) → 0 < pins_at pins.now c → c ≤ last }
     ensures same { IsTrue D.is_honest → (unwritten : List ℕ) → Stands (D.bytes (disk_of file.old)) began last slots.old unwritten
         → StaysAs began last unwritten (D.bytes (disk_of file.old)) slots.old (D.bytes (disk_of file.new)) slots.new }
+    ensures unwritten { (n : ℕ) → to_write (slot_at slots.new n).newest ≡ to_write (slot_at slots.old n).newest }
     ensures ready { OnOk result ((k : ℕ) → k < length numbers.now → IsReady slots.new pins.now (slice_index numbers.now k)) }
     ensures refusal { IfErr result (IsRefused ⊥ ⊥ (D.refused (disk_of file.old)) (D.refused (disk_of file.new))) }
     ensures read_always { IsTrue D.is_honest → IsTrue D.always_reads → (unwritten : List ℕ) → Stands (D.bytes (disk_of file.old)) began last slots.old unwritten → IfErr result IsNotOfDevice }
@@ -131,7 +135,8 @@ fn list_unwritten(unwritten: &mut Vec<u32>, slots: &[Slot], page: u32)
     ensures here { ((bytes : List ℕ) → (slot_at slots.now page).newest ≡ Newest.Dirty bytes → list_any (λ k. k == page) unwritten.old.items ≡ true)
         → list_any (λ k. k == page) unwritten.new.items ≡ true }
     ensures again { (bytes : List ℕ) → (slot_at slots.now page).newest ≡ Newest.Dirty bytes → unwritten.new.items ≡ unwritten.old.items }
-    ensures more { vec_len unwritten.old ≤ vec_len unwritten.new }
+    ensures counted { (n : ℕ) → times_in unwritten.new.items n + (if page == n then to_write (slot_at slots.now page).newest else 0) ≡ times_in unwritten.old.items n + one_at page n }
+    ensures total { vec_len unwritten.new + to_write (slot_at slots.now page).newest ≡ vec_len unwritten.old + 1 }
     ensures len { vec_len unwritten.new ≤ vec_len unwritten.old + 1 }
     ensures capacity { vec_capacity unwritten.old ≤ vec_capacity unwritten.new }
 {
@@ -159,8 +164,8 @@ pub(crate) fn install(slots: &mut Items<Slot>, unwritten: &mut Vec<u32>, set: &m
     ensures newest { (n : ℕ) → (slot_at slots.new n).newest ≡ placed (pages_in set.old n) (slot_at slots.old n).newest }
     ensures images { (n : ℕ) → (slot_at slots.new n).images ≡ (slot_at slots.old n).images }
     ensures listed { AreListed slots.old unwritten.old.items → AreListed slots.new unwritten.new.items }
-    ensures more { vec_len unwritten.old ≤ vec_len unwritten.new }
-    ensures most { vec_len unwritten.new ≤ vec_len unwritten.old + length set.old }
+    ensures counted { AreCounted slots.old unwritten.old.items → AreCounted slots.new unwritten.new.items }
+    ensures len { vec_len unwritten.new ≡ vec_len unwritten.old + new_in (λ n. to_write (slot_at slots.old n).newest) set.old }
     ensures emptied { set.new ≡ [] }
 {
     while let Some((page, bytes)) = set.pop_first() {
@@ -179,6 +184,7 @@ pub(crate) fn fetch<D: Disk>(
 ) -> Result<(), PoolError>
     ensures same { IsTrue D.is_honest → (last : ℕ) (unwritten : List ℕ) → Stands (D.bytes (disk_of file.old)) began last slots.old unwritten
         → StaysAs began last unwritten (D.bytes (disk_of file.old)) slots.old (D.bytes (disk_of file.new)) slots.new }
+    ensures unwritten { (n : ℕ) → to_write (slot_at slots.new n).newest ≡ to_write (slot_at slots.old n).newest }
     ensures loaded { OnOk result (IsLoaded began page slots.new) }
     ensures refusal { IfErr result (IsRefused ⊥ ⊥ (D.refused (disk_of file.old)) (D.refused (disk_of file.new))) }
     ensures read_always { IsTrue D.is_honest → IsTrue D.always_reads → 4096 * began ≤ length (D.bytes (disk_of file.old)) → IfErr result IsNotOfDevice }
@@ -257,6 +263,8 @@ pub(crate) fn write_last<D: Disk>(
     ensures left { OnOk result (vec_len unwritten.new ≡ vec_len unwritten.old - 1) }
     ensures refused { OnErr result (unwritten.new.items ≡ unwritten.old.items) }
     ensures none { vec_len unwritten.old ≡ 0 → IsOk result }
+    ensures counted { AreCounted slots.old unwritten.old.items → AreCounted slots.new unwritten.new.items }
+    ensures fewer { (n : ℕ) → to_write (slot_at slots.new n).newest ≤ to_write (slot_at slots.old n).newest }
     ensures count { CountsRefusal result (D.refused (disk_of file.old)) (D.refused (disk_of file.new)) }
     ensures cause { IfErr result (D.told (disk_of file.new)) }
     ensures synced { D.synced (disk_of file.new) ≡ D.synced (disk_of file.old) }

@@ -1,4 +1,4 @@
-use Rattle.std.proofs.Common.{◌≡◌, sym, subst}
+use Rattle.std.proofs.Common.{◌≡◌, sym, subst, ◌∙◌}
 use Rattle.std.proofs.lemmas.Result.{err_from_is_err_and}
 use Rattle.pagefile.specs.File.{disk_of}
 use Rattle.pool.specs.Pins.{pins_at}
@@ -10,6 +10,7 @@ use Rattle.pool.proofs.pool.Pool.read.Goals as goal
 pub invariant_of-self : goal.invariant_of-self
 invariant_of-self g c = record {
   stands = λ honest. (c.fetch.ensures.same honest c.args.self.now.last c.args.self.now.unwritten.items (c.args.self.now.stands honest)).stands;
+  counted = λ n. c.args.self.now.counted n ∙ sym (c.fetch.ensures.unwritten n);
   ordered = c.args.self.now.ordered;
 }
 
