@@ -115,6 +115,9 @@ first_one page (suc n) = sym (ap (λ (b : Bool). if b then 1 else 0) (eqb-false 
 pub first_counted : (page : List ℕ) (slots : List Slot) → slots ≡ firsts page → (n : ℕ) → to_write (slot_at slots n).newest ≡ one_at 0 n
 first_counted page slots is n = ap (λ (s : List Slot). to_write (slot_at s n).newest) is ∙ first_one page n
 
+pub first_are_counted : (page : List ℕ) (slots : List Slot) (unwritten : List ℕ) → slots ≡ firsts page → unwritten ≡ 0 ∷ [] → AreCounted slots unwritten
+first_are_counted page slots unwritten is list n = times_more [] unwritten 0 n list ∙ omega arith ∙ sym (first_counted page slots is n)
+
 -- ---- how many pages of a set are new in the list
 
 sums_same : (f g : ℕ → ℕ) (k : ℕ) → ((n : ℕ) → n ≢ k → f n ≡ g n) → (rest : List (ℕ × List ℕ)) → pages_in rest k ≡ None → sum_by (λ e. f e.0) rest ≡ sum_by (λ e. g e.0) rest
