@@ -2,7 +2,6 @@
 use Rattle.std.proofs.Common.{◌≡◌, ◌≢◌, ℕ, ◌+◌, ◌-◌, ◌≤◌, ◌==◌, Bool, true, false, List, [], ◌∷◌, ◌++◌, Option, Some, None, refl, sym, ap, ◌∙◌, cond, arith, if◌then◌else◌, eqb-true, eq-eqb, length, zero, suc}
 use Rattle.std.specs.Prelude.{sum_by}
 use Rattle.std.specs.Option.{is_some}
-use Rattle.std.proofs.lemmas.Bool.{eqb-false}
 use Rattle.std.proofs.lemmas.List.Sums.{sum_by-cons, sum_by_push}
 use Rattle.pool.specs.declared.slot.Newest.{Newest}
 use Rattle.pool.specs.declared.slot.Newest.TheVariants.{InFile, Clean, Dirty}
@@ -13,6 +12,13 @@ use Rattle.pool.specs.Unwritten.{one_at, times_in, to_write, new_in, AreCounted}
 use Rattle.pool.proofs.SlotLemmas.{by_place}
 use Rattle.pool.proofs.SetLemmas.{pages_cons}
 use Rattle.pool.proofs.FirstLemmas.{firsts}
+
+not_same : (k n : ℕ) → (k ≡ n → ⊥) → (k == n) ≡ false
+not_same k n differs = by (k == n) refl
+  where
+    by : (b : Bool) → (k == n) ≡ b → (k == n) ≡ false
+    by true e = absurd (differs (eqb-true k n e))
+    by false e = e
 
 -- one number more at the end
 pub times_more : (xs ys : List ℕ) (k n : ℕ) → ys ≡ xs ++ k ∷ [] → times_in ys n ≡ times_in xs n + one_at k n
@@ -67,7 +73,7 @@ pub counted_placed : (slots new_slots : List Slot) (k : ℕ) (page : List ℕ) (
 counted_placed slots new_slots k page unwritten new_unwritten here others put were = by_place (λ n. times_in new_unwritten n ≡ to_write (slot_at new_slots n).newest) k
     (here_one (k == k) (times_in new_unwritten k) (times_in unwritten k) (to_write (slot_at slots k).newest) (same_number k) (put k) (were k)
     ∙ sym (ap (λ (s : Slot). to_write s.newest) here))
-    (λ n differs. apart_one (k == n) (times_in new_unwritten n) (times_in unwritten n) (to_write (slot_at slots k).newest) (eqb-false k n (λ e. differs (sym e))) (put n)
+    (λ n differs. apart_one (k == n) (times_in new_unwritten n) (times_in unwritten n) (to_write (slot_at slots k).newest) (not_same k n (λ e. differs (sym e))) (put n)
     ∙ were n ∙ sym (ap (λ (s : Slot). to_write s.newest) (others n differs)))
 
 none_more : (b : Bool) (t u : ℕ) → b ≡ true → u ≡ t + (if b then 1 else 0) → u ≤ 1 → t ≡ 0
@@ -86,7 +92,7 @@ counted_written slots new_slots unwritten new_unwritten k others here list were 
     (none_more (k == k) (times_in new_unwritten k) (times_in unwritten k) (same_number k) (times_more new_unwritten unwritten k k list)
     (let is = were k in let least = to_write-le (slot_at slots k).newest in omega (arith, is, least))
     ∙ sym (ap to_write here ∙ cleaned_none (slot_at slots k).newest))
-    (λ n differs. apart_more (k == n) (times_in new_unwritten n) (times_in unwritten n) (eqb-false k n (λ e. differs (sym e))) (times_more new_unwritten unwritten k n list)
+    (λ n differs. apart_more (k == n) (times_in new_unwritten n) (times_in unwritten n) (not_same k n (λ e. differs (sym e))) (times_more new_unwritten unwritten k n list)
     ∙ were n ∙ sym (ap to_write (others n differs)))
 
 -- it was not written
@@ -110,7 +116,7 @@ none_counted slots unwritten none were n = sym (were n) ∙ ap (λ l. times_in l
 -- a page 0 alone
 first_one : (page : List ℕ) (n : ℕ) → to_write (slot_at (firsts page) n).newest ≡ one_at 0 n
 first_one page zero = refl
-first_one page (suc n) = sym (ap (λ (b : Bool). if b then 1 else 0) (eqb-false 0 (suc n) (λ e. absurd (omega (arith, e)))))
+first_one page (suc n) = sym (ap (λ (b : Bool). if b then 1 else 0) (not_same 0 (suc n) (λ e. absurd (omega (arith, e)))))
 
 pub first_counted : (page : List ℕ) (slots : List Slot) → slots ≡ firsts page → (n : ℕ) → to_write (slot_at slots n).newest ≡ one_at 0 n
 first_counted page slots is n = ap (λ (s : List Slot). to_write (slot_at s n).newest) is ∙ first_one page n

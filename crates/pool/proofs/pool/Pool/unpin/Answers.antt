@@ -13,5 +13,5 @@ invariant_of-self-2 g c = record {
   ordered = λ n some. c.args.self.now.ordered n (fewer (c.args.number == n) (pins_at c.args.self.now.pins n) (pins_at c.unpin_once.new.pins n) (c.unpin_once.ensures n) some);
 }
 
-pub returns-clause-same : goal.returns-clause-same
-returns-clause-same g c = λ n. ap to_write (c.drop_pages.ensures.newest n)
+pub returns-then-place-len-clause-same : goal.returns-then-place-len-clause-same
+returns-then-place-len-clause-same g c = λ n. ap to_write (c.drop_pages.ensures.newest n)
