@@ -8,9 +8,9 @@ use Rattle.page_space.specs.declared.fault.Fault.TheVariants.{Memory, Disk, Dama
 use Rattle.page_space.specs.Space.{ReadRefused, ChangeRefused}
 use Rattle.pool.specs.Pages.{PageMap, over, only, pick}
 use Rattle.overlay.specs.InUse.{in_use}
-use Rattle.overlay.specs.Whole.{IsWholeFor, IsWhole, IsWritable, IsSaid}
+use Rattle.overlay.specs.Whole.{IsWholeFor, IsWhole, IsWritable, IsSaid, IsFirstFree}
 use Rattle.overlay.specs.Puts.{PutsBoth, PutsAtMost, Freed, Frees, WritesAtMost, with_first_free}
-use Rattle.overlay.proofs.LayerLemmas.{over_twice}
+use Rattle.overlay.proofs.LayerLemmas.{put_here, put_apart, over_twice}
 use Rattle.overlay.proofs.WholeLemmas.{kind_of_free}
 use Rattle.overlay.proofs.PutLemmas.{others_both, others_at_most, freed_both, whole_freed}
 
@@ -44,6 +44,27 @@ pub none_after : {E : Type 0} (result : Result (Unit {0}) E) (version next_versi
 none_after (Ok done) version next_version written next page is f =
     freed_both next_version written next page f.freed.bytes (with_first_free f.header page) f.some (kind_of_free f.freed.bytes f.header.first_free f.freed.free) f.freed.both
 none_after (Err e) version next_version written next page is f = f
+
+-- the page is the first free one then
+first_free : (version written next : PageMap) (page : ℕ) → Frees (over written version) page written next → IsFirstFree (over written version) (over next version) page
+first_free version written next page f = record {
+  first = f.freed.both.first;
+  there = ap (λ (p : PageMap). over p version 0) f.freed.both.puts ∙ ap (λ (o : Option (List ℕ)). pick o (version 0)) (put_here 0 f.freed.both.first (over (only page f.freed.bytes) written));
+  names = f.freed.both.says.first_free;
+  link = record {
+    next = f.header.first_free;
+    bytes = f.freed.bytes;
+    there = ap (λ (p : PageMap). over p version page) f.freed.both.puts
+        ∙ ap (λ (o : Option (List ℕ)). pick o (version page)) (put_apart 0 page f.freed.both.first (over (only page f.freed.bytes) written) (λ e. let some = f.some in omega (arith, some, e)) ∙ put_here page f.freed.bytes written);
+    free = f.freed.free;
+  };
+  next = λ before e. sym (f.says before e).first_free;
+}
+
+pub first_after : {E : Type 0} (result : Result (Unit {0}) E) (version next_version written next : PageMap) (page : ℕ) → next_version ≡ version → OnOk result (Frees (over written version) page written next)
+    → OnOk result (IsFirstFree (over written version) (over next next_version) page)
+first_after (Ok done) version next_version written next page is f = subst (λ (v : PageMap). IsFirstFree (over written version) (over next v) page) (sym is) (first_free version written next page f)
+first_after (Err e) version next_version written next page is f = f
 
 pub freed_others_after : {E : Type 0} (result : Result (Unit {0}) E) (version next_version written next : PageMap) (page : ℕ) → next_version ≡ version → OnOk result (Frees (over written version) page written next)
     → OnErr result (WritesAtMost page written next) → (n : ℕ) → n ≢ page → in_use next_version next n ≡ in_use version written n

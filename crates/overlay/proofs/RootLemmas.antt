@@ -90,6 +90,11 @@ never_above version written h root says bounds above (g, was) (inr there) =
     let w : HasFreeList false (over written version) h = same_header (over written version) g h says bounds was in
     let bad : None ≡ Some page.0 = sym (w.ends root above) ∙ in_use-read version written root page.0 page.1 in cc
 
+-- page 0 is there and names it: so does the header
+pub names_it : (o : Option (List ℕ)) (h : FileHeader) (root : ℕ) → ((first : List ℕ) → o ≡ Some first → IsHeader first h) → IsSome o → HasRoot o root → h.catalog_root ≡ root
+names_it None h root says there has = let bad : false ≡ true = there in cc
+names_it (Some first) h root says there has = sym (says first refl).catalog_root ∙ has
+
 -- after a call
 pub root_after : {E : Type 0} (result : Result (Unit {0}) E) (version next_version written next : PageMap) (root : ℕ) → next_version ≡ version → OnOk result (Rooted (over written version) root written next)
     → OnOk result (HasRoot (over next next_version 0) root)

@@ -7,11 +7,12 @@ use Rattle.std.proofs.lemmas.Bool.{cases_lt}
 use Rattle.pagefile.specs.declared.header.FileHeader.{FileHeader}
 use Rattle.pagefile.specs.Header.{IsHeader, IsInBounds}
 use Rattle.pagefile.specs.Free.{IsFree}
+use Rattle.pagefile.specs.Number.{number_at}
 use Rattle.page_space.specs.Space.{IsFresh}
 use Rattle.pool.specs.Pages.{PageMap, over, only, pick}
 use Rattle.pool.proofs.SlotLemmas.{lt-true, lt-false}
 use Rattle.overlay.specs.InUse.{in_use, is_counted}
-use Rattle.overlay.specs.Whole.{IsIn, AreApart, IsFreeList, ListsAll, HasFreeList, IsWholeFor, IsWhole, HasMostPages, IsNext}
+use Rattle.overlay.specs.Whole.{IsIn, AreApart, IsFreeList, ListsAll, HasFreeList, IsWholeFor, IsWhole, HasMostPages, IsNext, NamesRest}
 use Rattle.overlay.specs.Puts.{PutsBoth, PutsLeaf, PutsLeafAtMost, Takes, TakesFirst, TakesNew, Took, TookAtMost}
 use Rattle.overlay.proofs.LayerLemmas.{put_here, put_apart, over_twice}
 use Rattle.overlay.proofs.InUseLemmas.{in_use-here, in_use-others, none_free, none_behind}
@@ -315,6 +316,29 @@ pub taken_whole_after : {E : Type 0} (full : Bool) (result : Result ℕ E) (vers
     → OnOk result (IsWholeFor full (over written version) → IsWholeFor full (over next next_version))
 taken_whole_after full (Ok page) version next_version written next is took = λ whole. subst (λ (v : PageMap). IsWholeFor full (over next v)) (sym is) (took_whole version written next page took whole)
 taken_whole_after full (Err e) version next_version written next is took = took
+
+names_rest : (version written next : PageMap) (page : ℕ) → Took version written page next → NamesRest (over written version) (over next version) page
+names_rest version written next page took = record {
+  first = took.leaf.both.first;
+  there = ap (λ (p : PageMap). over p version 0) took.leaf.both.puts ∙ ap (λ (o : Option (List ℕ)). pick o (version 0)) (put_here 0 took.leaf.both.first (over (only page took.leaf.bytes) written));
+  rest = λ before bytes e some there. rest_by before bytes e some there took.takes.which;
+  none = λ before e zero_is. none_by before e zero_is took.takes.which;
+}
+  where
+    rest_by : (before bytes : List ℕ) → over written version 0 ≡ Some before → number_at before 12 ≢ 0 → over written version page ≡ Some bytes
+        → TakesFirst (over written version) took.header page took.new ⊎ TakesNew took.header page took.new → IsFree bytes (number_at took.leaf.both.first 12)
+    rest_by before bytes e some there (inl first) = subst (λ (n : ℕ). IsFree bytes n) (sym took.leaf.both.says.first_free) (first.free bytes there)
+    rest_by before bytes e some there (inr new) = absurd (some ((took.says before e).first_free ∙ new.none))
+
+    none_by : (before : List ℕ) → over written version 0 ≡ Some before → number_at before 12 ≡ 0
+        → TakesFirst (over written version) took.header page took.new ⊎ TakesNew took.header page took.new → number_at took.leaf.both.first 12 ≡ 0
+    none_by before e zero_is (inl first) = absurd (above page took.takes.some (sym first.first ∙ sym (took.says before e).first_free ∙ zero_is))
+    none_by before e zero_is (inr new) = took.leaf.both.says.first_free ∙ new.first
+
+pub rest_after : {E : Type 0} (result : Result ℕ E) (version next_version written next : PageMap) → next_version ≡ version → IfOk result (λ page. Took version written page next)
+    → IfOk result (NamesRest (over written version) (over next next_version))
+rest_after (Ok page) version next_version written next is took = subst (λ (v : PageMap). NamesRest (over written version) (over next v) page) (sym is) (names_rest version written next page took)
+rest_after (Err e) version next_version written next is took = took
 
 pub next_after : {E : Type 0} (result : Result ℕ E) (version written next : PageMap) → IfOk result (λ page. Took version written page next) → IfOk result (IsNext (over written version 0))
 next_after (Ok page) version written next took = took_next version written next page took

@@ -16,6 +16,10 @@ pub record Undone : Type 0 where
   pub size : ℕ
   pub counts : Option (ℕ × ℕ)
 
+-- no pages were undone yet
+abbrev pub none_undone : Undone
+none_undone = record { size = 0; counts = None }
+
 -- these pages were undone
 pub record AreUndone (pages : PageMap) (undone : Undone) : Type 0 where
   pub size : undone.size ≡ size_of pages

@@ -87,6 +87,22 @@ abbrev pub IsSaid : Option (List ℕ) → FileHeader → Type 0
 IsSaid None header = ⊥
 IsSaid (Some first) header = IsHeader first header × IsInBounds header
 
+-- A page was put before the first of the list of free pages: page 0 names it, and it names the page that page 0, where it was known, named before.
+pub record IsFirstFree (old new : PageMap) (page : ℕ) : Type 0 where
+  pub first : List ℕ
+  pub there : new 0 ≡ Some first
+  pub names : number_at first 12 ≡ page
+  pub link : FreeAt new page
+  pub next : (before : List ℕ) → old 0 ≡ Some before → link.next ≡ number_at before 12
+
+-- A page was taken: page 0, where it was known, names as the first free page the one that the taken page named, where that was the first,
+-- and none where it named none.
+pub record NamesRest (old new : PageMap) (page : ℕ) : Type 0 where
+  pub first : List ℕ
+  pub there : new 0 ≡ Some first
+  pub rest : (before bytes : List ℕ) → old 0 ≡ Some before → number_at before 12 ≢ 0 → old page ≡ Some bytes → IsFree bytes (number_at first 12)
+  pub none : (before : List ℕ) → old 0 ≡ Some before → number_at before 12 ≡ 0 → number_at first 12 ≡ 0
+
 -- page 0, where it is known, names this root of the catalogue
 abbrev pub HasRoot : Option (List ℕ) → ℕ → Type 0
 HasRoot None root = ⊤

@@ -2,7 +2,7 @@ ghost use Rattle.std.specs.Prelude.{◌≡◌, ◌≤◌, ◌<◌, ◌+◌, ℕ,
 ghost use Rattle.std.specs.Option.{is_some, option_copied};
 ghost use Rattle.pool.specs.Pages.{over, only, pages_in};
 ghost use Rattle.overlay.specs.Layers.{size_of, AreListed, IsNotKept};
-ghost use Rattle.overlay.specs.Undone.{counts_in, AreUndone};
+ghost use Rattle.overlay.specs.Undone.{counts_in, none_undone, AreUndone};
 
 use crate::PRIVATE_PAGES;
 use crate::layers::{list_number, settle_all};
@@ -59,6 +59,7 @@ impl Changes {
     pub fn new(alloc: Global) -> Changes
         ensures fresh { fresh_of result ≡ (λ n. None) }
         ensures settled { settled_of result ≡ (λ n. None) }
+        ensures undone { undone_of result ≡ none_undone }
     {
         Changes {
             alloc,
@@ -108,6 +109,7 @@ impl Changes {
         requires { IsSome (private_of self.old number) }
         ensures put { OnOk result (private_of self.new ≡ over (only number page.now) (private_of self.old)) }
         ensures settled { settled_of self.new ≡ settled_of self.old }
+        ensures undone { undone_of self.new ≡ undone_of self.old }
         ensures left { OnErr result (private_of self.new ≡ private_of self.old) }
     {
         list_number(&mut self.fresh_numbers, &self.fresh, number)?;
@@ -121,6 +123,7 @@ impl Changes {
         requires room { size_of (private_of self.old) < 1024 }
         ensures put { OnOk result (private_of self.new ≡ over (only number page.now) (private_of self.old)) }
         ensures settled { settled_of self.new ≡ settled_of self.old }
+        ensures undone { undone_of self.new ≡ undone_of self.old }
         ensures left { OnErr result (private_of self.new ≡ private_of self.old) }
     {
         list_number(&mut self.fresh_numbers, &self.fresh, number)?;
@@ -141,6 +144,7 @@ impl Changes {
     pub(crate) fn put(&mut self, number: u32, page: &Page) -> Result<(), Fault>
         ensures put { OnOk result (private_of self.new ≡ over (only number page.now) (private_of self.old)) }
         ensures settled { settled_of self.new ≡ settled_of self.old }
+        ensures undone { undone_of self.new ≡ undone_of self.old }
         ensures left { OnErr result (private_of self.new ≡ private_of self.old) }
         ensures refusal { IfErr result (IsNotKept (size_of (private_of self.new))) }
     {
@@ -175,6 +179,7 @@ impl Changes {
         ensures settled { OnOk result (settled_of self.new ≡ private_of self.old) }
         ensures fresh { OnOk result (fresh_of self.new ≡ (λ n. None)) }
         ensures left { OnErr result (settled_of self.new ≡ settled_of self.old) }
+        ensures undone { undone_of self.new ≡ undone_of self.old }
     {
         settle_all(
             &mut self.older,

@@ -4,10 +4,10 @@ ghost use Rattle.page_space.specs.Space.{ChangeRefused};
 ghost use Rattle.pagefile.specs.declared.header.FileHeader.{FileHeader};
 ghost use Rattle.pool.specs.Pages.{over};
 ghost use Rattle.pool.specs.Versions.{versions_of, device_of};
-ghost use Rattle.overlay.specs.Changes.{settled_of, private_of};
+ghost use Rattle.overlay.specs.Changes.{settled_of, private_of, undone_of};
 ghost use Rattle.overlay.specs.Layers.{size_of, IsNotKept};
 ghost use Rattle.overlay.specs.InUse.{in_use};
-ghost use Rattle.overlay.specs.Whole.{IsWhole, IsFull, AtLimit};
+ghost use Rattle.overlay.specs.Whole.{IsWhole, IsFull, AtLimit, IsFirstFree};
 ghost use Rattle.overlay.specs.Puts.{PutsBoth, PutsAtMost, Freed, Frees, WritesAtMost};
 
 use crate::changes::Changes;
@@ -28,6 +28,7 @@ pub(crate) fn put_with_header(
     ensures written { OnOk result (PutsBoth page bytes.now header (private_of changes.old) (private_of changes.new)) }
     ensures left { OnErr result (PutsAtMost page bytes.now (private_of changes.old) (private_of changes.new)) }
     ensures settled { settled_of changes.new ≡ settled_of changes.old }
+    ensures undone { undone_of changes.new ≡ undone_of changes.old }
     ensures refusal { IfErr result (IsNotKept (size_of (private_of changes.new))) }
 {
     changes.put(page, bytes)?;
@@ -40,6 +41,7 @@ fn put_free(changes: &mut Changes, page: u32, header: FileHeader) -> Result<(), 
     ensures written { OnOk result (Freed page header (private_of changes.old) (private_of changes.new)) }
     ensures left { OnErr result (WritesAtMost page (private_of changes.old) (private_of changes.new)) }
     ensures settled { settled_of changes.new ≡ settled_of changes.old }
+    ensures undone { undone_of changes.new ≡ undone_of changes.old }
     ensures refusal { IfErr result (IsNotKept (size_of (private_of changes.new))) }
 {
     let free = FreePage {
@@ -63,6 +65,7 @@ fn free_used<D: Disk>(
     ensures written { OnOk result (Frees (over (private_of changes.old) ((versions_of pool.old).pages at)) page (private_of changes.old) (private_of changes.new)) }
     ensures left { OnErr result (WritesAtMost page (private_of changes.old) (private_of changes.new)) }
     ensures settled { settled_of changes.new ≡ settled_of changes.old }
+    ensures undone { undone_of changes.new ≡ undone_of changes.old }
     ensures versions { versions_of pool.new ≡ versions_of pool.old }
     ensures refusal { IfErr result (ChangeRefused (AtLimit (over (private_of changes.new) ((versions_of pool.new).pages at) 0) (size_of (private_of changes.new)))
         (IsWhole (over (private_of changes.old) ((versions_of pool.old).pages at)) → IsSome (in_use ((versions_of pool.old).pages at) (private_of changes.old) page) → ⊥)
@@ -90,10 +93,12 @@ pub fn free_page<D: Disk>(
     page: u32,
 ) -> Result<(), Fault>
     ensures freed { OnOk result (in_use ((versions_of pool.new).pages at) (private_of changes.new) page ≡ None) }
+    ensures first { OnOk result (IsFirstFree (over (private_of changes.old) ((versions_of pool.old).pages at)) (over (private_of changes.new) ((versions_of pool.new).pages at)) page) }
     ensures others { (n : ℕ) → n ≢ page → in_use ((versions_of pool.new).pages at) (private_of changes.new) n ≡ in_use ((versions_of pool.old).pages at) (private_of changes.old) n }
     ensures whole { OnOk result (IsWhole (over (private_of changes.old) ((versions_of pool.old).pages at)) → IsWhole (over (private_of changes.new) ((versions_of pool.new).pages at))) }
     ensures full { OnOk result (IsFull (over (private_of changes.old) ((versions_of pool.old).pages at)) → IsFull (over (private_of changes.new) ((versions_of pool.new).pages at))) }
     ensures settled { settled_of changes.new ≡ settled_of changes.old }
+    ensures undone { undone_of changes.new ≡ undone_of changes.old }
     ensures versions { versions_of pool.new ≡ versions_of pool.old }
     ensures refusal { IfErr result (ChangeRefused (AtLimit (over (private_of changes.new) ((versions_of pool.new).pages at) 0) (size_of (private_of changes.new)))
         (IsWhole (over (private_of changes.old) ((versions_of pool.old).pages at)) → IsSome (in_use ((versions_of pool.old).pages at) (private_of changes.old) page) → ⊥)

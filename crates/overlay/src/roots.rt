@@ -4,7 +4,7 @@ ghost use Rattle.page_space.specs.Space.{ChangeRefused};
 ghost use Rattle.pagefile.specs.declared.header.FileHeader.{FileHeader};
 ghost use Rattle.pool.specs.Pages.{over};
 ghost use Rattle.pool.specs.Versions.{versions_of, device_of};
-ghost use Rattle.overlay.specs.Changes.{settled_of, private_of};
+ghost use Rattle.overlay.specs.Changes.{settled_of, private_of, undone_of};
 ghost use Rattle.overlay.specs.InUse.{in_use};
 ghost use Rattle.overlay.specs.Layers.{size_of, IsNotKept};
 ghost use Rattle.overlay.specs.Whole.{IsWhole, IsFull, AtLimit, HasRoot};
@@ -22,6 +22,7 @@ fn put_root(changes: &mut Changes, header: FileHeader, root: u32) -> Result<(), 
     ensures written { OnOk result (PutsHeader (with_root header root) (private_of changes.old) (private_of changes.new)) }
     ensures left { OnErr result (private_of changes.new ≡ private_of changes.old) }
     ensures settled { settled_of changes.new ≡ settled_of changes.old }
+    ensures undone { undone_of changes.new ≡ undone_of changes.old }
     ensures refusal { IfErr result (IsNotKept (size_of (private_of changes.new))) }
 {
     let first = FileHeader {
@@ -40,8 +41,11 @@ fn set_root<D: Disk>(
     root: u32,
 ) -> Result<(), Fault>
     ensures written { OnOk result (Rooted (over (private_of changes.old) ((versions_of pool.old).pages at)) root (private_of changes.old) (private_of changes.new)) }
+    ensures same { IsSome (over (private_of changes.old) ((versions_of pool.old).pages at) 0) → HasRoot (over (private_of changes.old) ((versions_of pool.old).pages at) 0) root
+        → OnOk result (private_of changes.new ≡ private_of changes.old) }
     ensures left { OnErr result (private_of changes.new ≡ private_of changes.old) }
     ensures settled { settled_of changes.new ≡ settled_of changes.old }
+    ensures undone { undone_of changes.new ≡ undone_of changes.old }
     ensures versions { versions_of pool.new ≡ versions_of pool.old }
     ensures refusal { IfErr result (ChangeRefused (AtLimit (over (private_of changes.new) ((versions_of pool.new).pages at) 0) (size_of (private_of changes.new)))
         (IsWhole (over (private_of changes.old) ((versions_of pool.old).pages at)) → (root ≡ 0) ⊎ IsSome (in_use ((versions_of pool.old).pages at) (private_of changes.old) root) → ⊥)
@@ -72,10 +76,14 @@ pub fn set_catalog_root<D: Disk>(
     root: u32,
 ) -> Result<(), Fault>
     ensures root { OnOk result (HasRoot (over (private_of changes.new) ((versions_of pool.new).pages at) 0) root) }
+    ensures same { IsSome (over (private_of changes.old) ((versions_of pool.old).pages at) 0) → HasRoot (over (private_of changes.old) ((versions_of pool.old).pages at) 0) root
+        → OnOk result (private_of changes.new ≡ private_of changes.old) }
+    ensures left { OnErr result (private_of changes.new ≡ private_of changes.old) }
     ensures others { (n : ℕ) → in_use ((versions_of pool.new).pages at) (private_of changes.new) n ≡ in_use ((versions_of pool.old).pages at) (private_of changes.old) n }
     ensures whole { OnOk result (IsWhole (over (private_of changes.old) ((versions_of pool.old).pages at)) → IsWhole (over (private_of changes.new) ((versions_of pool.new).pages at))) }
     ensures full { OnOk result (IsFull (over (private_of changes.old) ((versions_of pool.old).pages at)) → IsFull (over (private_of changes.new) ((versions_of pool.new).pages at))) }
     ensures settled { settled_of changes.new ≡ settled_of changes.old }
+    ensures undone { undone_of changes.new ≡ undone_of changes.old }
     ensures versions { versions_of pool.new ≡ versions_of pool.old }
     ensures refusal { IfErr result (ChangeRefused (AtLimit (over (private_of changes.new) ((versions_of pool.new).pages at) 0) (size_of (private_of changes.new)))
         (IsWhole (over (private_of changes.old) ((versions_of pool.old).pages at)) → (root ≡ 0) ⊎ IsSome (in_use ((versions_of pool.old).pages at) (private_of changes.old) root) → ⊥)

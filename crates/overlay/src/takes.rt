@@ -5,10 +5,10 @@ ghost use Rattle.pagefile.specs.Free.{IsFree};
 ghost use Rattle.pagefile.specs.Header.{IsHeader, IsInBounds};
 ghost use Rattle.pool.specs.Pages.{over};
 ghost use Rattle.pool.specs.Versions.{versions_of, device_of};
-ghost use Rattle.overlay.specs.Changes.{settled_of, private_of};
+ghost use Rattle.overlay.specs.Changes.{settled_of, private_of, undone_of};
 ghost use Rattle.overlay.specs.Layers.{size_of, IsNotKept};
 ghost use Rattle.overlay.specs.InUse.{in_use};
-ghost use Rattle.overlay.specs.Whole.{IsWhole, IsFull, AtLimit, IsNext};
+ghost use Rattle.overlay.specs.Whole.{IsWhole, IsFull, AtLimit, IsNext, NamesRest};
 ghost use Rattle.overlay.specs.Puts.{PutsLeaf, PutsLeafAtMost, Takes, Took, TookAtMost};
 
 use crate::changes::Changes;
@@ -118,6 +118,7 @@ fn put_leaf(changes: &mut Changes, page: u32, new: FileHeader) -> Result<u32, Fa
     ensures written { OnOk result (PutsLeaf page new (private_of changes.old) (private_of changes.new)) }
     ensures left { OnErr result (PutsLeafAtMost page (private_of changes.old) (private_of changes.new)) }
     ensures settled { settled_of changes.new ≡ settled_of changes.old }
+    ensures undone { undone_of changes.new ≡ undone_of changes.old }
     ensures refusal { IfErr result (IsNotKept (size_of (private_of changes.new))) }
 {
     match put_with_header(changes, page, &new_leaf(), new) {
@@ -138,6 +139,7 @@ fn take_by<D: Disk>(
     ensures taken { IfOk result (λ page. Took ((versions_of pool.old).pages at) (private_of changes.old) page (private_of changes.new)) }
     ensures left { OnErr result (TookAtMost ((versions_of pool.old).pages at) (private_of changes.old) (private_of changes.new)) }
     ensures settled { settled_of changes.new ≡ settled_of changes.old }
+    ensures undone { undone_of changes.new ≡ undone_of changes.old }
     ensures versions { versions_of pool.new ≡ versions_of pool.old }
     ensures refusal { IfErr result (ChangeRefused (AtLimit (over (private_of changes.new) ((versions_of pool.new).pages at) 0) (size_of (private_of changes.new)))
         (IsWhole (over (private_of changes.old) ((versions_of pool.old).pages at)) → ⊥) (D.refused (device_of pool.old)) (D.refused (device_of pool.new))) }
@@ -154,6 +156,7 @@ fn take_page<D: Disk>(pool: &mut Pool<D>, changes: &mut Changes, at: u64) -> Res
     ensures taken { IfOk result (λ page. Took ((versions_of pool.old).pages at) (private_of changes.old) page (private_of changes.new)) }
     ensures left { OnErr result (TookAtMost ((versions_of pool.old).pages at) (private_of changes.old) (private_of changes.new)) }
     ensures settled { settled_of changes.new ≡ settled_of changes.old }
+    ensures undone { undone_of changes.new ≡ undone_of changes.old }
     ensures versions { versions_of pool.new ≡ versions_of pool.old }
     ensures refusal { IfErr result (ChangeRefused (AtLimit (over (private_of changes.new) ((versions_of pool.new).pages at) 0) (size_of (private_of changes.new)))
         (IsWhole (over (private_of changes.old) ((versions_of pool.old).pages at)) → ⊥) (D.refused (device_of pool.old)) (D.refused (device_of pool.new))) }
@@ -175,6 +178,7 @@ pub fn allocate_page<D: Disk>(
     at: u64,
 ) -> Result<u32, Fault>
     ensures next { IfOk result (IsNext (over (private_of changes.old) ((versions_of pool.old).pages at) 0)) }
+    ensures list { IfOk result (NamesRest (over (private_of changes.old) ((versions_of pool.old).pages at)) (over (private_of changes.new) ((versions_of pool.new).pages at))) }
     ensures fresh { IfOk result (IsFresh (in_use ((versions_of pool.old).pages at) (private_of changes.old)) (in_use ((versions_of pool.new).pages at) (private_of changes.new))) }
     ensures others { IfOk result (λ page. (n : ℕ) → n ≢ page → in_use ((versions_of pool.new).pages at) (private_of changes.new) n ≡ in_use ((versions_of pool.old).pages at) (private_of changes.old) n) }
     ensures kept { OnErr result ((n : ℕ) → IsSome (in_use ((versions_of pool.old).pages at) (private_of changes.old) n)
@@ -182,6 +186,7 @@ pub fn allocate_page<D: Disk>(
     ensures whole { OnOk result (IsWhole (over (private_of changes.old) ((versions_of pool.old).pages at)) → IsWhole (over (private_of changes.new) ((versions_of pool.new).pages at))) }
     ensures full { OnOk result (IsFull (over (private_of changes.old) ((versions_of pool.old).pages at)) → IsFull (over (private_of changes.new) ((versions_of pool.new).pages at))) }
     ensures settled { settled_of changes.new ≡ settled_of changes.old }
+    ensures undone { undone_of changes.new ≡ undone_of changes.old }
     ensures versions { versions_of pool.new ≡ versions_of pool.old }
     ensures refusal { IfErr result (ChangeRefused (AtLimit (over (private_of changes.new) ((versions_of pool.new).pages at) 0) (size_of (private_of changes.new)))
         (IsWhole (over (private_of changes.old) ((versions_of pool.old).pages at)) → ⊥) (D.refused (device_of pool.old)) (D.refused (device_of pool.new))) }

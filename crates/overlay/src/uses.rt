@@ -4,7 +4,7 @@ ghost use Rattle.page_space.specs.Space.{ReadRefused, ChangeRefused};
 ghost use Rattle.pagefile.specs.Number.{number_at};
 ghost use Rattle.pool.specs.Pages.{over, only};
 ghost use Rattle.pool.specs.Versions.{versions_of, device_of};
-ghost use Rattle.overlay.specs.Changes.{settled_of, private_of};
+ghost use Rattle.overlay.specs.Changes.{settled_of, private_of, undone_of};
 ghost use Rattle.overlay.specs.InUse.{in_use};
 ghost use Rattle.overlay.specs.Layers.{size_of};
 ghost use Rattle.overlay.specs.Whole.{IsWritable, AtLimit};
@@ -114,6 +114,7 @@ pub(crate) fn write_page<D: Disk>(
     ensures within { OnOk result (0 < page) }
     ensures left { OnErr result (private_of changes.new ≡ private_of changes.old) }
     ensures settled { settled_of changes.new ≡ settled_of changes.old }
+    ensures undone { undone_of changes.new ≡ undone_of changes.old }
     ensures versions { versions_of pool.new ≡ versions_of pool.old }
     ensures refusal { IfErr result (ChangeRefused (AtLimit (over (private_of changes.new) ((versions_of pool.new).pages at) 0) (size_of (private_of changes.new)))
         (in_use ((versions_of pool.old).pages at) (private_of changes.old) page ≡ None) (D.refused (device_of pool.old)) (D.refused (device_of pool.new))) }

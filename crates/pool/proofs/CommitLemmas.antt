@@ -66,6 +66,10 @@ module _ (file : List ℕ) (began last : ℕ) (slots new_slots : List Slot) (unw
 some_there : (o : Option (List ℕ)) (p : List ℕ) → o ≡ Some p → IsSome o
 some_there o p e = rw e (search rules)
 
+-- a page that the file had when it was opened is there
+pub had : (file : List ℕ) (began n : ℕ) → 4096 * began ≤ length file → n < began → IsSome (page_of file n)
+had file began n size less = some_there (page_of file n) _ (page_there file n (omega arith))
+
 -- a write of one page keeps the others that the file had
 file_kept : (file new_file : List ℕ) (began n : ℕ) → KeepsOthers n file new_file → 4096 * began ≤ length file → (m : ℕ) → m ≢ n → file_page new_file began m ≡ file_page file began m
 unfolding file_page

@@ -5,3 +5,4 @@ pub mod SetLemmas
 pub mod PoolLemmas
 pub mod DropLemmas
 pub mod FirstLemmas
+pub mod CountedLemmas

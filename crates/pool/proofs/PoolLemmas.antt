@@ -13,7 +13,11 @@ use Rattle.pool.specs.declared.slot.Newest.TheVariants.{InFile, Clean, Dirty}
 use Rattle.pool.specs.Slots.{file_page, pages_at, seen, slot_at, newest_page, newest_at, empty_slot, ReadsNone}
 use Rattle.pool.specs.Stands.{Stands, StaysAs, IsLoaded}
 use Rattle.pool.proofs.SlotLemmas.{in_memory, lt-true}
-use Rattle.pool.specs.Versions.{Versions}
+use Rattle.disk.specs.declared.device.Disk.{Ghosts}
+use Rattle.pagefile.specs.File.{disk_of}
+use Rattle.pool.specs.declared.pool.Pool.{Pool}
+use Rattle.pool.specs.Versions.{Versions, versions_of, device_of, unwritten_of, unwritten_at}
+use Rattle.pool.specs.Unwritten.{times_in, to_write}
 
 pub known_same : (honest : Bool) (p q : PageMap) → (IsTrue honest → (n : ℕ) → p n ≡ q n) → known honest p ≡ known honest q
 known_same true p q f = λ i n. f (search rules) n i
@@ -150,3 +154,23 @@ same_last v w n o same e = ap (λ (u : Versions). u.pages u.last n) same ∙ e
 pub empty_of : (xs : List ℕ) → length xs ≡ 0 → xs ≡ []
 empty_of [] e = refl
 empty_of (x ∷ xs) e = absurd (omega arith)
+
+-- a page that is not to be written stands in the file
+pub stored_at : (file : List ℕ) (began last : ℕ) (slots : List Slot) (unwritten : List ℕ) → Stands file began last slots unwritten
+    → (n : ℕ) (page : List ℕ) → to_write (slot_at slots n).newest ≡ 0 → pages_at file began slots last n ≡ Some page → page_of file n ≡ Some page
+stored_at file began last slots unwritten stands n page none e = by (slot_at slots n).newest refl (sym (stands.current n) ∙ e)
+  where
+    by : (w : Newest) → (slot_at slots n).newest ≡ w → newest_page (slot_at slots n).newest (file_page file began n) ≡ Some page → page_of file n ≡ Some page
+    by InFile is h = file_page_is file began n page (sym (ap (λ w. newest_page w (file_page file began n)) is) ∙ h)
+    by (Clean p) is h = stands.clean n p is ∙ sym (ap (λ w. newest_page w (file_page file began n)) is) ∙ h
+    by (Dirty p) is h = let one : 1 ≡ 0 = sym (ap to_write is) ∙ none in absurd (omega (arith, one))
+
+pub stored_of : {D : Type 0} {device : Ghosts D} (pool : Pool D device) → (n : ℕ) (page : List ℕ) → unwritten_at pool n ≡ 0 → IsTrue device.is_honest
+    → (versions_of pool).pages (versions_of pool).last n ≡ Some page → page_of (device.bytes (device_of pool)) n ≡ Some page
+stored_of {D} {device} pool n page none honest e =
+    stored_at (device.bytes (disk_of pool.file)) pool.began pool.last pool.slots pool.unwritten.items (pool.stands honest) n page none
+    (sym (known_at device.is_honest (pages_at (device.bytes (disk_of pool.file)) pool.began pool.slots pool.last) n honest) ∙ e)
+
+-- where none is left, no page is to be written
+pub none_of : {D : Type 0} {device : Ghosts D} (pool : Pool D device) → unwritten_of pool ≡ 0 → (n : ℕ) → unwritten_at pool n ≡ 0
+none_of {D} {device} pool none n = sym (pool.counted n) ∙ ap (λ (l : List ℕ). times_in l n) (empty_of pool.unwritten.items (omega (arith, pool.unwritten.ok.0, none)))

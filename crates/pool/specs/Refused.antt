@@ -1,5 +1,6 @@
 -- Why a pool refuses a call.
 use Rattle.std.specs.Prelude.{ℕ, ◌≤◌, ⊤}
+use Rattle.disk.specs.declared.error.DiskError.{DiskError}
 use Rattle.disk.specs.Refused.{HasRisen}
 use Rattle.pool.specs.declared.error.PoolError.{PoolError}
 use Rattle.pool.specs.declared.error.PoolError.TheVariants.{Memory, Device, Pages, Kept}
@@ -17,6 +18,20 @@ IsOfDevice before after Memory = ⊥
 IsOfDevice before after (Device e) = HasRisen before after
 IsOfDevice before after Pages = ⊥
 IsOfDevice before after Kept = ⊥
+
+-- it is not the device that refused
+abbrev pub IsNotOfDevice : PoolError → Type 0
+IsNotOfDevice Memory = ⊤
+IsNotOfDevice (Device e) = ⊥
+IsNotOfDevice Pages = ⊤
+IsNotOfDevice Kept = ⊤
+
+-- a refusal for the device has a cause that the device told
+abbrev pub IsTold : (DiskError → Type 0) → PoolError → Type 0
+IsTold told Memory = ⊤
+IsTold told (Device e) = told e
+IsTold told Pages = ⊤
+IsTold told Kept = ⊤
 
 -- the count of refused device calls does not fall
 abbrev pub Rises : ℕ → ℕ → Type 0

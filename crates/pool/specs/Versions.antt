@@ -5,7 +5,8 @@ use Rattle.pagefile.specs.File.{disk_of}
 use Rattle.pool.specs.declared.pool.Pool.{Pool}
 use Rattle.pool.specs.Pages.{PageMap, known}
 use Rattle.pool.specs.Pins.{pins_at}
-use Rattle.pool.specs.Slots.{pages_at}
+use Rattle.pool.specs.Slots.{slot_at, pages_at}
+use Rattle.pool.specs.Unwritten.{to_write}
 
 pub record Versions : Type 0 where
   -- the number of the last commit
@@ -30,6 +31,10 @@ versions_of {D} {device} pool = record {
 -- the device under it
 abbrev pub device_of : {D : Type 0} {device : Ghosts D} → Pool D device → D
 device_of pool = disk_of pool.file
+
+-- 1 where the page of this number was committed and is not written yet, 0 where it is none of these
+abbrev pub unwritten_at : {D : Type 0} {device : Ghosts D} → Pool D device → ℕ → ℕ
+unwritten_at pool n = to_write (slot_at pool.slots n).newest
 
 -- how many pages were committed and are not written yet
 abbrev pub unwritten_of : {D : Type 0} {device : Ghosts D} → Pool D device → ℕ

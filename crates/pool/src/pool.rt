@@ -1,7 +1,9 @@
-ghost use Rattle.std.specs.Prelude.{◌≡◌, ℕ, ◌+◌, ◌*◌, ◌-◌, ◌<◌, ◌≤◌, ◌==◌, ◌^◌, [], ◌∷◌, List, length, Some, None, IsTrue, IfOk, IfErr, OnOk, OnErr, min, if◌then◌else◌};
+ghost use Rattle.std.specs.Prelude.{◌≡◌, ℕ, ◌+◌, ◌*◌, ◌-◌, ◌<◌, ◌≤◌, ◌==◌, ◌^◌, [], ◌∷◌, List, length, Some, None, IsTrue, IfOk, IfErr, IsOk, OnOk, OnErr, min, if◌then◌else◌};
+ghost use Rattle.std.specs.Option.{is_some};
 ghost use Rattle.pagefile.specs.File.{disk_of};
 ghost use Rattle.pool.specs.Pins.{pins_at};
 ghost use Rattle.pool.specs.Stands.{Stands};
+ghost use Rattle.pool.specs.Unwritten.{one_at, new_in, AreCounted};
 
 use crate::images::{copy_seen, drop_pages};
 use crate::pins::{Pin, pin_once, unpin_once};
@@ -32,6 +34,7 @@ pub struct Pool<D: Disk> {
     pins: Items<Pin>,
     touched: Items<Items<u32>>,
     ghost stands: { IsTrue D.is_honest → Stands (D.bytes (disk_of file)) began last slots unwritten.items },
+    ghost counted: { AreCounted slots unwritten.items },
     ghost ordered: { (c : ℕ) → 0 < pins_at pins c → c ≤ last },
 }
 
@@ -54,8 +57,8 @@ impl<D: Disk> Pool<D> {
     ghost use Rattle.pool.specs.Pages.{known, over, only, pages_in};
     ghost use Rattle.pagefile.specs.Pages.{page_of};
     ghost use Rattle.disk.specs.Refused.{HasRisen};
-    ghost use Rattle.pool.specs.Refused.{IsRefused, IsOfDevice};
-    ghost use Rattle.pool.specs.Versions.{IsKept, versions_of, device_of, unwritten_of};
+    ghost use Rattle.pool.specs.Refused.{IsRefused, IsOfDevice, IsNotOfDevice, IsTold};
+    ghost use Rattle.pool.specs.Versions.{IsKept, versions_of, device_of, unwritten_of, unwritten_at};
 
     /// A pool over a file of this many pages. `frames`, from 16 to 4,096, is how many pages it may keep in memory.
     pub fn new(alloc: Global, file: PageFile<D>, page_count: u32, frames: u32) -> Pool<D>
@@ -66,6 +69,7 @@ impl<D: Disk> Pool<D> {
         ensures pages { (versions_of result).pages ≡ (λ c. known D.is_honest (page_of (D.bytes (disk_of file)))) }
         ensures pins { (versions_of result).pins ≡ (λ c. 0) }
         ensures unwritten { unwritten_of result ≡ 0 }
+        ensures written { (n : ℕ) → unwritten_at result n ≡ 0 }
         ensures device { device_of result ≡ disk_of file }
     {
         Pool {
@@ -96,6 +100,7 @@ impl<D: Disk> Pool<D> {
         ensures pages { IfOk result (λ pool. (versions_of pool).pages ≡ (λ c. known D.is_honest (only 0 first.now))) }
         ensures pins { IfOk result (λ pool. (versions_of pool).pins ≡ (λ c. 0)) }
         ensures unwritten { IfOk result (λ pool. unwritten_of pool ≡ 1) }
+        ensures first { IfOk result (λ pool. (n : ℕ) → unwritten_at pool n ≡ one_at 0 n) }
         ensures device { IfOk result (λ pool. device_of pool ≡ disk_of file) }
         ensures left { IfErr result (λ back. back ≡ file) }
     {
@@ -125,6 +130,7 @@ impl<D: Disk> Pool<D> {
         ensures last { (versions_of self.new).last ≡ (versions_of self.old).last }
         ensures pages { (versions_of self.new).pages ≡ (versions_of self.old).pages }
         ensures unwritten { unwritten_of self.new ≡ unwritten_of self.old }
+        ensures same { (n : ℕ) → unwritten_at self.new n ≡ unwritten_at self.old n }
         ensures device { device_of self.new ≡ device_of self.old }
     {
         if self.touched.len() <= self.pins.len() {
@@ -141,7 +147,10 @@ impl<D: Disk> Pool<D> {
         ensures left { OnErr result (into.new ≡ into.old) }
         ensures versions { versions_of self.new ≡ versions_of self.old }
         ensures unwritten { unwritten_of self.new ≡ unwritten_of self.old }
+        ensures same { (n : ℕ) → unwritten_at self.new n ≡ unwritten_at self.old n }
         ensures refusal { IfErr result (IsRefused ⊥ ⊥ (D.refused (device_of self.old)) (D.refused (device_of self.new))) }
+        ensures read_always { IsTrue D.is_honest → IsTrue D.always_reads → IfErr result IsNotOfDevice }
+        ensures cause { IfErr result (IsTold (D.told (device_of self.new))) }
         ensures rising { D.refused (device_of self.old) ≤ D.refused (device_of self.new) }
     {
         fetch(
@@ -167,7 +176,13 @@ impl<D: Disk> Pool<D> {
         ensures pins { (versions_of self.new).pins ≡ (versions_of self.old).pins }
         ensures refused { OnErr result (versions_of self.new ≡ versions_of self.old) }
         ensures left { OnErr result (set.new ≡ set.old) }
+        ensures unwritten { OnOk result ((n : ℕ) → unwritten_at self.new n ≡ (if is_some (pages_in set.old n) then 1 else unwritten_at self.old n)) }
+        ensures counted { OnOk result (unwritten_of self.new ≡ unwritten_of self.old + new_in (unwritten_at self.old) set.old) }
+        ensures same { OnErr result ((n : ℕ) → unwritten_at self.new n ≡ unwritten_at self.old n) }
+        ensures same_count { OnErr result (unwritten_of self.new ≡ unwritten_of self.old) }
         ensures refusal { IfErr result (IsRefused ((versions_of self.old).last ≡ 2 ^ 64 - 1) ⊥ (D.refused (device_of self.old)) (D.refused (device_of self.new))) }
+        ensures read_always { IsTrue D.is_honest → IsTrue D.always_reads → IfErr result IsNotOfDevice }
+        ensures cause { IfErr result (IsTold (D.told (device_of self.new))) }
         ensures rising { D.refused (device_of self.old) ≤ D.refused (device_of self.new) }
     {
         if self.last == u64::MAX {
@@ -194,8 +209,11 @@ impl<D: Disk> Pool<D> {
     fn write_one(&mut self) -> Result<(), PoolError>
         ensures versions { versions_of self.new ≡ versions_of self.old }
         ensures written { OnOk result (unwritten_of self.new ≡ unwritten_of self.old - 1) }
+        ensures none { unwritten_of self.old ≡ 0 → IsOk result }
+        ensures fewer_at { (n : ℕ) → unwritten_at self.new n ≤ unwritten_at self.old n }
         ensures refused { OnErr result (unwritten_of self.new ≡ unwritten_of self.old) }
         ensures refusal { IfErr result (IsOfDevice (D.refused (device_of self.old)) (D.refused (device_of self.new))) }
+        ensures cause { IfErr result (IsTold (D.told (device_of self.new))) }
         ensures rising { D.refused (device_of self.old) ≤ D.refused (device_of self.new) }
         ensures synced { D.synced (device_of self.new) ≡ D.synced (device_of self.old) }
     {
@@ -209,6 +227,7 @@ impl<D: Disk> Pool<D> {
         ensures kept { (c : ℕ) → IsKept (versions_of self.new) c → (versions_of self.new).pages c ≡ (versions_of self.old).pages c }
         ensures last { (versions_of self.new).last ≡ (versions_of self.old).last }
         ensures unwritten { unwritten_of self.new ≡ unwritten_of self.old }
+        ensures same { (n : ℕ) → unwritten_at self.new n ≡ unwritten_at self.old n }
         ensures device { device_of self.new ≡ device_of self.old }
     {
         if let Some(place) = unpin_once(&mut self.pins, number)
@@ -231,8 +250,13 @@ impl<D: Disk> Pool<D> {
         ensures left { IfOk result (λ left. left ≡ min (unwritten_of self.new) (2 ^ 32 - 1)) }
         ensures written { OnOk result (unwritten_of self.new ≡ unwritten_of self.old - 4) }
         ensures fewer { unwritten_of self.new ≤ unwritten_of self.old }
+        ensures fewer_at { (n : ℕ) → unwritten_at self.new n ≤ unwritten_at self.old n }
+        ensures none { unwritten_of self.new ≡ 0 → (n : ℕ) → unwritten_at self.new n ≡ 0 }
+        ensures stored { (n : ℕ) (page : List ℕ) → unwritten_at self.new n ≡ 0 → IsTrue D.is_honest → (versions_of self.new).pages (versions_of self.new).last n ≡ Some page → page_of (D.bytes (device_of self.new)) n ≡ Some page }
+        ensures idle { unwritten_of self.old ≡ 0 → IsOk result }
         ensures versions { versions_of self.new ≡ versions_of self.old }
         ensures refusal { IfErr result (IsOfDevice (D.refused (device_of self.old)) (D.refused (device_of self.new))) }
+        ensures cause { IfErr result (IsTold (D.told (device_of self.new))) }
         ensures rising { D.refused (device_of self.old) ≤ D.refused (device_of self.new) }
     {
         'written: for _page in 0..PAGES_A_STEP {
@@ -246,6 +270,7 @@ impl<D: Disk> Pool<D> {
         ensures versions { versions_of self.new ≡ versions_of self.old }
         ensures written { OnOk result (unwritten_of self.new ≡ 0) }
         ensures refusal { IfErr result (IsOfDevice (D.refused (device_of self.old)) (D.refused (device_of self.new))) }
+        ensures cause { IfErr result (IsTold (D.told (device_of self.new))) }
         ensures rising { D.refused (device_of self.old) ≤ D.refused (device_of self.new) }
         ensures synced { D.synced (device_of self.new) ≡ D.synced (device_of self.old) }
     {
@@ -259,7 +284,9 @@ impl<D: Disk> Pool<D> {
     fn sync_file(&mut self) -> Result<(), PoolError>
         ensures versions { versions_of self.new ≡ versions_of self.old }
         ensures unwritten { unwritten_of self.new ≡ unwritten_of self.old }
+        ensures same { (n : ℕ) → unwritten_at self.new n ≡ unwritten_at self.old n }
         ensures refusal { IfErr result (IsOfDevice (D.refused (device_of self.old)) (D.refused (device_of self.new))) }
+        ensures cause { IfErr result (IsTold (D.told (device_of self.new))) }
         ensures synced { OnOk result (HasRisen (D.synced (device_of self.old)) (D.synced (device_of self.new))) }
         ensures settles { OnOk result (D.settled (device_of self.new)) }
         ensures rising { D.refused (device_of self.old) ≤ D.refused (device_of self.new) }
@@ -273,6 +300,7 @@ impl<D: Disk> Pool<D> {
         ensures versions { versions_of self.new ≡ versions_of self.old }
         ensures written { OnOk result (unwritten_of self.new ≡ 0) }
         ensures refusal { IfErr result (IsOfDevice (D.refused (device_of self.old)) (D.refused (device_of self.new))) }
+        ensures cause { IfErr result (IsTold (D.told (device_of self.new))) }
         ensures synced { OnOk result (HasRisen (D.synced (device_of self.old)) (D.synced (device_of self.new))) }
         ensures settles { OnOk result (D.settled (device_of self.new)) }
         ensures rising { D.refused (device_of self.old) ≤ D.refused (device_of self.new) }
@@ -292,6 +320,7 @@ impl<D: Disk> Pool<D> {
         ensures rising { IfOk result (λ disk. D.refused (device_of self) ≤ D.refused disk) }
         ensures versions { IfErr result (λ r. versions_of r.pool ≡ versions_of self) }
         ensures refusal { IfErr result (λ r. IsOfDevice (D.refused (device_of self)) (D.refused (device_of r.pool)) r.cause) }
+        ensures cause { IfErr result (λ r. IsTold (D.told (device_of r.pool)) r.cause) }
     {
         match self.sync_all() {
             Ok(()) => {

@@ -1,5 +1,5 @@
 //! The steps of reads, commits and writes.
-ghost use Rattle.std.specs.Prelude.{◌≡◌, ◌≢◌, ◌⊎◌, ℕ, ◌+◌, ◌-◌, ◌<◌, ◌≤◌, ◌++◌, ◌∷◌, ◌==◌, ◌^◌, [], List, true, length, OnOk, OnErr, IfOk, IfErr, IsTrue, IsSome, MatchBool, None, Some, vec_len, vec_capacity, slice_index};
+ghost use Rattle.std.specs.Prelude.{◌≡◌, ◌≢◌, ◌⊎◌, ℕ, ◌+◌, ◌-◌, ◌*◌, ◌<◌, ◌≤◌, ◌++◌, ◌∷◌, ◌==◌, ◌^◌, [], List, true, length, OnOk, OnErr, IfOk, IfErr, IsOk, IsTrue, IsSome, MatchBool, None, Some, vec_len, vec_capacity, slice_index, if◌then◌else◌};
 ghost use Rattle.std.specs.List.{list_any};
 ghost use Rattle.disk.specs.Refused.{CountsRefusal};
 ghost use Rattle.pagefile.specs.File.{disk_of};
@@ -7,8 +7,9 @@ ghost use Rattle.pagefile.specs.Pages.{page_of, KeepsOthers};
 ghost use Rattle.pool.specs.Pages.{pages_in};
 ghost use Rattle.pool.specs.Pins.{pins_at};
 ghost use Rattle.pool.specs.Ready.{IsReady};
-ghost use Rattle.pool.specs.Refused.{IsRefused};
+ghost use Rattle.pool.specs.Refused.{IsRefused, IsNotOfDevice, IsTold};
 ghost use Rattle.pool.specs.Slots.{slot_at, newest_page, placed, cleaned, Covered, IsDirty};
+ghost use Rattle.pool.specs.Unwritten.{one_at, times_in, to_write, new_in, AreCounted};
 ghost use Rattle.pool.specs.Stands.{Stands, StaysAs, IsLoaded, AreListed};
 
 use crate::images::{images_at, is_needed, note};
@@ -44,10 +45,13 @@ pub(crate) fn load<D: Disk>(
     requires { page < length slots.old }
     ensures same { IsTrue D.is_honest → (last : ℕ) (unwritten : List ℕ) → Stands (D.bytes (disk_of file.old)) began last slots.old unwritten
         → StaysAs began last unwritten (D.bytes (disk_of file.old)) slots.old (D.bytes (disk_of file.new)) slots.new }
+    ensures unwritten { (n : ℕ) → to_write (slot_at slots.new n).newest ≡ to_write (slot_at slots.old n).newest }
     ensures images { (n : ℕ) → (slot_at slots.new n).images ≡ (slot_at slots.old n).images }
     ensures loaded { OnOk result (IsLoaded began page slots.new) }
     ensures len { length slots.new ≡ length slots.old }
     ensures refusal { IfErr result (IsRefused ⊥ ⊥ (D.refused (disk_of file.old)) (D.refused (disk_of file.new))) }
+    ensures read_always { IsTrue D.is_honest → IsTrue D.always_reads → 4096 * began ≤ length (D.bytes (disk_of file.old)) → IfErr result IsNotOfDevice }
+    ensures cause { IfErr result (IsTold (D.told (disk_of file.new))) }
     ensures rising { D.refused (disk_of file.old) ≤ D.refused (disk_of file.new) }
 {
     if page >= began || !is_in_file(slots.as_slice(), page) {
@@ -75,11 +79,14 @@ fn prepare_page<D: Disk>(
     requires pinned { (c : ℕ) → 0 < pins_at pins.now c → c ≤ last }
     ensures same { IsTrue D.is_honest → (unwritten : List ℕ) → Stands (D.bytes (disk_of file.old)) began last slots.old unwritten
         → StaysAs began last unwritten (D.bytes (disk_of file.old)) slots.old (D.bytes (disk_of file.new)) slots.new }
+    ensures unwritten { (n : ℕ) → to_write (slot_at slots.new n).newest ≡ to_write (slot_at slots.old n).newest }
     ensures room { OnOk result (page < length slots.new) }
     ensures longer { length slots.old ≤ length slots.new }
     ensures covered { OnOk result ((c : ℕ) → 0 < pins_at pins.now c → Covered c (slot_at slots.new page).images) }
     ensures grows { (n c : ℕ) → Covered c (slot_at slots.old n).images → Covered c (slot_at slots.new n).images }
     ensures refusal { IfErr result (IsRefused ⊥ ⊥ (D.refused (disk_of file.old)) (D.refused (disk_of file.new))) }
+    ensures read_always { IsTrue D.is_honest → IsTrue D.always_reads → 4096 * began ≤ length (D.bytes (disk_of file.old)) → IfErr result IsNotOfDevice }
+    ensures cause { IfErr result (IsTold (D.told (disk_of file.new))) }
     ensures rising { D.refused (disk_of file.old) ≤ D.refused (disk_of file.new) }
 {
     reach(alloc, slots, page)?;
@@ -107,8 +114,11 @@ pub(crate) fn prepare<D: Disk>(
     requires pinned { (c : ℕ) → 0 < pins_at pins.now c → c ≤ last }
     ensures same { IsTrue D.is_honest → (unwritten : List ℕ) → Stands (D.bytes (disk_of file.old)) began last slots.old unwritten
         → StaysAs began last unwritten (D.bytes (disk_of file.old)) slots.old (D.bytes (disk_of file.new)) slots.new }
+    ensures unwritten { (n : ℕ) → to_write (slot_at slots.new n).newest ≡ to_write (slot_at slots.old n).newest }
     ensures ready { OnOk result ((k : ℕ) → k < length numbers.now → IsReady slots.new pins.now (slice_index numbers.now k)) }
     ensures refusal { IfErr result (IsRefused ⊥ ⊥ (D.refused (disk_of file.old)) (D.refused (disk_of file.new))) }
+    ensures read_always { IsTrue D.is_honest → IsTrue D.always_reads → (unwritten : List ℕ) → Stands (D.bytes (disk_of file.old)) began last slots.old unwritten → IfErr result IsNotOfDevice }
+    ensures cause { IfErr result (IsTold (D.told (disk_of file.new))) }
     ensures rising { D.refused (disk_of file.old) ≤ D.refused (disk_of file.new) }
 {
     for page in numbers {
@@ -124,6 +134,9 @@ fn list_unwritten(unwritten: &mut Vec<u32>, slots: &[Slot], page: u32)
     ensures kept { (n : ℕ) → list_any (λ k. k == n) unwritten.old.items ≡ true → list_any (λ k. k == n) unwritten.new.items ≡ true }
     ensures here { ((bytes : List ℕ) → (slot_at slots.now page).newest ≡ Newest.Dirty bytes → list_any (λ k. k == page) unwritten.old.items ≡ true)
         → list_any (λ k. k == page) unwritten.new.items ≡ true }
+    ensures again { (bytes : List ℕ) → (slot_at slots.now page).newest ≡ Newest.Dirty bytes → unwritten.new.items ≡ unwritten.old.items }
+    ensures counted { (n : ℕ) → times_in unwritten.new.items n + (if page == n then to_write (slot_at slots.now page).newest else 0) ≡ times_in unwritten.old.items n + one_at page n }
+    ensures total { vec_len unwritten.new + to_write (slot_at slots.now page).newest ≡ vec_len unwritten.old + 1 }
     ensures len { vec_len unwritten.new ≤ vec_len unwritten.old + 1 }
     ensures capacity { vec_capacity unwritten.old ≤ vec_capacity unwritten.new }
 {
@@ -151,6 +164,8 @@ pub(crate) fn install(slots: &mut Items<Slot>, unwritten: &mut Vec<u32>, set: &m
     ensures newest { (n : ℕ) → (slot_at slots.new n).newest ≡ placed (pages_in set.old n) (slot_at slots.old n).newest }
     ensures images { (n : ℕ) → (slot_at slots.new n).images ≡ (slot_at slots.old n).images }
     ensures listed { AreListed slots.old unwritten.old.items → AreListed slots.new unwritten.new.items }
+    ensures counted { AreCounted slots.old unwritten.old.items → AreCounted slots.new unwritten.new.items }
+    ensures len { vec_len unwritten.new ≡ vec_len unwritten.old + new_in (λ n. to_write (slot_at slots.old n).newest) set.old }
     ensures emptied { set.new ≡ [] }
 {
     while let Some((page, bytes)) = set.pop_first() {
@@ -169,8 +184,11 @@ pub(crate) fn fetch<D: Disk>(
 ) -> Result<(), PoolError>
     ensures same { IsTrue D.is_honest → (last : ℕ) (unwritten : List ℕ) → Stands (D.bytes (disk_of file.old)) began last slots.old unwritten
         → StaysAs began last unwritten (D.bytes (disk_of file.old)) slots.old (D.bytes (disk_of file.new)) slots.new }
+    ensures unwritten { (n : ℕ) → to_write (slot_at slots.new n).newest ≡ to_write (slot_at slots.old n).newest }
     ensures loaded { OnOk result (IsLoaded began page slots.new) }
     ensures refusal { IfErr result (IsRefused ⊥ ⊥ (D.refused (disk_of file.old)) (D.refused (disk_of file.new))) }
+    ensures read_always { IsTrue D.is_honest → IsTrue D.always_reads → 4096 * began ≤ length (D.bytes (disk_of file.old)) → IfErr result IsNotOfDevice }
+    ensures cause { IfErr result (IsTold (D.told (disk_of file.new))) }
     ensures rising { D.refused (disk_of file.old) ≤ D.refused (disk_of file.new) }
 {
     if page >= began {
@@ -189,6 +207,7 @@ fn write_slot<D: Disk>(file: &mut PageFile<D>, slot: &mut Slot, page: u32) -> Re
     ensures there { OnOk result (IsTrue D.is_honest → (bytes : List ℕ) → slot.old.newest ≡ Newest.Dirty bytes → page_of (D.bytes (disk_of file.new)) page ≡ Some bytes) }
     ensures idle { (IsDirty slot.old.newest → ⊥) → file.new ≡ file.old }
     ensures count { CountsRefusal result (D.refused (disk_of file.old)) (D.refused (disk_of file.new)) }
+    ensures cause { IfErr result (D.told (disk_of file.new)) }
     ensures synced { D.synced (disk_of file.new) ≡ D.synced (disk_of file.old) }
 {
     match std::mem::replace(&mut slot.newest, Newest::InFile) {
@@ -224,6 +243,7 @@ fn write_at<D: Disk>(
     ensures there { OnOk result (IsTrue D.is_honest → (bytes : List ℕ) → (slot_at slots.old page).newest ≡ Newest.Dirty bytes → page_of (D.bytes (disk_of file.new)) page ≡ Some bytes) }
     ensures idle { (IsDirty (slot_at slots.old page).newest → ⊥) → file.new ≡ file.old }
     ensures count { CountsRefusal result (D.refused (disk_of file.old)) (D.refused (disk_of file.new)) }
+    ensures cause { IfErr result (D.told (disk_of file.new)) }
     ensures synced { D.synced (disk_of file.new) ≡ D.synced (disk_of file.old) }
 {
     match slots.get_mut(page as usize) {
@@ -242,7 +262,11 @@ pub(crate) fn write_last<D: Disk>(
         → StaysAs began last unwritten.new.items (D.bytes (disk_of file.old)) slots.old (D.bytes (disk_of file.new)) slots.new }
     ensures left { OnOk result (vec_len unwritten.new ≡ vec_len unwritten.old - 1) }
     ensures refused { OnErr result (unwritten.new.items ≡ unwritten.old.items) }
+    ensures none { vec_len unwritten.old ≡ 0 → IsOk result }
+    ensures counted { AreCounted slots.old unwritten.old.items → AreCounted slots.new unwritten.new.items }
+    ensures fewer { (n : ℕ) → to_write (slot_at slots.new n).newest ≤ to_write (slot_at slots.old n).newest }
     ensures count { CountsRefusal result (D.refused (disk_of file.old)) (D.refused (disk_of file.new)) }
+    ensures cause { IfErr result (D.told (disk_of file.new)) }
     ensures synced { D.synced (disk_of file.new) ≡ D.synced (disk_of file.old) }
 {
     let Some(page) = unwritten.pop() else {

@@ -1,12 +1,17 @@
 use Rattle.std.proofs.Common.{true, false, ap}
 use Rattle.pool.specs.Versions.{Versions, versions_of}
 use Rattle.overlay.specs.Changes.{private_of}
-use Rattle.overlay.proofs.FreeLemmas.{none_after, freed_others_after, freed_whole_after}
+use Rattle.overlay.proofs.FreeLemmas.{none_after, first_after, freed_others_after, freed_whole_after}
 use Rattle.overlay.proofs.frees.free_page.Goals as goal
 
 pub returns-clause-freed : goal.returns-clause-freed
 returns-clause-freed g c =
     none_after c.free_used.result ((versions_of c.args.pool.now).pages c.args.at) ((versions_of c.free_used.new.pool).pages c.args.at)
+    (private_of c.args.changes.now) (private_of c.free_used.new.changes) c.args.page (ap (λ (v : Versions). v.pages c.args.at) c.free_used.ensures.versions) c.free_used.ensures.written
+
+pub returns-clause-first : goal.returns-clause-first
+returns-clause-first g c =
+    first_after c.free_used.result ((versions_of c.args.pool.now).pages c.args.at) ((versions_of c.free_used.new.pool).pages c.args.at)
     (private_of c.args.changes.now) (private_of c.free_used.new.changes) c.args.page (ap (λ (v : Versions). v.pages c.args.at) c.free_used.ensures.versions) c.free_used.ensures.written
 
 pub returns-clause-others : goal.returns-clause-others

@@ -14,3 +14,6 @@ returns-clause-left c =
 
 pub returns-clause-settled : goal.returns-clause-settled
 returns-clause-settled c = c.put-2.ensures.settled ∙ c.put.ensures.settled
+
+pub returns-clause-undone : goal.returns-clause-undone
+returns-clause-undone c = c.put-2.ensures.undone ∙ c.put.ensures.undone

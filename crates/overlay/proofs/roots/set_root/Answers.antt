@@ -8,7 +8,7 @@ use Rattle.overlay.specs.Layers.{size_of}
 use Rattle.overlay.specs.Whole.{IsWhole, IsSaid, AtLimit}
 use Rattle.overlay.proofs.FreeLemmas.{never_whole, read_more}
 use Rattle.overlay.proofs.RefusalLemmas.{put_refused}
-use Rattle.overlay.proofs.RootLemmas.{rooted_by, rooted_before, never_above}
+use Rattle.overlay.proofs.RootLemmas.{rooted_by, rooted_before, never_above, names_it}
 use Rattle.overlay.proofs.roots.set_root.Goals as goal
 
 pub returns-then-header-root-clause-written : goal.returns-then-header-root-clause-written
@@ -23,6 +23,10 @@ pub returns-else-root-header-clause-written : goal.returns-else-root-header-clau
 returns-else-root-header-clause-written g c =
     rooted_by c.put_root.result (over (private_of c.args.changes.now) ((versions_of c.args.pool.now).pages c.args.at)) c.args.root c.in-Ok.header (private_of c.args.changes.now) (private_of c.put_root.new.changes) c.in-Ok.ensures.says c.in-Ok.ensures.bounds
     (let below = c.if-root-header.false in omega (arith, below)) c.put_root.ensures.written
+
+pub returns-else-root-header-clause-same : goal.returns-else-root-header-clause-same
+returns-else-root-header-clause-same g c = λ there has.
+    absurd (c.if-header-root.false (names_it (over (private_of c.args.changes.now) ((versions_of c.args.pool.now).pages c.args.at) 0) c.in-Ok.header c.args.root c.in-Ok.ensures.says there has))
 
 pub returns-else-root-header-clause-refusal : goal.returns-else-root-header-clause-refusal
 returns-else-root-header-clause-refusal g c =

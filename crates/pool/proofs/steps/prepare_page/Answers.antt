@@ -1,6 +1,7 @@
 use Rattle.std.proofs.Common.{◌+◌, List, None, sym, ap, subst, ◌∙◌, arith}
 use Rattle.pool.specs.declared.slot.OldImage.{OldImage}
 use Rattle.pool.specs.declared.slot.Slot.{Slot}
+use Rattle.pool.specs.Unwritten.{to_write}
 use Rattle.pool.specs.Slots.{slot_at, newest_page, Covered}
 use Rattle.pool.proofs.SlotLemmas.{after_reach, after_load, after_nothing, after_keep, by_place, covered_new, covered_more}
 use Rattle.pool.proofs.steps.prepare_page.Goals as goal
@@ -39,3 +40,21 @@ returns-clause-grows g c = λ n v was.
     (λ h. subst (λ (os : List OldImage). Covered v os) (sym c.in_ok-keep_at.ensures.kept)
     (covered_more v (slot_at c.load.new.slots c.args.page).images (record { until = c.args.last + 1; page = newest_page (slot_at c.load.new.slots c.args.page).newest None }) h))
     (λ m differs h. subst (λ (os : List OldImage). Covered v os) (sym (c.keep_at.ensures.others m differs)) h) n before
+
+pub returns-in_err-reach-clause-unwritten : goal.returns-in_err-reach-clause-unwritten
+returns-in_err-reach-clause-unwritten g c = λ n. ap (λ (s : Slot). to_write s.newest) (c.reach.ensures.same n)
+
+pub returns-then-not-is_needed-clause-unwritten : goal.returns-then-not-is_needed-clause-unwritten
+returns-then-not-is_needed-clause-unwritten g c = λ n. ap (λ (s : Slot). to_write s.newest) (c.reach.ensures.same n)
+
+pub returns-in_err-load-clause-unwritten : goal.returns-in_err-load-clause-unwritten
+returns-in_err-load-clause-unwritten g c = λ n. c.load.ensures.unwritten n ∙ ap (λ (s : Slot). to_write s.newest) (c.reach.ensures.same n)
+
+pub returns-in_err-note-clause-unwritten : goal.returns-in_err-note-clause-unwritten
+returns-in_err-note-clause-unwritten g c = λ n. c.load.ensures.unwritten n ∙ ap (λ (s : Slot). to_write s.newest) (c.reach.ensures.same n)
+
+pub returns-in_err-keep_at-clause-unwritten : goal.returns-in_err-keep_at-clause-unwritten
+returns-in_err-keep_at-clause-unwritten g c = λ n. ap to_write (c.keep_at.ensures.newest n) ∙ c.load.ensures.unwritten n ∙ ap (λ (s : Slot). to_write s.newest) (c.reach.ensures.same n)
+
+pub returns-clause-unwritten : goal.returns-clause-unwritten
+returns-clause-unwritten g c = λ n. ap to_write (c.keep_at.ensures.newest n) ∙ c.load.ensures.unwritten n ∙ ap (λ (s : Slot). to_write s.newest) (c.reach.ensures.same n)

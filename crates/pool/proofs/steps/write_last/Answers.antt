@@ -1,7 +1,11 @@
-use Rattle.std.proofs.Common.{sym, ap, ◌∙◌}
+use Rattle.std.proofs.Common.{sym, ap, ◌∙◌, arith}
 use Rattle.pagefile.specs.File.{disk_of}
 use Rattle.pagefile.specs.declared.file.PageFile.{PageFile}
+use Rattle.std.proofs.Common.{◌≡◌, List}
+use Rattle.pool.specs.Slots.{slot_at}
+use Rattle.pool.specs.Unwritten.{to_write}
 use Rattle.pool.proofs.CommitLemmas.{wrote, not_written}
+use Rattle.pool.proofs.CountedLemmas.{counted_written, counted_still, fewer_written, cleaned_fewer}
 use Rattle.pool.proofs.steps.write_last.Goals as goal
 
 pub returns-in-Ok-clause-same : goal.returns-in-Ok-clause-same
@@ -13,3 +17,22 @@ pub returns-in-Err-clause-same : goal.returns-in-Err-clause-same
 returns-in-Err-clause-same g c = λ honest began last stands.
     not_written _ _ _ _ _ _ c.args.unwritten.now.items c.put_last.new.list.items c.in-Some.page c.write_at.ensures.images c.write_at.ensures.newest c.in-Err.ensures.refused.0 c.in-Err.ensures.refused.1
     (c.write_at.ensures.others honest) (c.put_last.ensures.items ∙ sym c.in-Some.ensures.items) stands
+
+pub returns-in-Err-clause-none : goal.returns-in-Err-clause-none
+returns-in-Err-clause-none g c = λ none. let one = c.in-Some.ensures.cases in absurd (omega (arith, one, none))
+
+pub returns-in-Ok-clause-counted : goal.returns-in-Ok-clause-counted
+returns-in-Ok-clause-counted g c =
+    counted_written c.args.slots.now c.write_at.new.slots c.args.unwritten.now.items c.pop.new.self.items c.in-Some.page c.write_at.ensures.newest c.in-Ok.ensures.written c.in-Some.ensures.items
+
+pub returns-in-Ok-clause-fewer : goal.returns-in-Ok-clause-fewer
+returns-in-Ok-clause-fewer g c = fewer_written c.args.slots.now c.write_at.new.slots c.in-Some.page c.write_at.ensures.newest
+    (let is = ap to_write c.in-Ok.ensures.written in let less = cleaned_fewer (slot_at c.args.slots.now c.in-Some.page).newest in omega (arith, is, less))
+
+pub returns-in-Err-clause-counted : goal.returns-in-Err-clause-counted
+returns-in-Err-clause-counted g c =
+    counted_still c.args.slots.now c.write_at.new.slots c.args.unwritten.now.items c.put_last.new.list.items c.in-Some.page c.write_at.ensures.newest c.in-Err.ensures.refused.0 (c.put_last.ensures.items ∙ sym c.in-Some.ensures.items)
+
+pub returns-in-Err-clause-fewer : goal.returns-in-Err-clause-fewer
+returns-in-Err-clause-fewer g c = fewer_written c.args.slots.now c.write_at.new.slots c.in-Some.page c.write_at.ensures.newest
+    (let is = ap to_write c.in-Err.ensures.refused.0 in omega (arith, is))

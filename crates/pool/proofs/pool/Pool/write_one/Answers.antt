@@ -7,6 +7,7 @@ use Rattle.pool.proofs.pool.Pool.write_one.Goals as goal
 pub invariant_of-self : goal.invariant_of-self
 invariant_of-self g c = record {
   stands = λ honest. (c.write_last.ensures.same honest c.args.self.now.began c.args.self.now.last (c.args.self.now.stands honest)).stands;
+  counted = c.write_last.ensures.counted c.args.self.now.counted;
   ordered = c.args.self.now.ordered;
 }
 

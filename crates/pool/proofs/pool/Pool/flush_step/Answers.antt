@@ -1,0 +1,23 @@
+use Rattle.std.proofs.Common.{◌≡◌, false, true, arith}
+use Rattle.pool.proofs.PoolLemmas.{stored_of, none_of}
+use Rattle.pool.proofs.pool.Pool.flush_step.Goals as goal
+
+pub returns-in_err-write_one-clause-none : goal.returns-in_err-write_one-clause-none
+returns-in_err-write_one-clause-none g c = none_of c.write_one.new.self
+
+pub returns-in_err-write_one-clause-stored : goal.returns-in_err-write_one-clause-stored
+returns-in_err-write_one-clause-stored g c = stored_of c.write_one.new.self
+
+pub returns-in_err-write_one-clause-fewer_at : goal.returns-in_err-write_one-clause-fewer_at
+returns-in_err-write_one-clause-fewer_at g c = λ n. let was = c.written.invariant.fewer n in let now = c.write_one.ensures.fewer_at n in omega (arith, was, now)
+
+pub returns-in_err-write_one-clause-idle : goal.returns-in_err-write_one-clause-idle
+returns-in_err-write_one-clause-idle g c = λ none.
+    let left = c.written.invariant.left in
+    let bad : false ≡ true = c.in_err-write_one.ensures.none (omega (arith, left, none)) in absurd (cc)
+
+pub returns-clause-none : goal.returns-clause-none
+returns-clause-none g c = none_of c.written.self
+
+pub returns-clause-stored : goal.returns-clause-stored
+returns-clause-stored g c = stored_of c.written.self
