@@ -3,6 +3,7 @@
 
 mod causes;
 mod closing;
+mod laws;
 mod looking;
 mod naming;
 mod opening;
@@ -12,6 +13,7 @@ mod schema;
 
 pub use causes::of_pool;
 pub use closing::close_pool;
+pub use laws::each_page_has_its_place;
 pub use looking::{row_beyond, rows_sought, rows_within};
 pub use opening::pool_over;
 pub use reading::{row_after, rows_of, schema_of};

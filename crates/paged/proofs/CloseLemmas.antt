@@ -18,7 +18,7 @@ use Rattle.page_versions.specs.Databases.{nothing, contents_in, known_contents, 
 use Rattle.page_versions.specs.Refusals.{of_pool}
 use Rattle.page_versions.specs.Saved.{HoldsDatabase}
 use Rattle.page_versions.proofs.RefusalLemmas.{of_device}
-use Rattle.paged.specs.Saved.{HoldsAlone, IsSavedAlone}
+use Rattle.paged.specs.Saved.{IsSavedAlone}
 use Rattle.paged.specs.SeenLemmas.{known_is}
 use Rattle.paged.specs.Shown.{stored}
 use Rattle.paged.specs.Sound.{IsSound}

@@ -13,14 +13,24 @@ use Rattle.page_readers.specs.declared.readers.Readers.{Readers}
 use Rattle.page_readers.specs.Pinned.{ArePinned}
 use Rattle.page_versions.specs.Databases.{nothing, contents_in, known_contents, IsOwned}
 use Rattle.page_versions.specs.Opened.{Begins, BeginsOwned}
-use Rattle.page_versions.specs.Saved.{IsSaved}
+use Rattle.page_versions.specs.Saved.{IsSaved, IsSavedOwned}
 use Rattle.page_versions.proofs.RefusalLemmas.{fail_weaker}
 use Rattle.paged.specs.Orderly.{IsOrderly}
-use Rattle.paged.specs.Saved.{HoldsAlone, IsSavedAlone, as_saved, none_lost}
+use Rattle.paged.specs.Saved.{HoldsAlone, IsSavedAlone}
 use Rattle.paged.specs.SeenLemmas.{known_is}
 use Rattle.paged.specs.Shown.{found_at, stored}
 use Rattle.paged.specs.Sound.{IsSound}
 use Rattle.paged.proofs.ShownLemmas.{found_empty}
+
+-- what is saved, without what is said of lost pages
+pub as_saved : (honest : Bool) (bytes : List ℕ) (db : Database) → IsSavedAlone honest bytes db → IsSaved honest bytes db
+as_saved honest bytes db (h, (inl none)) = (h, inl none)
+as_saved honest bytes db (h, (inr file)) = (h, inr file.holds)
+
+-- no page of what is saved is lost
+pub none_lost : (honest : Bool) (bytes : List ℕ) (db : Database) → IsSavedAlone honest bytes db → IsSavedOwned bytes
+none_lost honest bytes db (h, (inl none)) = inl none.0
+none_lost honest bytes db (h, (inr file)) = inr file.owned
 
 pub opened_orderly : (honest : Bool) (bytes : List ℕ) (v : Versions) (readers : Readers) → Begins honest bytes v → ArePinned readers (λ c. 0) → IsOrderly honest v readers 0
 opened_orderly honest bytes v readers b pinned = record {

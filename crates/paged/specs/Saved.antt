@@ -1,10 +1,10 @@
 -- What a paged store saves on a device. Our own choice.
-use Rattle.std.specs.Prelude.{◌≡◌, ◌⊎◌, Bool, IsTrue, List, ℕ, [], inl, inr}
+use Rattle.std.specs.Prelude.{◌≡◌, ◌⊎◌, Bool, IsTrue, List, ℕ, []}
 use Rattle.std.specs.FinMap.{empty}
 use Rattle.denote.specs.Database.{Database}
 use Rattle.pagefile.specs.Pages.{page_of}
 use Rattle.page_versions.specs.Databases.{nothing, IsOwned}
-use Rattle.page_versions.specs.Saved.{HoldsDatabase, IsSaved, IsSavedOwned}
+use Rattle.page_versions.specs.Saved.{HoldsDatabase}
 
 -- A file that is this database, each page in use is one of its trees, of the catalogue's, of a table's or of an index's, and each free page stands in the list of free pages: none is lost.
 pub record HoldsAlone (file : List ℕ) (db : Database) : Type 0 where
@@ -14,14 +14,3 @@ pub record HoldsAlone (file : List ℕ) (db : Database) : Type 0 where
 -- The device gives back what was written, and it is empty, which is the database without tables, or a file that is this database and of which no page is lost.
 abbrev pub IsSavedAlone : Bool → List ℕ → Database → Type 0
 IsSavedAlone honest bytes db = IsTrue honest × (((bytes ≡ []) × (db ≡ empty)) ⊎ HoldsAlone bytes db)
-
--- ---- what this says of the bytes
-
-pub as_saved : (honest : Bool) (bytes : List ℕ) (db : Database) → IsSavedAlone honest bytes db → IsSaved honest bytes db
-as_saved honest bytes db (h, (inl none)) = (h, inl none)
-as_saved honest bytes db (h, (inr file)) = (h, inr file.holds)
-
--- no page of what is saved is lost
-pub none_lost : (honest : Bool) (bytes : List ℕ) (db : Database) → IsSavedAlone honest bytes db → IsSavedOwned bytes
-none_lost honest bytes db (h, (inl none)) = inl none.0
-none_lost honest bytes db (h, (inr file)) = inr file.owned

@@ -1,5 +1,5 @@
 use Rattle.std.proofs.Common.{refl, inl}
-use Rattle.paged.specs.Saved.{none_lost}
+use Rattle.paged.proofs.OpenLemmas.{none_lost}
 use Rattle.paged.proofs.laws.no_page_is_lost.Goals as goal
 
 pub returns-clause-new : goal.returns-clause-new
