@@ -42,7 +42,12 @@ module _ (reading other : CheckReading) (reads : IsCheckReading reading) (also :
   same_among (c ∷ cs) h = rw (same_violated c.rule (kept_texts cs) h, same_among cs (others_readable c.rule (kept_texts cs) h)) refl
 
   good_table : IsGoodTable reading name table → IsGoodTable other name table
-  good_table good = record good { unviolated = ap (map (λ (c : Constraint). c.name)) (same_among table.constraints good.readable) ∙ good.unviolated }
+  good_table good = record {
+    fitting = good.fitting;
+    unviolated = ap (map (λ (c : Constraint). c.name)) (same_among table.constraints good.readable) ∙ good.unviolated;
+    readable = good.readable;
+    named = good.named;
+  }
 
 pub good_by_every : (reading other : CheckReading) (db : Database) → IsCheckReading reading → IsCheckReading other → IsGood reading db → IsGood other db
 good_by_every reading other db reads also good name table is = good_table reading other reads also name table (good name table is)
