@@ -1,7 +1,7 @@
--- What a good database is does not depend on the reading of the texts of CHECKs.
-use Rattle.std.proofs.Common.{◌≡◌, refl, sym, ap, ◌∙◌, ℕ, true, List, [], ◌∷◌, ◌++◌, map, Some, None}
+-- What a good database is does not depend on the reading of the texts of CHECKs, and neither do the conditions of its CHECKs.
+use Rattle.std.proofs.Common.{◌≡◌, refl, sym, ap, ◌∙◌, ℕ, List, [], ◌∷◌, ◌++◌, map, Some, None}
 use Rattle.std.specs.Prelude.{filter}
-use Rattle.std.specs.List.{All, list_any}
+use Rattle.std.specs.List.{All, list_any, filter_map, cons_option}
 use Rattle.std.specs.FinMap.{get, empty, get-empty}
 use Rattle.std.proofs.lemmas.List.Elements.{All-head, All-tail}
 use Rattle.sqlval.specs.declared.schema.Constraint.{Constraint}
@@ -11,40 +11,64 @@ use Rattle.sqlval.specs.Comparison.{text_order}
 use Rattle.typing.specs.Check.{IsCheckReading}
 use Rattle.typing.specs.Kept.{text_in, kept_texts}
 use Rattle.typing.specs.declared.typed.Condition.{Condition}
-use Rattle.denote.specs.Database.{Name, Table, Database, CheckReading, IsReadable, IsGoodTable, IsGood, check_at, is_false, is_violated, violated_by}
+use Rattle.denote.specs.Database.{Name, Table, Database, CheckReading, IsReadable, AreReadable, IsGoodTable, IsGood, check_at, checks_of, is_check, is_false, is_violated, violated_by}
 
 module _ (reading other : CheckReading) (reads : IsCheckReading reading) (also : IsCheckReading other) (name : Name) (table : Table) where
-  -- of the text of this rule, where it is a CHECK, and of others
-  abbrev AreReadableIn : List (List ℕ) → Type 0
-  AreReadableIn texts = All (IsReadable name table.columns) texts
+  abbrev AreRead : List (List ℕ) → Type 0
+  AreRead texts = All (IsReadable name table.columns) texts
 
-  same_violated : (r : Rule) (texts : List (List ℕ)) → AreReadableIn (text_in r ++ texts) → is_violated other name table r ≡ is_violated reading name table r
+  same_text : (text : List ℕ) (texts : List (List ℕ)) → AreRead (text ∷ texts) → other name table.columns text ≡ reading name table.columns text
+  same_text text texts h =
+      let readable = All-head (IsReadable name table.columns) text texts h in
+      also name table.columns text readable.condition readable.reads ∙ sym (reads name table.columns text readable.condition readable.reads)
+
+  -- behind the texts of one rule
+  others_read : (r : Rule) (texts : List (List ℕ)) → AreRead (text_in r ++ texts) → AreRead texts
+  others_read (rule.NotNull column) texts h = h
+  others_read (rule.PrimaryKey columns) texts h = h
+  others_read (rule.Unique columns) texts h = h
+  others_read (rule.Check text) texts h = All-tail (IsReadable name table.columns) text texts h
+
+  -- ---- the conditions of CHECKs
+
+  same_conditions : (constraints : List Constraint) → AreRead (kept_texts constraints)
+      → map (other name table.columns) (filter_map (λ c. is_check c.rule) constraints) ≡ map (reading name table.columns) (filter_map (λ c. is_check c.rule) constraints)
+  same_conditions [] h = refl
+  same_conditions (c ∷ cs) h = one c.rule h (same_conditions cs (others_read c.rule (kept_texts cs) h))
+    where
+      abbrev texts : List (List ℕ)
+      texts = filter_map (λ (k : Constraint). is_check k.rule) cs
+
+      one : (r : Rule) → AreRead (text_in r ++ kept_texts cs) → map (other name table.columns) texts ≡ map (reading name table.columns) texts
+          → map (other name table.columns) (cons_option (is_check r) texts) ≡ map (reading name table.columns) (cons_option (is_check r) texts)
+      one (rule.NotNull column) read k = k
+      one (rule.PrimaryKey columns) read k = k
+      one (rule.Unique columns) read k = k
+      one (rule.Check text) read k = rw (same_text text (kept_texts cs) read, k) refl
+
+  pub same_checks : AreReadable name table.columns table.constraints → checks_of other name table ≡ checks_of reading name table
+  same_checks h = same_conditions table.constraints h
+
+  -- ---- what is violated
+
+  same_violated : (r : Rule) (texts : List (List ℕ)) → AreRead (text_in r ++ texts) → is_violated other name table r ≡ is_violated reading name table r
   same_violated (rule.NotNull column) texts h = refl
   same_violated (rule.PrimaryKey columns) texts h = refl
   same_violated (rule.Unique columns) texts h = refl
-  same_violated (rule.Check text) texts h =
-      let readable = All-head (IsReadable name table.columns) text texts h in
-      let same : other name table.columns text ≡ reading name table.columns text =
-      also name table.columns text readable.condition readable.reads ∙ sym (reads name table.columns text readable.condition readable.reads) in
-      ap (λ (c : Condition). list_any (λ row. is_false (check_at c row)) table.rows) same
+  same_violated (rule.Check text) texts h = ap (λ (c : Condition). list_any (λ row. is_false (check_at c row)) table.rows) (same_text text texts h)
 
-  others_readable : (r : Rule) (texts : List (List ℕ)) → AreReadableIn (text_in r ++ texts) → AreReadableIn texts
-  others_readable (rule.NotNull column) texts h = h
-  others_readable (rule.PrimaryKey columns) texts h = h
-  others_readable (rule.Unique columns) texts h = h
-  others_readable (rule.Check text) texts h = All-tail (IsReadable name table.columns) text texts h
-
-  abbrev violated_among : CheckReading → List Constraint → List Constraint
-  violated_among by constraints = filter (λ c. is_violated by name table c.rule) constraints
-
-  same_among : (constraints : List Constraint) → AreReadableIn (kept_texts constraints) → violated_among other constraints ≡ violated_among reading constraints
+  same_among : (constraints : List Constraint) → AreRead (kept_texts constraints)
+      → filter (λ c. is_violated other name table c.rule) constraints ≡ filter (λ c. is_violated reading name table c.rule) constraints
   same_among [] h = refl
-  same_among (c ∷ cs) h = rw (same_violated c.rule (kept_texts cs) h, same_among cs (others_readable c.rule (kept_texts cs) h)) refl
+  same_among (c ∷ cs) h = rw (same_violated c.rule (kept_texts cs) h, same_among cs (others_read c.rule (kept_texts cs) h)) refl
+
+  pub same_violations : AreReadable name table.columns table.constraints → violated_by other name table ≡ violated_by reading name table
+  same_violations h = ap (map (λ (c : Constraint). c.name)) (same_among table.constraints h)
 
   good_table : IsGoodTable reading name table → IsGoodTable other name table
   good_table good = record {
     fitting = good.fitting;
-    unviolated = ap (map (λ (c : Constraint). c.name)) (same_among table.constraints good.readable) ∙ good.unviolated;
+    unviolated = same_violations good.readable ∙ good.unviolated;
     readable = good.readable;
     named = good.named;
   }
