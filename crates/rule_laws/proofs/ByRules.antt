@@ -16,7 +16,7 @@ use Rattle.replies.specs.declared.reply.Reply.{Reply}
 use Rattle.session_definitions.specs.Effect.{Effect}
 use Rattle.session_definitions.specs.Rules.{AreRules, IsReason, Means, Rules}
 use Rattle.session_definitions.specs.Statements.{CarriesOut, Changes, Explains, Opens, Queries}
-use Rattle.session_definitions.specs.Step.{Replies, Step}
+use Rattle.session_definitions.specs.Step.{Call, Replies}
 use Rattle.session_definitions.specs.Transactions.{begun, obstacle, starting}
 use Rattle.session_definitions.specs.World.{Session, Transaction, World}
 use Rattle.session_laws.specs.Sound.{IsGoodWorld}
@@ -100,11 +100,12 @@ module _ (rules others : Rules) (are : AreRules rules) (also : AreRules others) 
   good_begun w session None last own = last
   good_begun w session (Some t) last own = own t refl
 
-  pub step_by : (old new : World) (s : ℕ) (text : Bytes) (reply : Reply) → IsGoodWorld rules.check old → Step rules old s text reply new → Step others old s text reply new
-  step_by old new s text reply good (effect, call) = (effect, record {
+  pub call_by : (old : World) (s : ℕ) (text : Bytes) (reply : Reply) (effect : Effect) (new : World) → IsGoodWorld rules.check old → Call rules old s text reply effect new
+      → Call others old s text reply effect new
+  call_by old s text reply effect new good call = record {
     session = call.session;
     stands = call.stands;
     replies = replies call.session (begun old call.session) reply effect (obstacle old s call.session)
         (good_begun old call.session call.session.transaction good.last (λ t is. (good.transactions s call.session t call.stands is).1)) text call.replies;
     leaves = call.leaves;
-  })
+  }

@@ -1,2 +1,5 @@
 pub mod Reading
 pub mod Good
+pub mod Changed
+pub mod ByRules
+pub mod Engines

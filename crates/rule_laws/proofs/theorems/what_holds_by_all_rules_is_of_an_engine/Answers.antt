@@ -1,4 +1,4 @@
-use Rattle.rule_laws.proofs.laws.what_holds_by_all_rules_is_of_an_engine.Goals as goal
+use Rattle.rule_laws.proofs.theorems.what_holds_by_all_rules_is_of_an_engine.Goals as goal
 
 pub returns-clause-step : goal.returns-clause-step
 returns-clause-step c old new s text reply h =

@@ -12,10 +12,13 @@ ghost use Rattle.session_definitions.specs.Run.{Moment, Run};
 ghost use Rattle.session_definitions.specs.Script.{IsPlayed};
 ghost use Rattle.session_definitions.specs.Step.{Step};
 ghost use Rattle.session_definitions.specs.World.{World};
+ghost use Rattle.session_laws.specs.Sound.{IsGoodWorld};
 ghost use Rattle.sqlval.specs.declared.schema.Column.{Column};
 ghost use Rattle.sqlval.specs.declared.schema.Schema.{Schema};
 ghost use Rattle.typing.specs.declared.typed.Condition.{Condition};
 ghost use Rattle.typing.specs.Check.{IsCheckReading, ReadsCheck};
+
+use session_laws::databases_stay_good;
 
 /// There is a reading of the texts of CHECKs: a function that gives for each text that stands for a condition, of whatever length and
 /// however deep its parentheses nest, this condition.
@@ -55,4 +58,16 @@ pub fn what_holds_by_all_rules_is_of_an_engine()
         → IsScript old pieces printed new }
 {
     there_are_rules();
+}
+
+/// And what an engine may do from a good world on holds by all rules of names and types, whatever they read where a text stands for no condition.
+pub fn what_is_of_an_engine_holds_by_all_rules()
+    ensures step { (rules : Rules) (old new : World) (s : ℕ) (text : Bytes) (reply : Reply) → AreRules rules → IsGoodWorld rules.check old
+        → IsStep old s text reply new → Step rules old s text reply new }
+    ensures run { (rules : Rules) (start end : World) (moments : List Moment) → AreRules rules → IsGoodWorld rules.check start
+        → IsRun start moments end → Run rules start moments end }
+    ensures script { (rules : Rules) (old new : World) (pieces : List (List ℕ)) (printed : List ℕ) → AreRules rules → IsGoodWorld rules.check old
+        → IsScript old pieces printed new → IsPlayed rules old pieces printed new }
+{
+    databases_stay_good();
 }

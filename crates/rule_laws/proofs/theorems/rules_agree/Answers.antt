@@ -1,5 +1,5 @@
 use Rattle.std.proofs.Common.{sym, ◌∙◌}
-use Rattle.rule_laws.proofs.laws.rules_agree.Goals as goal
+use Rattle.rule_laws.proofs.theorems.rules_agree.Goals as goal
 
 pub returns-clause-statements : goal.returns-clause-statements
 returns-clause-statements c rules others schema x are also = are.statements schema x ∙ sym (also.statements schema x)
