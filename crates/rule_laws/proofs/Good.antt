@@ -31,20 +31,18 @@ module _ (reading other : CheckReading) (reads : IsCheckReading reading) (also :
 
   -- ---- the conditions of CHECKs
 
+  one_more : (r : Rule) (texts read : List (List ℕ)) → AreRead (text_in r ++ texts) → map (other name table.columns) read ≡ map (reading name table.columns) read
+      → map (other name table.columns) (cons_option (is_check r) read) ≡ map (reading name table.columns) (cons_option (is_check r) read)
+  one_more (rule.NotNull column) texts read h k = k
+  one_more (rule.PrimaryKey columns) texts read h k = k
+  one_more (rule.Unique columns) texts read h k = k
+  one_more (rule.Check text) texts read h k = rw (same_text text texts h, k) refl
+
   same_conditions : (constraints : List Constraint) → AreRead (kept_texts constraints)
       → map (other name table.columns) (filter_map (λ c. is_check c.rule) constraints) ≡ map (reading name table.columns) (filter_map (λ c. is_check c.rule) constraints)
   same_conditions [] h = refl
-  same_conditions (c ∷ cs) h = one c.rule h (same_conditions cs (others_read c.rule (kept_texts cs) h))
-    where
-      abbrev texts : List (List ℕ)
-      texts = filter_map (λ (k : Constraint). is_check k.rule) cs
-
-      one : (r : Rule) → AreRead (text_in r ++ kept_texts cs) → map (other name table.columns) texts ≡ map (reading name table.columns) texts
-          → map (other name table.columns) (cons_option (is_check r) texts) ≡ map (reading name table.columns) (cons_option (is_check r) texts)
-      one (rule.NotNull column) read k = k
-      one (rule.PrimaryKey columns) read k = k
-      one (rule.Unique columns) read k = k
-      one (rule.Check text) read k = rw (same_text text (kept_texts cs) read, k) refl
+  same_conditions (c ∷ cs) h =
+      one_more c.rule (kept_texts cs) (filter_map (λ k. is_check k.rule) cs) h (same_conditions cs (others_read c.rule (kept_texts cs) h))
 
   pub same_checks : AreReadable name table.columns table.constraints → checks_of other name table ≡ checks_of reading name table
   same_checks h = same_conditions table.constraints h
