@@ -1,13 +1,12 @@
 -- What a good database is does not depend on the reading of the texts of CHECKs, and neither do the conditions of its CHECKs.
-use Rattle.std.proofs.Common.{◌≡◌, refl, sym, ap, ◌∙◌, ℕ, List, [], ◌∷◌, ◌++◌, map, Some, None}
+use Rattle.std.proofs.Common.{◌≡◌, refl, sym, ap, ◌∙◌, ℕ, List, [], ◌∷◌, ◌++◌, map, Some}
 use Rattle.std.specs.Prelude.{filter}
 use Rattle.std.specs.List.{All, list_any, filter_map, cons_option}
-use Rattle.std.specs.FinMap.{get, empty, get-empty}
+use Rattle.std.specs.FinMap.{get}
 use Rattle.std.proofs.lemmas.List.Elements.{All-head, All-tail}
 use Rattle.sqlval.specs.declared.schema.Constraint.{Constraint}
 use Rattle.sqlval.specs.declared.schema.Rule.{Rule}
 use Rattle.sqlval.specs.declared.schema.Rule.TheVariants as rule
-use Rattle.sqlval.specs.Comparison.{text_order}
 use Rattle.typing.specs.Check.{IsCheckReading}
 use Rattle.typing.specs.Kept.{text_in, kept_texts}
 use Rattle.typing.specs.declared.typed.Condition.{Condition}
@@ -73,6 +72,3 @@ module _ (reading other : CheckReading) (reads : IsCheckReading reading) (also :
 
 pub good_by_every : (reading other : CheckReading) (db : Database) → IsCheckReading reading → IsCheckReading other → IsGood reading db → IsGood other db
 good_by_every reading other db reads also good name table is = good_table reading other reads also name table (good name table is)
-
-pub good_empty : (reading : CheckReading) → IsGood reading empty
-good_empty reading name table is = let none : None ≡ Some table = sym (get-empty text_order name) ∙ is in absurd (cc)

@@ -1,7 +1,6 @@
 //! That theorems which begin with rules of names and types, or with a reading of the texts of CHECKs, speak of something. These functions do nothing: their contracts are the laws.
 
 ghost use Rattle.std.specs.Prelude.{◌≡◌, ℕ, List};
-ghost use Rattle.std.specs.FinMap.{empty};
 ghost use Rattle.ast.specs.declared.statement.Statement.{Statement};
 ghost use Rattle.denote.specs.Database.{CheckReading, Database, IsGood};
 ghost use Rattle.lexer.specs.Token.{Bytes};
@@ -11,14 +10,14 @@ ghost use Rattle.session_definitions.specs.Rules.{AreRules, Rules};
 ghost use Rattle.session_definitions.specs.Run.{Moment, Run};
 ghost use Rattle.session_definitions.specs.Script.{IsPlayed};
 ghost use Rattle.session_definitions.specs.Step.{Step};
-ghost use Rattle.session_definitions.specs.World.{World};
-ghost use Rattle.session_laws.specs.Sound.{IsGoodWorld};
+ghost use Rattle.session_definitions.specs.World.{World, new_world};
+ghost use Rattle.session_laws.specs.Sound.{IsGoodWorld, IsSound};
 ghost use Rattle.sqlval.specs.declared.schema.Column.{Column};
 ghost use Rattle.sqlval.specs.declared.schema.Schema.{Schema};
 ghost use Rattle.typing.specs.declared.typed.Condition.{Condition};
 ghost use Rattle.typing.specs.Check.{IsCheckReading, ReadsCheck};
 
-use session_laws::databases_stay_good;
+use session_laws::{databases_stay_good, worlds_stay_sound};
 
 /// There is a reading of the texts of CHECKs: a function that gives for each text that stands for a condition, of whatever length and
 /// however deep its parentheses nest, this condition.
@@ -44,10 +43,15 @@ pub fn good_databases_are_good_by_every_reading()
     ensures { (reading other : CheckReading) (db : Database) → IsCheckReading reading → IsCheckReading other → IsGood reading db → IsGood other db }
 {}
 
-/// The database without tables is good.
-pub fn there_is_a_good_database()
-    ensures { (reading : CheckReading) → IsGood reading empty }
-{}
+/// What theorems about SQL begin with can be met, all at once: rules of names and types, and a world that is sound, whose databases are good by them: that of a
+/// new database.
+pub fn premises_can_be_met()
+    ensures { (rules : Rules) × AreRules rules × IsGoodWorld rules.check new_world × IsSound new_world }
+{
+    there_are_rules();
+    databases_stay_good();
+    worlds_stay_sound();
+}
 
 /// What holds by all rules of names and types, as the contracts of calls, runs and scripts say it, is what an engine may do.
 pub fn what_holds_by_all_rules_is_of_an_engine()
