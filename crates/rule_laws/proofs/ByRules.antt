@@ -1,6 +1,5 @@
 -- A call over good databases that is a step by some rules of names and types is one by all.
 use Rattle.std.proofs.Common.{◌≡◌, sym, ◌∙◌, subst, ℕ, Option, Some, None, refl}
-use Rattle.std.specs.FinMap.{get}
 use Rattle.std.specs.Option.{unwrap_or}
 use Rattle.refusals.specs.declared.refusal.Refusal.{Refusal}
 use Rattle.lexer.specs.Token.{Bytes}

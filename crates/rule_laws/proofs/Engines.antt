@@ -1,5 +1,5 @@
 -- What an engine does by some rules of names and types, from a good world on, it does by all.
-use Rattle.std.proofs.Common.{◌≡◌, refl, sym, ap, subst, ℕ, List, [], ◌∷◌, Option, Some, None, Ok, Err}
+use Rattle.std.proofs.Common.{refl, sym, subst, ℕ, List, [], ◌∷◌, Option, Ok}
 use Rattle.lexer.specs.Token.{Bytes}
 use Rattle.typing.specs.Check.{IsCheckReading}
 use Rattle.denote.specs.Database.{CheckReading}

@@ -1,12 +1,11 @@
 -- A reading of the texts of CHECKs: a text has its tokens or a fault, tokens are read by as many levels as they have left parentheses, and the rules of names and types find
 -- a condition or not. Where there is none, it gives some condition.
-use Rattle.std.proofs.Common.{◌≡◌, refl, sym, ap, ◌∙◌, ℕ, zero, suc, ◌≤◌, true, List, [], ◌∷◌, Option, Some, None, Ok, Err, arith}
+use Rattle.std.proofs.Common.{◌≡◌, refl, ap, ◌∙◌, ℕ, zero, suc, ◌≤◌, true, List, [], ◌∷◌, Option, Some, None, Ok, Err, arith}
 use Rattle.sqlval.specs.declared.schema.Column.{Column}
 use Rattle.lexer.specs.declared.kinds.Kind.TheVariants as kind
 use Rattle.lexer.specs.declared.kinds.Symbol.TheVariants as s
-use Rattle.lexer.specs.declared.kinds.Token.{Token}
 use Rattle.lexer.specs.Printing.{HasKinds}
-use Rattle.lexer.specs.Tokens.{AreTokens, kinds_of}
+use Rattle.lexer.specs.Tokens.{kinds_of}
 use Rattle.lexer.proofs.Unique.{AreTokens-unique, no_fault}
 use Rattle.ast.specs.declared.tree.Condition.{Condition as Tree}
 use Rattle.ast.specs.Nesting.{lefts}
@@ -19,7 +18,7 @@ use Rattle.parser.specs.Shallow.{is_shallow}
 use Rattle.parser.proofs.AgainText.{condition_text_again}
 use Rattle.typing.specs.declared.typed.Condition.{Condition}
 use Rattle.typing.specs.declared.typed.Condition.TheVariants as condition
-use Rattle.typing.specs.Check.{ReadsCheck, IsCheckReading, check_found}
+use Rattle.typing.specs.Check.{IsCheckReading, check_found}
 use Rattle.typing.specs.Finding.{Finding}
 use Rattle.typing.specs.Table.{frame_of}
 use Rattle.denote.specs.Database.{CheckReading}

@@ -1,5 +1,3 @@
-use Rattle.std.proofs.Common.{List}
-use Rattle.session_definitions.specs.Rules.{AreRules, Rules}
 use Rattle.rule_laws.proofs.Engines.{good_world_by, played_by, run_by, step_by}
 use Rattle.rule_laws.proofs.theorems.what_is_of_an_engine_holds_by_all_rules.Goals as goal
 
