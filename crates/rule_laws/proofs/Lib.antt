@@ -1,4 +1,5 @@
 pub mod Reading
+pub mod Example
 pub mod Good
 pub mod Changed
 pub mod ByRules

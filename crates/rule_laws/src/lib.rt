@@ -4,7 +4,7 @@
 mod theorems;
 
 pub use theorems::{
-    good_databases_are_good_by_every_reading, premises_can_be_met, rules_agree, there_are_rules,
-    there_is_a_reading, what_holds_by_all_rules_is_of_an_engine,
+    a_text_stands_for_a_condition, good_databases_are_good_by_every_reading, premises_can_be_met,
+    rules_agree, there_are_rules, there_is_a_reading, what_holds_by_all_rules_is_of_an_engine,
     what_is_of_an_engine_holds_by_all_rules,
 };

@@ -25,6 +25,11 @@ pub fn there_is_a_reading()
     ensures { (reading : CheckReading) × IsCheckReading reading }
 {}
 
+/// Some text stands for a condition, in every table.
+pub fn a_text_stands_for_a_condition()
+    ensures { (text : List ℕ) × (condition : Condition) × ((name : List ℕ) (columns : List Column) → ReadsCheck name columns text condition) }
+{}
+
 /// There are rules of names and types.
 pub fn there_are_rules()
     ensures { (rules : Rules) × AreRules rules }
