@@ -6,7 +6,7 @@ use Rattle.std.specs.FinMap.{get, insert}
 use Rattle.std.specs.Io.KnownBytes.{Consumes, IsAtEnd, Keeps}
 use Rattle.std.proofs.KnownBytes.{Appends-trans, Appends-nil, Appends-kept, Consumes-nil, Consumes-trans, Consumes-kept}
 use Rattle.std.proofs.Math.Bool.{or-false}
-use Rattle.std.proofs.lemmas.List.{drop_all, drop_more, take_more}
+use Rattle.std.proofs.lemmas.List.{drop_all, drop_more, take_more, same_from_push}
 use Rattle.std.proofs.lemmas.List.Recursion.{or_push}
 use Rattle.lexer.specs.Token.{Bytes}
 use Rattle.refusals.specs.declared.refusal.Refusal.{Refusal}
@@ -28,6 +28,7 @@ use Rattle.session_definitions.specs.Script.{Scene, Plays, Performs, ArePlayed, 
 use Rattle.session_definitions.specs.Step.{Step}
 use Rattle.session_definitions.specs.World.{World, is_live}
 use Rattle.session_laws.proofs.Live.{made_live}
+use Rattle.transactions.specs.Refused.{IfRefused, TellsReached}
 use Rattle.sessions.specs.declared.core_of.SessionId.{SessionId}
 use Rattle.sessions.specs.OfCore.{number_of}
 use Rattle.scripts.specs.declared.script.ScriptFault.{ScriptFault}
@@ -35,9 +36,11 @@ use Rattle.scripts.specs.declared.script.ScriptFault.TheVariants.{Memory, Reader
 use Rattle.scripts.specs.declared.script.Sessions.{Sessions}
 use Rattle.scripts.specs.Settled.{Places}
 use Rattle.scripts.specs.Device.{has_disk, shows_disk, tells_disk}
-use Rattle.scripts.specs.Played.{Streams, between, ArePiecesSoFar, IsPrinted, IsWhole, IsCutShort, EndsEarly}
+use Rattle.scripts.specs.Limits.{RequestReaches}
+use Rattle.scripts.specs.Played.{Streams, between, ArePiecesSoFar, AreWrittenButLast, IsPrinted, IsWhole, IsCutShort, EndsEarly}
 use Rattle.scripts.specs.Playing.{scene_of, numbers_of, standing_from, AreLive, IsReady, FindsSession, IsCarriedOut, HasPlayed, IsPlaying, HasStopped, HasPrinted, HasBroken, HasFinished, HasFailed, HasEnded, IsReading, FindsNone}
 use Rattle.scripts.proofs.Standing.{none_standing, none_numbered, get_standing, set_standing, values_standing, live_alike, live_dropped, live_made, live_at}
+use Rattle.scripts.proofs.Limits.{limits_more, piece_told}
 use Rattle.scripts.proofs.Pieces.{cut_nothing, cut_on, cut_at, cut_ended, cut_later, cut_last, cut_none}
 
 -- ---- a call
@@ -159,12 +162,13 @@ module _ (rules : Rules) (piece : List ℕ) (request : Request) (old new : World
     answer = same ∙ sym (or-false before.refused);
     disk = told ∙ sym (or-false before.told_disk);
     written = writes_nothing held is_done;
+    limits = tt;
   }
 
   pub carried_printing : (reply : Reply) → Asks piece request → Performs rules (scene_of old before) request (Some reply) (scene_of new mid) × IsReady new mid → mid.refused ≡ before.refused → mid.told_disk ≡ before.told_disk
       → after ≡ record mid { refused = mid.refused || is_refusal reply; told_disk = mid.told_disk || tells_disk reply } → Writes held holds is_done (printed_reply reply)
-      → IsCarriedOut rules piece old before new after held holds is_done
-  carried_printing reply asks performs same told noted writes = record {
+      → IfRefused reply (TellsReached (RequestReaches request)) → IsCarriedOut rules piece old before new after held holds is_done
+  carried_printing reply asks performs same told noted writes limits = record {
     request = request;
     asks = asks;
     reply = Some reply;
@@ -173,6 +177,7 @@ module _ (rules : Rules) (piece : List ℕ) (request : Request) (old new : World
     answer = ap (λ (sessions : Sessions). sessions.refused) noted ∙ ap (λ b. b || is_refusal reply) same;
     disk = ap (λ (sessions : Sessions). sessions.told_disk) noted ∙ ap (λ b. b || tells_disk reply) told;
     written = writes_reply held holds is_done reply writes;
+    limits = piece_told piece request reply asks limits;
   }
 
 -- ---- one more piece
@@ -201,6 +206,22 @@ text_more : (printed written front rest text : List ℕ) → printed ≡ written
 text_more printed written front rest text e f =
     ap (λ l. l ++ text) (e ∙ append-nil written) ∙ ap (λ l. written ++ l) f ∙ sym (append_assoc written front rest)
 
+-- one reply more, of which some was written
+pub written_but_next : (replies : List (Option Reply)) (reply : Option Reply) (written more : List ℕ) → printed_replies replies ≡ written ++ [] → AreWrittenButLast (replies ++ reply ∷ []) (written ++ more)
+written_but_next replies reply written more text = λ front last is.
+    let same : replies ≡ front = (same_from_push replies front reply last is).0 in
+    (more, ap (λ l. l ++ more) (sym (append-nil written) ∙ sym text ∙ ap printed_replies same))
+
+-- some bytes more were written
+pub written_on : (replies : List (Option Reply)) (written more : List ℕ) → AreWrittenButLast replies written → AreWrittenButLast replies (written ++ more)
+written_on replies written more h = λ front last is.
+    let part = h front last is in
+    (part.0 ++ more, ap (λ l. l ++ more) part.1 ∙ append_assoc (printed_replies front) part.0 more)
+
+pub none_written : AreWrittenButLast [] []
+none_written [] last is = absurd (cc)
+none_written (r ∷ front) last is = absurd (cc)
+
 module _ (rules : Rules) (start : World) (held : Option (List ℕ)) where
   pub played_next : (pieces : List (List ℕ)) (piece : List ℕ) (old new : World) (before after : Sessions) (had has : Option (List ℕ)) (is_done : Bool)
       → HasPlayed rules start held pieces [] old before had
@@ -215,6 +236,8 @@ module _ (rules : Rules) (start : World) (held : Option (List ℕ)) where
     written = h.written ++ c.written.front;
     text = printed_more h.replies c.reply ∙ text_more (printed_replies h.replies) h.written c.written.front c.written.rest (printed_replies (c.reply ∷ [])) h.text c.written.whole;
     taken = Appends-trans held had has h.written c.written.front h.taken c.written.taken;
+    at_last = written_but_next h.replies c.reply h.written c.written.front h.text;
+    limits = limits_more pieces h.replies piece c.reply h.limits c.limits;
   }
 
   pub all_written : (pieces : List (List ℕ)) (rest : List ℕ) (w : World) (sessions : Sessions) (has : Option (List ℕ)) → rest ≡ []
@@ -232,6 +255,8 @@ module _ (rules : Rules) (start : World) (held : Option (List ℕ)) where
     written = h.written;
     text = h.text;
     taken = Appends-kept held had has h.written h.taken keeps;
+    at_last = h.at_last;
+    limits = h.limits;
   }
 
   -- ---- bytes
@@ -241,7 +266,18 @@ module _ (rules : Rules) (start : World) (held : Option (List ℕ)) where
   begins cutter sessions read first ready answer disk = record {
     pieces = [];
     cut = cut_nothing cutter read;
-    played = record { replies = []; carried_out = (refl, first); ready = ready; answer = answer; disk = disk; written = []; text = refl; taken = Appends-nil held };
+    played = record {
+      replies = [];
+      carried_out = (refl, first);
+      ready = ready;
+      answer = answer;
+      disk = disk;
+      written = [];
+      text = refl;
+      taken = Appends-nil held;
+      at_last = none_written;
+      limits = tt;
+    };
   }
 
   pub goes_on : (input : List ℕ) (w : World) (old new : Cutter) (sessions : Sessions) (holds : Option (List ℕ)) (b : ℕ)
@@ -304,6 +340,8 @@ module _ (rules : Rules) (start : World) (held : Option (List ℕ)) where
         written = h.written ++ c.written.front;
         text = h.text ∙ ap (λ l. (h.written ++ l)) (sym parts.0) ∙ sym (append-nil (h.written ++ c.written.front));
         taken = Appends-trans held had has h.written c.written.front h.taken c.written.taken;
+        at_last = written_on h.replies h.written c.written.front h.at_last;
+        limits = h.limits;
       }
 
   pub finishes : (input : List ℕ) (old new : World) (cutter : Cutter) (before after : Sessions) (had has : Option (List ℕ)) (is_done : Bool)
@@ -409,6 +447,7 @@ ends_whole rules streams start w new sessions h ends = record {
 
 unfoldable pub ends_broken : (rules : Rules) (streams : Streams) (start w new : World) (sessions : Sessions) (h : HasBroken rules streams start w sessions)
     → EndsSessions w (numbers_of sessions.standing) new → IsCutShort rules streams start new
+unfolding ends_stopped
 ends_broken rules streams start w new sessions h ends = record {
   input = h.input;
   read = h.read;
@@ -417,6 +456,7 @@ ends_broken rules streams start w new sessions h ends = record {
   written = h.stopped.played.written;
   stopped = ends_stopped rules start streams.held h.stopped.done h.stopped.later (h.stopped.done ++ h.stopped.later) h.stopped.unwritten w new sessions streams.holds h.stopped.played refl ends;
   taken = h.stopped.played.taken;
+  at_last = h.stopped.played.at_last;
 }
 
 unfoldable pub ends_failed : (rules : Rules) (streams : Streams) (start w new : World) (fault : ScriptFault) (sessions : Sessions) → HasFailed rules streams start fault w sessions

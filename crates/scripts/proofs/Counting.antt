@@ -70,7 +70,7 @@ counts_other refusal m n other = λ is. absurd (other is)
 
 -- there was no memory for the text of a statement
 pub nothing_ran : (rules : Rules) (given held : Option (List ℕ)) (w : World) (count : ℕ) → RunsInPart rules (between given given held held) w count Memory w count
-nothing_ran rules given held w count = record { some = record { reader = Keeps-refl given; writer = Keeps-refl held; world = refl }; device = λ is. absurd (true≢false (sym is)) }
+nothing_ran rules given held w count = record { some = record { reader = Keeps-refl given; writer = Keeps-refl held; world = refl }; device = λ is. absurd (true≢false (sym is)); limits = tt }
 
 tell_at_last : (since m n : ℕ) (sessions : Sessions) (replies : List (Option Reply)) → sessions.told_disk ≡ has_disk replies → IsCounted since sessions m → m ≤ n → TellDevice replies since n
 tell_at_last since m n sessions replies told counted more = λ is. risen_still since m n (counted.risen (told ∙ is)) more
@@ -82,6 +82,7 @@ module _ (rules : Rules) (streams : Streams) (start w new : World) (since m n : 
   runs_whole h ends counted more = record {
     all = ends_whole rules streams start w new sessions h ends;
     device = tell_at_last since m n sessions h.printed.played.replies h.printed.played.disk counted more;
+    limits = h.printed.played.limits;
   }
 
   pub runs_in_part : (fault : ScriptFault) → HasFailed rules streams start fault w sessions → EndsSessions w (numbers_of sessions.standing) new → IsCounted since sessions m → m ≤ n
@@ -91,8 +92,10 @@ module _ (rules : Rules) (streams : Streams) (start w new : World) (since m n : 
   runs_in_part (Reader error) h ends counted more = record {
     some = ends_failed rules streams start w new (Reader error) sessions h ends;
     device = tell_at_last since m n sessions h.played.replies h.played.disk counted more;
+    limits = h.played.limits;
   }
   runs_in_part (Writer error) h ends counted more = record {
     some = ends_failed rules streams start w new (Writer error) sessions h ends;
     device = tell_at_last since m n sessions h.stopped.played.replies h.stopped.played.disk counted more;
+    limits = h.stopped.played.limits;
   }

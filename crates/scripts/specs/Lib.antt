@@ -1,4 +1,5 @@
 pub mod Settled
 pub mod Device
+pub mod Limits
 pub mod Played
 pub mod Playing

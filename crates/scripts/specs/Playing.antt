@@ -21,7 +21,8 @@ use Rattle.scripts.specs.declared.script.ScriptFault.TheVariants.{Memory, Reader
 use Rattle.scripts.specs.declared.script.Sessions.{Sessions}
 use Rattle.scripts.specs.Settled.{Places}
 use Rattle.scripts.specs.Device.{has_disk, shows_disk}
-use Rattle.scripts.specs.Played.{Streams, ArePiecesSoFar}
+use Rattle.scripts.specs.Limits.{TellsLimits, TellLimits}
+use Rattle.scripts.specs.Played.{Streams, ArePiecesSoFar, AreWrittenButLast}
 
 -- ---- the sessions of a script
 
@@ -79,6 +80,7 @@ pub record IsCarriedOut (rules : Rules) (piece : List ℕ) (old : World) (before
   pub answer : after.refused ≡ (before.refused || is_refused reply)
   pub disk : after.told_disk ≡ (before.told_disk || shows_disk reply)
   pub written : Writes held holds is_done (printed_replies (reply ∷ []))
+  pub limits : TellsLimits piece reply
 
 -- ---- the pieces so far
 
@@ -101,7 +103,7 @@ pub record HasCut (input : List ℕ) (pieces : List (List ℕ)) (cutter : Cutter
   pub ended : AreEndedPieces pieces
   pub has_read : HasRead bytes cutter
 
--- From the world `start` these pieces were carried out, and of the text that they print `unwritten` was not written.
+-- From the world `start` these pieces were carried out, and of the text that they print `unwritten` was not written, which is the last one's.
 pub record HasPlayed (rules : Rules) (start : World) (held : Option (List ℕ)) (pieces : List (List ℕ)) (unwritten : List ℕ) (w : World) (sessions : Sessions) (holds : Option (List ℕ)) : Type 0 where
   pub replies : List (Option Reply)
   pub carried_out : ArePlayed rules (first_scene start) pieces replies (scene_of w sessions)
@@ -111,6 +113,8 @@ pub record HasPlayed (rules : Rules) (start : World) (held : Option (List ℕ)) 
   pub written : List ℕ
   pub text : printed_replies replies ≡ written ++ unwritten
   pub taken : Appends held holds written
+  pub at_last : AreWrittenButLast replies written
+  pub limits : TellLimits pieces replies
 
 -- the pieces that end in this input were carried out, and all that they print was written
 pub record IsPlaying (rules : Rules) (start : World) (held : Option (List ℕ)) (input : List ℕ) (w : World) (cutter : Cutter) (sessions : Sessions) (holds : Option (List ℕ)) : Type 0 where

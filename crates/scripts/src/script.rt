@@ -9,9 +9,10 @@ ghost use Rattle.session_definitions.specs.Rules.{Rules, AreRules};
 ghost use Rattle.session_definitions.specs.Script.{EndsSessions, Performs, Plays, RepliesToFlush};
 ghost use Rattle.session_definitions.specs.World.{World};
 ghost use Rattle.sessions.specs.OfCore.{IsSound, world_of};
-ghost use Rattle.transactions.specs.Refused.{Counts};
+ghost use Rattle.transactions.specs.Refused.{Counts, IfRefused, TellsReached};
 ghost use Rattle.scripts.specs.Settled.{IsCommitted, IsKept, IsSettled, Places, store_of};
 ghost use Rattle.scripts.specs.Device.{IsCounted, tells_disk};
+ghost use Rattle.scripts.specs.Limits.{MayReach, RequestReaches};
 ghost use Rattle.scripts.specs.Played.{between, IsNotInterrupted, RunsInPart, RunsWhole};
 ghost use Rattle.scripts.specs.Playing.{AfterTurn, AreLive, FindsNone, FindsSession, HasEnded, HasFailed, HasFinished, HasStopped, IsCarriedOut, IsPlaying, IsReading, IsReady, numbers_of, scene_of};
 
@@ -63,7 +64,7 @@ struct Sessions {
 /// before it were carried out, and after one of the writer no later piece; of the text of the replies a beginning
 /// was then written. A read or a write that was interrupted is tried again. However it ends, what is not committed
 /// is rolled back: where no session stood before, none stands after it. A reply is X0002 only where the device
-/// refused a call.
+/// refused a call; the limits `pages`, `private` and `kept` are told only of a change, or of a COMMIT.
 pub fn run<S: Store, L: Language + Changes<S>, R: Read, W: Write>(
     alloc: Global,
     core: &mut Core<S, L>,
@@ -292,7 +293,7 @@ fn carry_out_piece<S: Store, L: Language + Changes<S>, W: Write>(
 }
 
 /// Carries out what a piece asks for; a choice of a session alone has no reply. After a flush that is not refused nothing is left to write. A reply is X0002 only where the device refused
-/// a call.
+/// a call, and a limit of what the store counts is told only of a change or a COMMIT.
 fn reply_to<S: Store, L: Language + Changes<S>>(
     core: &mut Core<S, L>,
     cutter: &Cutter,
@@ -306,6 +307,7 @@ fn reply_to<S: Store, L: Language + Changes<S>>(
     ensures flushes { request ≡ Request.Flushes → IfSome result (λ reply. reply ≡ Reply.Done → S.unwritten (store_of core.new) ≡ 0) }
     ensures refused { (sessions.new.refused ≡ sessions.old.refused) × (sessions.new.told_disk ≡ sessions.old.told_disk) }
     ensures device { IfSome result (λ reply. Counts reply (S.refused (store_of core.old)) (S.refused (store_of core.new))) }
+    ensures limits { IfSome result (λ reply. IfRefused reply (TellsReached (RequestReaches (asked request (call_text cutter.now))))) }
     ensures kept { (rules : Rules) → AreRules rules → IsKept S.is_sound S.shows rules.check sessions.old.standing core.old → IsKept S.is_sound S.shows rules.check sessions.new.standing core.new }
     ensures counts { S.refused (store_of core.old) ≤ S.refused (store_of core.new) }
 {
@@ -358,6 +360,7 @@ impl Sessions {
     ghost use Rattle.std.specs.Prelude.{◌||◌, ◌≢◌, zero};
     ghost use Rattle.refusals.specs.declared.refusal.Refusal.TheVariants.{Disk};
     ghost use Rattle.replies.specs.Refused.{is_refusal};
+    ghost use Rattle.transactions.specs.Refused.{TellsNoLimit};
 
     /// Chooses the session of this number, from 1 to 64.
     fn choose(&mut self, session: usize)
@@ -385,6 +388,7 @@ impl Sessions {
             → Plays rules (scene_of (world_of S.shows core.old) self.old) text.now result (scene_of (world_of S.shows core.new) self.new) × IsReady (world_of S.shows core.new) self.new }
         ensures refused { (self.new.refused ≡ self.old.refused) × (self.new.told_disk ≡ self.old.told_disk) }
         ensures device { Counts result (S.refused (store_of core.old)) (S.refused (store_of core.new)) }
+        ensures limits { IfRefused result (TellsReached (MayReach text.now)) }
         ensures kept { (rules : Rules) → AreRules rules → IsKept S.is_sound S.shows rules.check self.old.standing core.old → IsKept S.is_sound S.shows rules.check self.new.standing core.new }
         ensures counts { S.refused (store_of core.old) ≤ S.refused (store_of core.new) }
     {
@@ -405,6 +409,7 @@ impl Sessions {
             (λ refusal. FindsNone (world_of S.shows core.old) self.old refusal (world_of S.shows core.new) self.new) }
         ensures refused { (self.new.refused ≡ self.old.refused) × (self.new.told_disk ≡ self.old.told_disk) }
         ensures device { IfErr result (λ refusal. refusal ≢ Disk) }
+        ensures limits { IfErr result TellsNoLimit }
         ensures kept { (rules : Rules) → AreRules rules → IsKept S.is_sound S.shows rules.check self.old.standing core.old → IsKept S.is_sound S.shows rules.check self.new.standing core.new }
         ensures counts { S.refused (store_of core.old) ≤ S.refused (store_of core.new) }
     {

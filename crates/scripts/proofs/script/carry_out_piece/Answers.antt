@@ -15,6 +15,7 @@ pub returns-in-Some-clause-carries_out : goal.returns-in-Some-clause-carries_out
 returns-in-Some-clause-carries_out g c = λ r piece are h ready asks.
     carried_printing r piece _ (world_of g.S.Store.shows c.args.core.now) (world_of g.S.Store.shows c.reply_to.new.core) c.args.sessions.now c.reply_to.new.sessions c.note.new.self _ _ _
     c.in-Some.reply asks (c.in-Some.ensures.performs r piece are h ready asks) c.reply_to.ensures.refused.0 c.reply_to.ensures.refused.1 c.note.ensures c.print_reply.ensures.writes
+    c.in-Some.ensures.limits
 
 pub returns-in-Some-clause-kept : goal.returns-in-Some-clause-kept
 returns-in-Some-clause-kept g c = λ r are h.

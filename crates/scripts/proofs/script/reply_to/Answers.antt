@@ -1,9 +1,11 @@
 use Rattle.std.proofs.Common.{rules, ◌≡◌, ◌∙◌, sym, subst, Some, None}
 use Rattle.script_pieces.specs.declared.request.Request.TheVariants as found
+use Rattle.script_pieces.specs.Cutter.{asked, call_text}
 use Rattle.sessions.specs.OfCore.{world_of}
 use Rattle.scripts.specs.Settled.{IsKept}
 use Rattle.scripts.specs.declared.script.Sessions.{Sessions}
 use Rattle.scripts.proofs.Carried.{performs_calls, performs_chosen_call}
+use Rattle.scripts.proofs.Limits.{flush_told, request_told}
 use Rattle.scripts.proofs.script.reply_to.Goals as goal
 
 pub returns-in-Calls-None-clause-performs : goal.returns-in-Calls-None-clause-performs
@@ -44,3 +46,16 @@ returns-in-Wrong-clause-flushes g c = λ e.
 
 pub returns-in-Flushes-clause-flushes : goal.returns-in-Flushes-clause-flushes
 returns-in-Flushes-clause-flushes g c = λ e. c.flush_all.ensures.flushed
+
+pub returns-in-Calls-None-clause-limits : goal.returns-in-Calls-None-clause-limits
+returns-in-Calls-None-clause-limits g c =
+    let is : c.args.request ≡ found.Calls None = search rules in
+    request_told c.args.request None _ c.text.result.now c.call.result is c.text.ensures c.call.ensures.limits
+
+pub returns-in-Calls-Some-clause-limits : goal.returns-in-Calls-Some-clause-limits
+returns-in-Calls-Some-clause-limits g c =
+    let is : c.args.request ≡ found.Calls (Some c.in-Calls-Some.session) = search rules in
+    request_told c.args.request (Some c.in-Calls-Some.session) _ c.text-in-Calls-Some.result.now c.call-in-Calls-Some.result is c.text-in-Calls-Some.ensures c.call-in-Calls-Some.ensures.limits
+
+pub returns-in-Flushes-clause-limits : goal.returns-in-Flushes-clause-limits
+returns-in-Flushes-clause-limits g c = flush_told (asked c.args.request (call_text c.args.cutter.now)) c.flush_all.result c.flush_all.ensures.replies

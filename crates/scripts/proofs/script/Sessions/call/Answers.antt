@@ -1,6 +1,7 @@
 use Rattle.sessions.specs.OfCore.{world_of}
 use Rattle.scripts.proofs.Keeping.{kept_step, good_seen}
 use Rattle.scripts.proofs.Carried.{plays_found, ready_found, live_found, ready_alike, plays_not_made, ready_not_made}
+use Rattle.scripts.proofs.Limits.{call_told, none_told}
 use Rattle.scripts.proofs.script.Sessions.call.Goals as goal
 
 pub returns-in-Ok-clause-plays : goal.returns-in-Ok-clause-plays
@@ -30,3 +31,9 @@ pub returns-in-Ok-clause-kept : goal.returns-in-Ok-clause-kept
 returns-in-Ok-clause-kept g c = λ r are h.
     kept_step g.S.Store.is_sound g.S.Store.shows r (λ start end moments. c.databases_stay_good.ensures.run r start end moments are) c.session.new.self.standing c.session.new.core c.step.new.self c.in-Ok.session c.args.text.now c.step.result
     (c.step.ensures.step r are) (c.step.ensures.sound r are) (λ dead. (c.step.ensures.ended dead).1) (c.session.ensures.kept r are h)
+
+pub returns-in-Ok-clause-limits : goal.returns-in-Ok-clause-limits
+returns-in-Ok-clause-limits g c = call_told _ _ c.args.text.now c.step.result c.step.ensures.limits
+
+pub returns-in-Err-clause-limits : goal.returns-in-Err-clause-limits
+returns-in-Err-clause-limits g c = none_told c.args.text.now c.in-Err.refusal c.in-Err.ensures.limits
