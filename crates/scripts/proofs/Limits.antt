@@ -16,7 +16,7 @@ use Rattle.script_pieces.specs.Cutter.{asked}
 use Rattle.session_definitions.specs.Refusals.{StopsFlush}
 use Rattle.session_definitions.specs.Script.{RepliesToFlush}
 use Rattle.sessions.specs.Limits.{CallReaches, StatementReaches}
-use Rattle.sessions.proofs.Limits.{told_wider}
+use Rattle.sessions.proofs.Limits.{tells_none, told_wider}
 use Rattle.store.specs.declared.error.StoreLimit.{StoreLimit}
 use Rattle.store.specs.declared.error.StoreLimit.TheVariants as reached
 use Rattle.transactions.specs.Refused.{IfRefused, TellsReached, TellsNoLimit}
@@ -33,17 +33,14 @@ statement_may counted commits _ which h = h
 pub call_told : (counted : StoreLimit → Type 0) (commits : ℕ) (text : Bytes) (reply : Reply) → IfRefused reply (TellsReached (CallReaches counted commits text))
     → IfRefused reply (TellsReached (MayReach text))
 call_told counted commits text reply h =
-    told_wider (CallReaches counted commits text) (MayReach text) (λ which (x, read, reaches). (commits, x, read, statement_may counted commits x which reaches)) reply h
+    told_wider (CallReaches counted commits text) (MayReach text) (λ which h. (commits, (h.0, h.1, statement_may counted commits h.0 which h.2))) reply h
 
 -- the session was not made
 pub not_made_told : (refusal : Refusal) → refusal ≡ Exceeded limit.Sessions → TellsNoLimit refusal
 not_made_told refusal is = subst TellsNoLimit (sym is) tt
 
-none_reached : (Q : StoreLimit → Type 0) (refusal : Refusal) → TellsNoLimit refusal → IfRefused (says.Refused refusal) (TellsReached Q)
-none_reached Q refusal h = told_wider (λ _. ⊥) Q (λ which never. absurd never) (says.Refused refusal) h
-
 pub none_told : (text : Bytes) (refusal : Refusal) → TellsNoLimit refusal → IfRefused (says.Refused refusal) (TellsReached (MayReach text))
-none_told text refusal h = none_reached (MayReach text) refusal h
+none_told text refusal h = tells_none (MayReach text) refusal h
 
 -- ---- a request
 
@@ -55,7 +52,7 @@ flush_tells _ stops = absurd stops
 pub flush_told : (request : Request) (reply : Reply) → RepliesToFlush reply → IfRefused reply (TellsReached (RequestReaches request))
 flush_told request reply (inl done) = subst (λ r. IfRefused r (TellsReached (RequestReaches request))) (sym done) tt
 flush_told request reply (inr (refusal, stops, is)) =
-    subst (λ r. IfRefused r (TellsReached (RequestReaches request))) (sym is) (none_reached (RequestReaches request) refusal (flush_tells refusal stops))
+    subst (λ r. IfRefused r (TellsReached (RequestReaches request))) (sym is) (tells_none (RequestReaches request) refusal (flush_tells refusal stops))
 
 pub request_told : (request : found.Request) (chosen : Option ℕ) (text call : List ℕ) (reply : Reply) → request ≡ found_variants.Calls chosen → call ≡ text
     → IfRefused reply (TellsReached (MayReach call)) → IfRefused reply (TellsReached (RequestReaches (asked request text)))

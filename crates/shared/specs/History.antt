@@ -7,7 +7,10 @@ use Rattle.session_definitions.specs.Run as runs
 use Rattle.session_definitions.specs.World.{World}
 use Rattle.session_laws.specs.Sound.{IsGoodWorld}
 use Rattle.store.specs.Errors.{HasRisen}
-use Rattle.transactions.specs.Refused.{Counts}
+use Rattle.lexer.specs.Token.{Bytes}
+use Rattle.sessions.specs.Limits.{CallReaches}
+use Rattle.store.specs.declared.error.StoreLimit.{StoreLimit}
+use Rattle.transactions.specs.Refused.{Counts, IfRefused, TellsReached, TellsNoLimit}
 use Rattle.shared.specs.declared.event.Event.{Event}
 use Rattle.shared.specs.declared.event.Act.{Act}
 use Rattle.shared.specs.declared.event.Act.TheVariants.{Connects, Refused, Says, Ends}
@@ -106,7 +109,12 @@ at_after (Refused refusal) at = at
 at_after (Says id text reply) at = at
 at_after (Ends id) at = None
 
--- ---- refusals of the device
+-- each call is such a one
+abbrev pub EachAct : (Act → Type 0) → List Event → Type 0
+EachAct P [] = Unit {0}
+EachAct P (e ∷ es) = P e.act × EachAct P es
+
+-- ---- refusals of the device, and by limits of the store
 
 -- X0002 is told of a call only where the count of refused calls rose from the one to the other
 abbrev pub TellsDevice : Act → ℕ → ℕ → Type 0
@@ -117,10 +125,21 @@ TellsDevice (Ends id) before after = Unit {0}
 
 -- of each call
 abbrev pub AllTellDevice : List Event → ℕ → ℕ → Type 0
-AllTellDevice [] before after = Unit {0}
-AllTellDevice (e ∷ es) before after = TellsDevice e.act before after × AllTellDevice es before after
+AllTellDevice log before after = EachAct (λ act. TellsDevice act before after) log
 
--- The count of refused calls has not fallen since it was the one, and rose where X0002 was told.
+-- The text may reach a limit of what the store counts, its pages, private pages or kept page images: a change each of them, and a COMMIT, which takes no private page, the others.
+abbrev pub MayReach : Bytes → StoreLimit → Type 0
+MayReach text which = (commits : ℕ) × CallReaches (λ _. Unit {0}) commits text which
+
+-- a call tells such a limit only where its text may reach it
+abbrev pub TellsLimits : Act → Type 0
+TellsLimits (Connects id) = Unit {0}
+TellsLimits (Refused refusal) = TellsNoLimit refusal
+TellsLimits (Says id text reply) = IfRefused reply (TellsReached (MayReach text))
+TellsLimits (Ends id) = Unit {0}
+
+-- The count of refused calls has not fallen since it was the one, and rose where X0002 was told; limits of the store were told only of what may reach them.
 pub record IsCounted (before after : ℕ) (log : List Event) : Type 0 where
   pub least : before ≤ after
   pub told : AllTellDevice log before after
+  pub limits : EachAct TellsLimits log

@@ -6,13 +6,14 @@ use lib.ListN.{get_elem?}
 use Rattle.atomic_table.specs.Seated.{TableId}
 use Rattle.lexer.specs.Token.{Bytes}
 use Rattle.replies.specs.declared.reply.Reply.{Reply}
+use Rattle.transactions.specs.Refused.{IfRefused, TellsReached}
 use Rattle.refusals.specs.declared.refusal.Refusal.{Refusal}
 use Rattle.session_definitions.specs.World.{World, is_live}
 use Rattle.shared.specs.declared.event.Event.{Event}
 use Rattle.shared.specs.declared.event.Act.{Act}
 use Rattle.shared.specs.declared.event.Act.TheVariants.{Connects, Refused, Says, Ends}
 use Rattle.shared.specs.declared.rule.View.{View}
-use Rattle.shared.specs.History.{IsLegal, Stays, event, calls_by, holder_of, AllOf, at_after}
+use Rattle.shared.specs.History.{IsLegal, Stays, event, calls_by, holder_of, AllOf, MayReach, at_after}
 
 -- the name of no cell
 abbrev pub no_table : TableId
@@ -141,11 +142,12 @@ pub record Extends (premise : Type 0) (start : World) (v : Past) (act : Act) (w 
   pub made : calls_by w.who w.seen ≡ w.mine
   pub legal : premise → IsLegal start w.seen
 
--- its session was asked this, and this is the reply
+-- its session was asked this, and this is the reply, which tells a limit of what the store counts only of a text that may reach it
 pub record Said (premise : Type 0) (start : World) (v : Past) (text : Bytes) (reply : Reply) (w : Past) : Type 0 where
   pub id : ℕ
   pub at : v.at ≡ Some id
   pub call : Extends premise start v (Says id text reply) w
+  pub limits : IfRefused reply (TellsReached (MayReach text))
 
 -- it was made a session
 pub record Joined (premise : Type 0) (start : World) (v w : Past) : Type 0 where
