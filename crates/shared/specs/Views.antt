@@ -114,11 +114,6 @@ pub record IsDesk (premise : Type 0) (start : World) (callers : Option ℕ) (is_
   pub all_of : AllOf v.names v.log
   pub tells : premise → Stays start v.log is_sound world
 
--- the world is the one after some legal history of calls
-pub record HasHistory (start : World) (is_sound : Type 0) (world : World) : Type 0 where
-  pub log : List Event
-  pub stays : Stays start log is_sound world
-
 -- ---- what a call tells
 
 -- a caller: its number, its session's number, what it has seen, and the calls that it made
@@ -130,6 +125,21 @@ pub record Past : Type 0 where
 
 abbrev pub past : View → Past
 past v = record { who = v.who; at = v.at; seen = v.seen; mine = v.mine }
+
+-- a caller has seen a beginning of the history, in which its calls are those that it made
+pub record IsHeard (log : List Event) (caller : Past) : Type 0 where
+  pub saw : IsPrefix caller.seen log
+  pub made : calls_by caller.who log ≡ caller.mine
+
+abbrev pub AllHeard : List Event → List Past → Type 0
+AllHeard log [] = Unit {0}
+AllHeard log (caller ∷ callers) = IsHeard log caller × AllHeard log callers
+
+-- There is one history, in which each of these callers is heard. Under the premise it is legal, and the world is the one after it.
+pub record HasHistory (premise : Type 0) (start : World) (callers : List Past) (is_sound : Type 0) (world : World) : Type 0 where
+  pub log : List Event
+  pub heard : AllHeard log callers
+  pub tells : premise → Stays start log is_sound world
 
 -- One call. The history after it begins with all that the caller had seen, and ends with the call. The calls of the caller in it are those that it made: those from before,
 -- and this one. Under the premise the history is legal.
