@@ -33,7 +33,7 @@ returns-in-Ok-clause-kept g c = λ r are h.
     (c.step.ensures.step r are) (c.step.ensures.sound r are) (λ dead. (c.step.ensures.ended dead).1) (c.session.ensures.kept r are h)
 
 pub returns-in-Ok-clause-limits : goal.returns-in-Ok-clause-limits
-returns-in-Ok-clause-limits g c = call_told _ _ c.args.text.now c.step.result c.step.ensures.limits
+returns-in-Ok-clause-limits g c = call_told (g.S.Store.counted c.session.new.core.store) (g.S.Store.shows c.session.new.core.store).commits c.args.text.now c.step.result c.step.ensures.limits
 
 pub returns-in-Err-clause-limits : goal.returns-in-Err-clause-limits
 returns-in-Err-clause-limits g c = none_told c.args.text.now c.in-Err.refusal c.in-Err.ensures.limits

@@ -24,7 +24,7 @@ invariant_of-self g c =
           (says_on g.S.Store.is_sound g.S.Store.shows c.self.inside.core c.step-reply.new.self c.me.inside.id c.args.text.now c.step-reply.result (stands_at _ _ _ _ _ _ (cell_view c.self.inside.keeper) (cell_view c.me.inside.token) _ c.self.invariant.1 told c.me.invariant.3) c.step-reply.ensures.step c.step-reply.ensures.sound)),
       subst (λ (v : View). IsCounted g.J.Room.refused (g.S.Store.refused c.step-reply.new.self.store) v.log) (sym x)
           (counted_after _ _ _ (cell_view c.self.inside.keeper).log (event (cell_view c.me.inside.token).who act) c.step-reply.ensures.counts c.step-reply.ensures.device
-          (call_told _ _ c.args.text.now c.step-reply.result c.step-reply.ensures.limits) c.self.invariant.2),
+          (call_told (g.S.Store.counted c.self.inside.core.store) (g.S.Store.shows c.self.inside.core.store).commits c.args.text.now c.step-reply.result c.step-reply.ensures.limits) c.self.invariant.2),
     )
 
 pub returns : goal.returns
@@ -39,5 +39,5 @@ returns g c =
       call = subst₂ (λ (p q : Past). Extends g.J.Room.premise g.J.Room.start p act q) c.me.view_is (ap past (sym x))
           (extends_after c.databases_stay_good.ensures.run _ _ _ _ (IsSound g.S.Store.is_sound g.S.Store.shows c.step-reply.new.self) _ _ _ (cell_view c.self.inside.keeper) (cell_view c.me.inside.token) act c.self.invariant.1 told
           (says_on g.S.Store.is_sound g.S.Store.shows c.self.inside.core c.step-reply.new.self c.me.inside.id c.args.text.now c.step-reply.result (stands_at _ _ _ _ _ _ (cell_view c.self.inside.keeper) (cell_view c.me.inside.token) _ c.self.invariant.1 told c.me.invariant.3) c.step-reply.ensures.step c.step-reply.ensures.sound));
-      limits = call_told _ _ c.args.text.now c.step-reply.result c.step-reply.ensures.limits;
+      limits = call_told (g.S.Store.counted c.self.inside.core.store) (g.S.Store.shows c.self.inside.core.store).commits c.args.text.now c.step-reply.result c.step-reply.ensures.limits;
     }
