@@ -13,7 +13,8 @@ nothing_left (x ∷ xs) h = absurd (omega arith)
 pub loop-client-init : goal.loop-client-init
 loop-client-init g c =
     let gives = c.into_iter-client-iterator.ensures.into_iter_gives in
-    (refl, c.into_parts-core.ensures.keeps, refl, gives.1 ∙ ap length (sym gives.0), λ h. h)
+    let same = ap length gives.0 in
+    (refl, c.into_parts-core.ensures.keeps, refl, omega (arith, gives.1, same), λ h. h)
 
 pub loop-client-preserved : goal.loop-client-preserved
 loop-client-preserved g c =
