@@ -1,5 +1,5 @@
 -- X0002 is told only where the device refused a call.
-use Rattle.std.proofs.Common.{◌≡◌, ◌∙◌, ℕ, ◌≤◌, ◌==◌, Bool, true, false, List, [], ◌∷◌, ◌++◌, Ok, Err, length, sym, subst, arith}
+use Rattle.std.proofs.Common.{◌≡◌, ◌∙◌, ℕ, ◌≤◌, Bool, true, false, List, [], ◌∷◌, ◌++◌, Ok, Err, length, sym, arith}
 use Rattle.std.proofs.Math.Nat.{le_trans}
 use Rattle.refusals.specs.declared.refusal.Refusal.{Refusal}
 use Rattle.refusals.specs.declared.refusal.Refusal.TheVariants.{Disk, Exceeded}
@@ -12,7 +12,7 @@ use Rattle.transactions.specs.Refused.{Counts, IfRefused}
 use Rattle.shared.specs.declared.event.Event.{Event}
 use Rattle.shared.specs.declared.event.Act.{Act}
 use Rattle.shared.specs.declared.event.Act.TheVariants.{Connects, Refused, Says, Ends}
-use Rattle.shared.specs.History.{AllTellDevice, EachAct, IsCounted, TellsDevice, TellsLimits, calls_by}
+use Rattle.shared.specs.History.{AllTellDevice, IsCounted, TellsDevice, TellsLimits, calls_by}
 use Rattle.shared.specs.Scripts.{AllTellDeviceIf, Answer, Ask, Played, TellsDeviceIf, ask_of, opened}
 use Rattle.shared.specs.Scripts.Ask.{joins, refused, says, leaves}
 use Rattle.shared.proofs.Each.{EachAsk, each_and, each_played}

@@ -1,5 +1,5 @@
 -- What holds of each call of a history, or of each call of a script.
-use Rattle.std.proofs.Common.{◌≡◌, ℕ, ◌==◌, Bool, true, false, List, [], ◌∷◌, ◌++◌, subst}
+use Rattle.std.proofs.Common.{ℕ, ◌==◌, Bool, true, false, List, [], ◌∷◌, ◌++◌, subst}
 use Rattle.shared.specs.declared.event.Event.{Event}
 use Rattle.shared.specs.declared.event.Act.{Act}
 use Rattle.shared.specs.History.{EachAct, calls_by, kept}

@@ -1,9 +1,8 @@
 -- A limit of what the store counts is told only of a text that may reach it.
-use Rattle.std.proofs.Common.{◌≡◌, ℕ, Bool, true, false, List, [], ◌∷◌, Ok, Err, length, sym, subst, arith}
+use Rattle.std.proofs.Common.{◌≡◌, ℕ, Bool, true, false, List, [], ◌∷◌, Ok, Err}
 use Rattle.ast.specs.declared.statement.Statement.{Statement}
 use Rattle.ast.specs.declared.statement.Statement.TheVariants as statement
 use Rattle.lexer.specs.Token.{Bytes}
-use Rattle.refusals.specs.declared.refusal.Refusal.{Refusal}
 use Rattle.refusals.specs.declared.refusal.Refusal.TheVariants.{Exceeded}
 use Rattle.refusals.specs.declared.limit.Limit.TheVariants as limit
 use Rattle.replies.specs.declared.reply.Reply.{Reply}
@@ -11,7 +10,7 @@ use Rattle.sessions.specs.Limits.{CallReaches, StatementReaches}
 use Rattle.sessions.proofs.Limits.{told_wider}
 use Rattle.store.specs.declared.error.StoreLimit.{StoreLimit}
 use Rattle.store.specs.declared.error.StoreLimit.TheVariants as reached
-use Rattle.transactions.specs.Refused.{IfRefused, TellsReached, TellsNoLimit}
+use Rattle.transactions.specs.Refused.{IfRefused, TellsReached}
 use Rattle.shared.specs.declared.event.Event.{Event}
 use Rattle.shared.specs.declared.event.Act.{Act}
 use Rattle.shared.specs.declared.event.Act.TheVariants.{Connects, Refused, Says, Ends}
@@ -33,15 +32,11 @@ pub call_told : (counted : StoreLimit → Type 0) (commits : ℕ) (text : Bytes)
 call_told counted commits text reply h =
     told_wider (CallReaches counted commits text) (MayReach text) (λ which h. (commits, (h.0, h.1, statement_may counted commits h.0 which h.2))) reply h
 
--- no session was made
-pub not_made_told : (refusal : Refusal) → refusal ≡ Exceeded limit.Sessions → TellsNoLimit refusal
-not_made_told refusal is = subst TellsNoLimit (sym is) tt
-
 -- ---- the answers of a script
 
 abbrev AskTells : Ask → Type 0
 AskTells joins = Unit {0}
-AskTells (refused refusal) = TellsNoLimit refusal
+AskTells (refused refusal) = refusal ≡ Exceeded limit.Sessions
 AskTells (says text reply) = IfRefused reply (TellsReached (MayReach text))
 AskTells leaves = Unit {0}
 

@@ -1,7 +1,8 @@
 -- Histories of many callers of one core: what each was told, in one order; and which of them are legal (sessions are those of ISO/IEC 9075:1992, 4.30; that their calls
 -- have one order is our own choice).
 use Rattle.std.specs.Prelude.{Option, Some, None, Ok, Err, ◌≡◌, ℕ, ◌<◌, ◌≤◌, ◌==◌, Bool, true, false, not, ◌||◌, ◌&&◌, List, [], ◌∷◌, ◌++◌, map}
-use Rattle.refusals.specs.declared.refusal.Refusal.TheVariants.{Disk}
+use Rattle.refusals.specs.declared.refusal.Refusal.TheVariants.{Disk, Exceeded}
+use Rattle.refusals.specs.declared.limit.Limit.TheVariants as limit
 use Rattle.session_definitions.specs.Rules.{Rules, AreRules}
 use Rattle.session_definitions.specs.Run as runs
 use Rattle.session_definitions.specs.World.{World}
@@ -10,7 +11,7 @@ use Rattle.store.specs.Errors.{HasRisen}
 use Rattle.lexer.specs.Token.{Bytes}
 use Rattle.sessions.specs.Limits.{CallReaches}
 use Rattle.store.specs.declared.error.StoreLimit.{StoreLimit}
-use Rattle.transactions.specs.Refused.{Counts, IfRefused, TellsReached, TellsNoLimit}
+use Rattle.transactions.specs.Refused.{Counts, IfRefused, TellsReached}
 use Rattle.shared.specs.declared.event.Event.{Event}
 use Rattle.shared.specs.declared.event.Act.{Act}
 use Rattle.shared.specs.declared.event.Act.TheVariants.{Connects, Refused, Says, Ends}
@@ -131,10 +132,10 @@ AllTellDevice log before after = EachAct (λ act. TellsDevice act before after) 
 abbrev pub MayReach : Bytes → StoreLimit → Type 0
 MayReach text which = (commits : ℕ) × CallReaches (λ _. Unit {0}) commits text which
 
--- a call tells such a limit only where its text may reach it
+-- a call tells such a limit only where its text may reach it; no session is made only where as many stand as may
 abbrev pub TellsLimits : Act → Type 0
 TellsLimits (Connects id) = Unit {0}
-TellsLimits (Refused refusal) = TellsNoLimit refusal
+TellsLimits (Refused refusal) = refusal ≡ Exceeded limit.Sessions
 TellsLimits (Says id text reply) = IfRefused reply (TellsReached (MayReach text))
 TellsLimits (Ends id) = Unit {0}
 

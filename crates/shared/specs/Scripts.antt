@@ -3,12 +3,13 @@ use Rattle.std.specs.Prelude.{Bool, true, false, Option, Some, None, Result, Ok,
 use mathlib.Core.List.{IsPrefix}
 use Rattle.std.specs.Global.{Vec}
 use Rattle.refusals.specs.declared.refusal.Refusal.{Refusal}
-use Rattle.refusals.specs.declared.refusal.Refusal.TheVariants.{Disk}
+use Rattle.refusals.specs.declared.refusal.Refusal.TheVariants.{Disk, Exceeded}
+use Rattle.refusals.specs.declared.limit.Limit.TheVariants as limit
 use Rattle.replies.specs.declared.reply.Reply.{Reply}
 use Rattle.session_definitions.specs.World.{World}
 use Rattle.sessions.specs.declared.core_of.Core.{Core}
 use Rattle.store.specs.Errors.{HasRisen}
-use Rattle.transactions.specs.Refused.{IfRefused, TellsReached, TellsNoLimit}
+use Rattle.transactions.specs.Refused.{IfRefused, TellsReached}
 use Rattle.shared.specs.declared.event.Event.{Event}
 use Rattle.shared.specs.declared.event.Act.{Act}
 use Rattle.shared.specs.declared.event.Act.TheVariants.{Connects, Refused, Says, Ends}
@@ -106,9 +107,9 @@ abbrev pub AllTellDeviceIf : Type 0 → List Answer → Type 0
 AllTellDeviceIf has_refused [] = Unit {0}
 AllTellDeviceIf has_refused (a ∷ answers) = TellsDeviceIf has_refused a × AllTellDeviceIf has_refused answers
 
--- the answer to a text tells a limit of what the store counts only where the text may reach it
+-- the answer to a text tells a limit of what the store counts only where the text may reach it; no session is made only where as many stand as may
 abbrev pub AnswerTellsLimits : List ℕ → Answer → Type 0
-AnswerTellsLimits text (Err refusal) = TellsNoLimit refusal
+AnswerTellsLimits text (Err refusal) = refusal ≡ Exceeded limit.Sessions
 AnswerTellsLimits text (Ok reply) = IfRefused reply (TellsReached (MayReach text))
 
 -- and so those of a script

@@ -1,5 +1,7 @@
 //! The calls of sessions, by any thread.
 ghost use Rattle.std.specs.Prelude.{◌≡◌, ◌≤◌, ℕ, None, [], false, IfOk, IfErr};
+ghost use Rattle.refusals.specs.declared.refusal.Refusal.TheVariants.{Exceeded};
+ghost use Rattle.refusals.specs.declared.limit.Limit.TheVariants as limit;
 ghost use Rattle.crossbeam_utils.specs.Seq.{cell_view};
 ghost use Rattle.session_definitions.specs.World.{is_live};
 ghost use Rattle.sessions.specs.OfCore.{IsSound, world_of};
@@ -70,6 +72,7 @@ impl<S: Store, L: Language + Changes<S>, J: Room> Shared<S, L, J> {
     ) -> Result<Session<J>, (Refusal, Client<J>)>
         ensures ok { IfOk result (λ s. Joined J.premise J.start me s) }
         ensures err { IfErr result (λ e. TurnedAway J.premise J.start me e.0 e.1) }
+        ensures full { IfErr result (λ e. e.0 ≡ Exceeded limit.Sessions) }
     {
         self.desk.lock(rt).connect(rt, &self.cell, me)
     }
