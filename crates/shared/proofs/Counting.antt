@@ -1,5 +1,5 @@
 -- X0002 is told only where the device refused a call.
-use Rattle.std.proofs.Common.{◌≡◌, ◌∙◌, ℕ, ◌≤◌, ◌==◌, Bool, true, false, List, [], ◌∷◌, ◌++◌, Ok, Err, length, sym, subst, arith}
+use Rattle.std.proofs.Common.{◌≡◌, ◌∙◌, ℕ, ◌≤◌, Bool, true, false, List, [], ◌∷◌, ◌++◌, Ok, Err, length, sym, arith}
 use Rattle.std.proofs.Math.Nat.{le_trans}
 use Rattle.refusals.specs.declared.refusal.Refusal.{Refusal}
 use Rattle.refusals.specs.declared.refusal.Refusal.TheVariants.{Disk, Exceeded}
@@ -12,9 +12,10 @@ use Rattle.transactions.specs.Refused.{Counts, IfRefused}
 use Rattle.shared.specs.declared.event.Event.{Event}
 use Rattle.shared.specs.declared.event.Act.{Act}
 use Rattle.shared.specs.declared.event.Act.TheVariants.{Connects, Refused, Says, Ends}
-use Rattle.shared.specs.History.{AllTellDevice, IsCounted, TellsDevice, calls_by, kept}
-use Rattle.shared.specs.Scripts.{AllTellDeviceIf, Answer, Ask, Played, TellsDeviceIf, ask_of, asks, closing, opened, stood}
+use Rattle.shared.specs.History.{AllTellDevice, IsCounted, TellsDevice, TellsLimits, calls_by}
+use Rattle.shared.specs.Scripts.{AllTellDeviceIf, Answer, Ask, Played, TellsDeviceIf, ask_of, opened}
 use Rattle.shared.specs.Scripts.Ask.{joins, refused, says, leaves}
+use Rattle.shared.proofs.Each.{EachAsk, each_and, each_played}
 
 -- ---- the count goes on
 
@@ -42,18 +43,15 @@ all_still : (log : List Event) (k m n : ℕ) → m ≤ n → AllTellDevice log k
 all_still [] k m n more h = tt
 all_still (e ∷ log) k m n more h = (act_still e.act k m n more h.0, all_still log k m n more h.1)
 
-all_and : (log : List Event) (e : Event) (m n : ℕ) → AllTellDevice log m n → TellsDevice e.act m n → AllTellDevice (log ++ e ∷ []) m n
-all_and [] e m n h last = (last, tt)
-all_and (d ∷ log) e m n h last = (h.0, all_and log e m n h.1 last)
-
 pub counted_later : (k m n : ℕ) (log : List Event) → m ≤ n → IsCounted k m log → IsCounted k n log
-counted_later k m n log more h = record { least = le_trans h.least more; told = all_still log k m n more h.told }
+counted_later k m n log more h = record { least = le_trans h.least more; told = all_still log k m n more h.told; limits = h.limits }
 
 -- one call more
-pub counted_after : (k m n : ℕ) (log : List Event) (e : Event) → m ≤ n → TellsDevice e.act m n → IsCounted k m log → IsCounted k n (log ++ e ∷ [])
-counted_after k m n log e more tells h = record {
+pub counted_after : (k m n : ℕ) (log : List Event) (e : Event) → m ≤ n → TellsDevice e.act m n → TellsLimits e.act → IsCounted k m log → IsCounted k n (log ++ e ∷ [])
+counted_after k m n log e more tells limits h = record {
   least = le_trans h.least more;
-  told = all_and log e k n (all_still log k m n more h.told) (act_later e.act k m n h.least tells);
+  told = each_and (λ act. TellsDevice act k n) log e (all_still log k m n more h.told) (act_later e.act k m n h.least tells);
+  limits = each_and TellsLimits log e h.limits limits;
 }
 
 pub same_count : (m n : ℕ) → n ≡ m → m ≤ n
@@ -71,15 +69,7 @@ module _ (has_refused : Type 0) where
   AskTells (says text reply) = IfRefused reply (λ refusal. refusal ≡ Disk → has_refused)
   AskTells leaves = Unit {0}
 
-  abbrev AsksTell : List Ask → Type 0
-  AsksTell [] = Unit {0}
-  AsksTell (a ∷ more) = AskTells a × AsksTell more
-
-  front_tells : (a b : List Ask) → AsksTell (a ++ b) → AsksTell a
-  front_tells [] b h = tt
-  front_tells (x ∷ a) b h = (h.0, front_tells a b h.1)
-
-  answers_tell : (stands : Bool) (texts : List (List ℕ)) (answers : List Answer) → length answers ≡ length texts → AsksTell (opened stands texts answers)
+  answers_tell : (stands : Bool) (texts : List (List ℕ)) (answers : List Answer) → length answers ≡ length texts → EachAsk AskTells (opened stands texts answers)
       → AllTellDeviceIf has_refused answers
   answers_tell stands texts [] same h = tt
   answers_tell stands [] (a ∷ answers) same h = absurd (cc same)
@@ -93,24 +83,11 @@ act_tells (Refused refusal) m n h = h
 act_tells (Says id text reply) m n h = h
 act_tells (Ends id) m n h = tt
 
-kept_tell : (b : Bool) (e : Event) (es : List Event) (m n : ℕ) → TellsDevice e.act m n → AllTellDevice es m n → AllTellDevice (kept b e es) m n
-kept_tell true e es m n first h = (first, h)
-kept_tell false e es m n first h = h
-
-calls_tell : (who : ℕ) (log : List Event) (m n : ℕ) → AllTellDevice log m n → AllTellDevice (calls_by who log) m n
-calls_tell who [] m n h = tt
-calls_tell who (e ∷ log) m n h = kept_tell (e.who == who) e (calls_by who log) m n h.0 (calls_tell who log m n h.1)
-
-asks_tell : (es : List Event) (m n : ℕ) → AllTellDevice es m n → AsksTell (HasRisen m n) (asks es)
-asks_tell [] m n h = tt
-asks_tell (e ∷ es) m n h = (act_tells e.act m n h.0, asks_tell es m n h.1)
-
 pub answered : (m n : ℕ) (texts : List (List ℕ)) (who : ℕ) (log : List Event) (answers : List Answer) → Played texts (calls_by who log) answers → AllTellDevice log m n
     → AllTellDeviceIf (HasRisen m n) answers
 answered m n texts who log answers played told =
     answers_tell (HasRisen m n) false texts answers played.1
-    (front_tells (HasRisen m n) (opened false texts answers) (closing (stood false answers))
-    (subst (λ l. AsksTell (HasRisen m n) l) played.0 (asks_tell (calls_by who log) m n (calls_tell who log m n told))))
+    (each_played (λ act. TellsDevice act m n) (AskTells (HasRisen m n)) (λ act h. act_tells act m n h) texts who log answers played told)
 
 -- where the device refused a call, in other words
 answer_by : (P Q : Type 0) → (P → Q) → (answer : Answer) → TellsDeviceIf P answer → TellsDeviceIf Q answer

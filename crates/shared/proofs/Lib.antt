@@ -1,5 +1,7 @@
 pub mod Histories
+pub mod Each
 pub mod Counting
+pub mod Limits
 pub mod Moves
 pub mod Goods
 pub mod Desks

@@ -1,13 +1,17 @@
 -- Histories of many callers of one core: what each was told, in one order; and which of them are legal (sessions are those of ISO/IEC 9075:1992, 4.30; that their calls
 -- have one order is our own choice).
 use Rattle.std.specs.Prelude.{Option, Some, None, Ok, Err, ◌≡◌, ℕ, ◌<◌, ◌≤◌, ◌==◌, Bool, true, false, not, ◌||◌, ◌&&◌, List, [], ◌∷◌, ◌++◌, map}
-use Rattle.refusals.specs.declared.refusal.Refusal.TheVariants.{Disk}
+use Rattle.refusals.specs.declared.refusal.Refusal.TheVariants.{Disk, Exceeded}
+use Rattle.refusals.specs.declared.limit.Limit.TheVariants as limit
 use Rattle.session_definitions.specs.Rules.{Rules, AreRules}
 use Rattle.session_definitions.specs.Run as runs
 use Rattle.session_definitions.specs.World.{World}
 use Rattle.session_laws.specs.Sound.{IsGoodWorld}
 use Rattle.store.specs.Errors.{HasRisen}
-use Rattle.transactions.specs.Refused.{Counts}
+use Rattle.lexer.specs.Token.{Bytes}
+use Rattle.sessions.specs.Limits.{CallReaches}
+use Rattle.store.specs.declared.error.StoreLimit.{StoreLimit}
+use Rattle.transactions.specs.Refused.{Counts, IfRefused, TellsReached}
 use Rattle.shared.specs.declared.event.Event.{Event}
 use Rattle.shared.specs.declared.event.Act.{Act}
 use Rattle.shared.specs.declared.event.Act.TheVariants.{Connects, Refused, Says, Ends}
@@ -106,7 +110,12 @@ at_after (Refused refusal) at = at
 at_after (Says id text reply) at = at
 at_after (Ends id) at = None
 
--- ---- refusals of the device
+-- each call is such a one
+abbrev pub EachAct : (Act → Type 0) → List Event → Type 0
+EachAct P [] = Unit {0}
+EachAct P (e ∷ es) = P e.act × EachAct P es
+
+-- ---- refusals of the device, and by limits of the store
 
 -- X0002 is told of a call only where the count of refused calls rose from the one to the other
 abbrev pub TellsDevice : Act → ℕ → ℕ → Type 0
@@ -117,10 +126,21 @@ TellsDevice (Ends id) before after = Unit {0}
 
 -- of each call
 abbrev pub AllTellDevice : List Event → ℕ → ℕ → Type 0
-AllTellDevice [] before after = Unit {0}
-AllTellDevice (e ∷ es) before after = TellsDevice e.act before after × AllTellDevice es before after
+AllTellDevice log before after = EachAct (λ act. TellsDevice act before after) log
 
--- The count of refused calls has not fallen since it was the one, and rose where X0002 was told.
+-- The text may reach a limit of what the store counts, its pages, private pages or kept page images: a change each of them, and a COMMIT, which takes no private page, the others.
+abbrev pub MayReach : Bytes → StoreLimit → Type 0
+MayReach text which = (commits : ℕ) × CallReaches (λ _. Unit {0}) commits text which
+
+-- a call tells such a limit only where its text may reach it; no session is made only where as many stand as may
+abbrev pub TellsLimits : Act → Type 0
+TellsLimits (Connects id) = Unit {0}
+TellsLimits (Refused refusal) = refusal ≡ Exceeded limit.Sessions
+TellsLimits (Says id text reply) = IfRefused reply (TellsReached (MayReach text))
+TellsLimits (Ends id) = Unit {0}
+
+-- The count of refused calls has not fallen since it was the one, and rose where X0002 was told; limits of the store were told only of what may reach them.
 pub record IsCounted (before after : ℕ) (log : List Event) : Type 0 where
   pub least : before ≤ after
   pub told : AllTellDevice log before after
+  pub limits : EachAct TellsLimits log

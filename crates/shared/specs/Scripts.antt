@@ -3,16 +3,17 @@ use Rattle.std.specs.Prelude.{Bool, true, false, Option, Some, None, Result, Ok,
 use mathlib.Core.List.{IsPrefix}
 use Rattle.std.specs.Global.{Vec}
 use Rattle.refusals.specs.declared.refusal.Refusal.{Refusal}
-use Rattle.refusals.specs.declared.refusal.Refusal.TheVariants.{Disk}
+use Rattle.refusals.specs.declared.refusal.Refusal.TheVariants.{Disk, Exceeded}
+use Rattle.refusals.specs.declared.limit.Limit.TheVariants as limit
 use Rattle.replies.specs.declared.reply.Reply.{Reply}
 use Rattle.session_definitions.specs.World.{World}
 use Rattle.sessions.specs.declared.core_of.Core.{Core}
 use Rattle.store.specs.Errors.{HasRisen}
-use Rattle.transactions.specs.Refused.{IfRefused}
+use Rattle.transactions.specs.Refused.{IfRefused, TellsReached}
 use Rattle.shared.specs.declared.event.Event.{Event}
 use Rattle.shared.specs.declared.event.Act.{Act}
 use Rattle.shared.specs.declared.event.Act.TheVariants.{Connects, Refused, Says, Ends}
-use Rattle.shared.specs.History.{Stays, AllOf, IsCounted, calls_by}
+use Rattle.shared.specs.History.{Stays, AllOf, IsCounted, MayReach, calls_by}
 use Rattle.shared.specs.Views.{Past}
 
 -- a text's answer: its reply, or why no session was made for it
@@ -106,6 +107,17 @@ abbrev pub AllTellDeviceIf : Type 0 → List Answer → Type 0
 AllTellDeviceIf has_refused [] = Unit {0}
 AllTellDeviceIf has_refused (a ∷ answers) = TellsDeviceIf has_refused a × AllTellDeviceIf has_refused answers
 
+-- the answer to a text tells a limit of what the store counts only where the text may reach it; no session is made only where as many stand as may
+abbrev pub AnswerTellsLimits : List ℕ → Answer → Type 0
+AnswerTellsLimits text (Err refusal) = refusal ≡ Exceeded limit.Sessions
+AnswerTellsLimits text (Ok reply) = IfRefused reply (TellsReached (MayReach text))
+
+-- and so those of a script
+abbrev pub AnswersTellLimits : List (List ℕ) → List Answer → Type 0
+AnswersTellLimits [] answers = Unit {0}
+AnswersTellLimits (text ∷ texts) [] = Unit {0}
+AnswersTellLimits (text ∷ texts) (a ∷ answers) = AnswerTellsLimits text a × AnswersTellLimits texts answers
+
 abbrev pub store_of : {S L D : Type 0} → Core S L D → S
 store_of core = core.store
 
@@ -119,8 +131,9 @@ pub record OneHistory (premise : Type 0) (start : World) (scripts : List Script)
   pub tells : premise → Stays start log sound end
 
 -- There is one history of the scripts, from a core whose device had refused `before` calls to one whose device has refused `after`. X0002 is told in it, and is an answer, only where the
--- device refused a call.
+-- device refused a call; a limit of what the store counts is told in it, and is an answer, only where the text may reach it.
 pub record RunSideBySide (premise : Type 0) (start : World) (before : ℕ) (scripts : List Script) (replies : List Answers) (sound : Type 0) (end : World) (after : ℕ) : Type 0 where
   pub history : OneHistory premise start scripts replies sound end
   pub counted : IsCounted before after history.log
   pub device : (k : ℕ) (answers : Answers) → slice_get replies k ≡ Some answers → AllTellDeviceIf (HasRisen before after) answers.items
+  pub limits : (k : ℕ) (answers : Answers) → slice_get replies k ≡ Some answers → AnswersTellLimits (texts_at scripts k) answers.items

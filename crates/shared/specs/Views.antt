@@ -6,13 +6,14 @@ use lib.ListN.{get_elem?}
 use Rattle.atomic_table.specs.Seated.{TableId}
 use Rattle.lexer.specs.Token.{Bytes}
 use Rattle.replies.specs.declared.reply.Reply.{Reply}
+use Rattle.transactions.specs.Refused.{IfRefused, TellsReached}
 use Rattle.refusals.specs.declared.refusal.Refusal.{Refusal}
 use Rattle.session_definitions.specs.World.{World, is_live}
 use Rattle.shared.specs.declared.event.Event.{Event}
 use Rattle.shared.specs.declared.event.Act.{Act}
 use Rattle.shared.specs.declared.event.Act.TheVariants.{Connects, Refused, Says, Ends}
 use Rattle.shared.specs.declared.rule.View.{View}
-use Rattle.shared.specs.History.{IsLegal, Stays, event, calls_by, holder_of, AllOf, at_after}
+use Rattle.shared.specs.History.{IsLegal, Stays, event, calls_by, holder_of, AllOf, MayReach, at_after}
 
 -- the name of no cell
 abbrev pub no_table : TableId
@@ -113,11 +114,6 @@ pub record IsDesk (premise : Type 0) (start : World) (callers : Option ℕ) (is_
   pub all_of : AllOf v.names v.log
   pub tells : premise → Stays start v.log is_sound world
 
--- the world is the one after some legal history of calls
-pub record HasHistory (start : World) (is_sound : Type 0) (world : World) : Type 0 where
-  pub log : List Event
-  pub stays : Stays start log is_sound world
-
 -- ---- what a call tells
 
 -- a caller: its number, its session's number, what it has seen, and the calls that it made
@@ -130,6 +126,21 @@ pub record Past : Type 0 where
 abbrev pub past : View → Past
 past v = record { who = v.who; at = v.at; seen = v.seen; mine = v.mine }
 
+-- a caller has seen a beginning of the history, in which its calls are those that it made
+pub record IsHeard (log : List Event) (caller : Past) : Type 0 where
+  pub saw : IsPrefix caller.seen log
+  pub made : calls_by caller.who log ≡ caller.mine
+
+abbrev pub AllHeard : List Event → List Past → Type 0
+AllHeard log [] = Unit {0}
+AllHeard log (caller ∷ callers) = IsHeard log caller × AllHeard log callers
+
+-- There is one history, in which each of these callers is heard. Under the premise it is legal, and the world is the one after it.
+pub record HasHistory (premise : Type 0) (start : World) (callers : List Past) (is_sound : Type 0) (world : World) : Type 0 where
+  pub log : List Event
+  pub heard : AllHeard log callers
+  pub tells : premise → Stays start log is_sound world
+
 -- One call. The history after it begins with all that the caller had seen, and ends with the call. The calls of the caller in it are those that it made: those from before,
 -- and this one. Under the premise the history is legal.
 pub record Extends (premise : Type 0) (start : World) (v : Past) (act : Act) (w : Past) : Type 0 where
@@ -141,11 +152,12 @@ pub record Extends (premise : Type 0) (start : World) (v : Past) (act : Act) (w 
   pub made : calls_by w.who w.seen ≡ w.mine
   pub legal : premise → IsLegal start w.seen
 
--- its session was asked this, and this is the reply
+-- its session was asked this, and this is the reply, which tells a limit of what the store counts only of a text that may reach it
 pub record Said (premise : Type 0) (start : World) (v : Past) (text : Bytes) (reply : Reply) (w : Past) : Type 0 where
   pub id : ℕ
   pub at : v.at ≡ Some id
   pub call : Extends premise start v (Says id text reply) w
+  pub limits : IfRefused reply (TellsReached (MayReach text))
 
 -- it was made a session
 pub record Joined (premise : Type 0) (start : World) (v w : Past) : Type 0 where

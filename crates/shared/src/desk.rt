@@ -1,5 +1,7 @@
 //! What lies under the lock: a core, and the pass that knows the history of all that was called.
 ghost use Rattle.std.specs.Prelude.{◌≡◌, ◌≤◌, ℕ, ◌+◌, ◌%◌, ◌^◌, Some, None, List, [], true, false, length, IfOk, IfErr};
+ghost use Rattle.refusals.specs.declared.refusal.Refusal.TheVariants.{Exceeded};
+ghost use Rattle.refusals.specs.declared.limit.Limit.TheVariants as limit;
 ghost use mathlib.Core.List.{IsPrefix};
 ghost use Rattle.crossbeam_utils.specs.Seq.{cell_view};
 ghost use Rattle.session_definitions.specs.World.{is_live};
@@ -142,6 +144,7 @@ impl<S: Store, L: Language + Changes<S>, J: Room> Desk<S, L, J> {
         requires { cell.now.table.shared.table_id ≡ J.table }
         ensures ok { IfOk result (λ s. Joined J.premise J.start me s) }
         ensures err { IfErr result (λ e. TurnedAway J.premise J.start me e.0 e.1) }
+        ensures full { IfErr result (λ e. e.0 ≡ Exceeded limit.Sessions) }
     {
         databases_stay_good();
         let Client { mut token, of } = me;

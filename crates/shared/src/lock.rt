@@ -1,5 +1,7 @@
 //! The calls of sessions, by any thread.
 ghost use Rattle.std.specs.Prelude.{◌≡◌, ◌≤◌, ℕ, None, [], false, IfOk, IfErr};
+ghost use Rattle.refusals.specs.declared.refusal.Refusal.TheVariants.{Exceeded};
+ghost use Rattle.refusals.specs.declared.limit.Limit.TheVariants as limit;
 ghost use Rattle.crossbeam_utils.specs.Seq.{cell_view};
 ghost use Rattle.session_definitions.specs.World.{is_live};
 ghost use Rattle.sessions.specs.OfCore.{IsSound, world_of};
@@ -7,7 +9,7 @@ ghost use Rattle.shared.specs.Scripts.{store_of};
 ghost use Rattle.shared.specs.Views.{keeper as keeper_of, Said, Joined, TurnedAway, Left, HasHistory};
 
 use crate::callers::{Client, Session};
-use crate::desk::Desk;
+use crate::desk::{Desk, hear};
 use crate::rule::{Cell, Room, Token};
 use refusals::Refusal;
 use replies::Reply;
@@ -40,12 +42,17 @@ impl<S: Store, L: Language + Changes<S>, J: Room> Shared<S, L, J> {
         }
     }
 
-    /// The core, once no thread shares it: its world is the one after some legal history.
-    pub fn into_core(self) -> Core<S, L>
-        ensures { J.premise → HasHistory J.start (IsSound S.is_sound S.shows result) (world_of S.shows result) }
+    /// The core, once no thread shares it: its world is the one after a legal history. Of each caller that is handed in this history has the calls that it made and no others, and it
+    /// begins with all that the caller has seen.
+    pub fn into_core<R: Wait>(self, rt: &R, callers: Vec<Client<J>>) -> Core<S, L>
+        ensures { HasHistory J.premise J.start callers.items (IsSound S.is_sound S.shows result) (world_of S.shows result) }
     {
-        let Shared { cell: _, desk } = self;
-        let (core, _keeper) = desk.into_inner().into_parts();
+        let Shared { cell, desk } = self;
+        let (core, keeper) = desk.into_inner().into_parts();
+        let mut keeper = keeper;
+        for client in callers {
+            hear(rt, &cell, &mut keeper, client);
+        }
         core
     }
 
@@ -65,6 +72,7 @@ impl<S: Store, L: Language + Changes<S>, J: Room> Shared<S, L, J> {
     ) -> Result<Session<J>, (Refusal, Client<J>)>
         ensures ok { IfOk result (λ s. Joined J.premise J.start me s) }
         ensures err { IfErr result (λ e. TurnedAway J.premise J.start me e.0 e.1) }
+        ensures full { IfErr result (λ e. e.0 ≡ Exceeded limit.Sessions) }
     {
         self.desk.lock(rt).connect(rt, &self.cell, me)
     }

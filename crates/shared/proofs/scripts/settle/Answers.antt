@@ -8,6 +8,7 @@ use Rattle.shared.specs.Callers.{HasPlayed}
 use Rattle.shared.specs.declared.jobs.Done.{Done}
 use Rattle.shared.proofs.Asking.{each_reply, later_is}
 use Rattle.shared.proofs.Counting.{answered}
+use Rattle.shared.proofs.Limits.{limits_answered}
 use Rattle.shared.proofs.scripts.settle.Goals as goal
 
 pub loop-one-preserved : goal.loop-one-preserved
@@ -58,4 +59,5 @@ returns g c =
       counted = held.device;
       device = λ k answers is.
           answered g.J.Room.refused _ (texts_at c.args.scripts.now k) k (cell_view c.into_parts-core.result.1).log answers.items (was.5 k answers is) held.device.told;
+      limits = λ k answers is. limits_answered (texts_at c.args.scripts.now k) k (cell_view c.into_parts-core.result.1).log answers.items (was.5 k answers is) held.device.limits;
     }

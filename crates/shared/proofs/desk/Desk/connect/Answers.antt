@@ -23,7 +23,7 @@ invariant_of-self g c =
           (desk_after c.databases_stay_good.ensures.run _ _ _ _ _ _ _ _ (cell_view c.self.inside.keeper) (cell_view c.me.inside.token) act c.self.invariant.1 told (live_made (world_of g.S.Store.shows c.self.inside.core) (world_of g.S.Store.shows c.new_session.new.self) (number_of c.in-Ok.id) c.in-Ok.ensures.live.0 c.in-Ok.ensures.live.1)
           (connects_on g.S.Store.is_sound g.S.Store.shows c.self.inside.core c.new_session.new.self c.in-Ok.id c.in-Ok.ensures.makes c.in-Ok.ensures.sound)),
       subst (λ (v : View). IsCounted g.J.Room.refused (g.S.Store.refused c.new_session.new.self.store) v.log) (sym x)
-          (counted_after _ _ _ (cell_view c.self.inside.keeper).log (event (cell_view c.me.inside.token).who act) (same_count _ _ c.new_session.ensures.counts) tt c.self.invariant.2),
+          (counted_after _ _ _ (cell_view c.self.inside.keeper).log (event (cell_view c.me.inside.token).who act) (same_count _ _ c.new_session.ensures.counts) tt tt c.self.invariant.2),
     )
 
 pub returns-in-Ok-clause-ok : goal.returns-in-Ok-clause-ok
@@ -52,7 +52,7 @@ invariant_of-self-2 g c =
           (desk_after c.databases_stay_good.ensures.run _ _ _ _ _ _ _ _ (cell_view c.self.inside.keeper) (cell_view c.me.inside.token) act c.self.invariant.1 told (λ id. ap (λ x. is_live (world_of g.S.Store.shows x) id) c.in-Err.ensures.refused.1)
           (refused_on g.S.Store.is_sound g.S.Store.shows c.self.inside.core c.new_session.new.self c.in-Err.refusal c.in-Err.ensures.makes c.in-Err.ensures.sound)),
       subst (λ (v : View). IsCounted g.J.Room.refused (g.S.Store.refused c.new_session.new.self.store) v.log) (sym x)
-          (counted_after _ _ _ (cell_view c.self.inside.keeper).log (event (cell_view c.me.inside.token).who act) (same_count _ _ c.new_session.ensures.counts) (not_disk _ _ _ c.in-Err.ensures.refused.0) c.self.invariant.2),
+          (counted_after _ _ _ (cell_view c.self.inside.keeper).log (event (cell_view c.me.inside.token).who act) (same_count _ _ c.new_session.ensures.counts) (not_disk _ _ _ c.in-Err.ensures.refused.0) c.in-Err.ensures.refused.0 c.self.invariant.2),
     )
 
 pub returns-clause-err : goal.returns-clause-err

@@ -22,7 +22,7 @@ invariant_of-self g c =
           (desk_after c.databases_stay_good.ensures.run _ _ _ _ _ _ _ _ (cell_view c.self.inside.keeper) (cell_view c.me.inside.token) act c.self.invariant.1 told (live_ended (world_of g.S.Store.shows c.self.inside.core) (world_of g.S.Store.shows c.end_session.new.self) (number_of c.me.inside.id) c.end_session.ensures.live.0 c.end_session.ensures.live.1)
           (ends_on g.S.Store.is_sound g.S.Store.shows c.self.inside.core c.end_session.new.self c.me.inside.id (c.end_session.ensures.drops (stands_at _ _ _ _ _ _ (cell_view c.self.inside.keeper) (cell_view c.me.inside.token) _ c.self.invariant.1 told c.me.invariant.3)) c.end_session.ensures.sound)),
       subst (λ (v : View). IsCounted g.J.Room.refused (g.S.Store.refused c.end_session.new.self.store) v.log) (sym x)
-          (counted_after _ _ _ (cell_view c.self.inside.keeper).log (event (cell_view c.me.inside.token).who act) c.end_session.ensures.counts tt c.self.invariant.2),
+          (counted_after _ _ _ (cell_view c.self.inside.keeper).log (event (cell_view c.me.inside.token).who act) c.end_session.ensures.counts tt tt c.self.invariant.2),
     )
 
 pub returns : goal.returns

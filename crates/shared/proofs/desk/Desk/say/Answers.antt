@@ -7,6 +7,7 @@ use Rattle.shared.specs.History.{IsCounted, event}
 use Rattle.shared.specs.Views.{keeper_in, caller_in, extended, past, Past, Told, IsDesk, Extends}
 use Rattle.shared.proofs.Goods.{says_on}
 use Rattle.shared.proofs.Counting.{counted_after}
+use Rattle.shared.proofs.Limits.{call_told}
 use Rattle.shared.proofs.Desks.{desk_after, extends_after, stands_at}
 use Rattle.shared.proofs.desk.Desk.say.Goals as goal
 
@@ -22,7 +23,8 @@ invariant_of-self g c =
           (desk_after c.databases_stay_good.ensures.run _ _ _ _ _ _ _ _ (cell_view c.self.inside.keeper) (cell_view c.me.inside.token) act c.self.invariant.1 told (c.step-reply.ensures.live)
           (says_on g.S.Store.is_sound g.S.Store.shows c.self.inside.core c.step-reply.new.self c.me.inside.id c.args.text.now c.step-reply.result (stands_at _ _ _ _ _ _ (cell_view c.self.inside.keeper) (cell_view c.me.inside.token) _ c.self.invariant.1 told c.me.invariant.3) c.step-reply.ensures.step c.step-reply.ensures.sound)),
       subst (λ (v : View). IsCounted g.J.Room.refused (g.S.Store.refused c.step-reply.new.self.store) v.log) (sym x)
-          (counted_after _ _ _ (cell_view c.self.inside.keeper).log (event (cell_view c.me.inside.token).who act) c.step-reply.ensures.counts c.step-reply.ensures.device c.self.invariant.2),
+          (counted_after _ _ _ (cell_view c.self.inside.keeper).log (event (cell_view c.me.inside.token).who act) c.step-reply.ensures.counts c.step-reply.ensures.device
+          (call_told (g.S.Store.counted c.self.inside.core.store) (g.S.Store.shows c.self.inside.core.store).commits c.args.text.now c.step-reply.result c.step-reply.ensures.limits) c.self.invariant.2),
     )
 
 pub returns : goal.returns
@@ -37,4 +39,5 @@ returns g c =
       call = subst₂ (λ (p q : Past). Extends g.J.Room.premise g.J.Room.start p act q) c.me.view_is (ap past (sym x))
           (extends_after c.databases_stay_good.ensures.run _ _ _ _ (IsSound g.S.Store.is_sound g.S.Store.shows c.step-reply.new.self) _ _ _ (cell_view c.self.inside.keeper) (cell_view c.me.inside.token) act c.self.invariant.1 told
           (says_on g.S.Store.is_sound g.S.Store.shows c.self.inside.core c.step-reply.new.self c.me.inside.id c.args.text.now c.step-reply.result (stands_at _ _ _ _ _ _ (cell_view c.self.inside.keeper) (cell_view c.me.inside.token) _ c.self.invariant.1 told c.me.invariant.3) c.step-reply.ensures.step c.step-reply.ensures.sound));
+      limits = call_told (g.S.Store.counted c.self.inside.core.store) (g.S.Store.shows c.self.inside.core.store).commits c.args.text.now c.step-reply.result c.step-reply.ensures.limits;
     }
