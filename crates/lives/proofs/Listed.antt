@@ -1,7 +1,6 @@
 -- The databases that a run commits are one list, each made from the one before; and what was done since an open is serializable at each time in it.
-use Rattle.std.proofs.Common.{◌≡◌, ◌⊎◌, ◌∙◌, ◌+◌, ℕ, Bool, true, false, cond, List, [], ◌∷◌, ◌++◌, Result, Ok, Err, Some, refl, sym, ap, subst, inl, inr}
+use Rattle.std.proofs.Common.{◌≡◌, ◌∙◌, ◌+◌, ℕ, Bool, true, false, cond, List, [], ◌∷◌, ◌++◌, Result, Ok, Err, Some, refl, sym, ap, subst, inl, inr}
 use Rattle.std.specs.Prelude.{filter}
-use Rattle.std.specs.FinMap.{get}
 use Rattle.std.proofs.lemmas.List.{append-nil}
 use Rattle.refusals.specs.declared.refusal.Refusal.{Refusal}
 use Rattle.lexer.specs.Token.{Bytes}
@@ -15,7 +14,7 @@ use Rattle.session_definitions.specs.Serial.{Committed, InSeries, IsSerializable
 use Rattle.session_definitions.specs.Step.{Call}
 use Rattle.session_definitions.specs.Transactions.{begun, obstacle}
 use Rattle.session_definitions.specs.World.{Transaction, World, is_writer, opened}
-use Rattle.session_laws.specs.Sound.{IsSound, IsSoundSession, IsSoundTransaction}
+use Rattle.session_laws.specs.Sound.{IsSoundSession, IsSoundTransaction}
 use Rattle.session_laws.proofs.Series.{IsIn}
 use Rattle.session_laws.proofs.Serializable.{serializable, stays_sound}
 use Rattle.session_laws.proofs.Shapes.{runs_in, shape}

@@ -1,5 +1,5 @@
 -- The databases that were committed while a device was closed and opened again, as one list, and the transactions that made them. All of this is our own choice.
-use Rattle.std.specs.Prelude.{◌≡◌, ℕ, Bool, true, List, [], ◌∷◌, ◌++◌, filter}
+use Rattle.std.specs.Prelude.{◌≡◌, true, List, [], ◌∷◌, ◌++◌, filter}
 use Rattle.denote.specs.Database.{Database}
 use Rattle.session_definitions.specs.Rules.{Rules}
 use Rattle.session_definitions.specs.Run.{Event, Moment, lengthened}
