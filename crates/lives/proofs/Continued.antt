@@ -3,8 +3,9 @@ use Rattle.std.proofs.Common.{◌≡◌, ℕ, Option, Some, None, refl, subst}
 use Rattle.denote.specs.Database.{Database, IsGood}
 use Rattle.session_definitions.specs.Rules.{Rules, AreRules}
 use Rattle.session_definitions.specs.World.{World, opened}
+use Rattle.scripts.specs.Device.{has_disk}
 use Rattle.scripts.specs.Played.{Streams}
-use Rattle.shell.specs.Runs.{HandsBack, Leaves, Left, Runs}
+use Rattle.shell.specs.Runs.{HandsBack, Leaves, Left, Runs, replies_of}
 use Rattle.lives.specs.Twice.{Leads}
 
 -- what is left is told otherwise
@@ -12,29 +13,29 @@ left_as : (rules : Rules) (old : World) (streams : Streams) (status : ℕ) (P Q 
     → Runs rules old streams status P → Runs rules old streams status Q
 left_as rules old streams status P Q told_as (Runs.not_opened refusal stops unread told is kept) =
     Runs.not_opened refusal stops unread told is (told_as (Left.unopened refusal old.last) kept)
-left_as rules old streams status P Q told_as (Runs.closed end carried kept) = Runs.closed end carried (told_as (Left.committed end.last) kept)
+left_as rules old streams status P Q told_as (Runs.closed end carried kept) = Runs.closed end carried (told_as (Left.committed end.last (has_disk (replies_of rules streams old status end carried))) kept)
 left_as rules old streams status P Q told_as (Runs.not_closed before mid end carried told is none) = Runs.not_closed before mid end carried told is (told_as Left.unclosed none)
 
-module _ {D C : Type 0} (saved : D → Database → Type 0) (calls : D → ℕ) (refused : C → ℕ) (rules : Rules) (are : AreRules rules) (first_device : D) where
+module _ {D C : Type 0} (saved : D → Database → Type 0) (settled : D → Type 0) (calls : D → ℕ) (refused : C → ℕ) (rules : Rules) (are : AreRules rules) (first_device : D) where
   -- what the first run hands back
   abbrev Back : Option D → Option C → Left → Type 0
-  Back device core left = Leaves saved calls refused rules.check (calls first_device) device core left
+  Back device core left = Leaves saved settled calls refused rules.check (calls first_device) device core left
 
   -- what is told of it, where the core is the one that is handed back in the end
   abbrev pub Middle : Option D → Option C → Left → Type 0
-  Middle device core left = HandsBack saved calls refused (calls first_device) device core left
+  Middle device core left = HandsBack saved settled calls refused (calls first_device) device core left
 
   again : (device : D) (one_core core : Option C) (second : Streams) (two : ℕ) (left : Left → Type 0)
       → ((db : Database) → AreRules rules → saved device db → IsGood rules.check db → Runs rules (opened db) second two left)
       → (found : Left) → Back (Some device) one_core found → Leads rules second (Some two) (Middle (Some device) core) left found
   again device one_core core second two left runs (Left.unopened refusal db) h = ((two, refl, runs db are h.0.0 h.1), h.0)
-  again device one_core core second two left runs (Left.committed db) h = ((two, refl, runs db are h.0 h.1), h.0)
+  again device one_core core second two left runs (Left.committed db told) h = ((two, refl, runs db are h.0.0 h.1), h.0)
   again device one_core core second two left runs Left.unclosed h = let bad : Some device ≡ None = h.0.0 in absurd (cc)
 
   over : (core : Option C) (second : Streams) → second.left ≡ second.given → second.holds ≡ second.held
       → (found : Left) → Back None core found → Leads rules second None (Middle None core) (Back None core) found
   over core second unread unwritten (Left.unopened refusal db) h = absurd h.0.0
-  over core second unread unwritten (Left.committed db) h = absurd h.0
+  over core second unread unwritten (Left.committed db told) h = absurd h.0.0
   over core second unread unwritten Left.unclosed h = ((refl, unread, unwritten, h), h.0)
 
   pub run_again : (db : Database) (first second : Streams) (one two : ℕ) (left : Left → Type 0) (back : Option D) (one_core core : Option C) (device : D) → back ≡ Some device

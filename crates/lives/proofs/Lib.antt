@@ -1,3 +1,4 @@
 pub mod Scripted
+pub mod Listed
 pub mod OneRun
 pub mod Continued

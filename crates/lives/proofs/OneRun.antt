@@ -1,14 +1,16 @@
 -- What runs over a store do is a run of the definitions.
-use Rattle.std.proofs.Common.{◌≡◌, ◌⊎◌, ℕ, List, [], ◌∷◌, ◌++◌, Option, Some, None, refl, inl, inr}
+use Rattle.std.proofs.Common.{ℕ, List, [], ◌∷◌, ◌++◌, Option, refl, inl, inr}
 use Rattle.denote.specs.Database.{Database}
 use Rattle.session_definitions.specs.Rules.{Rules}
 use Rattle.session_definitions.specs.Run.{Moment, Run, without_sessions}
 use Rattle.session_definitions.specs.World.{World, opened}
 use Rattle.life_laws.specs.Reopening.{reopening}
 use Rattle.scripts.specs.declared.script.ScriptFault.TheVariants.{Memory, Reader, Writer}
+use Rattle.scripts.specs.Device.{has_disk}
 use Rattle.scripts.specs.Played.{Streams}
-use Rattle.shell.specs.Runs.{CarriesOut, Left, Runs}
+use Rattle.shell.specs.Runs.{CarriesOut, Left, Runs, replies_of}
 use Rattle.lives.specs.Twice.{BothDo, Does, IsLeft, IsOneRun, Leads, RunDoes, RunsTwice, closing}
+use Rattle.lives.proofs.Listed.{are_made, serial_throughout}
 use Rattle.lives.proofs.Scripted.{Led, scripted}
 
 -- a run to a world whose last database is left, or after which nothing is
@@ -36,7 +38,7 @@ module _ (rules : Rules)
   runs old streams status left (Runs.not_opened refusal stops unread told is kept) = record { moments = []; end = old; run = refl; meaning = refl; kept = inl (refusal, kept) }
   runs old streams status left (Runs.closed end carried kept) =
       let script = carried_out streams old status end carried in
-      record { moments = script.moments; end = end; run = script.run; meaning = script.meaning; kept = inr (inl kept) }
+      record { moments = script.moments; end = end; run = script.run; meaning = script.meaning; kept = inr (inl (has_disk (replies_of rules streams old status end carried), kept)) }
   runs old streams status left (Runs.not_closed before mid end carried told is none) =
       let script = carried_out _ old before end carried in record {
         moments = closing end ∷ script.moments;
@@ -46,33 +48,33 @@ module _ (rules : Rules)
         kept = inr (inr none);
       }
 
+  -- its databases and their order follow from its being a run
+  is_one_run : (db : Database) (left : Left → Type 0) (does : List Moment → Type 0) (moments : List Moment) (end : World) → Run rules (opened db) moments end → does moments
+      → IsLeft left end.last → IsOneRun rules db left does
+  is_one_run db left does moments end run done kept = record {
+    moments = moments;
+    end = end;
+    run = run;
+    does = done;
+    made = are_made rules db moments end run;
+    serial = serial_throughout rules db moments end run;
+    kept = kept;
+  }
+
   one_run : (db : Database) (first second : Streams) (one : ℕ) (two : Option ℕ) (middle left : Left → Type 0) (h : Runs rules (opened db) first one (Leads rules second two middle left))
       → IsOneRun rules db left (BothDo rules db first second one two middle left h)
   one_run db first second one two middle left (Runs.not_opened refusal stops unread told is kept) =
-      let later = runs (opened db) second kept.0.0 left kept.0.2 in record {
-        moments = later.moments ++ reopening (opened db) ∷ [];
-        end = later.end;
-        run = reopened (opened db) (opened db) later.end [] later.moments refl later.run;
-        does = (later.moments, later.meaning, refl);
-        kept = later.kept;
-      }
+      let later = runs (opened db) second kept.0.0 left kept.0.2 in
+      is_one_run db left _ (later.moments ++ reopening (opened db) ∷ []) later.end (reopened (opened db) (opened db) later.end [] later.moments refl later.run)
+      (later.moments, later.meaning, refl) later.kept
   one_run db first second one two middle left (Runs.closed end carried kept) =
       let script = carried_out first (opened db) one end carried in
-      let later = runs (opened end.last) second kept.0.0 left kept.0.2 in record {
-        moments = later.moments ++ reopening end ∷ script.moments;
-        end = later.end;
-        run = reopened (opened db) end later.end script.moments later.moments script.run later.run;
-        does = (script.moments, later.moments, script.meaning, later.meaning, refl);
-        kept = later.kept;
-      }
+      let later = runs (opened end.last) second kept.0.0 left kept.0.2 in
+      is_one_run db left _ (later.moments ++ reopening end ∷ script.moments) later.end (reopened (opened db) end later.end script.moments later.moments script.run later.run)
+      (script.moments, later.moments, script.meaning, later.meaning, refl) later.kept
   one_run db first second one two middle left (Runs.not_closed before mid end carried told is none) =
-      let script = carried_out _ (opened db) before end carried in record {
-        moments = closing end ∷ script.moments;
-        end = without_sessions end;
-        run = (script.run, (refl, refl));
-        does = (script.moments, script.meaning, refl);
-        kept = inr (inr none.0.3);
-      }
+      let script = carried_out _ (opened db) before end carried in
+      is_one_run db left _ (closing end ∷ script.moments) (without_sessions end) (script.run, (refl, refl)) (script.moments, script.meaning, refl) (inr (inr none.0.3))
 
   pub together : (db : Database) (first second : Streams) (one : ℕ) (two : Option ℕ) (middle left : Left → Type 0) → Runs rules (opened db) first one (Leads rules second two middle left)
       → RunsTwice rules db first second one two middle left

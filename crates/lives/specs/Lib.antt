@@ -1,2 +1,3 @@
+pub mod Committed
 pub mod Told
 pub mod Twice

@@ -1,15 +1,17 @@
 -- Two runs over one device, one after the other. All of this is our own choice.
-use Rattle.std.specs.Prelude.{◌≡◌, ◌⊎◌, ℕ, List, [], ◌∷◌, ◌++◌, Option, Some, None}
+use Rattle.std.specs.Prelude.{◌≡◌, ◌⊎◌, ℕ, Bool, List, [], ◌∷◌, ◌++◌, Option, Some, None}
 use Rattle.refusals.specs.declared.refusal.Refusal.{Refusal}
 use Rattle.refusals.specs.declared.refusal.Refusal.TheVariants.{Disk}
 use Rattle.denote.specs.Database.{Database}
 use Rattle.session_definitions.specs.Rules.{Rules}
 use Rattle.session_definitions.specs.Run.{Event, Moment, Run}
+use Rattle.session_definitions.specs.Serial.{IsSerializable}
 use Rattle.session_definitions.specs.World.{World, opened}
 use Rattle.life_laws.specs.Reopening.{reopening}
 use Rattle.scripts.specs.declared.script.ScriptFault.TheVariants.{Memory, Reader, Writer}
 use Rattle.scripts.specs.Played.{Streams, between}
-use Rattle.shell.specs.Runs.{CarriesOut, Left, Runs}
+use Rattle.shell.specs.Runs.{CarriesOut, Ends, Left, Runs}
+use Rattle.lives.specs.Committed.{AreMade, committed_from, writers}
 use Rattle.lives.specs.Told.{IsScript}
 
 -- what calls the device had refused where the last run began: the second, or else the first
@@ -24,7 +26,7 @@ Again rules second two left db = (status : ℕ) × (two ≡ Some status) × Runs
 -- The second run begins with the database that is left; where the store was not closed, there is no second one, and nothing more is read or written.
 abbrev pub GoesOn : Rules → Streams → Option ℕ → (Left → Type 0) → Left → Type 0
 GoesOn rules second two left (Left.unopened refusal db) = Again rules second two left db
-GoesOn rules second two left (Left.committed db) = Again rules second two left db
+GoesOn rules second two left (Left.committed db told) = Again rules second two left db
 GoesOn rules second two left Left.unclosed = (two ≡ None) × (second.left ≡ second.given) × (second.holds ≡ second.held) × left Left.unclosed
 
 -- the first run leaves what `middle` tells, and the second goes on with it
@@ -64,15 +66,17 @@ BothDo rules db first second one two middle left (Runs.not_closed before mid end
 
 -- this database is left, by a store that was not opened or was closed; or the store was not closed
 abbrev pub IsLeft : (Left → Type 0) → Database → Type 0
-IsLeft left db = ((refusal : Refusal) × left (Left.unopened refusal db)) ⊎ left (Left.committed db) ⊎ left Left.unclosed
+IsLeft left db = ((refusal : Refusal) × left (Left.unopened refusal db)) ⊎ ((told : Bool) × left (Left.committed db told)) ⊎ left Left.unclosed
 
--- All that is done from this database on is one run of the definitions: of calls, of close with a later open, or of a close that is refused. What it
--- committed last is left, or nothing is.
+-- All that is done from this database on is one run of the definitions: of calls, of close with a later open, or of a close that is refused. The databases that it committed are one list, each made
+-- from the one before by one transaction; the last of them is left, or nothing is. At each time in the run, what was done since the last open is serializable.
 pub record IsOneRun (rules : Rules) (db : Database) (left : Left → Type 0) (done : List Moment → Type 0) : Type 0 where
   pub moments : List Moment
   pub end : World
   pub run : Run rules (opened db) moments end
   pub does : done moments
+  pub made : AreMade rules db (writers moments) (committed_from db moments) end.last
+  pub serial : (later earlier : List Moment) → moments ≡ later ++ earlier → IsSerializable rules (opened db) earlier
   pub kept : IsLeft left end.last
 
 -- The first run begins with this database, and the second with the one that the first committed last: `middle` tells what the first leaves, and `left` what is left in the end. Both together
@@ -80,3 +84,20 @@ pub record IsOneRun (rules : Rules) (db : Database) (left : Left → Type 0) (do
 pub record RunsTwice (rules : Rules) (db : Database) (first second : Streams) (one : ℕ) (two : Option ℕ) (middle left : Left → Type 0) : Type 0 where
   pub both : Runs rules (opened db) first one (Leads rules second two middle left)
   pub together : IsOneRun rules db left (BothDo rules db first second one two middle left both)
+
+-- ---- any device
+
+-- Behind a first run that handed back this device, or this core: a second run over the device, which ends as a run does; or none, and nothing more is read or written.
+abbrev pub GoesOnAnyhow : {D C : Type 0} → (D → Type 0) → (D → ℕ) → (C → ℕ) → Option D → Option C → Streams → Option ℕ → Option D → Option C → Type 0
+GoesOnAnyhow settled calls refused (Some again) one_core second two device core =
+    (status : ℕ) × (two ≡ Some status) × Ends settled calls refused (calls again) second status device core
+GoesOnAnyhow settled calls refused None one_core second two device core =
+    (two ≡ None) × (device ≡ None) × (core ≡ one_core) × (second.left ≡ second.given) × (second.holds ≡ second.held)
+
+-- However two runs over any device end: the first ends as a run does, with this device or this core, and the second goes on with these.
+pub record EndTwice {D C : Type 0} (settled : D → Type 0) (calls : D → ℕ) (refused : C → ℕ) (before : ℕ) (first second : Streams) (one : ℕ) (two : Option ℕ) (device : Option D) (core : Option C)
+    : Type 0 where
+  pub again : Option D
+  pub one_core : Option C
+  pub ends : Ends settled calls refused before first one again one_core
+  pub goes_on : GoesOnAnyhow settled calls refused again one_core second two device core

@@ -6,7 +6,7 @@ ghost use Rattle.session_definitions.specs.Rules.{Rules, AreRules};
 ghost use Rattle.scripts.specs.Played.{between};
 ghost use Rattle.scripts.specs.Settled.{store_of};
 ghost use Rattle.shell.specs.Runs.{HandsBack, Leaves};
-ghost use Rattle.lives.specs.Twice.{RunsTwice, calls_from};
+ghost use Rattle.lives.specs.Twice.{EndTwice, RunsTwice, calls_from};
 
 use disk::Disk;
 use engine::Core;
@@ -34,9 +34,10 @@ pub struct EndedRuns<S: Store> {
 /// Does what `sqlsh run` does over the store on a device, and then once more over the device that is handed back, with another reader.
 ///
 /// Where a good database is saved on the device, the second run begins with the database that the first committed last, and all that both do is one run of the definitions, whose calls
-/// are those of the two scripts, each with the reply that was printed.
+/// are those of the two scripts, each with the reply that was printed. The databases that were committed are one list, each made from the one before by one transaction, and the last is saved
+/// on the device that is handed back, which was synced behind the last write where it was closed.
 /// No reply is that the file is damaged, the store is opened unless memory or the device refuses, and closed unless the device does: the device that is handed back, or the core that was not
-/// closed, has then counted a refused call.
+/// closed, has then counted a refused call. So it has where a reply is that the device refused.
 pub fn run_twice<S: Store, A: Read, B: Read, W: Write>(
     alloc: Global,
     settings: &Settings<'_>,
@@ -45,11 +46,14 @@ pub fn run_twice<S: Store, A: Read, B: Read, W: Write>(
     second: &mut B,
     writer: &mut W,
 ) -> EndedRuns<S>
-    ensures { (rules : Rules) (db : Database) → AreRules rules → S.saved device db → IsGood rules.check db
+    ensures runs { (rules : Rules) (db : Database) → AreRules rules → S.saved device db → IsGood rules.check db
         → (mid : Option (List ℕ)) × (again : Option S.Device) × RunsTwice rules db (between (A.remaining first.old) (A.remaining first.new) (W.contents writer.old) mid)
         (between (B.remaining second.old) (B.remaining second.new) mid (W.contents writer.new)) result.first result.second
-        (HandsBack S.saved S.calls_refused (λ core. S.refused (store_of core)) (S.calls_refused device) again result.unclosed)
-        (Leaves S.saved S.calls_refused (λ core. S.refused (store_of core)) rules.check (calls_from S.calls_refused device again) result.device result.unclosed) }
+        (HandsBack S.saved S.settled S.calls_refused (λ core. S.refused (store_of core)) (S.calls_refused device) again result.unclosed)
+        (Leaves S.saved S.settled S.calls_refused (λ core. S.refused (store_of core)) rules.check (calls_from S.calls_refused device again) result.device result.unclosed) }
+    ensures ends { (mid : Option (List ℕ)) × EndTwice S.settled S.calls_refused (λ core. S.refused (store_of core)) (S.calls_refused device)
+        (between (A.remaining first.old) (A.remaining first.new) (W.contents writer.old) mid)
+        (between (B.remaining second.old) (B.remaining second.new) mid (W.contents writer.new)) result.first result.second result.device result.unclosed }
 {
     reopened_runs_are_runs();
     let EndedRun {
@@ -78,7 +82,8 @@ pub fn run_twice<S: Store, A: Read, B: Read, W: Write>(
 
 /// Does what `run_twice` does over the tables in the pages of a device.
 ///
-/// The one premise is on the device: it gives back what was written, and is empty (`new`), or as an earlier run left it (`saved`).
+/// The one premise is on the device: it gives back what was written, and is empty (`new`), or as an earlier run left it (`saved`). How the runs end and what is handed back is said of any
+/// device (`ends`).
 pub fn run_twice_over_pages<D: Disk + Drop, A: Read, B: Read, W: Write>(
     alloc: Global,
     settings: &Settings<'_>,
@@ -90,13 +95,16 @@ pub fn run_twice_over_pages<D: Disk + Drop, A: Read, B: Read, W: Write>(
     ensures saved { (rules : Rules) (db : Database) → AreRules rules → ⟦<Paged<D> as Store>⟧.saved device db → IsGood rules.check db
         → (mid : Option (List ℕ)) × (again : Option D) × RunsTwice rules db (between (A.remaining first.old) (A.remaining first.new) (W.contents writer.old) mid)
         (between (B.remaining second.old) (B.remaining second.new) mid (W.contents writer.new)) result.first result.second
-        (HandsBack ⟦<Paged<D> as Store>⟧.saved D.refused (λ core. ⟦<Paged<D> as Store>⟧.refused (store_of core)) (D.refused device) again result.unclosed)
-        (Leaves ⟦<Paged<D> as Store>⟧.saved D.refused (λ core. ⟦<Paged<D> as Store>⟧.refused (store_of core)) rules.check (calls_from D.refused device again) result.device result.unclosed) }
+        (HandsBack ⟦<Paged<D> as Store>⟧.saved D.settled D.refused (λ core. ⟦<Paged<D> as Store>⟧.refused (store_of core)) (D.refused device) again result.unclosed)
+        (Leaves ⟦<Paged<D> as Store>⟧.saved D.settled D.refused (λ core. ⟦<Paged<D> as Store>⟧.refused (store_of core)) rules.check (calls_from D.refused device again) result.device result.unclosed) }
     ensures new { (rules : Rules) → AreRules rules → IsTrue D.is_honest → D.bytes device ≡ []
         → (mid : Option (List ℕ)) × (again : Option D) × RunsTwice rules empty (between (A.remaining first.old) (A.remaining first.new) (W.contents writer.old) mid)
         (between (B.remaining second.old) (B.remaining second.new) mid (W.contents writer.new)) result.first result.second
-        (HandsBack ⟦<Paged<D> as Store>⟧.saved D.refused (λ core. ⟦<Paged<D> as Store>⟧.refused (store_of core)) (D.refused device) again result.unclosed)
-        (Leaves ⟦<Paged<D> as Store>⟧.saved D.refused (λ core. ⟦<Paged<D> as Store>⟧.refused (store_of core)) rules.check (calls_from D.refused device again) result.device result.unclosed) }
+        (HandsBack ⟦<Paged<D> as Store>⟧.saved D.settled D.refused (λ core. ⟦<Paged<D> as Store>⟧.refused (store_of core)) (D.refused device) again result.unclosed)
+        (Leaves ⟦<Paged<D> as Store>⟧.saved D.settled D.refused (λ core. ⟦<Paged<D> as Store>⟧.refused (store_of core)) rules.check (calls_from D.refused device again) result.device result.unclosed) }
+    ensures ends { (mid : Option (List ℕ)) × EndTwice D.settled D.refused (λ core. ⟦<Paged<D> as Store>⟧.refused (store_of core)) (D.refused device)
+        (between (A.remaining first.old) (A.remaining first.new) (W.contents writer.old) mid)
+        (between (B.remaining second.old) (B.remaining second.new) mid (W.contents writer.new)) result.first result.second result.device result.unclosed }
 {
     databases_stay_good();
     run_twice::<Paged<D>, A, B, W>(alloc, settings, device, first, second, writer)

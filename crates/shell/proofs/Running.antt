@@ -1,12 +1,8 @@
 -- A script is carried out, and how it ended is said.
-use Rattle.std.proofs.Common.{◌≡◌, ◌≤◌, ◌+◌, ◌-◌, ◌^◌, ℕ, Bool, false, List, Option, Result, Ok, Err, refl, sym, subst, arith}
+use Rattle.std.proofs.Common.{◌≡◌, ◌≤◌, ◌+◌, ◌-◌, ◌^◌, ℕ, Bool, true, false, List, Option, Result, Ok, Err, refl, sym, subst, arith}
 use Rattle.std.specs.Prelude.{IfOk, IfErr, min}
-use Rattle.std.proofs.lemmas.Bool.{true≢false}
-use Rattle.refusals.specs.declared.refusal.Refusal.{Refusal}
-use Rattle.refusals.specs.declared.refusal.Refusal.TheVariants.{Disk}
 use Rattle.denote.specs.Database.{Database, CheckReading}
 use Rattle.replies.specs.declared.reply.Reply.{Reply}
-use Rattle.session_definitions.specs.Refusals.{StopsFlush}
 use Rattle.session_definitions.specs.Rules.{Rules}
 use Rattle.session_definitions.specs.Script.{Scene, ArePlayed}
 use Rattle.session_definitions.specs.World.{World, opened}
@@ -14,7 +10,7 @@ use Rattle.session_laws.specs.Sound.{IsGoodWorld}
 use Rattle.life_laws.specs.Damage.{has_damage}
 use Rattle.store.specs.Errors.{HasRisen}
 use Rattle.store.specs.Stored.{Stored}
-use Rattle.sessions.proofs.Devices.{risen_later}
+use Rattle.sessions.proofs.Devices.{risen_later, risen_still}
 use Rattle.sessions.specs.declared.core_of.Core.{Core}
 use Rattle.sessions.specs.OfCore.{IsSound, world_of}
 use Rattle.scripts.specs.declared.script.ScriptFault.{ScriptFault}
@@ -22,8 +18,7 @@ use Rattle.scripts.specs.declared.script.ScriptFault.TheVariants.{Memory, Reader
 use Rattle.scripts.specs.Played.{Streams, between, EndsEarly, RunsInPart, RunsWhole, replies_before}
 use Rattle.scripts.specs.Settled.{HasNoSession, IsSettled}
 use Rattle.shell.specs.Status.{status_of}
-use Rattle.shell.specs.Tells.{Tells}
-use Rattle.shell.specs.Runs.{CarriesOut, CarriesOutOver, HasCounted, Left, Runs, RunsRightly, Says}
+use Rattle.shell.specs.Runs.{CarriesOut, CarriesOutOver, Left, Runs, Says}
 
 module _ (rules : Rules) (undamaged : (old new : Scene) (pieces : List (List ℕ)) (replies : List (Option Reply)) → ArePlayed rules old pieces replies new → has_damage replies ≡ false) where
   undamaged_before : (streams : Streams) (old : World) (fault : ScriptFault) (new : World) (early : EndsEarly rules streams old fault new)
@@ -68,20 +63,14 @@ risen_since device start end back opened carried h = rises_from (2 ^ 64 - 1) dev
 
 -- ---- a run, by what it did
 
-module _ (rules : Rules) (old : World) (streams : Streams) (status : ℕ) (left : Left → Type 0) (counted : Type 0) where
-  pub not_run : (refusal : Refusal) → StopsFlush refusal → streams.left ≡ streams.given → Tells refusal streams.held streams.holds → status ≡ 3
-      → left (Left.unopened refusal old.last) → RunsRightly rules old streams status left counted
-  not_run refusal stops unread told is kept = record { run = Runs.not_opened refusal stops unread told is kept; device = λ e. absurd (true≢false (sym e)) }
+-- the store was closed: it counted what was refused since it was opened, and the device that it gave back counts as many
+module _ (rules : Rules) (old : World) (streams : Streams) (status : ℕ) (left : Left → Type 0) (before start after back : ℕ) where
+  pub closed_run : (end : World) → before ≤ start → after ≤ back → CarriesOutOver rules streams old start status end after
+      → ((told : Bool) → (told ≡ true → HasRisen before back) → left (Left.committed end.last told)) → Runs rules old streams status left
+  closed_run end least more h kept =
+      Runs.closed end h.carried (kept _ (λ is. risen_still before after back (risen_later before start after least (h.device is)) more))
 
-module _ (rules : Rules) (old : World) (streams : Streams) (status : ℕ) (left : Left → Type 0) (before start : ℕ) {X : Type 0} (refused : X → ℕ) (store : X) where
-  pub closed_run : (end : World) → before ≤ start → CarriesOutOver rules streams old start status end (refused store) → left (Left.committed end.last)
-      → RunsRightly rules old streams status left (HasCounted refused before)
-  closed_run end least h kept = record { run = Runs.closed end h.carried kept; device = λ e. (store, risen_later before start (refused store) least (h.device e)) }
-
-  pub unclosed_run : (told : ℕ) (mid : Option (List ℕ)) (end : World) → before ≤ start
-      → CarriesOutOver rules (between streams.given streams.left streams.held mid) old start told end (refused store) → Tells Disk mid streams.holds → status ≡ 3 → left Left.unclosed
-      → RunsRightly rules old streams status left (HasCounted refused before)
-  unclosed_run told mid end least h tells is none = record {
-    run = Runs.not_closed told mid end h.carried tells is none;
-    device = λ e. (store, risen_later before start (refused store) least (h.device e));
-  }
+-- the script was carried out in the world of the database that was opened
+pub carried_from : (rules : Rules) (streams : Streams) (old start : World) (before status : ℕ) (new : World) (after : ℕ) → old ≡ start
+    → CarriesOutOver rules streams old before status new after → CarriesOutOver rules streams start before status new after
+carried_from rules streams old start before status new after is h = subst (λ (w : World). CarriesOutOver rules streams w before status new after) is h

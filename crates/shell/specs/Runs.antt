@@ -1,5 +1,5 @@
 -- What `sqlsh run` does over a store, from the bytes that it reads to those that it writes. All of this is our own choice.
-use Rattle.std.specs.Prelude.{◌≡◌, ℕ, Bool, true, false, List, [], Option, Some, None, IfSome, Result, Ok, Err}
+use Rattle.std.specs.Prelude.{◌≡◌, ◌≤◌, ℕ, Bool, true, false, List, Option, Some, None, IfSome, Result, Ok, Err}
 use Rattle.refusals.specs.declared.refusal.Refusal.{Refusal}
 use Rattle.refusals.specs.declared.refusal.Refusal.TheVariants.{Disk}
 use Rattle.denote.specs.Database.{Database, CheckReading, IsGood}
@@ -37,11 +37,11 @@ pub record CarriesOutOver (rules : Rules) (streams : Streams) (old : World) (bef
   pub carried : CarriesOut rules streams old status new
   pub device : TellDevice (replies_of rules streams old status new carried) before after
 
--- What a run leaves of its device: it was not opened, for this refusal, and this database is still saved on it; it was closed, and this one is saved on it; or it was not closed, and is
--- not handed back.
+-- What a run leaves of its device: it was not opened, for this refusal, and this database is still saved on it; it was closed, and this one is saved on it, where X0002 was among the
+-- script's replies or was not; or it was not closed, and is not handed back.
 pub data Left : Type 0 where
   unopened : Refusal → Database → Left
-  committed : Database → Left
+  committed : Database → Bool → Left
   unclosed : Left
 
 -- The store was not opened, for want of memory or by the device: nothing was read, and what was saved is left. Or the script was carried out in the world of its database
@@ -49,25 +49,10 @@ pub data Left : Type 0 where
 pub data Runs (rules : Rules) (old : World) (streams : Streams) (status : ℕ) (left : Left → Type 0) : Type 0 where
   not_opened : (refusal : Refusal) → StopsFlush refusal → streams.left ≡ streams.given → Tells refusal streams.held streams.holds → status ≡ 3
       → left (Left.unopened refusal old.last) → Runs rules old streams status left
-  closed : (end : World) → CarriesOut rules streams old status end → left (Left.committed end.last) → Runs rules old streams status left
+  closed : (end : World) (carried : CarriesOut rules streams old status end)
+      → left (Left.committed end.last (has_disk (replies_of rules streams old status end carried))) → Runs rules old streams status left
   not_closed : (before : ℕ) (mid : Option (List ℕ)) (end : World) → CarriesOut rules (between streams.given streams.left streams.held mid) old before end
       → Tells Disk mid streams.holds → status ≡ 3 → left Left.unclosed → Runs rules old streams status left
-
--- the replies of the script; none where the store was not opened
-abbrev pub replies_in : (rules : Rules) (old : World) (streams : Streams) (status : ℕ) (left : Left → Type 0) → Runs rules old streams status left → List (Option Reply)
-replies_in rules old streams status left (Runs.not_opened refusal stops unread told is kept) = []
-replies_in rules old streams status left (Runs.closed end carried kept) = replies_of rules streams old status end carried
-replies_in rules old streams status left (Runs.not_closed before mid end carried told is none) =
-    replies_of rules (between streams.given streams.left streams.held mid) old before end carried
-
--- A run, where X0002 is among the replies of its script only where the device refused a call, as `has_refused` says.
-pub record RunsRightly (rules : Rules) (old : World) (streams : Streams) (status : ℕ) (left : Left → Type 0) (has_refused : Type 0) : Type 0 where
-  pub run : Runs rules old streams status left
-  pub device : has_disk (replies_in rules old streams status left run) ≡ true → has_refused
-
--- there is a store that counts more refused calls than the device did before
-abbrev pub HasCounted : {X : Type 0} → (X → ℕ) → ℕ → Type 0
-HasCounted {X} refused before = (store : X) × HasRisen before (refused store)
 
 -- ---- what is handed back
 
@@ -81,22 +66,24 @@ abbrev pub HasRefused : {X : Type 0} → (X → ℕ) → ℕ → Option X → Ty
 HasRefused refused before (Some back) = HasRisen before (refused back)
 HasRefused refused before None = ⊥
 
--- The device is handed back, and the database saved on it. Where the device is said to have refused that it was opened or closed, it refused a call: it is handed back, or the core that was not
--- closed, which both count these calls.
-abbrev pub HandsBack : {D C : Type 0} → (D → Database → Type 0) → (D → ℕ) → (C → ℕ) → ℕ → Option D → Option C → Left → Type 0
-HandsBack saved calls refused before device core (Left.unopened refusal db) = IsSavedOn saved device db × (refusal ≡ Disk → HasRefused calls before device)
-HandsBack saved calls refused before device core (Left.committed db) = IsSavedOn saved device db
-HandsBack saved calls refused before device core Left.unclosed = (device ≡ None) × HasRefused refused before core
+-- Where the store was not opened, or was closed, the device is handed back, with the database saved on it; one that was closed was also synced behind the last write. That a store was not opened or closed, or
+-- a call of the script not carried out, is told by X0002 only where the device refused a call: the device that is handed back, or the core that was not closed, counts more of them than before.
+abbrev pub HandsBack : {D C : Type 0} → (D → Database → Type 0) → (D → Type 0) → (D → ℕ) → (C → ℕ) → ℕ → Option D → Option C → Left → Type 0
+HandsBack saved settled calls refused before device core (Left.unopened refusal db) = IsSavedOn saved device db × (refusal ≡ Disk → HasRefused calls before device)
+HandsBack saved settled calls refused before device core (Left.committed db told) =
+    IsSavedOn saved device db × IfSome device settled × (told ≡ true → HasRefused calls before device)
+HandsBack saved settled calls refused before device core Left.unclosed = (device ≡ None) × HasRefused refused before core
 
 -- the database that is left
 abbrev pub database_in : Left → Option Database
 database_in (Left.unopened refusal db) = Some db
-database_in (Left.committed db) = Some db
+database_in (Left.committed db told) = Some db
 database_in Left.unclosed = None
 
 -- what is handed back, with a good database
-abbrev pub Leaves : {D C : Type 0} → (D → Database → Type 0) → (D → ℕ) → (C → ℕ) → CheckReading → ℕ → Option D → Option C → Left → Type 0
-Leaves saved calls refused reading before device core left = HandsBack saved calls refused before device core left × IfSome (database_in left) (IsGood reading)
+abbrev pub Leaves : {D C : Type 0} → (D → Database → Type 0) → (D → Type 0) → (D → ℕ) → (C → ℕ) → CheckReading → ℕ → Option D → Option C → Left → Type 0
+Leaves saved settled calls refused reading before device core left =
+    HandsBack saved settled calls refused before device core left × IfSome (database_in left) (IsGood reading)
 
 -- ---- any device
 
@@ -107,3 +94,10 @@ pub record IsNotOpened (streams : Streams) (status : ℕ) (has_refused : Type 0)
   pub told : Tells refusal streams.held streams.holds
   pub failed : status ≡ 3
   pub device : refusal ≡ Disk → has_refused
+
+-- How a run over any device ends. The store was not opened; or it was closed, and the device is handed back, which was synced behind the last write and counts the refused calls from before; or the
+-- device refused that it was closed, and the core is handed back, which counts that call.
+pub data Ends {D C : Type 0} (settled : D → Type 0) (calls : D → ℕ) (refused : C → ℕ) (before : ℕ) (streams : Streams) (status : ℕ) (device : Option D) (core : Option C) : Type 0 where
+  not_opened : IsNotOpened streams status (HasRefused calls before device) → Ends settled calls refused before streams status device core
+  closed : (back : D) → device ≡ Some back → settled back → before ≤ calls back → Ends settled calls refused before streams status device core
+  not_closed : status ≡ 3 → device ≡ None → HasRefused refused before core → Ends settled calls refused before streams status device core

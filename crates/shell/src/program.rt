@@ -6,7 +6,7 @@ ghost use Rattle.session_definitions.specs.Rules.{Rules, AreRules};
 ghost use Rattle.session_definitions.specs.World.{new_world, opened};
 ghost use Rattle.scripts.specs.Played.{between};
 ghost use Rattle.scripts.specs.Settled.{store_of};
-ghost use Rattle.shell.specs.Runs.{HasCounted, HasRefused, IsNotOpened, Leaves, RunsRightly};
+ghost use Rattle.shell.specs.Runs.{Ends, HasRefused, IsNotOpened, Leaves, Runs};
 ghost use Rattle.shell.specs.Status.{IsStatus};
 ghost use Rattle.shell.specs.Tells.{Tells};
 
@@ -29,7 +29,7 @@ use store::Store;
 /// The exit status of a command line that asks for nothing that there is.
 const WRONG_WORDS: u8 = 2;
 
-/// Does what the command line of `sqlsh` asks for, and answers the exit status.
+/// Does what the command line of `sqlsh` asks for, and answers the exit status. What a run leaves of its device, `run_over_pages` says, which hands it back; the device ends here.
 pub fn sqlsh<R: Env + Files<File = File> + Input + Print + Eprint + AllocGlobal>(rt: &R) -> u8
     ensures { (result ≡ 2) ⊎ IsStatus result }
 {
@@ -81,11 +81,13 @@ pub fn run_over_pages<D: Disk + Drop, R: Read, W: Write>(
 ) -> EndedRun<Paged<D>>
     ensures status { IsStatus result.status }
     ensures runs { IfOk device (λ device. (rules : Rules) (db : Database) → AreRules rules → ⟦<Paged<D> as Store>⟧.saved device db → IsGood rules.check db
-        → RunsRightly rules (opened db) (between (R.remaining reader.old) (R.remaining reader.new) (W.contents writer.old) (W.contents writer.new)) result.status
-        (Leaves ⟦<Paged<D> as Store>⟧.saved D.refused (λ core. ⟦<Paged<D> as Store>⟧.refused (store_of core)) rules.check (D.refused device) result.device result.unclosed) (HasCounted ⟦<Paged<D> as Store>⟧.refused (D.refused device))) }
+        → Runs rules (opened db) (between (R.remaining reader.old) (R.remaining reader.new) (W.contents writer.old) (W.contents writer.new)) result.status
+        (Leaves ⟦<Paged<D> as Store>⟧.saved D.settled D.refused (λ core. ⟦<Paged<D> as Store>⟧.refused (store_of core)) rules.check (D.refused device) result.device result.unclosed)) }
     ensures new { IfOk device (λ device. (rules : Rules) → AreRules rules → IsTrue D.is_honest → D.bytes device ≡ []
-        → RunsRightly rules new_world (between (R.remaining reader.old) (R.remaining reader.new) (W.contents writer.old) (W.contents writer.new)) result.status
-        (Leaves ⟦<Paged<D> as Store>⟧.saved D.refused (λ core. ⟦<Paged<D> as Store>⟧.refused (store_of core)) rules.check (D.refused device) result.device result.unclosed) (HasCounted ⟦<Paged<D> as Store>⟧.refused (D.refused device))) }
+        → Runs rules new_world (between (R.remaining reader.old) (R.remaining reader.new) (W.contents writer.old) (W.contents writer.new)) result.status
+        (Leaves ⟦<Paged<D> as Store>⟧.saved D.settled D.refused (λ core. ⟦<Paged<D> as Store>⟧.refused (store_of core)) rules.check (D.refused device) result.device result.unclosed)) }
+    ensures ends { IfOk device (λ device. Ends D.settled D.refused (λ core. ⟦<Paged<D> as Store>⟧.refused (store_of core)) (D.refused device)
+        (between (R.remaining reader.old) (R.remaining reader.new) (W.contents writer.old) (W.contents writer.new)) result.status result.device result.unclosed) }
     ensures unreadable { IfOk device (λ device. (⟦<Paged<D> as Store>⟧.readable device → ⊥)
         → IsNotOpened (between (R.remaining reader.old) (R.remaining reader.new) (W.contents writer.old) (W.contents writer.new)) result.status
         (HasRefused D.refused (D.refused device) result.device)) }

@@ -10,7 +10,7 @@ ghost use Rattle.scripts.specs.Played.{between};
 ghost use Rattle.scripts.specs.Settled.{HasNoSession, IsSettled, store_of};
 ghost use Rattle.store.specs.Errors.{HasRisen};
 ghost use Rattle.shell.specs.Status.{refusal_of, status_of, IsStatus};
-ghost use Rattle.shell.specs.Runs.{CarriesOutOver, HasCounted, HasRefused, IsNotOpened, Leaves, RunsRightly, Says};
+ghost use Rattle.shell.specs.Runs.{CarriesOutOver, Ends, HasRefused, IsNotOpened, Leaves, Runs, Says};
 ghost use Rattle.shell.specs.Tells.{Tells};
 
 use crate::options::Settings;
@@ -36,7 +36,7 @@ pub(crate) const FAILED: u8 = 3;
 pub struct EndedRun<S: Store> {
     /// The exit status.
     pub status: u8,
-    /// The device: as it was where the store could not be opened, with all that is committed where it was closed, and none where it could not be closed.
+    /// The device: as it was where the store could not be opened, with all that is committed, and synced, where it was closed, and none where it could not be closed.
     pub device: Option<S::Device>,
     /// The core whose store could not be closed.
     pub unclosed: Option<Core<S>>,
@@ -45,10 +45,12 @@ pub struct EndedRun<S: Store> {
 /// Does what `sqlsh run` does over the store on this device, from reader to writer: opens it, carries out the script
 /// and closes it. The exit status is 0; 1 where a reply was a refusal; 3 where the store could not be
 /// opened or closed, or the script was not read or printed to its end, which a line `ERROR` and the code then says
-/// where it can be written. The device is handed back, with what was committed last saved on it for the next run; where the store could not be closed, the core is.
+/// where it can be written. The device is handed back, with what was committed last saved on it for the next run, and synced behind the last write; where the store could not be closed, the
+/// core is.
 ///
 /// Where a database was saved on the device, the store is refused for want of memory or by the device alone, and no reply is that the file is damaged. The device is said to have refused
-/// that the store was opened or closed, or in a reply of the script, only where it refused a call. A device that cannot be read as a store's is not opened.
+/// that the store was opened or closed, or a call of the script, only where what is handed back counts more refused calls than the device did. A device that cannot be read as a store's is
+/// not opened.
 pub fn run_to_end<S: Store, R: Read, W: Write>(
     alloc: Global,
     settings: &Settings<'_>,
@@ -58,8 +60,10 @@ pub fn run_to_end<S: Store, R: Read, W: Write>(
 ) -> EndedRun<S>
     ensures status { IsStatus result.status }
     ensures runs { (rules : Rules) (db : Database) → AreRules rules → S.saved device db → IsGood rules.check db
-        → RunsRightly rules (opened db) (between (R.remaining reader.old) (R.remaining reader.new) (W.contents writer.old) (W.contents writer.new)) result.status
-        (Leaves S.saved S.calls_refused (λ core. S.refused (store_of core)) rules.check (S.calls_refused device) result.device result.unclosed) (HasCounted S.refused (S.calls_refused device)) }
+        → Runs rules (opened db) (between (R.remaining reader.old) (R.remaining reader.new) (W.contents writer.old) (W.contents writer.new)) result.status
+        (Leaves S.saved S.settled S.calls_refused (λ core. S.refused (store_of core)) rules.check (S.calls_refused device) result.device result.unclosed) }
+    ensures ends { Ends S.settled S.calls_refused (λ core. S.refused (store_of core)) (S.calls_refused device)
+        (between (R.remaining reader.old) (R.remaining reader.new) (W.contents writer.old) (W.contents writer.new)) result.status result.device result.unclosed }
     ensures unreadable { (S.readable device → ⊥)
         → IsNotOpened (between (R.remaining reader.old) (R.remaining reader.new) (W.contents writer.old) (W.contents writer.new)) result.status
         (HasRefused S.calls_refused (S.calls_refused device) result.device) }

@@ -6,3 +6,6 @@ pub returns-in-Ok-clause-new : goal.returns-in-Ok-clause-new
 returns-in-Ok-clause-new g c =
     rw c.in-Ok.is
     (λ rules are honest bare. c.run_to_end.ensures.runs rules empty are (honest, inl (bare, refl)) (c.databases_stay_good.ensures.new_world rules.check).last)
+
+pub returns-in-Ok-clause-ends : goal.returns-in-Ok-clause-ends
+returns-in-Ok-clause-ends g c = rw c.in-Ok.is c.run_to_end.ensures.ends
