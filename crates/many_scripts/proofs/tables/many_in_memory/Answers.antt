@@ -5,4 +5,4 @@ use Rattle.many_scripts.proofs.tables.many_in_memory.Goals as goal
 
 pub returns-clause-runs : goal.returns-clause-runs
 returns-clause-runs g c =
-    counted_from _ _ _ _ _ _ _ _ _ _ (ap (λ d. d.refused) c.new-device.ensures) (c.many_on.ensures.runs empty (refl, inl (ap (λ d. d.bytes) c.new-device.ensures, refl)))
+    counted_from _ _ _ _ _ _ _ _ _ _ _ _ (ap (λ d. d.refused) c.new-device.ensures) (c.many_on.ensures.runs empty (refl, inl (ap (λ d. d.bytes) c.new-device.ensures, refl)))
