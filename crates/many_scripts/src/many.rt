@@ -52,8 +52,9 @@ where
         → Ends (ComesTo (opened db) (HandsBack S.saved S.settled S.calls_refused S.refused (S.calls_refused device) (opened db) result.back)
         (HasRefused S.calls_refused S.refused (S.calls_refused device) result.back) scripts.now) (W.contents writer.old) (W.contents writer.new) result.status }
 {
-    let Printed { outcome, back } =
-        count_and_run::<S, G, R, W>(rt, alloc, frames, device, scripts, gate, writer);
+    let Printed { outcome, back } = count_and_run::<S, G, R, W>(
+        rt, alloc, frames, device, scripts, gate, writer,
+    );
     EndedScripts {
         status: ended(outcome, writer),
         back,
@@ -80,12 +81,7 @@ where
         (HasRefused S.calls_refused S.refused (S.calls_refused device) result.back) scripts.now) (W.contents writer.old) (W.contents writer.new) result.outcome }
 {
     if scripts.len() > MOST_SESSIONS {
-        return unopened(
-            Refusal::Exceeded(Limit::Sessions),
-            device,
-            REFUSED,
-            writer,
-        );
+        return unopened(Refusal::Exceeded(Limit::Sessions), device, REFUSED, writer);
     }
     cut_and_run::<S, G, R, W>(rt, alloc, frames, device, scripts, gate, writer)
 }
