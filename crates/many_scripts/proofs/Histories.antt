@@ -1,5 +1,5 @@
 -- Scripts that ran over a core that was opened, and what is handed back.
-use Rattle.std.proofs.Common.{◌≡◌, ◌≤◌, ◌+◌, ◌-◌, ◌^◌, List, Option, Result, ℕ, sym, subst, arith}
+use Rattle.std.proofs.Common.{◌≡◌, ⊤, ◌≤◌, ◌+◌, ◌-◌, ◌^◌, List, Option, Result, ℕ, sym, subst, arith}
 use Rattle.std.specs.Prelude.{min}
 use Rattle.denote.specs.Database.{Database}
 use Rattle.refusals.specs.declared.refusal.Refusal.{Refusal}
@@ -13,7 +13,7 @@ use Rattle.many_scripts.specs.declared.handed.HandedBack.{HandedBack}
 use Rattle.many_scripts.specs.declared.handed.HandedBack.TheVariants as handed
 use Rattle.many_scripts.specs.Cut.{Parts}
 use Rattle.many_scripts.specs.Ends.{Ends, Puts}
-use Rattle.many_scripts.specs.Handed.{BeginsGood, HandsBack, HasRefused, Left}
+use Rattle.many_scripts.specs.Handed.{BeginsGood, HandsAny, HandsBack, HasRefused, Left}
 use Rattle.many_scripts.specs.Many.{ComesTo, Ran, Runs}
 use Rattle.many_scripts.specs.Shown.{Answers}
 
@@ -51,6 +51,17 @@ module _ {S D : Type 0} (saved : D → Database → Type 0) (settled : D → Typ
       → (refusal ≡ Disk → HasRisen before (calls device)) → HandsBack saved settled calls refused before start back (Left.unopened refusal)
   hands_device before start back device refusal is kept counted =
       subst (λ (b : HandedBack S D). HandsBack saved settled calls refused before start b (Left.unopened refusal)) (sym is) (kept, counted)
+
+  -- and then nothing more is known of it
+  pub hands_any : (readable : Type 0) (before : ℕ) (back : HandedBack S D) (device : D) → back ≡ handed.Unopened device → HandsAny readable settled calls refused before back
+  hands_any readable before back device is = subst (λ (b : HandedBack S D). HandsAny readable settled calls refused before b) (sym is) tt
+
+  -- a store was opened on a device that can be read
+  pub any_read : (readable : Type 0) (before : ℕ) (back : HandedBack S D) → readable → HandsAny ⊤ settled calls refused before back → HandsAny readable settled calls refused before back
+  any_read readable before (handed.Unopened device) read h = tt
+  any_read readable before (handed.Closed device) read h = (read, h.1)
+  any_read readable before (handed.Unclosed core) read h = (read, h.1)
+  any_read readable before handed.Nothing read h = read
 
   -- in another name of the same world
   pub moved : {E : Type 0} (before : ℕ) (back : HandedBack S D) (has_refused : Type 0) (start begin : World) (scripts : List Script) (parts : List Parts) (held holds : Option (List ℕ))

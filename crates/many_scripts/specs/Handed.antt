@@ -55,3 +55,11 @@ HandsBack saved settled calls refused before start (Closed device) (Left.closed 
 HandsBack saved settled calls refused before start (Unclosed core) Left.unclosed = HasRisen before (refused (store_of core))
 HandsBack saved settled calls refused before start Nothing Left.dropped = Unit {0}
 HandsBack saved settled calls refused before start back left = ⊥
+
+-- What is known whatever lay on the device. A store was opened only where it can be read as a store's. The device of a closed one was synced behind the last write, and counts no fewer refused calls than
+-- before; a core that could not be closed counts more of them.
+abbrev pub HandsAny : {S D : Type 0} → Type 0 → (D → Type 0) → (D → ℕ) → (S → ℕ) → ℕ → HandedBack S D → Type 0
+HandsAny readable settled calls refused before (Unopened device) = Unit {0}
+HandsAny readable settled calls refused before (Closed device) = readable × settled device × (before ≤ calls device)
+HandsAny readable settled calls refused before (Unclosed core) = readable × HasRisen before (refused (store_of core))
+HandsAny readable settled calls refused before Nothing = readable

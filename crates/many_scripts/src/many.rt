@@ -1,5 +1,5 @@
 //! Scripts side by side over any store, from their bytes to what is printed of them and what is handed back.
-ghost use Rattle.std.specs.Prelude.{◌≡◌, ◌≤◌, ◌<◌, ℕ, false, length, IfOk, IfErr};
+ghost use Rattle.std.specs.Prelude.{◌≡◌, ⊤, ◌≤◌, ◌<◌, ℕ, false, length, IfOk, IfErr};
 ghost use Rattle.denote.specs.Database.{Database};
 ghost use Rattle.refusals.specs.declared.refusal.Refusal.TheVariants.{Disk, Exceeded};
 ghost use Rattle.refusals.specs.declared.limit.Limit.TheVariants as limit;
@@ -9,7 +9,7 @@ ghost use Rattle.sessions.specs.OfCore.{IsSound, world_of};
 ghost use Rattle.store.specs.Errors.{HasRisen};
 ghost use Rattle.many_scripts.specs.declared.handed.HandedBack.TheVariants as handed;
 ghost use Rattle.many_scripts.specs.Ends.{Ends, IsStatus, Puts, Tells};
-ghost use Rattle.many_scripts.specs.Handed.{BeginsGood, HandsBack, HasRefused, store_of};
+ghost use Rattle.many_scripts.specs.Handed.{HandsAny, HandsBack, HasRefused, store_of};
 ghost use Rattle.many_scripts.specs.Many.{ComesTo, Cuts, Opens, Runs};
 
 use crate::closing::{REFUSED, print_all};
@@ -34,6 +34,7 @@ use store::Store;
 ///
 /// Where the store was not opened, the device is handed back, saved as it was. Once scripts have run the store is closed, and its device is handed back, synced, with what was committed last
 /// saved on it; or the core is, where the device refuses that. That the device refused is said, in a reply or of the store, only where it refused a call: what is handed back counts more of them.
+/// A device that cannot be read as a store's is not opened.
 pub fn many_on<S: Store + Send, G: Gate + Sync, R: Threads + Wait + Sync, W: Write>(
     rt: &R,
     alloc: Global,
@@ -48,6 +49,7 @@ where
     ensures status { IsStatus result.status }
     ensures many { 64 < length scripts.now → Ends (Tells (Exceeded limit.Sessions) 1) (W.contents writer.old) (W.contents writer.new) result.status }
     ensures back { 64 < length scripts.now → result.back ≡ handed.Unopened device }
+    ensures any_device { HandsAny (S.readable device) S.settled S.calls_refused S.refused (S.calls_refused device) result.back }
     ensures runs { (db : Database) → S.saved device db
         → Ends (ComesTo (opened db) (HandsBack S.saved S.settled S.calls_refused S.refused (S.calls_refused device) (opened db) result.back)
         (HasRefused S.calls_refused S.refused (S.calls_refused device) result.back) scripts.now) (W.contents writer.old) (W.contents writer.new) result.status }
@@ -76,6 +78,7 @@ where
     ensures status { IfOk result.outcome IsStatus }
     ensures many { 64 < length scripts.now → Puts (Tells (Exceeded limit.Sessions) 1) (W.contents writer.old) (W.contents writer.new) result.outcome }
     ensures back { 64 < length scripts.now → result.back ≡ handed.Unopened device }
+    ensures any_device { HandsAny (S.readable device) S.settled S.calls_refused S.refused (S.calls_refused device) result.back }
     ensures runs { (db : Database) → S.saved device db
         → Puts (ComesTo (opened db) (HandsBack S.saved S.settled S.calls_refused S.refused (S.calls_refused device) (opened db) result.back)
         (HasRefused S.calls_refused S.refused (S.calls_refused device) result.back) scripts.now) (W.contents writer.old) (W.contents writer.new) result.outcome }
@@ -99,6 +102,7 @@ fn cut_and_run<S: Store + Send, G: Gate + Sync, R: Threads + Wait + Sync, W: Wri
 where
     S::Device: Send,
     ensures status { IfOk result.outcome IsStatus }
+    ensures any_device { HandsAny (S.readable device) S.settled S.calls_refused S.refused (S.calls_refused device) result.back }
     ensures cuts { (db : Database) → S.saved device db
         → Puts (Cuts (opened db) (HandsBack S.saved S.settled S.calls_refused S.refused (S.calls_refused device) (opened db) result.back)
         (HasRefused S.calls_refused S.refused (S.calls_refused device) result.back) scripts.now) (W.contents writer.old) (W.contents writer.new) result.outcome }
@@ -122,6 +126,7 @@ fn open_and_run<S: Store + Send, G: Gate + Sync, R: Threads + Wait + Sync, W: Wr
 where
     S::Device: Send,
     ensures status { IfOk result.outcome IsStatus }
+    ensures any_device { HandsAny (S.readable device) S.settled S.calls_refused S.refused (S.calls_refused device) result.back }
     ensures opens { (db : Database) → S.saved device db
         → Puts (Opens (opened db) (HandsBack S.saved S.settled S.calls_refused S.refused (S.calls_refused device) (opened db) result.back)
         (HasRefused S.calls_refused S.refused (S.calls_refused device) result.back) scripts.now.texts.items scripts.now.parts.items) (W.contents writer.old) (W.contents writer.new) result.outcome }
@@ -158,6 +163,7 @@ fn core_on<S: Store>(
     ensures frames { IfOk result (λ core. S.room (store_of core) ≡ frames.count) }
     ensures opened { IfOk result (λ core. (db : Database) → S.saved device db → IsSound S.is_sound S.shows core × (world_of S.shows core ≡ opened db)) }
     ensures empty { IfOk result (λ core. (id : ℕ) → is_live (world_of S.shows core) id ≡ false) }
+    ensures readable { IfOk result (λ core. S.readable device) }
     ensures counts { IfOk result (λ core. S.calls_refused device ≤ S.refused (store_of core)) }
     ensures refused { IfErr result (λ back. (db : Database) → S.saved device db → StopsFlush back.refusal) }
     ensures device { IfErr result (λ back. back.refusal ≡ Disk → HasRisen (S.calls_refused device) (S.calls_refused back.value)) }
@@ -179,6 +185,7 @@ where
     S::Device: Send,
     requires { (id : ℕ) → is_live (world_of S.shows core) id ≡ false }
     ensures status { IfOk result.outcome IsStatus }
+    ensures any_device { (before : ℕ) → before ≤ S.refused (store_of core) → HandsAny ⊤ S.settled S.calls_refused S.refused before result.back }
     ensures runs { (before : ℕ) → before ≤ S.refused (store_of core) → IsSound S.is_sound S.shows core
         → Puts (Runs (world_of S.shows core) (HandsBack S.saved S.settled S.calls_refused S.refused before (world_of S.shows core) result.back)
         (HasRefused S.calls_refused S.refused before result.back) scripts.now.texts.items scripts.now.parts.items) (W.contents writer.old) (W.contents writer.new) result.outcome }

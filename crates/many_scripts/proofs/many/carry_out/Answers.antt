@@ -14,3 +14,9 @@ returns-in-Ok-clause-runs g c = λ before least sound.
 
 pub returns-in-Err-clause-runs : goal.returns-in-Err-clause-runs
 returns-in-Err-clause-runs g c = λ before least sound. puts_by _ _ _ _ _ (λ text status told. Runs.no_memory told tt) c.say.ensures.puts
+
+pub returns-in-Ok-clause-any_device : goal.returns-in-Ok-clause-any_device
+returns-in-Ok-clause-any_device g c = λ before least. c.print_all.ensures.any_device before (le_trans least c.in-Ok.ensures.counted.least)
+
+pub returns-in-Err-clause-any_device : goal.returns-in-Err-clause-any_device
+returns-in-Err-clause-any_device g c = λ before least. tt

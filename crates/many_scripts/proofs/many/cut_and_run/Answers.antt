@@ -1,6 +1,6 @@
 use Rattle.many_scripts.specs.Many.{Cuts}
 use Rattle.many_scripts.proofs.Endings.{puts_by}
-use Rattle.many_scripts.proofs.Histories.{hands_device, memory_is_none}
+use Rattle.many_scripts.proofs.Histories.{hands_any, hands_device, memory_is_none}
 use Rattle.many_scripts.proofs.many.cut_and_run.Goals as goal
 
 pub returns-in-Ok-clause-cuts : goal.returns-in-Ok-clause-cuts
@@ -13,3 +13,7 @@ returns-in-Err-clause-cuts g c = λ db saved.
     Cuts.no_room told
     (hands_device g.S.Store.saved g.S.Store.settled g.S.Store.calls_refused g.S.Store.refused _ _ c.unopened.result.back c.args.device _ c.unopened.ensures.back saved memory_is_none))
     c.unopened.ensures.puts
+
+pub returns-in-Err-clause-any_device : goal.returns-in-Err-clause-any_device
+returns-in-Err-clause-any_device g c =
+    hands_any g.S.Store.saved g.S.Store.settled g.S.Store.calls_refused g.S.Store.refused _ _ c.unopened.result.back c.args.device c.unopened.ensures.back
