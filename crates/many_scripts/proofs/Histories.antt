@@ -1,6 +1,6 @@
 -- Scripts that ran over a core that was opened, and what is handed back.
-use Rattle.std.proofs.Common.{◌≡◌, ⊤, ◌≤◌, ◌+◌, ◌-◌, ◌^◌, List, Option, Result, ℕ, sym, subst, arith}
-use Rattle.std.specs.Prelude.{min}
+use Rattle.std.proofs.Common.{◌≡◌, ◌≤◌, ◌+◌, ◌-◌, ◌^◌, List, Option, Result, ℕ, sym, subst, arith}
+use Rattle.std.specs.Prelude.{⊤, min}
 use Rattle.denote.specs.Database.{Database}
 use Rattle.refusals.specs.declared.refusal.Refusal.{Refusal}
 use Rattle.refusals.specs.declared.refusal.Refusal.TheVariants.{Disk, Exceeded, Memory}
