@@ -59,7 +59,7 @@ module _ {S D : Type 0} (saved : D → Database → Type 0) (settled : D → Typ
   -- a store was opened on a device that can be read
   pub any_read : (readable : Type 0) (before : ℕ) (back : HandedBack S D) → readable → HandsAny ⊤ settled calls refused before back → HandsAny readable settled calls refused before back
   any_read readable before (handed.Unopened device) read h = tt
-  any_read readable before (handed.Closed device) read h = (read, h.1)
+  any_read readable before (handed.Closed device) read h = (read, h.1, h.2)
   any_read readable before (handed.Unclosed core) read h = (read, h.1)
   any_read readable before handed.Nothing read h = read
 

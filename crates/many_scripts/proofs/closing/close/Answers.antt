@@ -20,7 +20,7 @@ pub returns-in-Err-clause-counts : goal.returns-in-Err-clause-counts
 returns-in-Err-clause-counts g c = λ before risen. risen_twice before _ _ risen c.in-Err.ensures.device
 
 pub returns-in-Ok-clause-any_device : goal.returns-in-Ok-clause-any_device
-returns-in-Ok-clause-any_device g c = λ before least. (tt, (c.in-Ok.ensures.settled, le_trans least c.in-Ok.ensures.counts))
+returns-in-Ok-clause-any_device g c = λ before least. (tt, c.in-Ok.ensures.settled, le_trans least c.in-Ok.ensures.counts)
 
 pub returns-in-Err-clause-any_device : goal.returns-in-Err-clause-any_device
 returns-in-Err-clause-any_device g c = λ before least. (tt, risen_later before _ _ least c.in-Err.ensures.device)
