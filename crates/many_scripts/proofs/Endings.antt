@@ -1,5 +1,5 @@
 -- Texts that are written one behind the other, and how what prints ends.
-use Rattle.std.proofs.Common.{◌≡◌, ◌⊎◌, ◌≤◌, inl, inr, ℕ, Bool, true, false, List, [], ◌++◌, append_assoc, Option, Result, Ok, Err, is_ok, IfOk, MatchBool, MatchResult, refl, sym, ap, ◌∙◌, subst}
+use Rattle.std.proofs.Common.{◌≡◌, ◌⊎◌, inl, inr, ℕ, Bool, true, false, List, [], ◌++◌, append_assoc, Option, Result, Ok, Err, is_ok, IfOk, MatchBool, MatchResult, refl, sym, ap, ◌∙◌, subst}
 use Rattle.std.specs.Io.KnownBytes.{Keeps}
 use Rattle.std.proofs.KnownBytes.{Appends-kept, Appends-nil}
 use Rattle.refusals.specs.declared.refusal.Refusal.{Refusal}

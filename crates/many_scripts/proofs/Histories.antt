@@ -6,15 +6,15 @@ use Rattle.refusals.specs.declared.refusal.Refusal.{Refusal}
 use Rattle.refusals.specs.declared.refusal.Refusal.TheVariants.{Disk, Exceeded, Memory}
 use Rattle.refusals.specs.declared.limit.Limit.TheVariants as limit
 use Rattle.session_definitions.specs.World.{World}
-use Rattle.shared.specs.Scripts.{RunSideBySide, Script, Text}
+use Rattle.shared.specs.Scripts.{RunSideBySide, Script}
 use Rattle.shared.proofs.Counting.{answers_by}
 use Rattle.store.specs.Errors.{HasRisen}
 use Rattle.many_scripts.specs.declared.handed.HandedBack.{HandedBack}
 use Rattle.many_scripts.specs.declared.handed.HandedBack.TheVariants as handed
 use Rattle.many_scripts.specs.Cut.{Parts}
-use Rattle.many_scripts.specs.Ends.{Ends, Puts}
-use Rattle.many_scripts.specs.Handed.{BeginsGood, HandsAny, HandsBack, HasRefused, Left}
-use Rattle.many_scripts.specs.Many.{ComesTo, Ran, Runs}
+use Rattle.many_scripts.specs.Ends.{Puts}
+use Rattle.many_scripts.specs.Handed.{BeginsGood, HandsAny, HandsBack, Left}
+use Rattle.many_scripts.specs.Many.{Ran, Runs}
 use Rattle.many_scripts.specs.Shown.{Answers}
 
 -- over a core that was sound, and stays so
@@ -69,13 +69,6 @@ module _ {S D : Type 0} (saved : D → Database → Type 0) (settled : D → Typ
       → Puts (Runs begin (HandsBack saved settled calls refused before begin back) has_refused scripts parts) held holds answer
   moved before back has_refused start begin scripts parts held holds answer same run =
       subst (λ (w : World). Puts (Runs w (HandsBack saved settled calls refused before w back) has_refused scripts parts) held holds answer) same run
-
-  -- the count at first in other words
-  pub counted_from : (start : World) (back : HandedBack S D) (scripts : List Text) (held holds : Option (List ℕ)) (exit m n : ℕ) → m ≡ n
-      → Ends (ComesTo start (HandsBack saved settled calls refused m start back) (HasRefused calls refused m back) scripts) held holds exit
-      → Ends (ComesTo start (HandsBack saved settled calls refused n start back) (HasRefused calls refused n back) scripts) held holds exit
-  counted_from start back scripts held holds exit m n same ends =
-      subst (λ (k : ℕ). Ends (ComesTo start (HandsBack saved settled calls refused k start back) (HasRefused calls refused k back) scripts) held holds exit) same ends
 
 -- these are no refusals of the device
 pub memory_is_none : {X : Type 0} → Memory ≡ Disk → X
