@@ -1,5 +1,5 @@
 -- Texts that are written one behind the other, and how what prints ends.
-use Rattle.std.proofs.Common.{◌≡◌, ◌⊎◌, ◌≤◌, inl, inr, ℕ, Bool, true, false, List, [], ◌++◌, append_assoc, Option, Result, Ok, Err, is_ok, IfOk, MatchBool, MatchResult, refl, sym, ap, ◌∙◌, subst}
+use Rattle.std.proofs.Common.{◌≡◌, ◌⊎◌, inl, inr, ℕ, Bool, true, false, List, [], ◌++◌, append_assoc, Option, Result, Ok, Err, is_ok, IfOk, MatchBool, MatchResult, refl, sym, ap, ◌∙◌, subst}
 use Rattle.std.specs.Io.KnownBytes.{Keeps}
 use Rattle.std.proofs.KnownBytes.{Appends-kept, Appends-nil}
 use Rattle.refusals.specs.declared.refusal.Refusal.{Refusal}
@@ -8,8 +8,9 @@ use Rattle.replies.specs.Writes.{Writes}
 use Rattle.replies.proofs.Written.{HasTaken-none, HasTaken-next, Writes-last}
 use Rattle.many_scripts.specs.Cut.{Parts}
 use Rattle.many_scripts.specs.Ends.{Ends, EndsBy, IsStatus, Puts, Tells, refusal_line}
-use Rattle.sessions.proofs.Devices.{risen_later}
-use Rattle.many_scripts.specs.Many.{HasCounted, HasRefused, Shows, status_for}
+use Rattle.session_definitions.specs.World.{World}
+use Rattle.many_scripts.specs.Handed.{Left}
+use Rattle.many_scripts.specs.Many.{Shows, status_for}
 use Rattle.many_scripts.specs.Shown.{Answers, printed_scripts, some_refused}
 
 -- what was written stands, whatever is passed on
@@ -106,49 +107,45 @@ said_status {E = E} status (Err e) answer is allowed = subst (λ (a : Result ℕ
 
 -- ---- once scripts have run
 
--- the replies were written, and the store was closed or not
-pub shown : {E F : Type 0} (saves has_refused : Type 0) (parts : List Parts) (answers : List Answers) (held mid holds : Option (List ℕ)) (r : Result Bool E) (refused : Bool) (before : ℕ) (is_closed : Bool) (answer : Result ℕ F)
-    → r ≡ Ok refused → Writes held mid (is_ok r) (printed_scripts 1 parts answers) → refused ≡ some_refused parts answers → before ≡ status_for refused
-    → MatchBool is_closed saves has_refused
-    → MatchBool is_closed ((holds ≡ mid) × (answer ≡ Ok before)) (Puts (Tells Disk 3) mid holds answer) → Puts (Shows saves has_refused parts answers) held holds answer
-shown {F = F} saves has_refused parts answers held mid holds r refused before true answer ok written found is left h = record {
-  text = printed_scripts 1 parts answers;
-  status = status_for (some_refused parts answers);
-  meaning = Shows.closed refl refl left;
-  written = subst (λ (b : Bool). Writes held holds b (printed_scripts 1 parts answers)) (ap is_ok ok ∙ sym (ap is_ok h.1))
-      (subst (λ (w : Option (List ℕ)). Writes held w (is_ok r) (printed_scripts 1 parts answers)) (sym h.0) written);
-  is = subst (λ (a : Result ℕ F). IfOk a (λ s. s ≡ status_for (some_refused parts answers))) (sym h.1) (is ∙ ap status_for found);
-}
-shown {F = F} saves has_refused parts answers held mid holds r refused before false answer ok written found is left h = record {
-  text = printed_scripts 1 parts answers ++ refusal_line Disk;
-  status = 3;
-  meaning = Shows.not_closed refl refl left;
-  written = both_written held mid holds (printed_scripts 1 parts answers) (refusal_line Disk) (is_ok answer) r refused ok written
-      (subst (λ t. Writes mid holds (is_ok answer) t) h.meaning.0 h.written);
-  is = subst (λ (n : ℕ). IfOk answer (λ s. s ≡ n)) h.meaning.1 h.is;
-}
+module _ (hands : Left → Type 0) (end : World) (parts : List Parts) (answers : List Answers) where
+  -- the replies were written, and the store was closed or not
+  pub shown : {E F : Type 0} (held mid holds : Option (List ℕ)) (r : Result Bool E) (refused : Bool) (before : ℕ) (closed : Bool) (answer : Result ℕ F) → r ≡ Ok refused
+      → Writes held mid (is_ok r) (printed_scripts 1 parts answers) → refused ≡ some_refused parts answers → before ≡ status_for refused
+      → MatchBool closed (hands (Left.closed end)) (hands Left.unclosed)
+      → MatchBool closed ((holds ≡ mid) × (answer ≡ Ok before)) (Puts (Tells Disk 3) mid holds answer) → Puts (Shows hands end parts answers) held holds answer
+  shown {F = F} held mid holds r refused before true answer ok written found is left h = record {
+    text = printed_scripts 1 parts answers;
+    status = status_for (some_refused parts answers);
+    meaning = Shows.closed refl refl left;
+    written = subst (λ (b : Bool). Writes held holds b (printed_scripts 1 parts answers)) (ap is_ok ok ∙ sym (ap is_ok h.1))
+        (subst (λ (w : Option (List ℕ)). Writes held w (is_ok r) (printed_scripts 1 parts answers)) (sym h.0) written);
+    is = subst (λ (a : Result ℕ F). IfOk a (λ s. s ≡ status_for (some_refused parts answers))) (sym h.1) (is ∙ ap status_for found);
+  }
+  shown {F = F} held mid holds r refused before false answer ok written found is left h = record {
+    text = printed_scripts 1 parts answers ++ refusal_line Disk;
+    status = 3;
+    meaning = Shows.not_closed refl refl left;
+    written = both_written held mid holds (printed_scripts 1 parts answers) (refusal_line Disk) (is_ok answer) r refused ok written
+        (subst (λ t. Writes mid holds (is_ok answer) t) h.meaning.0 h.written);
+    is = subst (λ (n : ℕ). IfOk answer (λ s. s ≡ n)) h.meaning.1 h.is;
+  }
 
--- the writer refused
-pub not_shown : {E F : Type 0} (saves has_refused : Type 0) (parts : List Parts) (answers : List Answers) (held holds : Option (List ℕ)) (r : Result Bool E) (e : E) (f : F) (is_closed : Bool) → r ≡ Err e
-    → Writes held holds (is_ok r) (printed_scripts 1 parts answers) → MatchBool is_closed saves has_refused → Puts (Shows saves has_refused parts answers) held holds (Err f)
-not_shown saves has_refused parts answers held holds r e f true failed written left = record {
-  text = printed_scripts 1 parts answers;
-  status = status_for (some_refused parts answers);
-  meaning = Shows.closed refl refl left;
-  written = subst (λ (b : Bool). Writes held holds b (printed_scripts 1 parts answers)) (ap is_ok failed) written;
-  is = tt;
-}
-not_shown saves has_refused parts answers held holds r e f false failed written left = record {
-  text = printed_scripts 1 parts answers ++ refusal_line Disk;
-  status = 3;
-  meaning = Shows.not_closed refl refl left;
-  written = begun_more held holds (printed_scripts 1 parts answers) (refusal_line Disk)
-      (subst (λ (b : Bool). Writes held holds b (printed_scripts 1 parts answers)) (ap is_ok failed) written);
-  is = tt;
-}
-
--- what closing told is known from an earlier count on
-pub left_since : {D X : Type 0} (saves : Type 0) (calls : D → ℕ) (refused : X → ℕ) (first before : ℕ) (is_closed : Bool) → first ≤ before
-    → MatchBool is_closed saves (HasCounted refused before) → MatchBool is_closed saves (HasRefused calls refused first)
-left_since saves calls refused first before true less h = h
-left_since saves calls refused first before false less h = inr (h.0, risen_later first before (refused h.0) less h.1)
+  -- the writer refused
+  pub not_shown : {E F : Type 0} (held holds : Option (List ℕ)) (r : Result Bool E) (e : E) (f : F) (closed : Bool) → r ≡ Err e
+      → Writes held holds (is_ok r) (printed_scripts 1 parts answers) → MatchBool closed (hands (Left.closed end)) (hands Left.unclosed)
+      → Puts (Shows hands end parts answers) held holds (Err f)
+  not_shown held holds r e f true failed written left = record {
+    text = printed_scripts 1 parts answers;
+    status = status_for (some_refused parts answers);
+    meaning = Shows.closed refl refl left;
+    written = subst (λ (b : Bool). Writes held holds b (printed_scripts 1 parts answers)) (ap is_ok failed) written;
+    is = tt;
+  }
+  not_shown held holds r e f false failed written left = record {
+    text = printed_scripts 1 parts answers ++ refusal_line Disk;
+    status = 3;
+    meaning = Shows.not_closed refl refl left;
+    written = begun_more held holds (printed_scripts 1 parts answers) (refusal_line Disk)
+        (subst (λ (b : Bool). Writes held holds b (printed_scripts 1 parts answers)) (ap is_ok failed) written);
+    is = tt;
+  }

@@ -1,14 +1,20 @@
--- Scripts that ran over a core that was opened.
-use Rattle.std.proofs.Common.{◌≡◌, ◌≤◌, List, Option, Result, ℕ, inr, subst}
+-- Scripts that ran over a core that was opened, and what is handed back.
+use Rattle.std.proofs.Common.{◌≡◌, ◌≤◌, ◌+◌, ◌-◌, ◌^◌, List, Option, Result, ℕ, sym, subst, arith}
+use Rattle.std.specs.Prelude.{⊤, min}
+use Rattle.denote.specs.Database.{Database}
+use Rattle.refusals.specs.declared.refusal.Refusal.{Refusal}
+use Rattle.refusals.specs.declared.refusal.Refusal.TheVariants.{Disk, Exceeded, Memory}
+use Rattle.refusals.specs.declared.limit.Limit.TheVariants as limit
 use Rattle.session_definitions.specs.World.{World}
-use Rattle.sessions.proofs.Devices.{risen_later}
-use Rattle.shared.specs.Scripts.{RunSideBySide, Script, Text}
+use Rattle.shared.specs.Scripts.{RunSideBySide, Script}
 use Rattle.shared.proofs.Counting.{answers_by}
 use Rattle.store.specs.Errors.{HasRisen}
+use Rattle.many_scripts.specs.declared.handed.HandedBack.{HandedBack}
+use Rattle.many_scripts.specs.declared.handed.HandedBack.TheVariants as handed
 use Rattle.many_scripts.specs.Cut.{Parts}
-use Rattle.many_scripts.specs.Ends.{Ends, Puts}
-use Rattle.denote.specs.Database.{Database}
-use Rattle.many_scripts.specs.Many.{ComesTo, HasRefused, Ran, Runs, Saves, Shows}
+use Rattle.many_scripts.specs.Ends.{Puts}
+use Rattle.many_scripts.specs.Handed.{BeginsGood, HandsAny, HandsBack, Left}
+use Rattle.many_scripts.specs.Many.{Ran, Runs}
 use Rattle.many_scripts.specs.Shown.{Answers}
 
 -- over a core that was sound, and stays so
@@ -26,26 +32,47 @@ module _ (premise sound : Type 0) (start end : World) (before after : ℕ) (scri
     device = λ k one is. answers_by (HasRisen before after) has_refused so one.items (h.device k one is);
   }
 
-  pub saves : (saved : Database → Type 0) → (sound → saved end.last) → Saves saved start end
-  saves saved kept rules are good = kept (h.history.tells holds rules are good).0
+  pub stays : BeginsGood start → sound
+  stays good = (h.history.tells holds good.0 good.1 good.2).0
 
--- what is known of the core at the end is known from the first one on
-pub shown_by : (kept saves has_refused : Type 0) (parts : List Parts) (answers : List Answers) (text : List ℕ) (status : ℕ) → (kept → saves)
-    → Shows kept has_refused parts answers text status → Shows saves has_refused parts answers text status
-shown_by kept saves has_refused parts answers text status so (Shows.closed is told saved) = Shows.closed is told (so saved)
-shown_by kept saves has_refused parts answers text status so (Shows.not_closed is told refused) = Shows.not_closed is told refused
+-- ---- the count of refused calls
 
-pub risen_first : {D X : Type 0} (calls : D → ℕ) (refused : X → ℕ) (first before : ℕ) (store : X) → first ≤ before → HasRisen before (refused store) → HasRefused calls refused first
-risen_first calls refused first before store less h = inr (store, risen_later first before (refused store) less h)
+rises_twice : (top k m n : ℕ) → min (k + 1) top ≤ m → min (m + 1) top ≤ n → min (k + 1) top ≤ n
+rises_twice top k m n one two = omega (arith, one, two)
 
--- in another name of the same world
-pub moved : {E : Type 0} (saved : Database → Type 0) (has_refused : Type 0) (start begin : World) (scripts : List Script) (parts : List Parts) (held holds : Option (List ℕ)) (answer : Result ℕ E)
-    → start ≡ begin → Puts (Runs start saved has_refused scripts parts) held holds answer → Puts (Runs begin saved has_refused scripts parts) held holds answer
-moved saved has_refused start begin scripts parts held holds answer same run =
-    subst (λ (w : World). Puts (Runs w saved has_refused scripts parts) held holds answer) same run
+pub risen_twice : (k m n : ℕ) → HasRisen k m → HasRisen m n → HasRisen k n
+risen_twice k m n one two = rises_twice (2 ^ 64 - 1) k m n one two
 
--- the count at first in other words
-pub counted_from : {D X : Type 0} (calls : D → ℕ) (refused : X → ℕ) (saved : Database → Type 0) (start : World) (scripts : List Text) (held holds : Option (List ℕ)) (exit m n : ℕ) → m ≡ n
-    → Ends (ComesTo start saved (HasRefused calls refused m) scripts) held holds exit → Ends (ComesTo start saved (HasRefused calls refused n) scripts) held holds exit
-counted_from calls refused saved start scripts held holds exit m n same ends =
-    subst (λ (k : ℕ). Ends (ComesTo start saved (HasRefused calls refused k) scripts) held holds exit) same ends
+-- ---- what is handed back
+
+module _ {S D : Type 0} (saved : D → Database → Type 0) (settled : D → Type 0) (calls : D → ℕ) (refused : S → ℕ) where
+  -- the device, where its store was not opened
+  pub hands_device : (before : ℕ) (start : World) (back : HandedBack S D) (device : D) (refusal : Refusal) → back ≡ handed.Unopened device → saved device start.last
+      → (refusal ≡ Disk → HasRisen before (calls device)) → HandsBack saved settled calls refused before start back (Left.unopened refusal)
+  hands_device before start back device refusal is kept counted =
+      subst (λ (b : HandedBack S D). HandsBack saved settled calls refused before start b (Left.unopened refusal)) (sym is) (kept, counted)
+
+  -- and then nothing more is known of it
+  pub hands_any : (readable : Type 0) (before : ℕ) (back : HandedBack S D) (device : D) → back ≡ handed.Unopened device → HandsAny readable settled calls refused before back
+  hands_any readable before back device is = subst (λ (b : HandedBack S D). HandsAny readable settled calls refused before b) (sym is) tt
+
+  -- a store was opened on a device that can be read
+  pub any_read : (readable : Type 0) (before : ℕ) (back : HandedBack S D) → readable → HandsAny ⊤ settled calls refused before back → HandsAny readable settled calls refused before back
+  any_read readable before (handed.Unopened device) read h = tt
+  any_read readable before (handed.Closed device) read h = (read, h.1, h.2)
+  any_read readable before (handed.Unclosed core) read h = (read, h.1)
+  any_read readable before handed.Nothing read h = read
+
+  -- in another name of the same world
+  pub moved : {E : Type 0} (before : ℕ) (back : HandedBack S D) (has_refused : Type 0) (start begin : World) (scripts : List Script) (parts : List Parts) (held holds : Option (List ℕ))
+      (answer : Result ℕ E) → start ≡ begin → Puts (Runs start (HandsBack saved settled calls refused before start back) has_refused scripts parts) held holds answer
+      → Puts (Runs begin (HandsBack saved settled calls refused before begin back) has_refused scripts parts) held holds answer
+  moved before back has_refused start begin scripts parts held holds answer same run =
+      subst (λ (w : World). Puts (Runs w (HandsBack saved settled calls refused before w back) has_refused scripts parts) held holds answer) same run
+
+-- these are no refusals of the device
+pub memory_is_none : {X : Type 0} → Memory ≡ Disk → X
+memory_is_none is = absurd (cc)
+
+pub sessions_are_none : {X : Type 0} → Exceeded limit.Sessions ≡ Disk → X
+sessions_are_none is = absurd (cc)

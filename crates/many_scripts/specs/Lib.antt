@@ -1,5 +1,6 @@
 pub mod Cut
 pub mod Ends
+pub mod Handed
 pub mod Shown
 pub mod Many
 pub mod Words

@@ -1,38 +1,49 @@
 //! What is printed once scripts have run.
-ghost use Rattle.std.specs.Prelude.{◌≡◌, ◌≤◌, ℕ, IfOk, MatchBool};
+ghost use Rattle.std.specs.Prelude.{◌≡◌, ⊤, ◌≤◌, ℕ, IfOk, MatchBool};
+ghost use Rattle.session_definitions.specs.World.{World};
 ghost use Rattle.sessions.specs.OfCore.{IsSound, world_of};
+ghost use Rattle.store.specs.Errors.{HasRisen};
 ghost use Rattle.many_scripts.specs.Ends.{IsStatus, Puts};
-ghost use Rattle.many_scripts.specs.Many.{HasCounted, HasRefused, IsSaved, Shows, status_for, store_of};
+ghost use Rattle.many_scripts.specs.Handed.{BeginsGood, HandsAny, HandsBack, HasRefused, Left, is_closed, store_of};
+ghost use Rattle.many_scripts.specs.Many.{Shows, status_for};
 
 use crate::ending::say_unless_closed;
+use crate::handed::{HandedBack, Printed};
 use crate::part::Part;
 use crate::show::show_all;
 use engine::Core;
 use shared::Answers;
-use std::io;
 use std::io::Write;
 use store::Store;
 
 /// The exit status where a reply was a refusal, or the scripts were refused.
 pub(crate) const REFUSED: u8 = 1;
 
-/// Prints the scripts' replies, and closes the core, also where the writer refuses; tells of a core that could not be closed. The answer is the exit status.
+/// Prints the scripts' replies, and closes the core, also where the writer refuses; tells of a core that could not be closed.
 pub(crate) fn print_all<S: Store, W: Write>(
     core: Core<S>,
     parts: &[Vec<Part>],
     answers: Vec<Answers>,
     writer: &mut W,
-) -> io::Result<u8>
-    ensures shows { (before : ℕ) → before ≤ S.refused (store_of core)
-        → Puts (Shows (IsSound S.is_sound S.shows core → IsSaved S.saved (world_of S.shows core).last) (HasRefused S.calls_refused S.refused before) parts.now answers.items)
-        (W.contents writer.old) (W.contents writer.new) result }
-    ensures status { IfOk result IsStatus }
+) -> Printed<S>
+    ensures shows { (before : ℕ) (start : World) → before ≤ S.refused (store_of core) → (BeginsGood start → IsSound S.is_sound S.shows core)
+        → Puts (Shows (HandsBack S.saved S.settled S.calls_refused S.refused before start result.back) (world_of S.shows core) parts.now answers.items)
+        (W.contents writer.old) (W.contents writer.new) result.outcome }
+    ensures any_device { (before : ℕ) → before ≤ S.refused (store_of core) → HandsAny ⊤ S.settled S.calls_refused S.refused before result.back }
+    ensures counts { (before : ℕ) → HasRisen before (S.refused (store_of core)) → HasRefused S.calls_refused S.refused before result.back }
+    ensures status { IfOk result.outcome IsStatus }
 {
     let shown = show_all(parts, answers, writer);
-    let is_closed = close(core);
+    let back = close(core);
     match shown {
-        Ok(refused) => say_unless_closed(is_closed, status_for(refused), writer),
-        Err(error) => Err(error),
+        Ok(refused) => Printed {
+            outcome: say_unless_closed(&back, status_for(refused), writer),
+            back,
+        },
+        Err(error) => Printed {
+            outcome: Err(error),
+            back,
+        },
     }
 }
 
@@ -44,12 +55,16 @@ fn status_for(refused: bool) -> u8
     if refused { REFUSED } else { 0 }
 }
 
-/// Closes the core, and answers whether that was not refused. A refusal is the device's, which refused a call then; and else what was committed last is saved.
-fn close<S: Store>(core: Core<S>) -> bool
-    ensures { MatchBool result (IsSound S.is_sound S.shows core → IsSaved S.saved (world_of S.shows core).last) (HasCounted S.refused (S.refused (store_of core))) }
+/// Closes the core, and hands its device back, or the core where the device refuses that.
+fn close<S: Store>(core: Core<S>) -> HandedBack<S>
+    ensures closes { (before : ℕ) (start : World) → before ≤ S.refused (store_of core) → (BeginsGood start → IsSound S.is_sound S.shows core)
+        → MatchBool (is_closed result) (HandsBack S.saved S.settled S.calls_refused S.refused before start result (Left.closed (world_of S.shows core)))
+        (HandsBack S.saved S.settled S.calls_refused S.refused before start result Left.unclosed) }
+    ensures any_device { (before : ℕ) → before ≤ S.refused (store_of core) → HandsAny ⊤ S.settled S.calls_refused S.refused before result }
+    ensures counts { (before : ℕ) → HasRisen before (S.refused (store_of core)) → HasRefused S.calls_refused S.refused before result }
 {
     match core.close() {
-        Ok(_device) => true,
-        Err(_back) => false,
+        Ok(device) => HandedBack::Closed(device),
+        Err(refused) => HandedBack::Unclosed(refused.value),
     }
 }

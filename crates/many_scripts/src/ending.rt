@@ -4,11 +4,14 @@ ghost use Rattle.std.specs.Io.KnownBytes.{Keeps};
 ghost use Rattle.refusals.specs.declared.refusal.Refusal.TheVariants.{Disk};
 ghost use Rattle.replies.specs.Writes.{Writes};
 ghost use Rattle.many_scripts.specs.Ends.{EndsBy, IsStatus, Puts, Tells, refusal_line};
+ghost use Rattle.many_scripts.specs.Handed.{is_closed};
 
+use crate::handed::HandedBack;
 use refusals::Refusal;
 use replies::{Reply, print_reply};
 use std::io;
 use std::io::{ErrorKind, Write};
+use store::Store;
 
 /// The exit status where something went wrong around the scripts: one could not be read, the store not be opened or closed, or the output not be written.
 pub(crate) const FAILED: u8 = 3;
@@ -33,16 +36,16 @@ fn with_status(printed: io::Result<()>, status: u8) -> io::Result<u8>
 }
 
 /// Prints that the device refused where the store was not closed. The answer is the exit status: 3 then, and else this one.
-pub(crate) fn say_unless_closed<W: Write>(
-    is_closed: bool,
+pub(crate) fn say_unless_closed<S: Store, W: Write>(
+    back: &HandedBack<S>,
     status: u8,
     writer: &mut W,
 ) -> io::Result<u8>
-    ensures puts { MatchBool is_closed ((W.contents writer.new ≡ W.contents writer.old) × (result ≡ Ok status))
+    ensures puts { MatchBool (is_closed back.now) ((W.contents writer.new ≡ W.contents writer.old) × (result ≡ Ok status))
         (Puts (Tells Disk 3) (W.contents writer.old) (W.contents writer.new) result) }
     ensures status { IsStatus status → IfOk result IsStatus }
 {
-    if is_closed {
+    if back.is_closed() {
         return Ok(status);
     }
     say(Refusal::Disk, FAILED, writer)

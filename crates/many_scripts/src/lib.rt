@@ -6,6 +6,7 @@ mod command_line;
 mod cut;
 mod ending;
 mod files;
+mod handed;
 mod many;
 mod options;
 mod part;
@@ -16,6 +17,7 @@ mod tables;
 mod words;
 
 pub use command_line::settings;
+pub use handed::{EndedScripts, HandedBack};
 pub use many::many_on;
 pub use options::Settings;
 pub use program::sqlmany;

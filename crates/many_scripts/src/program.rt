@@ -42,7 +42,7 @@ pub fn sqlmany<R: Env + Files + Print + Eprint + AllocGlobal + Threads + Wait + 
     }
 }
 
-/// Reads the scripts, all of them before a call is made, and carries them out over tables in memory, of which nothing is left at the end. Where one cannot be read, that is said,
+/// Reads the scripts, all of them before a call is made, and carries them out over tables in memory, which are let go at the end. Where one cannot be read, that is said,
 /// and the status is 3.
 fn run_files<R: Files + AllocGlobal + Threads + Wait + Sync, W: Write, S: AsStr>(
     rt: &R,
@@ -53,14 +53,17 @@ fn run_files<R: Files + AllocGlobal + Threads + Wait + Sync, W: Write, S: AsStr>
     ensures { IsStatus result }
 {
     match read_all(rt, settings.scripts) {
-        Ok(scripts) => many_in_memory(
-            rt,
-            alloc,
-            settings.frames,
-            scripts.as_slice(),
-            &NoGate,
-            writer,
-        ),
+        Ok(scripts) => {
+            let done = many_in_memory(
+                rt,
+                alloc,
+                settings.frames,
+                scripts.as_slice(),
+                &NoGate,
+                writer,
+            );
+            done.status
+        }
         Err(error) => ended(say(refusal_of(&error), FAILED, writer), writer),
     }
 }

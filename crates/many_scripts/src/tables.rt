@@ -4,8 +4,10 @@ ghost use Rattle.refusals.specs.declared.refusal.Refusal.TheVariants.{Exceeded};
 ghost use Rattle.refusals.specs.declared.limit.Limit.TheVariants as limit;
 ghost use Rattle.session_definitions.specs.World.{new_world};
 ghost use Rattle.many_scripts.specs.Ends.{Ends, IsStatus, Tells};
-ghost use Rattle.many_scripts.specs.Many.{ComesTo, HasRefused, IsSaved};
+ghost use Rattle.many_scripts.specs.Handed.{HandsBack, HasRefused};
+ghost use Rattle.many_scripts.specs.Many.{ComesTo};
 
+use crate::handed::EndedScripts;
 use crate::many::many_on;
 use disk::{Disk, MemDisk};
 use page_frames::Frames;
@@ -17,7 +19,7 @@ use std::sync::Wait;
 use std::thread::Threads;
 use store::Store;
 
-/// Tables in the pages of a device in memory, of which nothing is left at the end.
+/// Tables in the pages of a device in memory.
 type Tables = Paged<MemDisk>;
 
 /// Carries out scripts side by side over a new database in memory, as `many_on` does over any store.
@@ -28,11 +30,11 @@ pub fn many_in_memory<G: Gate + Sync, R: Threads + Wait + Sync, W: Write>(
     scripts: &[Vec<u8>],
     gate: &G,
     writer: &mut W,
-) -> u8
-    ensures status { IsStatus result }
-    ensures many { 64 < length scripts.now → Ends (Tells (Exceeded limit.Sessions) 1) (W.contents writer.old) (W.contents writer.new) result }
-    ensures runs { Ends (ComesTo new_world (IsSaved ⟦<Paged<MemDisk> as Store>⟧.saved) (HasRefused ⟦<MemDisk as Disk>⟧.refused ⟦<Paged<MemDisk> as Store>⟧.refused 0) scripts.now)
-        (W.contents writer.old) (W.contents writer.new) result }
+) -> EndedScripts<Tables>
+    ensures status { IsStatus result.status }
+    ensures many { 64 < length scripts.now → Ends (Tells (Exceeded limit.Sessions) 1) (W.contents writer.old) (W.contents writer.new) result.status }
+    ensures runs { Ends (ComesTo new_world (HandsBack ⟦<Paged<MemDisk> as Store>⟧.saved ⟦<Paged<MemDisk> as Store>⟧.settled ⟦<MemDisk as Disk>⟧.refused ⟦<Paged<MemDisk> as Store>⟧.refused 0 new_world result.back)
+        (HasRefused ⟦<MemDisk as Disk>⟧.refused ⟦<Paged<MemDisk> as Store>⟧.refused 0 result.back) scripts.now) (W.contents writer.old) (W.contents writer.new) result.status }
 {
     let device = MemDisk::new(alloc);
     many_on::<Tables, G, R, W>(rt, alloc, frames, device, scripts, gate, writer)
