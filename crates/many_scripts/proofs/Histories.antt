@@ -30,6 +30,7 @@ module _ (premise sound : Type 0) (start end : World) (before after : ℕ) (scri
       tells = λ one rules are good. (tt, (h.history.tells holds rules are good).1);
     };
     device = λ k one is. answers_by (HasRisen before after) has_refused so one.items (h.device k one is);
+    limits = h.limits;
   }
 
   pub stays : BeginsGood start → sound

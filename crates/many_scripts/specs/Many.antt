@@ -5,17 +5,18 @@ use Rattle.refusals.specs.declared.refusal.Refusal.TheVariants.{Disk, Exceeded, 
 use Rattle.refusals.specs.declared.limit.Limit.TheVariants as limit
 use Rattle.session_definitions.specs.Refusals.{StopsFlush}
 use Rattle.session_definitions.specs.World.{World}
-use Rattle.shared.specs.Scripts.{AllTellDeviceIf, OneHistory, Script, Text}
+use Rattle.shared.specs.Scripts.{AllTellDeviceIf, AnswersTellLimits, OneHistory, Script, Text, texts_at}
 use Rattle.many_scripts.specs.Cut.{AreCut, Parts}
 use Rattle.many_scripts.specs.Ends.{Tells, refusal_line}
 use Rattle.many_scripts.specs.Handed.{Left}
 use Rattle.many_scripts.specs.Shown.{Answers, printed_scripts, some_refused}
 
 -- The scripts ran between these worlds, each on a thread of its own: there is one history of all their calls, a legal one, in which their texts have these answers. X0002 is among them only
--- where the device refused a call.
+-- where the device refused a call, and a limit of what the store counts only where the text may reach it.
 pub record Ran (start : World) (scripts : List Script) (answers : List Answers) (end : World) (has_refused : Type 0) : Type 0 where
   pub history : OneHistory (Unit {0}) start scripts answers (Unit {0}) end
   pub device : (k : ℕ) (one : Answers) → slice_get answers k ≡ Some one → AllTellDeviceIf has_refused one.items
+  pub limits : (k : ℕ) (one : Answers) → slice_get answers k ≡ Some one → AnswersTellLimits (texts_at scripts k) one.items
 
 -- the status where all was printed, by whether a reply is a refusal
 abbrev pub status_for : Bool → ℕ
