@@ -1,9 +1,8 @@
 //! Runs over the device of a store in which each call is made again where it was refused for memory or by the device: what the last of these calls answer is that of a run without a refusal.
 
-use engine::{Core, Sql};
 use refusals::Refusal;
 use replies::{Reply, print_reply};
-use sessions::{Refused, SessionId};
+use sessions::{Changes, Core, Language, Refused, SessionId};
 use std::alloc::{AllocError, Global};
 use store::Store;
 
@@ -50,12 +49,13 @@ pub(super) struct Lives<'a> {
 }
 
 /// A core over a device, which is opened again where that was refused.
-fn opened<S: Store>(
+fn opened<S: Store, L: Language + Changes<S> + Copy>(
     alloc: Global,
+    language: L,
     device: S::Device,
     refusals: &mut Refusals,
-) -> Result<Core<S>, Refused<S::Device>> {
-    match Core::open(alloc, Sql, device, 16) {
+) -> Result<Core<S, L>, Refused<S::Device>> {
+    match Core::open(alloc, language, device, 16) {
         Ok(core) => Ok(core),
         Err(back) => {
             let Refused { refusal, value } = back;
@@ -63,13 +63,16 @@ fn opened<S: Store>(
                 Refusal::Memory => refusals.of_memory = refusals.of_memory.saturating_add(1),
                 _ => refusals.openings = refusals.openings.saturating_add(1),
             }
-            Core::open(alloc, Sql, value, 16)
+            Core::open(alloc, language, value, 16)
         }
     }
 }
 
 /// The device of a core, which is closed again where that was refused.
-fn closed<S: Store>(core: Core<S>, refusals: &mut Refusals) -> Option<S::Device> {
+fn closed<S: Store, L: Language + Changes<S>>(
+    core: Core<S, L>,
+    refusals: &mut Refusals,
+) -> Option<S::Device> {
     match core.close() {
         Ok(device) => Some(device),
         Err(back) => {
@@ -84,7 +87,11 @@ fn closed<S: Store>(core: Core<S>, refusals: &mut Refusals) -> Option<S::Device>
 }
 
 /// What a call answers: pages are written where it is `@flush`, and else it is a statement of the session.
-fn reply_to<S: Store>(core: &mut Core<S>, session: SessionId, text: &str) -> Reply {
+fn reply_to<S: Store, L: Language + Changes<S>>(
+    core: &mut Core<S, L>,
+    session: SessionId,
+    text: &str,
+) -> Reply {
     if text != "@flush" {
         return core.step(session, text.as_bytes());
     }
@@ -95,8 +102,8 @@ fn reply_to<S: Store>(core: &mut Core<S>, session: SessionId, text: &str) -> Rep
 }
 
 /// What a call answers, or, where it was refused for memory or by the device, the same call made again.
-fn reply_again<S: Store>(
-    core: &mut Core<S>,
+fn reply_again<S: Store, L: Language + Changes<S>>(
+    core: &mut Core<S, L>,
     session: SessionId,
     text: &str,
     refusals: &mut Refusals,
@@ -115,8 +122,8 @@ fn reply_again<S: Store>(
 }
 
 /// Whether what a call answers last is printed behind what was.
-fn says<S: Store>(
-    core: &mut Core<S>,
+fn says<S: Store, L: Language + Changes<S>>(
+    core: &mut Core<S, L>,
     session: SessionId,
     text: &str,
     printed: &mut Vec<u8>,
@@ -150,8 +157,8 @@ impl Seats {
 }
 
 /// Whether all pieces of a script are answered, and then a COMMIT.
-fn plays<S: Store>(
-    core: &mut Core<S>,
+fn plays<S: Store, L: Language + Changes<S>>(
+    core: &mut Core<S, L>,
     script: &str,
     printed: &mut Vec<u8>,
     refusals: &mut Refusals,
@@ -169,8 +176,8 @@ fn plays<S: Store>(
     }
 }
 
-fn plays_in<S: Store>(
-    core: &mut Core<S>,
+fn plays_in<S: Store, L: Language + Changes<S>>(
+    core: &mut Core<S, L>,
     seats: Seats,
     script: &str,
     printed: &mut Vec<u8>,
@@ -195,8 +202,8 @@ fn plays_in<S: Store>(
 }
 
 /// The device after a run of this core, where all was carried out.
-fn ended<S: Store>(
-    core: Core<S>,
+fn ended<S: Store, L: Language + Changes<S>>(
+    core: Core<S, L>,
     script: &str,
     printed: &mut Vec<u8>,
     refusals: &mut Refusals,
@@ -210,14 +217,15 @@ fn ended<S: Store>(
 }
 
 /// The device after a run over it, where all was carried out.
-fn run<S: Store>(
+fn run<S: Store, L: Language + Changes<S> + Copy>(
     alloc: Global,
+    language: L,
     device: S::Device,
     script: &str,
     printed: &mut Vec<u8>,
     refusals: &mut Refusals,
 ) -> Option<S::Device> {
-    match opened::<S>(alloc, device, refusals) {
+    match opened::<S, L>(alloc, language, device, refusals) {
         Ok(core) => ended(core, script, printed, refusals),
         Err(_) => None,
     }
@@ -240,15 +248,16 @@ fn is_printed(printed: &[u8], parts: (&str, &str)) -> bool {
 }
 
 /// Whether the first two runs print what they have to; the device after them.
-fn first_lives<S: Store>(
+fn first_lives<S: Store, L: Language + Changes<S> + Copy>(
     alloc: Global,
+    language: L,
     device: S::Device,
     lives: &Lives<'_>,
     printed: &mut Vec<u8>,
     refusals: &mut Refusals,
 ) -> Option<S::Device> {
-    let device = run::<S>(alloc, device, lives.first, printed, refusals)?;
-    let device = run::<S>(alloc, device, lives.second, printed, refusals)?;
+    let device = run::<S, L>(alloc, language, device, lives.first, printed, refusals)?;
+    let device = run::<S, L>(alloc, language, device, lives.second, printed, refusals)?;
     if is_printed(printed.as_slice(), lives.printed) {
         Some(device)
     } else {
@@ -257,29 +266,31 @@ fn first_lives<S: Store>(
 }
 
 /// Whether the runs print what they have to, the first of them over this device.
-pub(super) fn hold<S: Store>(
+pub(super) fn hold<S: Store, L: Language + Changes<S> + Copy>(
     alloc: Global,
+    language: L,
     device: S::Device,
     lives: &Lives<'_>,
     refusals: &mut Refusals,
 ) -> bool {
     match room(alloc) {
-        Ok(mut printed) => all_hold::<S>(alloc, device, lives, &mut printed, refusals),
+        Ok(mut printed) => all_hold::<S, L>(alloc, language, device, lives, &mut printed, refusals),
         Err(_) => false,
     }
 }
 
-fn all_hold<S: Store>(
+fn all_hold<S: Store, L: Language + Changes<S> + Copy>(
     alloc: Global,
+    language: L,
     device: S::Device,
     lives: &Lives<'_>,
     printed: &mut Vec<u8>,
     refusals: &mut Refusals,
 ) -> bool {
-    match first_lives::<S>(alloc, device, lives, printed, refusals) {
+    match first_lives::<S, L>(alloc, language, device, lives, printed, refusals) {
         Some(device) => {
             printed.clear();
-            run::<S>(alloc, device, lives.asked, printed, refusals).is_some()
+            run::<S, L>(alloc, language, device, lives.asked, printed, refusals).is_some()
                 && is_printed(printed.as_slice(), (lives.left, ""))
         }
         None => false,

@@ -3,6 +3,7 @@
 use super::given_again::{Lives, Refusals, hold};
 use super::worked::{CHANGED, MANY_ROWS, MANY_ROWS_PRINTED, OVER_MANY_ROWS, WORKED, Worked};
 use disk::{FaultyDisk, MemDisk};
+use engine::Sql;
 use paged::Paged;
 use std::alloc::Global;
 use std::test::Fail;
@@ -13,7 +14,7 @@ const CALLS: u64 = 500;
 /// Whether the runs hold over an empty device that refuses the call after so many, a write half done.
 fn hold_over(alloc: Global, passed: u64, lives: &Lives<'_>, refusals: &mut Refusals) -> bool {
     let device = FaultyDisk::new(MemDisk::new(alloc), passed, true);
-    hold::<Paged<FaultyDisk<MemDisk>>>(alloc, device, lives, refusals)
+    hold::<Paged<FaultyDisk<MemDisk>>, Sql>(alloc, Sql, device, lives, refusals)
 }
 
 /// Whether the runs hold whichever call is refused, up to a run in which none is; each call was told as refused once, and among them were openings, closings and so many statements.
