@@ -1,6 +1,6 @@
 //! A device that refuses one call of a pool, each in turn. A refused commit leaves its set and the versions, and the same commit is made when it is asked for again. After a refused writing of
 //! pages, half-way too, commits and reads of old versions go on, and the pages are written when the pool is closed, or closed again.
-use disk::{FaultyDisk, MemDisk};
+use disk::{Disk, FaultyDisk, MemDisk};
 use pagefile::{FileHeader, PAGE_SIZE, PageFile};
 use pool::{CloseRefused, PageSet, Pool, PoolError};
 use std::alloc::Global;
@@ -44,12 +44,22 @@ fn file_bytes(alloc: Global) -> Option<Vec<u8>> {
     Some(bytes)
 }
 
-/// A pool over the file, of which no page was read, on a device that refuses the call after so many.
-fn opened(alloc: Global, passed: u64) -> Option<Pool<FaultyDisk<MemDisk>>> {
-    let device = FaultyDisk::new(MemDisk::from_bytes(file_bytes(alloc)?), passed, true);
+/// A pool over the file on a device, of which no page was read.
+fn pool_over<D: Disk>(alloc: Global, device: D) -> Option<Pool<D>> {
     match PageFile::open(device) {
         Ok((file, header)) => Some(Pool::new(alloc, file, header.page_count, 16)),
         Err(_) => None,
+    }
+}
+
+/// A pool over the file on a device that refuses the call after so many.
+fn opened(alloc: Global, passed: u64) -> Option<Pool<FaultyDisk<MemDisk>>> {
+    match file_bytes(alloc) {
+        Some(bytes) => pool_over(
+            alloc,
+            FaultyDisk::new(MemDisk::from_bytes(bytes), passed, true),
+        ),
+        None => None,
     }
 }
 
