@@ -173,31 +173,31 @@ pub(super) const CHANGED: [Worked; 2] = [
     ),
 ];
 
-/// 64 rows of 250 characters, and a table of one row.
+/// 16 rows of 750 characters, of which a page holds five, and a table of one row.
 pub(super) const MANY_ROWS: &str =
-    "CREATE TABLE T (A INTEGER, V VARCHAR(255)); INSERT INTO T VALUES (0, '0123456789'); UPDATE T SET V = V || V || V || V || V; UPDATE T SET V = V || V || V || V || V; INSERT INTO T SELECT A + 1, V FROM T; INSERT INTO T SELECT A + 2, V FROM T; INSERT INTO T SELECT A + 4, V FROM T; INSERT INTO T SELECT A + 8, V FROM T; INSERT INTO T SELECT A + 16, V FROM T; INSERT INTO T SELECT A + 32, V FROM T; CREATE TABLE S (A INTEGER); INSERT INTO S VALUES (1);";
+    "CREATE TABLE T (A INTEGER, V VARCHAR(255), W VARCHAR(255), X VARCHAR(255)); INSERT INTO T VALUES (0, '0123456789', 'w', 'x'); UPDATE T SET V = V || V || V || V || V; UPDATE T SET V = V || V || V || V || V; UPDATE T SET W = V, X = V; INSERT INTO T SELECT A + 1, V, W, X FROM T; INSERT INTO T SELECT A + 2, V, W, X FROM T; INSERT INTO T SELECT A + 4, V, W, X FROM T; INSERT INTO T SELECT A + 8, V, W, X FROM T; CREATE TABLE S (A INTEGER); INSERT INTO S VALUES (1);";
 
 /// What this and a COMMIT print.
 pub(super) const MANY_ROWS_PRINTED: &str =
-    "00000\n00000 1\n00000 1\n00000 1\n00000 1\n00000 2\n00000 4\n00000 8\n00000 16\n00000 32\n00000\n00000 1\n00000\n";
+    "00000\n00000 1\n00000 1\n00000 1\n00000 1\n00000 1\n00000 2\n00000 4\n00000 8\n00000\n00000 1\n00000\n";
 
 /// Scripts over these rows.
 pub(super) const OVER_MANY_ROWS: [Worked; 6] = [
     (
         "CREATE INDEX I ON T (A); SELECT COUNT(*), SUM(A) FROM T; CREATE INDEX I ON T (A);",
-        "00000\n64|2016\n(1 rows)\nERROR 42000 duplicate\n",
-        "CREATE INDEX I ON T (A); SELECT COUNT(*), SUM(A) FROM T WHERE A = 40;",
-        "ERROR 42000 duplicate\n1|40\n(1 rows)\n",
+        "00000\n16|120\n(1 rows)\nERROR 42000 duplicate\n",
+        "CREATE INDEX I ON T (A); SELECT COUNT(*), SUM(A) FROM T WHERE A = 9;",
+        "ERROR 42000 duplicate\n1|9\n(1 rows)\n",
     ),
     (
         "UPDATE T SET A = A + 1; SELECT SUM(A) FROM T;",
-        "00000 64\n2080\n(1 rows)\n",
+        "00000 16\n136\n(1 rows)\n",
         "SELECT COUNT(*), SUM(A), MIN(A) FROM T;",
-        "64|2080|1\n(1 rows)\n",
+        "16|136|1\n(1 rows)\n",
     ),
     (
         "DELETE FROM T WHERE A > 9; SELECT COUNT(*), SUM(A) FROM T; DELETE FROM T; DELETE FROM T;",
-        "00000 54\n10|45\n(1 rows)\n00000 10\n02000 0\n",
+        "00000 6\n10|45\n(1 rows)\n00000 10\n02000 0\n",
         "SELECT COUNT(*) FROM T; SELECT A FROM S;",
         "0\n(1 rows)\n1\n(1 rows)\n",
     ),
@@ -205,7 +205,7 @@ pub(super) const OVER_MANY_ROWS: [Worked; 6] = [
         "INSERT INTO S SELECT A FROM T WHERE A < 3; SELECT A FROM S ORDER BY A;",
         "00000 3\n0\n1\n1\n2\n(4 rows)\n",
         "SELECT A FROM S ORDER BY A; SELECT COUNT(*), SUM(A) FROM T;",
-        "0\n1\n1\n2\n(4 rows)\n64|2016\n(1 rows)\n",
+        "0\n1\n1\n2\n(4 rows)\n16|120\n(1 rows)\n",
     ),
     (
         "DROP TABLE T; SELECT A FROM T;",
@@ -215,7 +215,7 @@ pub(super) const OVER_MANY_ROWS: [Worked; 6] = [
     ),
     (
         "SELECT A FROM S; @2 INSERT INTO S VALUES (3); COMMIT; @flush; @1 SELECT COUNT(*), SUM(A) FROM T; SELECT A FROM S; COMMIT; SELECT A FROM S ORDER BY A;",
-        "1\n(1 rows)\n00000 1\n00000\n00000\n64|2016\n(1 rows)\n1\n(1 rows)\n00000\n1\n3\n(2 rows)\n",
+        "1\n(1 rows)\n00000 1\n00000\n00000\n16|120\n(1 rows)\n1\n(1 rows)\n00000\n1\n3\n(2 rows)\n",
         "SELECT A FROM S ORDER BY A;",
         "1\n3\n(2 rows)\n",
     ),
