@@ -45,7 +45,7 @@ fn file_bytes(alloc: Global) -> Option<Vec<u8>> {
 }
 
 /// A pool over the file on a device, of which no page was read.
-fn pool_over<D: Disk>(alloc: Global, device: D) -> Option<Pool<D>> {
+fn pool_over<D: Disk + Drop>(alloc: Global, device: D) -> Option<Pool<D>> {
     match PageFile::open(device) {
         Ok((file, header)) => Some(Pool::new(alloc, file, header.page_count, 16)),
         Err(_) => None,
