@@ -9,30 +9,30 @@ use store::Store;
 /// More pieces than a script here has.
 const PIECES: u64 = 100;
 
-/// How many calls were refused for memory, and how many by the device: openings, statements (a flush counts as one) and closings.
+/// How many calls the device refused: openings, statements (a flush counts as one) and closings of the first two runs, and calls of the third.
 #[derive(Clone, Copy)]
 pub(super) struct Refusals {
-    pub(super) of_memory: u64,
     pub(super) openings: u64,
     pub(super) statements: u64,
     pub(super) closings: u64,
+    pub(super) later: u64,
 }
 
 impl Refusals {
     pub(super) fn none() -> Refusals {
         Refusals {
-            of_memory: 0,
             openings: 0,
             statements: 0,
             closings: 0,
+            later: 0,
         }
     }
 
-    /// How many calls the device refused.
-    pub(super) fn by_device(&self) -> u64 {
+    pub(super) fn count(&self) -> u64 {
         self.openings
             .saturating_add(self.statements)
             .saturating_add(self.closings)
+            .saturating_add(self.later)
     }
 }
 
@@ -59,9 +59,8 @@ fn opened<S: Store, L: Language + Changes<S> + Copy>(
         Ok(core) => Ok(core),
         Err(back) => {
             let Refused { refusal, value } = back;
-            match refusal {
-                Refusal::Memory => refusals.of_memory = refusals.of_memory.saturating_add(1),
-                _ => refusals.openings = refusals.openings.saturating_add(1),
+            if matches!(refusal, Refusal::Disk) {
+                refusals.openings = refusals.openings.saturating_add(1);
             }
             Core::open(alloc, language, value, 16)
         }
@@ -109,10 +108,7 @@ fn reply_again<S: Store, L: Language + Changes<S>>(
     refusals: &mut Refusals,
 ) -> Reply {
     match reply_to(core, session, text) {
-        Reply::Refused(Refusal::Memory) => {
-            refusals.of_memory = refusals.of_memory.saturating_add(1);
-            reply_to(core, session, text)
-        }
+        Reply::Refused(Refusal::Memory) => reply_to(core, session, text),
         Reply::Refused(Refusal::Disk) => {
             refusals.statements = refusals.statements.saturating_add(1);
             reply_to(core, session, text)
@@ -290,8 +286,17 @@ fn all_hold<S: Store, L: Language + Changes<S> + Copy>(
     match first_lives::<S, L>(alloc, language, device, lives, printed, refusals) {
         Some(device) => {
             printed.clear();
-            run::<S, L>(alloc, language, device, lives.asked, printed, refusals).is_some()
-                && is_printed(printed.as_slice(), (lives.left, ""))
+            let mut later = Refusals::none();
+            let is_over = run::<S, L>(
+                alloc,
+                language,
+                device,
+                lives.asked,
+                printed,
+                &mut later,
+            ).is_some();
+            refusals.later = refusals.later.saturating_add(later.count());
+            is_over && is_printed(printed.as_slice(), (lives.left, ""))
         }
         None => false,
     }

@@ -17,19 +17,21 @@ fn hold_over(alloc: Global, passed: u64, lives: &Lives<'_>, refusals: &mut Refus
     hold::<Paged<FaultyDisk<MemDisk>>, Sql>(alloc, Sql, device, lives, refusals)
 }
 
-/// Whether the runs hold whichever call is refused, up to a run in which none is; each call was told as refused once, and among them were openings, closings and so many statements.
+/// Whether the runs hold whichever call is refused, up to those in which none is; each call was told as refused once, and among them were an opening, a closing and so many statements
+/// of the first two runs, and some of the third.
 fn sweep(alloc: Global, lives: &Lives<'_>, least: u64) -> bool {
     let mut refusals = Refusals::none();
     for passed in 0..CALLS {
-        let before = refusals.by_device();
+        let before = refusals.count();
         if !hold_over(alloc, passed, lives, &mut refusals) {
             return false;
         }
-        if refusals.by_device() == before {
+        if refusals.count() == before {
             return passed == before
                 && refusals.openings > 0
                 && refusals.statements >= least
-                && refusals.closings > 0;
+                && refusals.closings > 0
+                && refusals.later > 0;
         }
     }
     false
@@ -47,7 +49,7 @@ fn worked_sweeps(alloc: Global, worked: &Worked) -> bool {
                 asked,
                 left,
             };
-            sweep(alloc, &lives, 2)
+            sweep(alloc, &lives, 1)
         }
         None => false,
     }
