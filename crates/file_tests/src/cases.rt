@@ -3,9 +3,11 @@
 mod closing;
 mod damaged;
 mod files;
+mod given_again;
 mod malformed;
 mod refusing;
 mod sample;
+mod statements_refused;
 mod turns;
 mod worked;
 

@@ -1,5 +1,7 @@
-//! Tests of the limits of pages: in a file, and in a transaction.
+//! Tests of pages: the limits in a file and in a transaction, and calls that a device refuses.
 #![tactic(auto)]
 
 #[cfg(test)]
 mod limits;
+#[cfg(test)]
+mod refused_calls;

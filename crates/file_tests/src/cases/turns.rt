@@ -1,6 +1,6 @@
 //! Scripts over one device in memory, one after another.
 use super::{FRAMES, check, status_of};
-use crate::cases::worked::{CHANGED, WORKED};
+use crate::cases::worked::{CHANGED, WORKED, Worked};
 use disk::MemDisk;
 use lives::run_twice_over_pages;
 use shell::{Settings, settings};
@@ -53,10 +53,10 @@ fn what_is_committed_is_there_in_the_next_run(rt: HostRuntime) -> Result<(), Fai
 }
 
 /// Runs each script over an empty device.
-fn each_over_pages(rt: &(impl Abort + AllocGlobal), rows: &[(&str, &str)]) -> Result<(), Fail> {
+fn each_over_pages(rt: &(impl Abort + AllocGlobal), rows: &[Worked]) -> Result<(), Fail> {
     for words in &FRAMES {
         let settings = settings(rt.alloc(), words)?;
-        for (script, printed) in rows {
+        for (script, printed, _asked, _left) in rows {
             let device = Ok(MemDisk::new(rt.alloc()));
             check(rt, &settings, device, script, printed, status_of(printed))?;
         }

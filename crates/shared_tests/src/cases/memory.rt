@@ -1,6 +1,6 @@
 //! Statements that are refused for want of memory, and given again.
 //!
-//! With ample memory these tests compare replies. `rt try --test --fail-alloc 1..` refuses each allocation in turn.
+//! With ample memory these tests compare replies. `rt try --test --fail-alloc N` has the Nth allocation fail.
 
 use super::turns::{Turn, go};
 use std::test::Fail;
