@@ -7,7 +7,9 @@ ghost use Rattle.denote.specs.Query.{denotes};
 ghost use Rattle.store.specs.Contents.{database_of};
 ghost use Rattle.store.specs.Errors.{HasRisen};
 ghost use Rattle.query_answers.specs.Refused.{MayRefuse};
+ghost use Rattle.algebra.specs.Described.{described_in};
 ghost use Rattle.algebra.specs.Listing.{reply_of, tree_listing};
+ghost use Rattle.algebra.specs.Translated.{tree_of_ordered};
 ghost use Rattle.denote.specs.Outcome.{Outcome};
 ghost use Rattle.executor.specs.Reply.{Lists, outcome_of};
 ghost use Rattle.session_definitions.specs.Refusals.{IsReserved};
@@ -31,9 +33,10 @@ use translation::translate;
 use tree_tables::{listings_read_their_tables, tables_in_tree};
 use typing::OrderedQuery;
 
-/// The tree of a query that was typed over this schema. Refuses for want of memory alone.
+/// The tree of a query that was typed over this schema; it knows of each table that it names what the schema does. Refuses for want of memory alone.
 pub fn query_tree(alloc: Global, schema: &Schema, query: &OrderedQuery) -> Result<Tree, AllocError>
     ensures tree { IfOk result (λ tree. IsTreeOf query.now tree) }
+    ensures known { IfOk result (λ tree. tree ≡ tree_of_ordered (described_in schema.now) query.now) }
 {
     translate(alloc, schema, query)
 }
@@ -74,6 +77,7 @@ fn unstopped(listed: Result<Listed, Stop>) -> Result<Listed, Refusal>
 /// The rows of a query by its tree. Each table that it names is read once. It is refused by one of the query's faults, and for what the store is refused for.
 pub fn answer<R: Reading>(alloc: Global, reading: &mut R, tree: &Tree) -> Result<Rows, Refusal>
     ensures answers { IfOk result (λ rows. R.is_sound reading.old → (ordered : Asked) → IsTreeOf ordered tree.now → Answers (Ok rows) (denotes (database_of (R.shows reading.old).contents) ordered)) }
+    ensures read { R.is_sound reading.old → IfOk result (λ _. (R.shows reading.new).read ≤ (R.shows reading.old).read + rows_under (rows_found (R.shows reading.old).contents) (tables_in_tree tree.now)) }
     ensures refused { IfErr result (λ refusal. R.is_sound reading.old → (ordered : Asked) → IsTreeOf ordered tree.now → MayRefuse (denotes (database_of (R.shows reading.old).contents) ordered).unordered.faults refusal) }
     ensures limits { IfErr result TellsNoLimit }
     ensures counts { IfErr result (λ refusal. refusal ≡ Disk → HasRisen (R.shows reading.old).refused (R.shows reading.new).refused) }

@@ -1,5 +1,5 @@
 //! The sources of VALUES, as trees, and the tables that they name.
-ghost use Rattle.std.specs.Prelude.{◌≡◌, IfOk, IfErr, map};
+ghost use Rattle.std.specs.Prelude.{◌≡◌, ◌≤◌, ◌+◌, IfOk, IfErr, map};
 ghost use Rattle.refusals.specs.declared.refusal.Refusal.TheVariants.{Disk};
 ghost use Rattle.session_definitions.specs.Refusals.{IsReserved};
 ghost use Rattle.store.specs.Errors.{HasRisen};
@@ -8,7 +8,7 @@ ghost use Rattle.algebra.specs.Translated.{tree_of_expression};
 ghost use Rattle.tree_tables.specs.TablesRead.{Agree};
 ghost use Rattle.transactions.specs.Refused.{TellsNoLimit};
 ghost use Rattle.query_answers.specs.Answered.{rows_found};
-ghost use Rattle.query_answers.specs.Lent.{rows_lent};
+ghost use Rattle.query_answers.specs.Lent.{rows_lent, rows_under};
 ghost use Rattle.query_answers.specs.Sources.{AreTreesOf, tables_in_row, tables_in_rows};
 
 use crate::lent::{LentTables, lent_tables};
@@ -28,6 +28,7 @@ pub fn source_trees(
     rows: &[Items<typing::Expression>],
 ) -> Result<Items<Items<Expression>>, AllocError>
     ensures trees { IfOk result (λ trees. AreTreesOf rows.now trees) }
+    ensures known { IfOk result (λ trees. trees ≡ map (map (tree_of_expression (described_in schema.now))) rows.now) }
 {
     let mut trees = Items::new(alloc);
     for row in rows {
@@ -77,6 +78,7 @@ pub fn tables_for_sources<R: Reading>(
     trees: &[Items<Expression>],
 ) -> Result<LentTables, Refusal>
     ensures lent { R.is_sound reading.old → IfOk result (λ lent. Agree (rows_lent lent.tables) (rows_found (R.shows reading.old).contents) (tables_in_rows trees.now)) }
+    ensures read { R.is_sound reading.old → IfOk result (λ _. (R.shows reading.new).read ≤ (R.shows reading.old).read + rows_under (rows_found (R.shows reading.old).contents) (tables_in_rows trees.now)) }
     ensures refused { IfErr result (λ refusal. R.is_sound reading.old → IsReserved refusal) }
     ensures limits { IfErr result TellsNoLimit }
     ensures counts { IfErr result (λ refusal. refusal ≡ Disk → HasRisen (R.shows reading.old).refused (R.shows reading.new).refused) }
