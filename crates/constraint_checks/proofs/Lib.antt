@@ -10,3 +10,4 @@ pub mod Foretelling
 pub mod Looking
 pub mod Recounted
 pub mod Said
+pub mod Limits

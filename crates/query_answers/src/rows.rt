@@ -7,6 +7,7 @@ ghost use Rattle.denote.specs.Database.{table_of};
 ghost use Rattle.denote.specs.Evaluation.{given};
 ghost use Rattle.denote.specs.Stop.{Gives, Passes};
 ghost use Rattle.denote.specs.StoredRow.{given_for, value_for, row_with, key_faults};
+ghost use Rattle.transactions.specs.Refused.{TellsNoLimit};
 ghost use Rattle.query_answers.specs.Gives.{OfValues, RefusesRows, Stores};
 ghost use Rattle.query_answers.specs.Lent.{rows_lent};
 ghost use Rattle.query_answers.specs.Sources.{source_value, check_truth, check_faults, faults_at, row_given, rows_given};
@@ -206,6 +207,7 @@ pub fn rows_to_insert(
 ) -> Result<Rows, Refusal>
     ensures gives { IfOk result (λ stored. OfValues (rows_lent lent.now.tables) checks.now (table_of table.now []) columns.now trees.now (Stores stored)) }
     ensures refused { IfErr result (λ refusal. OfValues (rows_lent lent.now.tables) checks.now (table_of table.now []) columns.now trees.now (RefusesRows refusal)) }
+    ensures limits { IfErr result TellsNoLimit }
 {
     evaluation_keeps_the_meaning();
     values_read_their_tables();

@@ -4,6 +4,7 @@ pub mod Steps
 pub mod Entries
 pub mod MadeTables
 pub mod Standing
+pub mod Reaching
 pub mod Carried
 pub mod Planning
 pub mod Made

@@ -1,5 +1,7 @@
 -- The database after all changes of the rows of a table.
-use Rattle.std.proofs.Common.{◌≡◌, ◌∙◌, refl, sym, ap, ℕ, Bool, true, false, cond, List, [], ◌∷◌, map, Option, Some, None}
+use Rattle.std.proofs.Common.{◌≡◌, ◌∙◌, refl, sym, ap, ℕ, ◌+◌, ◌≤◌, eqb, max, Bool, true, false, cond, not, List, [], ◌∷◌, map, Option, Some, None, arith}
+use Rattle.std.specs.Prelude.{filter, if◌then◌else◌, ◌==◌}
+use Rattle.std.proofs.lemmas.Bool.{eqb-true}
 use Rattle.std.proofs.lemmas.Cmp.{nat_list_cmp_total, tied_itself}
 use Rattle.std.specs.Option.{option_map}
 use Rattle.std.specs.Ordering.{eq_by_cmp, is_eq}
@@ -7,7 +9,7 @@ use Rattle.std.specs.FinMap.{get, insert, get-insert}
 use Rattle.sqlval.specs.Comparison.{text_order}
 use Rattle.sqlval.specs.Value.{Row}
 use Rattle.denote.specs.Database.{Name, Table, Database, IndexDeclaration}
-use Rattle.store.specs.Contents.{Entry, StoredTable, Contents, Rises, table_of, rows_of, database_of, put_back, changed, with_row, without_row}
+use Rattle.store.specs.Contents.{Entry, StoredTable, Contents, Rises, table_of, rows_of, database_of, next_number, put_back, changed, with_row, without_row}
 use Rattle.store.specs.Errors.{indexes_of}
 use Rattle.store.specs.Indexes.{entries_of}
 use Rattle.store.proofs.Databases.{same_tables, database-get, database-insert}
@@ -83,6 +85,11 @@ made-all c name table numbers changes is all rises =
     all_made-database name numbers changes c t held.1
     ∙ ap (insert (database_of c) name) (left ∙ ap (λ (u : Table). record u { rows = rows_left u.rows changes }) held.2)
 
+none-made : (name : Name) (number : ℕ) (change : RowChange) (c : Contents) → get c name ≡ None → get (made_one name number change c) name ≡ None
+none-made name number Stays c is = is
+none-made name number Goes c is = ap (λ o. get (put_back c name (option_map (without_row number) o)) name) is ∙ is
+none-made name number (Becomes row) c is = ap (λ o. get (put_back c name (option_map (with_row number row) o)) name) is ∙ is
+
 -- and the indexes that it had
 pub same-indexes : (name : Name) (number : ℕ) (change : RowChange) (c : Contents) → indexes_of (get (made_one name number change c) name) ≡ indexes_of (get c name)
 same-indexes name number change c = by (get c name) refl
@@ -92,11 +99,45 @@ same-indexes name number change c = by (get c name) refl
     one Goes t = refl
     one (Becomes row) t = refl
 
-    none : (change : RowChange) → get c name ≡ None → get (made_one name number change c) name ≡ None
-    none Stays is = is
-    none Goes is = ap (λ o. get (put_back c name (option_map (without_row number) o)) name) is ∙ is
-    none (Becomes row) is = ap (λ o. get (put_back c name (option_map (with_row number row) o)) name) is ∙ is
-
     by : (o : Option StoredTable) → get c name ≡ o → indexes_of (get (made_one name number change c) name) ≡ indexes_of (get c name)
-    by None is = ap indexes_of (none change is) ∙ ap indexes_of (sym is)
+    by None is = ap indexes_of (none-made name number change c is) ∙ ap indexes_of (sym is)
     by (Some t) is = ap indexes_of (get-made name number change c t is) ∙ one change t ∙ ap indexes_of (sym is)
+
+-- ---- the number that a next row would get
+
+fewer-numbers : (number : ℕ) (found : List Entry) → next_number (filter (λ (e : Entry). not (e.0 == number)) found) ≤ next_number found
+fewer-numbers number [] = omega arith
+fewer-numbers number (e ∷ found) = by (not (e.0 == number)) (fewer-numbers number found)
+  where
+    by : (stays : Bool) → next_number (filter (λ (e : Entry). not (e.0 == number)) found) ≤ next_number found
+        → next_number (if stays then e ∷ filter (λ (e : Entry). not (e.0 == number)) found else filter (λ (e : Entry). not (e.0 == number)) found) ≤ max (e.0 + 1) (next_number found)
+    by true h = omega (arith, h)
+    by false h = omega (arith, h)
+
+same-numbers : (number : ℕ) (row : Row) (found : List Entry) → next_number (map (λ (e : Entry). if e.0 == number then (number, row) else e) found) ≤ next_number found
+same-numbers number row [] = omega arith
+same-numbers number row (e ∷ found) = by (e.0 == number) refl (same-numbers number row found)
+  where
+    by : (same : Bool) → (e.0 == number) ≡ same → next_number (map (λ (e : Entry). if e.0 == number then (number, row) else e) found) ≤ next_number found
+        → max ((if same then (number, row) else e).0 + 1) (next_number (map (λ (e : Entry). if e.0 == number then (number, row) else e) found)) ≤ max (e.0 + 1) (next_number found)
+    by true is h = let one : e.0 ≡ number = eqb-true e.0 number is in omega (arith, one, h)
+    by false is h = omega (arith, h)
+
+-- no change of a row makes it greater
+pub numbers-below : (name : Name) (number : ℕ) (change : RowChange) (c : Contents) → next_number (entries_of (get (made_one name number change c) name)) ≤ next_number (entries_of (get c name))
+numbers-below name number change c = by (get c name) refl
+  where
+    one : (change : RowChange) (t : StoredTable) → next_number (changed_one number change t).entries ≤ next_number t.entries
+    one Stays t = omega arith
+    one Goes t = fewer-numbers number t.entries
+    one (Becomes row) t = same-numbers number row t.entries
+
+    by : (o : Option StoredTable) → get c name ≡ o → next_number (entries_of (get (made_one name number change c) name)) ≤ next_number (entries_of (get c name))
+    by None is =
+        let made : next_number (entries_of (get (made_one name number change c) name)) ≡ 0 = ap (λ o. next_number (entries_of o)) (none-made name number change c is) in
+        omega (arith, made)
+    by (Some t) is =
+        let made : next_number (entries_of (get (made_one name number change c) name)) ≡ next_number (changed_one number change t).entries = ap (λ o. next_number (entries_of o)) (get-made name number change c t is) in
+        let was : next_number (entries_of (get c name)) ≡ next_number t.entries = ap (λ o. next_number (entries_of o)) is in
+        let below = one change t in
+        omega (arith, made, was, below)

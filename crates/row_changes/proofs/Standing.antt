@@ -1,5 +1,5 @@
 -- Where a store stands while the changes of rows are made, one after another.
-use Rattle.std.proofs.Common.{◌≡◌, ◌∙◌, refl, sym, ap, subst, ℕ, zero, suc, List, [], ◌∷◌, length, arith}
+use Rattle.std.proofs.Common.{◌≡◌, ◌∙◌, refl, sym, ap, subst, ℕ, zero, suc, ◌+◌, ◌^◌, ◌<◌, ◌≤◌, List, [], ◌∷◌, length, arith}
 use Rattle.std.specs.Prelude.{Contains}
 use Rattle.std.specs.FinMap.{get}
 use Rattle.operator_laws.specs.Same.{Every}
@@ -7,8 +7,9 @@ use Rattle.session_definitions.specs.Refusals.{IsReserved}
 use Rattle.sqlval.specs.Value.{Row}
 use Rattle.store.specs.declared.error.StoreError.{StoreError}
 use Rattle.store.specs.declared.error.StoreLimit.{StoreLimit}
-use Rattle.store.specs.Contents.{Contents}
+use Rattle.store.specs.Contents.{Contents, next_number}
 use Rattle.store.specs.Errors.{MayFail, StoringReaches, indexes_of}
+use Rattle.store.specs.Indexes.{entries_of}
 use Rattle.store.specs.Stored.{Stored, undone, working_on}
 use Rattle.transactions.specs.Refused.{refused_by}
 use Rattle.transactions.proofs.Tests.{reserved}
@@ -18,7 +19,8 @@ use Rattle.row_changes.specs.declared.change.RowChange.{RowChange}
 use Rattle.row_changes.specs.declared.change.RowChange.TheVariants.{Stays, Goes, Becomes}
 use Rattle.row_changes.specs.RowChanges.{IsShort}
 use Rattle.row_changes.specs.Made.{made_one, all_made}
-use Rattle.row_changes.proofs.MadeTables.{same-indexes}
+use Rattle.row_changes.specs.Reached.{IsNumberedOut}
+use Rattle.row_changes.proofs.MadeTables.{numbers-below, same-indexes}
 
 -- what was made so far; what is made by the rest of the changes is made by all
 pub record StandsAt (old : Stored) (name : Name) (numbers : List ℕ) (changes : List RowChange) (now : Stored) (rest : List ℕ) (others : List RowChange) : Type 0 where
@@ -26,6 +28,7 @@ pub record StandsAt (old : Stored) (name : Name) (numbers : List ℕ) (changes :
   pub shows : now ≡ working_on old working
   pub to_make : all_made name rest others working ≡ all_made name numbers changes old.working
   pub indexes : indexes_of (get working name) ≡ indexes_of (get old.working name)
+  pub below : next_number (entries_of (get working name)) ≤ next_number (entries_of (get old.working name))
   pub short : Every (IsShort (indexes_of (get old.working name))) changes → Every (IsShort (indexes_of (get old.working name))) others
 
 pub none_left : {X : Type 0} (xs : List X) → length xs ≡ 0 → xs ≡ []
@@ -38,7 +41,7 @@ none_made name (number ∷ numbers) c = refl
 
 module _ (old : Stored) (name : Name) (numbers : List ℕ) (changes : List RowChange) where
   begins : StandsAt old name numbers changes old numbers changes
-  begins = record { working = old.working; shows = refl; to_make = refl; indexes = refl; short = λ h. h }
+  begins = record { working = old.working; shows = refl; to_make = refl; indexes = refl; below = omega arith; short = λ h. h }
 
   pub begins_with : (others : List RowChange) → others ≡ changes → StandsAt old name numbers changes old numbers others
   begins_with others e = subst (StandsAt old name numbers changes old numbers) (sym e) begins
@@ -71,6 +74,7 @@ module _ (old : Stored) (name : Name) (numbers : List ℕ) (changes : List RowCh
           shows = e ∙ ap (λ (s : Stored). working_on s (made_one name number change s.working)) here.shows;
           to_make = to_make;
           indexes = same-indexes name number change here.working ∙ here.indexes;
+          below = omega (arith, numbers-below name number change here.working, here.below);
           short = λ h. (subst (Every (IsShort (indexes_of (get old.working name)))) o (here.short h)).1;
         }
 
@@ -79,6 +83,12 @@ module _ (old : Stored) (name : Name) (numbers : List ℕ) (changes : List RowCh
     next_short change more o h =
         subst (λ (indexes : List IndexDeclaration). IsShort indexes change) (sym (ap (λ (c : Contents). indexes_of (get c name)) working_is ∙ here.indexes))
         (subst (Every (IsShort (indexes_of (get old.working name)))) o (here.short h)).0
+
+    -- there is no number for one more row only where there was none
+    pub numbered_out_before : IsNumberedOut (get now.working name) → IsNumberedOut (get old.working name)
+    numbered_out_before out =
+        let here_out : IsNumberedOut (get here.working name) = subst (λ (c : Contents). IsNumberedOut (get c name)) working_is out in
+        omega (arith, here_out, here.below)
 
 -- a short row reaches no limit of rows and keys
 pub withheld : (sound : Type 0) (k l : ℕ) (limited : StoreLimit → Type 0) (c : Contents) (name : Name) (row : Row) (error : StoreError)

@@ -7,3 +7,4 @@ pub mod Plans
 pub mod Candidates
 pub mod Kept
 pub mod KeptChanges
+pub mod Reached

@@ -6,6 +6,7 @@ ghost use Rattle.denote.specs.SchemaOf.{IsSchemaOf};
 ghost use Rattle.session_definitions.specs.Refusals.{IsReserved};
 ghost use Rattle.store.specs.Contents.{database_of};
 ghost use Rattle.store.specs.Errors.{HasRisen};
+ghost use Rattle.transactions.specs.Refused.{TellsNoLimit};
 ghost use Rattle.row_changes.specs.Candidates.{AreCandidates, Asks, AsksIn};
 
 use algebra::Condition;
@@ -37,6 +38,7 @@ pub(crate) fn candidates<S: Store>(
     ensures rows { S.is_sound store.old → IsSchemaOf (S.prepared store.old) (database_of (S.shows store.old).working)
         → IfOk result (λ found. AreCandidates (get (S.shows store.old).working name.now) filter.now found) }
     ensures refused { IfErr result (λ refusal. S.is_sound store.old → IsReserved refusal) }
+    ensures limits { IfErr result TellsNoLimit }
     ensures device { IfErr result (λ refusal. refusal ≡ Disk → HasRisen (S.refused store.old) (S.refused store.new)) }
     ensures prepared { S.prepared store.new ≡ S.prepared store.old }
     ensures shows { S.shows store.new ≡ S.shows store.old }

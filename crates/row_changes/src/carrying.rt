@@ -1,15 +1,17 @@
 //! What becomes of the rows of a table is made, and the table is decided on as a whole.
 ghost use Rattle.std.specs.Prelude.{◌≡◌, ◌≤◌, IfOk, IfErr, OnErr};
+ghost use Rattle.std.specs.FinMap.{get};
 ghost use Rattle.refusals.specs.declared.refusal.Refusal.TheVariants.{Disk};
 ghost use Rattle.typing.specs.declared.statement.Change.{Change};
 ghost use Rattle.denote.specs.Database.{CheckReading};
-ghost use Rattle.transactions.specs.Refused.{IfRefused};
+ghost use Rattle.transactions.specs.Refused.{IfRefused, TellsReached};
 ghost use Rattle.store.specs.Contents.{database_of};
 ghost use Rattle.store.specs.Errors.{HasRisen};
 ghost use Rattle.store.specs.Stored.{SameButMark};
 ghost use Rattle.constraint_checks.specs.Changed.{HasChanged, RefusesChange};
 ghost use Rattle.constraint_checks.specs.Settled.{Decided, Holds};
 ghost use Rattle.row_changes.specs.Plans.{IsMeant, IsHarmless};
+ghost use Rattle.row_changes.specs.Reached.{IsNumberedOut, MakingReaches};
 
 use crate::making::{make_changes, touched};
 use crate::new_rows::{rows_to_look_up, settle_new};
@@ -38,6 +40,7 @@ pub(crate) fn carry_out<S: Store, C: Checks>(
     ensures refused { IfErr result (λ refusal. (reading : CheckReading) (change : Change) → S.is_sound store.old → Decided (C.decides checks.now reading) (database_of (S.shows store.old).working) name.now
         → IsMeant reading (S.shows store.old).working change name.now planned → RefusesChange reading (database_of (S.shows store.old).working) change refusal) }
     ensures accepted { IfOk result (λ reply. IfRefused reply (λ refusal. ⊥)) }
+    ensures limits { IfErr result (TellsReached (MakingReaches (S.counted store.new) planned.changes (S.is_sound store.old → IsNumberedOut (get (S.shows store.old).working name.now)))) }
     ensures device { IfErr result (λ refusal. refusal ≡ Disk → HasRisen (S.refused store.old) (S.refused store.new)) }
     ensures same { S.is_sound store.old → OnErr result (SameButMark (S.shows store.old) (S.shows store.new)) }
     ensures sound { S.is_sound store.old → S.is_sound store.new }

@@ -1,13 +1,13 @@
 //! DELETE.
-ghost use Rattle.std.specs.Prelude.{◌≡◌, ◌≤◌, IfOk, IfErr, OnErr};
+ghost use Rattle.std.specs.Prelude.{◌≡◌, ◌≤◌, [], IfOk, IfErr, IfSome, OnErr};
 ghost use Rattle.std.specs.FinMap.{get};
 ghost use Rattle.refusals.specs.declared.refusal.Refusal.TheVariants.{Disk};
 ghost use Rattle.typing.specs.declared.statement.Change.TheVariants as does;
 ghost use Rattle.denote.specs.Database.{CheckReading, rows_in};
 ghost use Rattle.denote.specs.SchemaOf.{IsSchemaOf};
-ghost use Rattle.transactions.specs.Refused.{IfRefused};
+ghost use Rattle.transactions.specs.Refused.{IfRefused, TellsNoLimit, TellsReached};
 ghost use Rattle.store.specs.Contents.{Contents, database_of};
-ghost use Rattle.store.specs.Errors.{HasRisen};
+ghost use Rattle.store.specs.Errors.{ChangingReaches, HasRisen};
 ghost use Rattle.store.specs.Stored.{SameButMark};
 ghost use Rattle.tree_tables.specs.TablesRead.{Agree};
 ghost use Rattle.query_answers.specs.Lent.{rows_lent};
@@ -16,6 +16,7 @@ ghost use Rattle.constraint_checks.specs.Settled.{Decided, Holds};
 ghost use Rattle.row_changes.specs.Statements.{IsFilterOf, tables_in_filter};
 ghost use Rattle.row_changes.specs.Candidates.{AreCandidates};
 ghost use Rattle.row_changes.specs.Plans.{IsPlanned};
+ghost use Rattle.row_changes.specs.RowChanges.{rows_new};
 
 use crate::candidates::candidates;
 use crate::carrying::carry_out;
@@ -49,6 +50,7 @@ pub fn delete_rows<S: Store, C: Checks>(
         → Decided (C.decides checks.now reading) (database_of (S.shows store.old).working) delete.now.table
         → RefusesChange reading (database_of (S.shows store.old).working) (does.Delete delete.now) refusal) }
     ensures accepted { IfOk result (λ reply. IfRefused reply (λ refusal. ⊥)) }
+    ensures limits { IfErr result (TellsReached (ChangingReaches (S.counted store.new))) }
     ensures device { IfErr result (λ refusal. refusal ≡ Disk → HasRisen (S.refused store.old) (S.refused store.new)) }
     ensures same { S.is_sound store.old → OnErr result (SameButMark (S.shows store.old) (S.shows store.new)) }
     ensures sound { S.is_sound store.old → S.is_sound store.new }
@@ -69,8 +71,10 @@ fn planned_deletion<S: Store>(
 ) -> Result<Option<Planned>, Refusal>
     ensures planned { IfOk result (λ planned. (reading : CheckReading) → S.is_sound store.old → IsSchemaOf (S.prepared store.old) (database_of (S.shows store.old).working)
         → IsPlanned reading (S.shows store.old).working (does.Delete delete.now) delete.now.table planned) }
+    ensures spares { IfOk result (λ planned. IfSome planned (λ p. rows_new p.changes ≡ [])) }
     ensures refused { IfErr result (λ refusal. (reading : CheckReading) → S.is_sound store.old → IsSchemaOf (S.prepared store.old) (database_of (S.shows store.old).working)
         → RefusesChange reading (database_of (S.shows store.old).working) (does.Delete delete.now) refusal) }
+    ensures limits { IfErr result TellsNoLimit }
     ensures device { IfErr result (λ refusal. refusal ≡ Disk → HasRisen (S.refused store.old) (S.refused store.new)) }
     ensures shows { S.shows store.new ≡ S.shows store.old }
     ensures sound { S.is_sound store.old → S.is_sound store.new }
@@ -103,9 +107,11 @@ fn all_deletions(
     ensures planned { IfOk result (λ planned. (reading : CheckReading) (c : Contents) → IsSchemaOf schema.now (database_of c)
         → IsFilterOf delete.now.filter filter.now → Agree (rows_lent lent.now.tables) (rows_in (database_of c)) (tables_in_filter filter.now)
         → AreCandidates (get c delete.now.table) filter.now found → IsPlanned reading c (does.Delete delete.now) delete.now.table planned) }
+    ensures spares { IfOk result (λ planned. IfSome planned (λ p. rows_new p.changes ≡ [])) }
     ensures refused { IfErr result (λ refusal. (reading : CheckReading) (c : Contents) → IsSchemaOf schema.now (database_of c)
         → IsFilterOf delete.now.filter filter.now → Agree (rows_lent lent.now.tables) (rows_in (database_of c)) (tables_in_filter filter.now)
         → AreCandidates (get c delete.now.table) filter.now found → RefusesChange reading (database_of c) (does.Delete delete.now) refusal) }
+    ensures limits { IfErr result TellsNoLimit }
     ensures device { IfErr result (λ refusal. refusal ≡ Disk → ⊥) }
 {
     let Some(_) = table_named(schema, &delete.table) else {

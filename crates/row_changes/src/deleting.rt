@@ -1,5 +1,5 @@
 //! The rows that a DELETE touches go.
-ghost use Rattle.std.specs.Prelude.{◌≡◌, Bool, false, Ok, map};
+ghost use Rattle.std.specs.Prelude.{◌≡◌, Bool, false, [], Ok, IfOk, map};
 ghost use Rattle.std.specs.Prelude.{filter as list_filter};
 ghost use Rattle.sqlval.specs.Value.{Row as AnyRow};
 ghost use Rattle.typing.specs.declared.statement.Delete.{Delete};
@@ -11,7 +11,7 @@ ghost use Rattle.denote.specs.Stop.{Gives};
 ghost use Rattle.tree_tables.specs.TablesRead.{Agree};
 ghost use Rattle.query_answers.specs.Lent.{rows_lent};
 ghost use Rattle.row_changes.specs.Given.{deletion_given, touched_given};
-ghost use Rattle.row_changes.specs.RowChanges.{AreDeletions, GivesChanges, spread};
+ghost use Rattle.row_changes.specs.RowChanges.{AreDeletions, GivesChanges, rows_new, spread};
 ghost use Rattle.row_changes.specs.Statements.{IsFilterOf, tables_in_filter};
 
 use crate::change::RowChange;
@@ -38,6 +38,7 @@ pub fn deletions(
     ensures gives { (tables : Tables) (table : Table) (d : Delete) (test : AnyRow → Bool) → rows.now ≡ list_filter test table.rows
         → ((row : AnyRow) → test row ≡ false → touched_given (rows_lent lent.now.tables) filter.now row ≡ Ok false) → Agree (rows_lent lent.now.tables) tables (tables_in_filter filter.now)
         → IsFilterOf d.filter filter.now → GivesChanges (λ changes found. AreDeletions table (spread test table.rows changes) found) result (deleted_rows tables table d) }
+    ensures spares { IfOk result (λ changes. rows_new changes ≡ []) }
 {
     evaluation_keeps_the_meaning();
     listings_read_their_tables();

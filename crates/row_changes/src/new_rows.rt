@@ -7,6 +7,7 @@ ghost use Rattle.session_definitions.specs.Refusals.{IsReserved};
 ghost use Rattle.store.specs.Contents.{database_of};
 ghost use Rattle.store.specs.Errors.{HasRisen};
 ghost use Rattle.store.specs.Stored.{undone};
+ghost use Rattle.transactions.specs.Refused.{TellsNoLimit};
 ghost use Rattle.constraint_checks.specs.Settled.{AreAmong, Breaks, Decided, Holds, OthersHold};
 ghost use Rattle.row_changes.specs.RowChanges.{new_of, rows_new};
 
@@ -30,6 +31,7 @@ pub(crate) fn rows_to_look_up<S: Store>(
 ) -> Result<Option<Rows>, Refusal>
     ensures new { IfOk result (λ found. IfSome found (λ rows. (rows ≡ rows_new changes.now) × (harmless ≡ false))) }
     ensures refused { IfErr result (λ refusal. S.is_sound store.old → IsReserved refusal) }
+    ensures limits { IfErr result TellsNoLimit }
     ensures device { IfErr result (λ refusal. refusal ≡ Disk → HasRisen (S.refused store.old) (S.refused store.new)) }
     ensures shows { S.shows store.new ≡ S.shows store.old }
     ensures sound { S.is_sound store.old → S.is_sound store.new }
@@ -97,6 +99,7 @@ pub(crate) fn settle_new<S: Store, C: Checks>(
     ensures undone { OnErr result (S.shows store.new ≡ undone (S.shows store.old)) }
     ensures refused { IfErr result (λ refusal. (reading : CheckReading) → S.is_sound store.old → Decided (C.decides checks.now reading) (database_of (S.shows store.old).working) name.now
         → IfSome rows.now (λ new. AreAmong (database_of (S.shows store.old).working) name.now new) → Breaks reading (database_of (S.shows store.old).working) name.now refusal) }
+    ensures limits { IfErr result TellsNoLimit }
     ensures device { IfErr result (λ refusal. refusal ≡ Disk → HasRisen (S.refused store.old) (S.refused store.new)) }
     ensures sound { S.is_sound store.old → S.is_sound store.new }
     ensures counts { S.refused store.old ≤ S.refused store.new }

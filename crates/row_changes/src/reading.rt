@@ -6,6 +6,7 @@ ghost use Rattle.session_definitions.specs.Refusals.{IsReserved};
 ghost use Rattle.store.specs.Contents.{database_of};
 ghost use Rattle.store.specs.Errors.{HasRisen};
 ghost use Rattle.tree_tables.specs.TablesRead.{Agree};
+ghost use Rattle.transactions.specs.Refused.{TellsNoLimit};
 ghost use Rattle.query_answers.specs.Lent.{rows_lent};
 ghost use Rattle.row_changes.specs.Statements.{tables_in_filter, tables_in_update};
 
@@ -25,6 +26,7 @@ pub(crate) fn lent_to_delete<S: Store>(
 ) -> Result<LentTables, Refusal>
     ensures lent { S.is_sound store.old → IfOk result (λ lent. Agree (rows_lent lent.tables) (rows_in (database_of (S.shows store.old).working)) (tables_in_filter filter.now)) }
     ensures refused { IfErr result (λ refusal. S.is_sound store.old → IsReserved refusal) }
+    ensures limits { IfErr result TellsNoLimit }
     ensures device { IfErr result (λ refusal. refusal ≡ Disk → HasRisen (S.refused store.old) (S.refused store.new)) }
     ensures prepared { S.prepared store.new ≡ S.prepared store.old }
     ensures shows { S.shows store.new ≡ S.shows store.old }
@@ -46,6 +48,7 @@ pub(crate) fn lent_to_update<S: Store>(
 ) -> Result<LentTables, Refusal>
     ensures lent { S.is_sound store.old → IfOk result (λ lent. Agree (rows_lent lent.tables) (rows_in (database_of (S.shows store.old).working)) (tables_in_update update.now)) }
     ensures refused { IfErr result (λ refusal. S.is_sound store.old → IsReserved refusal) }
+    ensures limits { IfErr result TellsNoLimit }
     ensures device { IfErr result (λ refusal. refusal ≡ Disk → HasRisen (S.refused store.old) (S.refused store.new)) }
     ensures prepared { S.prepared store.new ≡ S.prepared store.old }
     ensures shows { S.shows store.new ≡ S.shows store.old }

@@ -1,5 +1,5 @@
 //! The trees of an UPDATE and of a DELETE, and the tables that they name.
-ghost use Rattle.std.specs.Prelude.{◌≡◌, IfOk, IfErr, map};
+ghost use Rattle.std.specs.Prelude.{◌≡◌, ◌≤◌, ◌+◌, IfOk, IfErr, map};
 ghost use Rattle.std.specs.Option.{option_map};
 ghost use Rattle.refusals.specs.declared.refusal.Refusal.TheVariants.{Disk};
 ghost use Rattle.session_definitions.specs.Refusals.{IsReserved};
@@ -7,8 +7,9 @@ ghost use Rattle.store.specs.Errors.{HasRisen};
 ghost use Rattle.algebra.specs.Described.{described_in};
 ghost use Rattle.algebra.specs.Translated.{tree_of_condition, tree_of_expression};
 ghost use Rattle.tree_tables.specs.TablesRead.{Agree};
+ghost use Rattle.transactions.specs.Refused.{TellsNoLimit};
 ghost use Rattle.query_answers.specs.Answered.{rows_found};
-ghost use Rattle.query_answers.specs.Lent.{rows_lent};
+ghost use Rattle.query_answers.specs.Lent.{rows_lent, rows_under};
 ghost use Rattle.query_answers.specs.Sources.{tables_in_row};
 ghost use Rattle.row_changes.specs.Statements.{IsFilterOf, IsUpdateOf, tables_in_filter, tables_in_update};
 
@@ -127,7 +128,9 @@ pub fn tables_for_filter<R: Reading>(
     filter: &Option<Condition>,
 ) -> Result<LentTables, Refusal>
     ensures lent { R.is_sound reading.old → IfOk result (λ lent. Agree (rows_lent lent.tables) (rows_found (R.shows reading.old).contents) (tables_in_filter filter.now)) }
+    ensures read { R.is_sound reading.old → IfOk result (λ _. (R.shows reading.new).read ≤ (R.shows reading.old).read + rows_under (rows_found (R.shows reading.old).contents) (tables_in_filter filter.now)) }
     ensures refused { IfErr result (λ refusal. R.is_sound reading.old → IsReserved refusal) }
+    ensures limits { IfErr result TellsNoLimit }
     ensures counts { IfErr result (λ refusal. refusal ≡ Disk → HasRisen (R.shows reading.old).refused (R.shows reading.new).refused) }
     ensures follows { R.follows reading.old reading.new }
 {
@@ -145,7 +148,9 @@ pub fn tables_for_update<R: Reading>(
     update: &RowUpdate,
 ) -> Result<LentTables, Refusal>
     ensures lent { R.is_sound reading.old → IfOk result (λ lent. Agree (rows_lent lent.tables) (rows_found (R.shows reading.old).contents) (tables_in_update update.now)) }
+    ensures read { R.is_sound reading.old → IfOk result (λ _. (R.shows reading.new).read ≤ (R.shows reading.old).read + rows_under (rows_found (R.shows reading.old).contents) (tables_in_update update.now)) }
     ensures refused { IfErr result (λ refusal. R.is_sound reading.old → IsReserved refusal) }
+    ensures limits { IfErr result TellsNoLimit }
     ensures counts { IfErr result (λ refusal. refusal ≡ Disk → HasRisen (R.shows reading.old).refused (R.shows reading.new).refused) }
     ensures follows { R.follows reading.old reading.new }
 {

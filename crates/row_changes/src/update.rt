@@ -5,7 +5,7 @@ ghost use Rattle.refusals.specs.declared.refusal.Refusal.TheVariants.{Disk};
 ghost use Rattle.typing.specs.declared.statement.Change.TheVariants as does;
 ghost use Rattle.denote.specs.Database.{CheckReading, rows_in};
 ghost use Rattle.denote.specs.SchemaOf.{IsSchemaOf};
-ghost use Rattle.transactions.specs.Refused.{IfRefused};
+ghost use Rattle.transactions.specs.Refused.{IfRefused, TellsNoLimit, TellsReached};
 ghost use Rattle.store.specs.Contents.{Contents, database_of};
 ghost use Rattle.store.specs.Errors.{HasRisen};
 ghost use Rattle.store.specs.Stored.{SameButMark};
@@ -17,6 +17,7 @@ ghost use Rattle.row_changes.specs.Statements.{IsUpdateOf, tables_in_update};
 ghost use Rattle.row_changes.specs.Checked.{AreChecksFor};
 ghost use Rattle.row_changes.specs.Candidates.{AreCandidates};
 ghost use Rattle.row_changes.specs.Plans.{IsPlanned};
+ghost use Rattle.row_changes.specs.Reached.{IsNumberedOut, ReplacingReaches};
 
 use crate::candidates::candidates;
 use crate::carrying::carry_out;
@@ -57,6 +58,7 @@ pub fn update_rows<S: Store, C: Checks>(
         → AreChecksFor reading (database_of (S.shows store.old).working) update.now.table trees.now
         → RefusesChange reading (database_of (S.shows store.old).working) (does.Update update.now) refusal) }
     ensures accepted { IfOk result (λ reply. IfRefused reply (λ refusal. ⊥)) }
+    ensures limits { IfErr result (TellsReached (ReplacingReaches (S.counted store.new) (S.is_sound store.old → IsNumberedOut (get (S.shows store.old).working update.now.table)))) }
     ensures device { IfErr result (λ refusal. refusal ≡ Disk → HasRisen (S.refused store.old) (S.refused store.new)) }
     ensures same { S.is_sound store.old → OnErr result (SameButMark (S.shows store.old) (S.shows store.new)) }
     ensures sound { S.is_sound store.old → S.is_sound store.new }
@@ -84,6 +86,7 @@ fn planned_update<S: Store, C: Checks>(
     ensures refused { IfErr result (λ refusal. (reading : CheckReading) → S.is_sound store.old → IsSchemaOf (S.prepared store.old) (database_of (S.shows store.old).working)
         → AreChecksFor reading (database_of (S.shows store.old).working) update.now.table trees.now
         → RefusesChange reading (database_of (S.shows store.old).working) (does.Update update.now) refusal) }
+    ensures limits { IfErr result TellsNoLimit }
     ensures device { IfErr result (λ refusal. refusal ≡ Disk → HasRisen (S.refused store.old) (S.refused store.new)) }
     ensures shows { S.shows store.new ≡ S.shows store.old }
     ensures sound { S.is_sound store.old → S.is_sound store.new }
@@ -131,6 +134,7 @@ fn all_updates<C: Checks>(
     ensures refused { IfErr result (λ refusal. (reading : CheckReading) (c : Contents) → IsSchemaOf schema.now (database_of c) → AreChecksFor reading (database_of c) update.now.table trees.now
         → IsUpdateOf update.now made.now → Agree (rows_lent lent.now.tables) (rows_in (database_of c)) (tables_in_update made.now)
         → AreCandidates (get c update.now.table) made.now.filter found → RefusesChange reading (database_of c) (does.Update update.now) refusal) }
+    ensures limits { IfErr result TellsNoLimit }
     ensures device { IfErr result (λ refusal. refusal ≡ Disk → ⊥) }
 {
     let Some(table) = table_named(schema, &update.table) else {

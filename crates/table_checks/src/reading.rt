@@ -1,5 +1,5 @@
 //! Reading the CHECKs of a table.
-ghost use Rattle.std.specs.Prelude.{◌≡◌, IfOk, IfErr, map};
+ghost use Rattle.std.specs.Prelude.{◌≡◌, ◌≢◌, IfOk, IfErr, map};
 ghost use Rattle.algebra.specs.Described.{described_in};
 ghost use Rattle.algebra.specs.Translated.{tree_of_condition};
 ghost use Rattle.denote.specs.Database.{CheckReading, IsReadable, AreReadable};
@@ -92,7 +92,8 @@ fn read(alloc: Global, table: &Table, text: &Text) -> Result<typing::Condition, 
 
 /// Unreadable, but for want of memory.
 fn fault_of(refusal: Refusal) -> CheckFault
-    ensures { refusal ≡ refused.Memory → result ≡ Memory }
+    ensures memory { refusal ≡ refused.Memory → result ≡ Memory }
+    ensures others { refusal ≢ refused.Memory → result ≡ Unreadable }
 {
     match refusal {
         Refusal::Memory => CheckFault::Memory,

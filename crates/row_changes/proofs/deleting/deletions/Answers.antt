@@ -1,6 +1,7 @@
 use Rattle.query_answers.specs.Lent.{rows_lent}
 use Rattle.row_changes.proofs.KeptChangeLemmas.{deletions_stay}
 use Rattle.row_changes.proofs.Meant.{deletions_meant}
+use Rattle.row_changes.proofs.Reaching.{deletions_spare}
 use Rattle.row_changes.proofs.deleting.deletions.Goals as goal
 
 pub returns-in-Ok : goal.returns-in-Ok
@@ -9,4 +10,5 @@ returns-in-Ok c = record {
       deletions_meant c.evaluation_keeps_the_meaning.ensures.value c.evaluation_keeps_the_meaning.ensures.truth c.values_read_their_tables.ensures c.listings_read_their_tables.ensures
       (rows_lent c.args.lent.now.tables) tables table d c.args.filter.now c.args.rows.now test c.all_deletions.result rows others agree of
       (deletions_stay c.kept_trees_mean_the_same.ensures.conditions (rows_lent c.args.lent.now.tables) c.in-Ok.kept c.args.filter.now c.args.rows.now c.all_deletions.result c.in-Ok.ensures c.all_deletions.ensures);
+  spares = deletions_spare (rows_lent c.args.lent.now.tables) c.in-Ok.kept c.args.rows.now c.all_deletions.result c.all_deletions.ensures;
 }

@@ -3,5 +3,5 @@ use Rattle.table_checks.proofs.reading.read.Goals as goal
 
 pub returns-in-Err-clause-unreadable : goal.returns-in-Err-clause-unreadable
 returns-in-Err-clause-unreadable c = λ is readable.
-    let memory = c.fault_of.ensures (c.in-Err.ensures.only readable.condition readable.reads readable.nested) in
+    let memory = c.fault_of.ensures.memory (c.in-Err.ensures.only readable.condition readable.reads readable.nested) in
     absurd (cc (sym memory ∙ is))
