@@ -48,6 +48,9 @@ one_new Stays more h = (refl, h)
 one_new Goes more h = (refl, h)
 one_new (Becomes row) more h = absurd (cc h)
 
+pub same_new : (xs ys : List RowChange) → xs ≡ ys → rows_new ys ≡ [] → rows_new xs ≡ []
+same_new xs ys same h = ap rows_new same ∙ h
+
 -- said of other changes, and of the table before them
 pub reached_before : (counted : StoreLimit → Type 0) (some changes : List RowChange) (out before : Type 0) → (rows_new changes ≡ [] → rows_new some ≡ []) → (out → before) → (r : Refusal)
     → TellsReached (MakingReaches counted some out) r → TellsReached (MakingReaches counted changes before) r

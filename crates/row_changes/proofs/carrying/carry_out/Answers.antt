@@ -1,16 +1,19 @@
-use Rattle.std.proofs.Common.{◌≡◌, ◌∙◌, ap, List, ℕ, Some}
+use Rattle.std.proofs.Common.{◌≡◌, ◌∙◌, ap, subst, List, ℕ, Some}
 use Rattle.std.specs.FinMap.{get}
 use Rattle.std.specs.Prelude.{count_by}
 use Rattle.sqlval.specs.Value.{Row}
 use Rattle.store.specs.declared.view.View.TheVariants as at
 use Rattle.store.specs.Contents.{StoredTable, database_of}
-use Rattle.store.specs.Stored.{working_on, marked_now}
+use Rattle.store.specs.Stored.{Stored, working_on, marked_now}
 use Rattle.constraint_checks.specs.Changed.{RefusesChange}
 use Rattle.constraint_checks.specs.Settled.{AreAmong, OthersHold}
 use Rattle.row_changes.specs.declared.change.RowChange.{RowChange}
 use Rattle.row_changes.specs.RowChanges.{is_change}
 use Rattle.row_changes.specs.Made.{all_made}
 use Rattle.row_changes.proofs.Carried.{all_short, among_made, decided_made, holds_made, others_made, carried, broken, taken_back, taken_back_at_once, where_new}
+use Rattle.constraint_checks.proofs.Limits.{tells_none}
+use Rattle.row_changes.specs.Reached.{IsNumberedOut}
+use Rattle.row_changes.proofs.Reaching.{reached_before}
 use Rattle.row_changes.proofs.carrying.carry_out.Goals as goal
 
 pub returns-in-Err-make_changes-clause-refused : goal.returns-in-Err-make_changes-clause-refused
@@ -75,3 +78,22 @@ returns-clause-same g c = λ sound.
     let marks : mid ≡ marked_now old = c.in_default.ensures.shows ∙ ap marked_now c.rows_to_look_up.ensures.shows in
     taken_back old mid (g.S.Store.shows c.make_changes.new.store) (g.S.Store.shows c.settle_new.new.store) _ marks
     (c.in_default-make_changes.ensures.shows (c.begin.ensures.sound (c.rows_to_look_up.ensures.sound sound))) c.in-Err-settle_new.ensures.undone
+
+pub returns-in-Err-clause-limits : goal.returns-in-Err-clause-limits
+returns-in-Err-clause-limits g c = tells_none _ c.in-Err.refusal c.in-Err.ensures.limits
+
+pub returns-in-Err-begin-clause-limits : goal.returns-in-Err-begin-clause-limits
+returns-in-Err-begin-clause-limits g c = tells_none _ c.in-Err-begin.refusal c.in-Err-begin.ensures.limits
+
+pub returns-in-Err-make_changes-clause-limits : goal.returns-in-Err-make_changes-clause-limits
+returns-in-Err-make_changes-clause-limits g c =
+    let old = g.S.Store.shows c.args.store.now in
+    let mid = g.S.Store.shows c.begin.new.store in
+    let marks : mid ≡ marked_now old = c.in_default.ensures.shows ∙ ap marked_now c.rows_to_look_up.ensures.shows in
+    reached_before (g.S.Store.counted c.make_changes.new.store) c.args.planned.changes c.args.planned.changes
+    (g.S.Store.is_sound c.begin.new.store → IsNumberedOut (get mid.working c.args.name.now)) (g.S.Store.is_sound c.args.store.now → IsNumberedOut (get old.working c.args.name.now)) (λ none. none)
+    (λ out sound. subst (λ (s : Stored). IsNumberedOut (get s.working c.args.name.now)) marks (out (c.begin.ensures.sound (c.rows_to_look_up.ensures.sound sound))))
+    c.in-Err-make_changes.refusal c.in-Err-make_changes.ensures.limits
+
+pub returns-clause-limits : goal.returns-clause-limits
+returns-clause-limits g c = tells_none _ c.in-Err-settle_new.refusal c.in-Err-settle_new.ensures.limits

@@ -7,6 +7,7 @@ use Rattle.constraint_checks.proofs.Violations.{table_read}
 use Rattle.query_answers.specs.Lent.{rows_lent}
 use Rattle.row_changes.proofs.Planning.{no_deletion, deletion_harmless, deletion_stopped, is_no_device}
 use Rattle.row_changes.proofs.Sparse.{rows-filtered}
+use Rattle.constraint_checks.proofs.Limits.{stop_tells}
 use Rattle.row_changes.proofs.delete.all_deletions.Goals as goal
 
 pub returns-in_default-clause-planned : goal.returns-in_default-clause-planned
@@ -34,3 +35,6 @@ returns-in-Err-clause-refused c = λ reading k of made agree entries.
 
 pub returns-in-Err-clause-device : goal.returns-in-Err-clause-device
 returns-in-Err-clause-device c = rw c.refusal_of_stop.ensures (is_no_device c.in-Err.stop)
+
+pub returns-in-Err-clause-limits : goal.returns-in-Err-clause-limits
+returns-in-Err-clause-limits c = stop_tells c.in-Err.stop _ c.refusal_of_stop.ensures

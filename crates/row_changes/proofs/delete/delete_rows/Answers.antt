@@ -8,6 +8,8 @@ use Rattle.constraint_checks.specs.Changed.{HasChanged, RefusesChange}
 use Rattle.constraint_checks.specs.Settled.{Decided, Holds}
 use Rattle.row_changes.specs.Plans.{IsMeant, IsHarmless}
 use Rattle.row_changes.proofs.Carried.{nothing}
+use Rattle.constraint_checks.proofs.Limits.{tells_none}
+use Rattle.row_changes.proofs.Reaching.{deleting_reaches}
 use Rattle.row_changes.proofs.delete.delete_rows.Goals as goal
 
 pub returns-in-Ok-Some-clause-changes : goal.returns-in-Ok-Some-clause-changes
@@ -53,3 +55,11 @@ returns-in-Ok-Some-clause-device g c = IfErr-weaker c.carry_out.result _ _ (λ r
 
 pub returns-in-Err-clause-refused : goal.returns-in-Err-clause-refused
 returns-in-Err-clause-refused g c = λ reading sound of decided. c.in-Err.ensures.refused reading sound of
+
+pub returns-in-Ok-Some-clause-limits : goal.returns-in-Ok-Some-clause-limits
+returns-in-Ok-Some-clause-limits g c =
+    let none = rw c.in-Ok-Some.field-0-is at c.in-Ok-Some.ensures.spares in
+    IfErr-weaker c.carry_out.result _ _ (λ refusal h. deleting_reaches (g.S.Store.counted c.carry_out.new.store) c.in-Ok-Some.planned.changes _ none refusal h) c.carry_out.ensures.limits
+
+pub returns-in-Err-clause-limits : goal.returns-in-Err-clause-limits
+returns-in-Err-clause-limits g c = tells_none _ c.in-Err.refusal c.in-Err.ensures.limits

@@ -12,6 +12,8 @@ use Rattle.constraint_checks.proofs.Violations.{table_read}
 use Rattle.row_changes.proofs.Sparse.{rows-filtered}
 use Rattle.row_changes.proofs.Coming.{few-in}
 use Rattle.row_changes.proofs.Planning.{no_update, update_harmless, update_stopped, is_no_device}
+use Rattle.transactions.specs.Refused.{TellsNoLimit}
+use Rattle.constraint_checks.proofs.Limits.{stop_tells}
 use Rattle.row_changes.proofs.update.all_updates.Goals as goal
 
 pub returns-in_default-clause-planned : goal.returns-in_default-clause-planned
@@ -50,3 +52,9 @@ returns-in-Err-clause-refused g c = λ reading k of checks made agree entries.
 
 pub returns-in-Err-clause-device : goal.returns-in-Err-clause-device
 returns-in-Err-clause-device g c = rw c.refusal_of_stop.ensures (is_no_device c.in-Err.stop)
+
+pub returns-in-Err-clause-limits : goal.returns-in-Err-clause-limits
+returns-in-Err-clause-limits g c = stop_tells c.in-Err.stop _ c.refusal_of_stop.ensures
+
+pub returns-in-Err-are_harmless-clause-limits : goal.returns-in-Err-are_harmless-clause-limits
+returns-in-Err-are_harmless-clause-limits g c = subst TellsNoLimit (sym c.in-Err-are_harmless.ensures.refused) tt

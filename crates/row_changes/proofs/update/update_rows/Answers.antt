@@ -8,6 +8,10 @@ use Rattle.constraint_checks.specs.Changed.{HasChanged, RefusesChange}
 use Rattle.constraint_checks.specs.Settled.{Decided, Holds}
 use Rattle.row_changes.specs.Plans.{IsMeant, IsHarmless}
 use Rattle.row_changes.proofs.Carried.{nothing}
+use Rattle.std.specs.FinMap.{get}
+use Rattle.constraint_checks.proofs.Limits.{tells_none}
+use Rattle.row_changes.specs.Reached.{IsNumberedOut}
+use Rattle.row_changes.proofs.Reaching.{replacing_reaches}
 use Rattle.row_changes.proofs.update.update_rows.Goals as goal
 
 pub returns-in-Ok-Some-clause-changes : goal.returns-in-Ok-Some-clause-changes
@@ -52,3 +56,17 @@ returns-in-Ok-Some-clause-device g c = IfErr-weaker c.carry_out.result _ _ (λ r
 
 pub returns-in-Err-clause-refused : goal.returns-in-Err-clause-refused
 returns-in-Err-clause-refused g c = λ reading sound of decided checks. c.in-Err.ensures.refused reading sound of checks
+
+pub returns-in-Ok-Some-clause-limits : goal.returns-in-Ok-Some-clause-limits
+returns-in-Ok-Some-clause-limits g c =
+    let name = c.args.update.now.table in
+    let mid = g.S.Store.shows c.planned_update.new.store in
+    let old = g.S.Store.shows c.args.store.now in
+    IfErr-weaker c.carry_out.result _ _
+    (λ refusal h. replacing_reaches (g.S.Store.counted c.carry_out.new.store) c.in-Ok-Some.planned.changes
+    (g.S.Store.is_sound c.planned_update.new.store → IsNumberedOut (get mid.working name)) (g.S.Store.is_sound c.args.store.now → IsNumberedOut (get old.working name))
+    (λ out sound. subst (λ (s : Stored). IsNumberedOut (get s.working name)) c.planned_update.ensures.shows (out (c.planned_update.ensures.sound sound))) refusal h)
+    c.carry_out.ensures.limits
+
+pub returns-in-Err-clause-limits : goal.returns-in-Err-clause-limits
+returns-in-Err-clause-limits g c = tells_none _ c.in-Err.refusal c.in-Err.ensures.limits
