@@ -9,7 +9,7 @@ ghost use Rattle.store.specs.Contents.{database_of};
 ghost use Rattle.store.specs.Errors.{HasRisen};
 ghost use Rattle.store.specs.Stored.{SameButMark};
 ghost use Rattle.constraint_checks.specs.Changed.{RefusesChange};
-ghost use Rattle.table_changes.specs.Given.{AreGiven, HasAccepted};
+ghost use Rattle.table_changes.specs.Given.{HasAccepted};
 ghost use Rattle.changes.specs.Reached.{ChangeReaches};
 
 use crate::insert::insert;
@@ -28,8 +28,7 @@ pub fn make<S: Store>(alloc: Global, store: &mut S, change: Change) -> Result<Re
     ensures refused { IfErr result (λ refusal. (reading : CheckReading) → IsCheckReading reading → S.is_sound store.old → IsSchemaOf (S.prepared store.old) (database_of (S.shows store.old).working)
         → IsGood reading (database_of (S.shows store.old).working) → RefusesChange reading (database_of (S.shows store.old).working) change refusal) }
     ensures accepted { IfOk result (λ reply. IfRefused reply (λ refusal. ⊥)) }
-    ensures limits { IfErr result (TellsReached (ChangeReaches (S.counted store.new) (S.is_sound store.old) (λ insert rows. (reading : CheckReading) → IsCheckReading reading → S.is_sound store.old → IsSchemaOf (S.prepared store.old) (database_of (S.shows store.old).working)
-        → IsGood reading (database_of (S.shows store.old).working) → AreGiven reading (database_of (S.shows store.old).working) insert rows) (S.shows store.old).working change)) }
+    ensures limits { IfErr result (TellsReached (ChangeReaches (S.counted store.new) (S.is_sound store.old) (S.prepared store.old) (S.shows store.old).working change)) }
     ensures device { IfErr result (λ refusal. refusal ≡ Disk → HasRisen (S.refused store.old) (S.refused store.new)) }
     ensures same { S.is_sound store.old → OnErr result (SameButMark (S.shows store.old) (S.shows store.new)) }
     ensures sound { S.is_sound store.old → S.is_sound store.new }

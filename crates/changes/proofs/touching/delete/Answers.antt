@@ -6,6 +6,7 @@ use Rattle.store.specs.Contents.{database_of}
 use Rattle.session_definitions.specs.Refusals.{IsReserved}
 use Rattle.constraint_checks.specs.Changed.{RefusesChange}
 use Rattle.changes.proofs.Named.{no_device}
+use Rattle.store.specs.Errors.{ChangingReaches}
 use Rattle.constraint_checks.proofs.Limits.{tells_none}
 use Rattle.changes.proofs.touching.delete.Goals as goal
 
@@ -35,4 +36,4 @@ pub returns-in-Err-clause-device : goal.returns-in-Err-clause-device
 returns-in-Err-clause-device g c = λ is. absurd (no_device c.in-Err.refusal c.in-Err.ensures.refused is)
 
 pub returns-in-Err-clause-limits : goal.returns-in-Err-clause-limits
-returns-in-Err-clause-limits g c = tells_none _ c.in-Err.refusal c.in-Err.ensures.limits
+returns-in-Err-clause-limits g c = tells_none (ChangingReaches (g.S.Store.counted c.args.store.now)) c.in-Err.refusal c.in-Err.ensures.limits

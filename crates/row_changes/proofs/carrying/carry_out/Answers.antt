@@ -12,7 +12,7 @@ use Rattle.row_changes.specs.RowChanges.{is_change}
 use Rattle.row_changes.specs.Made.{all_made}
 use Rattle.row_changes.proofs.Carried.{all_short, among_made, decided_made, holds_made, others_made, carried, broken, taken_back, taken_back_at_once, where_new}
 use Rattle.constraint_checks.proofs.Limits.{tells_none}
-use Rattle.row_changes.specs.Reached.{IsNumberedOut}
+use Rattle.row_changes.specs.Reached.{IsNumberedOut, MakingReaches}
 use Rattle.row_changes.proofs.Reaching.{reached_before}
 use Rattle.row_changes.proofs.carrying.carry_out.Goals as goal
 
@@ -80,10 +80,10 @@ returns-clause-same g c = λ sound.
     (c.in_default-make_changes.ensures.shows (c.begin.ensures.sound (c.rows_to_look_up.ensures.sound sound))) c.in-Err-settle_new.ensures.undone
 
 pub returns-in-Err-clause-limits : goal.returns-in-Err-clause-limits
-returns-in-Err-clause-limits g c = tells_none _ c.in-Err.refusal c.in-Err.ensures.limits
+returns-in-Err-clause-limits g c = tells_none (MakingReaches (g.S.Store.counted c.rows_to_look_up.new.store) c.args.planned.changes (g.S.Store.is_sound c.args.store.now → IsNumberedOut (get (g.S.Store.shows c.args.store.now).working c.args.name.now))) c.in-Err.refusal c.in-Err.ensures.limits
 
 pub returns-in-Err-begin-clause-limits : goal.returns-in-Err-begin-clause-limits
-returns-in-Err-begin-clause-limits g c = tells_none _ c.in-Err-begin.refusal c.in-Err-begin.ensures.limits
+returns-in-Err-begin-clause-limits g c = tells_none (MakingReaches (g.S.Store.counted c.begin.new.store) c.args.planned.changes (g.S.Store.is_sound c.args.store.now → IsNumberedOut (get (g.S.Store.shows c.args.store.now).working c.args.name.now))) c.in-Err-begin.refusal c.in-Err-begin.ensures.limits
 
 pub returns-in-Err-make_changes-clause-limits : goal.returns-in-Err-make_changes-clause-limits
 returns-in-Err-make_changes-clause-limits g c =
@@ -96,4 +96,4 @@ returns-in-Err-make_changes-clause-limits g c =
     c.in-Err-make_changes.refusal c.in-Err-make_changes.ensures.limits
 
 pub returns-clause-limits : goal.returns-clause-limits
-returns-clause-limits g c = tells_none _ c.in-Err-settle_new.refusal c.in-Err-settle_new.ensures.limits
+returns-clause-limits g c = tells_none (MakingReaches (g.S.Store.counted c.settle_new.new.store) c.args.planned.changes (g.S.Store.is_sound c.args.store.now → IsNumberedOut (get (g.S.Store.shows c.args.store.now).working c.args.name.now))) c.in-Err-settle_new.refusal c.in-Err-settle_new.ensures.limits

@@ -8,6 +8,7 @@ use Rattle.constraint_checks.specs.Changed.{HasChanged, RefusesChange}
 use Rattle.constraint_checks.specs.Settled.{Decided, Holds}
 use Rattle.row_changes.specs.Plans.{IsMeant, IsHarmless}
 use Rattle.row_changes.proofs.Carried.{nothing}
+use Rattle.store.specs.Errors.{ChangingReaches}
 use Rattle.constraint_checks.proofs.Limits.{tells_none}
 use Rattle.row_changes.proofs.Reaching.{deleting_reaches}
 use Rattle.row_changes.proofs.delete.delete_rows.Goals as goal
@@ -62,4 +63,4 @@ returns-in-Ok-Some-clause-limits g c =
     IfErr-weaker c.carry_out.result _ _ (λ refusal h. deleting_reaches (g.S.Store.counted c.carry_out.new.store) c.in-Ok-Some.planned.changes _ none refusal h) c.carry_out.ensures.limits
 
 pub returns-in-Err-clause-limits : goal.returns-in-Err-clause-limits
-returns-in-Err-clause-limits g c = tells_none _ c.in-Err.refusal c.in-Err.ensures.limits
+returns-in-Err-clause-limits g c = tells_none (ChangingReaches (g.S.Store.counted c.planned_deletion.new.store)) c.in-Err.refusal c.in-Err.ensures.limits

@@ -2,14 +2,14 @@ use Rattle.std.proofs.Common.{◌≡◌, ◌∙◌, sym, [], ◌∷◌, rules, a
 use Rattle.row_changes.proofs.Standing.{none_left, begins_with, ends, runs_out, goes_back, goes_on, next_short, numbered_out_before}
 use Rattle.std.specs.FinMap.{get}
 use Rattle.row_changes.specs.Reached.{IsNumberedOut}
-use Rattle.row_changes.proofs.Reaching.{one_new, same_new, reached_before}
+use Rattle.row_changes.proofs.Reaching.{leaves_all, leaves_later, leaves_one, reached_before}
 use Rattle.row_changes.proofs.making.make_changes.Goals as goal
 
 pub loop-change-init : goal.loop-change-init
 loop-change-init g c = record {
   stands = λ sound. begins_with (g.S.Store.shows c.args.store.now) c.args.name.now c.args.numbers.now c.args.changes _ (search (rules));
   sound = λ sound. sound;
-  none = λ none. same_new _ c.args.changes (search (rules)) none;
+  none = leaves_all _ c.args.changes (search (rules));
   counts = omega arith;
 }
 
@@ -20,9 +20,9 @@ loop-change-preserved g c = record {
       goes_on (g.S.Store.shows c.args.store.now) c.args.name.now c.args.numbers.now c.args.changes (g.S.Store.shows c.loop-change.store) c.loop-change.rest.now c.loop-change.change-iterator.rest.items
       (c.loop-change.invariant.stands sound) (g.S.Store.shows c.make_change.new.store) _ _ c.in-Some.change c.next.new.self.rest.items c.in-Some-split_first.ensures.cases.0 moved
       (c.in_default-make_change.ensures.shows (c.loop-change.invariant.sound sound));
-  none = λ none.
+  none =
       let moved : c.loop-change.change-iterator.rest.items ≡ c.in-Some.change ∷ c.next.new.self.rest.items = search (rules) in
-      (one_new c.in-Some.change c.next.new.self.rest.items (same_new (c.in-Some.change ∷ c.next.new.self.rest.items) c.loop-change.change-iterator.rest.items (sym moved) (c.loop-change.invariant.none none))).1;
+      leaves_later c.args.changes c.loop-change.change-iterator.rest.items c.in-Some.change c.next.new.self.rest.items moved c.loop-change.invariant.none;
   sound = λ sound. c.make_change.ensures.sound (c.loop-change.invariant.sound sound);
   counts = omega (arith, c.make_change.ensures.counts, c.loop-change.invariant.counts);
 }
@@ -61,6 +61,6 @@ returns-in-Err-clause-limits g c =
     let mid = g.S.Store.shows c.loop-change.store in
     reached_before (g.S.Store.counted c.make_change.new.store) (c.in-Some.change ∷ []) c.args.changes (IsNumberedOut (get mid.working c.args.name.now))
     (g.S.Store.is_sound c.args.store.now → IsNumberedOut (get old.working c.args.name.now))
-    (λ none. (one_new c.in-Some.change c.next.new.self.rest.items (same_new (c.in-Some.change ∷ c.next.new.self.rest.items) c.loop-change.change-iterator.rest.items (sym moved) (c.loop-change.invariant.none none))).0)
+    (leaves_one c.args.changes c.loop-change.change-iterator.rest.items c.in-Some.change c.next.new.self.rest.items moved c.loop-change.invariant.none)
     (λ out sound. numbered_out_before old c.args.name.now c.args.numbers.now c.args.changes mid c.loop-change.rest.now c.loop-change.change-iterator.rest.items (c.loop-change.invariant.stands sound) out)
     c.in-Err.refusal c.in-Err.ensures.limits

@@ -1,5 +1,5 @@
-use Rattle.std.specs.Prelude.{◌≡◌, ◌≤◌, []}
-use Rattle.row_changes.specs.RowChanges.{rows_new}
+use Rattle.std.specs.Prelude.{◌≤◌}
+use Rattle.row_changes.proofs.Reaching.{LeavesNone}
 use Rattle.row_changes.proofs.Standing.{StandsAt}
 use Rattle.row_changes.proofs.making.make_changes.Given as goal
 
@@ -8,6 +8,6 @@ abbrev pub invariant-loop-change : goal.invariant-loop-change
 invariant-loop-change g l = record {
   stands : g.S.Store.is_sound l.fn.store → StandsAt (g.S.Store.shows l.fn.store) l.name l.numbers l.fn.changes (g.S.Store.shows l.store) l.rest l.change-iterator.rest.items;
   sound : g.S.Store.is_sound l.fn.store → g.S.Store.is_sound l.store;
-  none : rows_new l.fn.changes ≡ [] → rows_new l.change-iterator.rest.items ≡ [];
+  none : LeavesNone l.fn.changes l.change-iterator.rest.items;
   counts : g.S.Store.refused l.fn.store ≤ g.S.Store.refused l.store;
 }

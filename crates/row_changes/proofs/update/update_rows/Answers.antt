@@ -10,7 +10,7 @@ use Rattle.row_changes.specs.Plans.{IsMeant, IsHarmless}
 use Rattle.row_changes.proofs.Carried.{nothing}
 use Rattle.std.specs.FinMap.{get}
 use Rattle.constraint_checks.proofs.Limits.{tells_none}
-use Rattle.row_changes.specs.Reached.{IsNumberedOut}
+use Rattle.row_changes.specs.Reached.{IsNumberedOut, ReplacingReaches}
 use Rattle.row_changes.proofs.Reaching.{replacing_reaches}
 use Rattle.row_changes.proofs.update.update_rows.Goals as goal
 
@@ -69,4 +69,4 @@ returns-in-Ok-Some-clause-limits g c =
     c.carry_out.ensures.limits
 
 pub returns-in-Err-clause-limits : goal.returns-in-Err-clause-limits
-returns-in-Err-clause-limits g c = tells_none _ c.in-Err.refusal c.in-Err.ensures.limits
+returns-in-Err-clause-limits g c = tells_none (ReplacingReaches (g.S.Store.counted c.planned_update.new.store) (g.S.Store.is_sound c.args.store.now → IsNumberedOut (get (g.S.Store.shows c.args.store.now).working c.args.update.now.table))) c.in-Err.refusal c.in-Err.ensures.limits

@@ -10,7 +10,7 @@ returns-in-Ok-clause-changes g c = λ reading sound.
     c.in_default.ensures.shows (c.in-Ok.ensures.shows (c.begin.ensures.sound sound))
 
 pub returns-in-Err-clause-limits : goal.returns-in-Err-clause-limits
-returns-in-Err-clause-limits g c = tells_none _ c.in-Err.refusal c.in-Err.ensures.limits
+returns-in-Err-clause-limits g c = tells_none (ChangingReaches (g.S.Store.counted c.begin.new.store)) c.in-Err.refusal c.in-Err.ensures.limits
 
 pub returns-clause-limits : goal.returns-clause-limits
 returns-clause-limits g c = tells_reached _ _ _ (ChangingReaches (g.S.Store.counted c.drop_table.new.self)) c.in-Err-drop_table.error _ c.refusal_of.ensures c.in-Err-drop_table.ensures.refused

@@ -10,7 +10,7 @@ use Rattle.denote.specs.Stop.{IsFaultOf}
 use Rattle.denote.specs.StoredRow.{key_faults}
 use Rattle.session_definitions.specs.Refusals.{IsReserved}
 use Rattle.store.specs.Contents.{database_of, rows_of}
-use Rattle.store.specs.Errors.{IndexingReaches, Never}
+use Rattle.store.specs.Errors.{ChangingReaches, IndexingReaches, Never}
 use Rattle.store.specs.Indexes.{entries_of}
 use Rattle.store.specs.Stored.{Stored}
 use Rattle.transactions.proofs.Tests.{reserved, tells_reached}
@@ -66,17 +66,17 @@ returns-clause-refused g c = λ reading sound of.
     (λ long. no_long_key c.args.index.columns (rows_of (entries_of (get (g.S.Store.shows c.scan.new.self).working name))) (record { name = Some c.args.index.name; columns = c.args.index.columns }) refl none long)))
 
 pub returns-in-Err-clause-limits : goal.returns-in-Err-clause-limits
-returns-in-Err-clause-limits g c = tells_none _ c.in-Err.refusal c.in-Err.ensures.limits
+returns-in-Err-clause-limits g c = tells_none (ChangingReaches (g.S.Store.counted c.begin.new.store)) c.in-Err.refusal c.in-Err.ensures.limits
 
 pub returns-in-Err-scan-clause-limits : goal.returns-in-Err-scan-clause-limits
-returns-in-Err-scan-clause-limits g c = tells_none _ _ (tells_reached _ _ _ Never c.in-Err-scan.error _ c.refusal_of.ensures c.in-Err-scan.ensures.refused)
+returns-in-Err-scan-clause-limits g c = tells_none (ChangingReaches (g.S.Store.counted c.scan.new.self)) c.refusal_of.result (tells_reached _ _ _ Never c.in-Err-scan.error _ c.refusal_of.ensures c.in-Err-scan.ensures.refused)
 
 pub returns-in-Err-rows_fit_key-clause-limits : goal.returns-in-Err-rows_fit_key-clause-limits
-returns-in-Err-rows_fit_key-clause-limits g c = tells_none _ _ (stop_tells c.in-Err-rows_fit_key.stop _ c.refusal_of_stop.ensures)
+returns-in-Err-rows_fit_key-clause-limits g c = tells_none (ChangingReaches (g.S.Store.counted c.scan.new.self)) c.refusal_of_stop.result (stop_tells c.in-Err-rows_fit_key.stop _ c.refusal_of_stop.ensures)
 
 pub returns-clause-limits : goal.returns-clause-limits
 returns-clause-limits g c =
     let index = record { name = Some c.args.index.name; columns = c.args.index.columns } in
     let rows = rows_of (entries_of (get (g.S.Store.shows c.scan.new.self).working c.args.index.table)) in
-    indexing_reaches (g.S.Store.counted c.create_index.new.self) rows index _
+    indexing_reaches (g.S.Store.counted c.create_index.new.self) rows index c.refusal_of-in-Err-create_index.result
     (tells_reached _ _ _ (IndexingReaches (g.S.Store.counted c.create_index.new.self) rows index) c.in-Err-create_index.error _ c.refusal_of-in-Err-create_index.ensures c.in-Err-create_index.ensures.refused)

@@ -81,10 +81,10 @@ pub returns-in-Ok-settle_unless-clause-accepted : goal.returns-in-Ok-settle_unle
 returns-in-Ok-settle_unless-clause-accepted g c = no_refusal c.len-count.result c.reply_for.result c.reply_for.ensures
 
 pub returns-in-Err-clause-limits : goal.returns-in-Err-clause-limits
-returns-in-Err-clause-limits g c = tells_none _ c.in-Err.refusal c.in-Err.ensures.limits
+returns-in-Err-clause-limits g c = tells_none (StoringReaches (g.S.Store.counted c.begin.new.store) (get (g.S.Store.shows c.args.store.now).working c.args.insert.now.table) c.args.rows) c.in-Err.refusal c.in-Err.ensures.limits
 
 pub returns-in-Err-known_to_hold-clause-limits : goal.returns-in-Err-known_to_hold-clause-limits
-returns-in-Err-known_to_hold-clause-limits g c = tells_none _ c.in-Err-known_to_hold.refusal c.in-Err-known_to_hold.ensures.limits
+returns-in-Err-known_to_hold-clause-limits g c = tells_none (StoringReaches (g.S.Store.counted c.known_to_hold.new.store) (get (g.S.Store.shows c.args.store.now).working c.args.insert.now.table) c.args.rows) c.in-Err-known_to_hold.refusal c.in-Err-known_to_hold.ensures.limits
 
 pub returns-in-Err-append-clause-limits : goal.returns-in-Err-append-clause-limits
 returns-in-Err-append-clause-limits g c =
@@ -97,4 +97,4 @@ returns-in-Err-append-clause-limits g c =
     (tells_reached _ _ _ (StoringReaches counted (get looked.working name) c.args.rows) c.in-Err-append.error _ c.refusal_of.ensures c.in-Err-append.ensures.refused)
 
 pub returns-in-Err-settle_unless-clause-limits : goal.returns-in-Err-settle_unless-clause-limits
-returns-in-Err-settle_unless-clause-limits g c = tells_none _ c.in-Err-settle_unless.refusal c.in-Err-settle_unless.ensures.limits
+returns-in-Err-settle_unless-clause-limits g c = tells_none (StoringReaches (g.S.Store.counted c.settle_unless.new.store) (get (g.S.Store.shows c.args.store.now).working c.args.insert.now.table) c.args.rows) c.in-Err-settle_unless.refusal c.in-Err-settle_unless.ensures.limits
