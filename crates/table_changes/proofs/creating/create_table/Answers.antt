@@ -18,5 +18,5 @@ returns-in-Ok-clause-changes g c = λ reading sound of.
 pub returns-in-Err-clause-limits : goal.returns-in-Err-clause-limits
 returns-in-Err-clause-limits g c = tells_none (ChangingReaches (g.S.Store.counted c.begin.new.store)) c.in-Err.refusal c.in-Err.ensures.limits
 
-pub returns-clause-limits : goal.returns-clause-limits
-returns-clause-limits g c = tells_reached _ _ _ (ChangingReaches (g.S.Store.counted c.create_table.new.self)) c.in-Err-create_table.error _ c.refusal_of.ensures c.in-Err-create_table.ensures.refused
+pub returns-in-Err-create_table-clause-limits : goal.returns-in-Err-create_table-clause-limits
+returns-in-Err-create_table-clause-limits g c = tells_reached _ _ _ (ChangingReaches (g.S.Store.counted c.create_table.new.self)) c.in-Err-create_table.error _ c.refusal_of.ensures c.in-Err-create_table.ensures.refused

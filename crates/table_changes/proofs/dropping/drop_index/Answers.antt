@@ -12,5 +12,5 @@ returns-in-Ok-clause-changes g c = λ reading sound.
 pub returns-in-Err-clause-limits : goal.returns-in-Err-clause-limits
 returns-in-Err-clause-limits g c = tells_none (ChangingReaches (g.S.Store.counted c.begin.new.store)) c.in-Err.refusal c.in-Err.ensures.limits
 
-pub returns-clause-limits : goal.returns-clause-limits
-returns-clause-limits g c = tells_reached _ _ _ (ChangingReaches (g.S.Store.counted c.drop_index.new.self)) c.in-Err-drop_index.error _ c.refusal_of.ensures c.in-Err-drop_index.ensures.refused
+pub returns-in-Err-drop_index-clause-limits : goal.returns-in-Err-drop_index-clause-limits
+returns-in-Err-drop_index-clause-limits g c = tells_reached _ _ _ (ChangingReaches (g.S.Store.counted c.drop_index.new.self)) c.in-Err-drop_index.error _ c.refusal_of.ensures c.in-Err-drop_index.ensures.refused

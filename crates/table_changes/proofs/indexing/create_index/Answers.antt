@@ -5,6 +5,7 @@ use Rattle.sqlval.specs.declared.schema.Schema.{Schema}
 use Rattle.sqlval.specs.Value.{Row}
 use Rattle.typing.specs.declared.statement.Change.TheVariants as does
 use Rattle.denote.specs.declared.fault.Fault.{Fault}
+use Rattle.denote.specs.Database.{IndexDeclaration}
 use Rattle.denote.specs.SchemaOf.{IsSchemaOf}
 use Rattle.denote.specs.Stop.{IsFaultOf}
 use Rattle.denote.specs.StoredRow.{key_faults}
@@ -76,7 +77,7 @@ returns-in-Err-rows_fit_key-clause-limits g c = tells_none (ChangingReaches (g.S
 
 pub returns-clause-limits : goal.returns-clause-limits
 returns-clause-limits g c =
-    let index = record { name = Some c.args.index.name; columns = c.args.index.columns } in
+    let index : IndexDeclaration = record { name = Some c.args.index.name; columns = c.args.index.columns } in
     let rows = rows_of (entries_of (get (g.S.Store.shows c.scan.new.self).working c.args.index.table)) in
     indexing_reaches (g.S.Store.counted c.create_index.new.self) rows index c.refusal_of-in-Err-create_index.result
     (tells_reached _ _ _ (IndexingReaches (g.S.Store.counted c.create_index.new.self) rows index) c.in-Err-create_index.error _ c.refusal_of-in-Err-create_index.ensures c.in-Err-create_index.ensures.refused)
