@@ -1,4 +1,5 @@
 pub mod Accepted
 pub mod Named
+pub mod Reaching
 pub mod Given
 pub mod Listed

@@ -12,6 +12,7 @@ use Rattle.algebra.specs.declared.tree.Condition.{Condition}
 use Rattle.denote.specs.Database.{Name, Table, Database, CheckReading, checks_of, AreReadable, IsGood}
 use Rattle.denote.specs.SchemaOf.{Declares, IsSchemaOf}
 use Rattle.query_answers.specs.Sources.{AreChecksOf}
+use Rattle.transactions.specs.Refused.{TellsNoLimit}
 use Rattle.constraint_checks.proofs.Declared.{table_there}
 use Rattle.constraint_checks.proofs.Violations.{same_some}
 use Rattle.row_changes.specs.Checked.{AreChecksFor}
@@ -50,6 +51,11 @@ readable reading schema db name d h inside e good =
 pub no_device : (refusal : Refusal) → (refusal ≡ Memory) ⊎ (refusal ≡ Damaged) → refusal ≡ Disk → ⊥
 no_device refusal (inl e) is = absurd (cc (sym e ∙ is))
 no_device refusal (inr e) is = absurd (cc (sym e ∙ is))
+
+-- nor a limit of what a store counts
+pub no_limit : (refusal : Refusal) → (refusal ≡ Memory) ⊎ (refusal ≡ Damaged) → TellsNoLimit refusal
+no_limit refusal (inl e) = subst TellsNoLimit (sym e) tt
+no_limit refusal (inr e) = subst TellsNoLimit (sym e) tt
 
 module _ (fault : CheckFault) (refusal : Refusal) (memory : fault ≡ reads.Memory → refusal ≡ Memory) where
   -- a refusal that says why CHECKs are not read is one of two

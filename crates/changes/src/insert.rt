@@ -7,13 +7,14 @@ ghost use Rattle.typing.specs.declared.statement.Change.TheVariants as does;
 ghost use Rattle.denote.specs.Database.{CheckReading, IsGood, Table, checks_of};
 ghost use Rattle.denote.specs.SchemaOf.{IsSchemaOf};
 ghost use Rattle.query_answers.specs.Sources.{AreChecksOf};
-ghost use Rattle.transactions.specs.Refused.{IfRefused};
+ghost use Rattle.transactions.specs.Refused.{IfRefused, TellsNoLimit, TellsReached};
 ghost use Rattle.store.specs.Contents.{database_of};
 ghost use Rattle.store.specs.Errors.{HasRisen};
 ghost use Rattle.store.specs.Stored.{SameButMark};
 ghost use Rattle.constraint_checks.specs.Changed.{RefusesChange};
 ghost use Rattle.table_checks.specs.Conditions.{AreOfSome};
 ghost use Rattle.table_changes.specs.Given.{AreGiven, HasAccepted};
+ghost use Rattle.changes.specs.Reached.{ChangeReaches};
 
 use crate::named_checks::named_checks;
 use crate::query_rows::query_rows;
@@ -39,6 +40,7 @@ pub(crate) fn insert<S: Store>(
     ensures refused { IfErr result (λ refusal. (reading : CheckReading) → IsCheckReading reading → S.is_sound store.old → IsSchemaOf (S.prepared store.old) (database_of (S.shows store.old).working)
         → IsGood reading (database_of (S.shows store.old).working) → RefusesChange reading (database_of (S.shows store.old).working) (does.Insert insert.now) refusal) }
     ensures accepted { IfOk result (λ reply. IfRefused reply (λ refusal. ⊥)) }
+    ensures limits { IfErr result (TellsReached (ChangeReaches (S.counted store.new) (S.is_sound store.old) (S.prepared store.old) (S.shows store.old).working (does.Insert insert.now))) }
     ensures device { IfErr result (λ refusal. refusal ≡ Disk → HasRisen (S.refused store.old) (S.refused store.new)) }
     ensures same { S.is_sound store.old → OnErr result (SameButMark (S.shows store.old) (S.shows store.new)) }
     ensures sound { S.is_sound store.old → S.is_sound store.new }
@@ -67,6 +69,7 @@ fn rows_of<S: Store>(
     ensures refused { IfErr result (λ refusal. (reading : CheckReading) (table : Table) → S.is_sound store.old → IsSchemaOf (S.prepared store.old) (database_of (S.shows store.old).working)
         → get (database_of (S.shows store.old).working) insert.now.table ≡ Some table → AreChecksOf (checks_of reading insert.now.table table) checks.now.conditions
         → RefusesChange reading (database_of (S.shows store.old).working) (does.Insert insert.now) refusal) }
+    ensures limits { IfErr result TellsNoLimit }
     ensures device { IfErr result (λ refusal. AreOfSome checks.now.conditions → refusal ≡ Disk → HasRisen (S.refused store.old) (S.refused store.new)) }
     ensures shows { S.shows store.new ≡ S.shows store.old }
     ensures sound { S.is_sound store.old → S.is_sound store.new }

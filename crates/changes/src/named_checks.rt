@@ -5,6 +5,7 @@ ghost use Rattle.refusals.specs.declared.refusal.Refusal.TheVariants.{Damaged, M
 ghost use Rattle.typing.specs.Check.{IsCheckReading};
 ghost use Rattle.denote.specs.Database.{Database, Table, CheckReading, IsGood};
 ghost use Rattle.denote.specs.SchemaOf.{IsSchemaOf};
+ghost use Rattle.transactions.specs.Refused.{TellsNoLimit};
 ghost use Rattle.table_checks.specs.Conditions.{AreOfSome};
 ghost use Rattle.table_checks.specs.declared.reading.CheckFault.TheVariants as fault_of_checks;
 ghost use Rattle.row_changes.specs.Checked.{AreChecksFor};
@@ -27,6 +28,7 @@ pub(crate) fn named_checks(
     ensures some { IfOk result (λ checks. AreOfSome checks.conditions) }
     ensures decides { IfOk result (λ checks. (reading : CheckReading) (db : Database) → IsCheckReading reading → IsSchemaOf schema.now db → AreChecksFor reading db name.now checks.conditions) }
     ensures refused { IfErr result (λ refusal. (refusal ≡ Memory) ⊎ (refusal ≡ Damaged)) }
+    ensures limits { IfErr result TellsNoLimit }
     ensures good { IfErr result (λ refusal. (reading : CheckReading) (db : Database) → IsSchemaOf schema.now db → IsGood reading db → refusal ≡ Memory) }
 {
     match table_named(schema, name) {

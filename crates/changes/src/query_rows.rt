@@ -14,6 +14,7 @@ ghost use Rattle.query_answers.specs.Refused.{MayRefuse};
 ghost use Rattle.query_answers.specs.Sources.{AreChecksOf};
 ghost use Rattle.store.specs.Contents.{database_of};
 ghost use Rattle.store.specs.Errors.{HasRisen};
+ghost use Rattle.transactions.specs.Refused.{TellsNoLimit};
 ghost use Rattle.constraint_checks.specs.Changed.{RefusesChange};
 ghost use Rattle.table_changes.specs.Given.{AreGiven};
 ghost use Rattle.table_checks.specs.Conditions.{AreOfSome};
@@ -48,6 +49,7 @@ pub(crate) fn query_rows<S: Store>(
     ensures refused { IfErr result (λ refusal. (reading : CheckReading) (table : Table) → S.is_sound store.old → IsSchemaOf (S.prepared store.old) (database_of (S.shows store.old).working)
         → get (database_of (S.shows store.old).working) insert.now.table ≡ Some table → AreChecksOf (checks_of reading insert.now.table table) checks.now.conditions
         → insert.now.source ≡ from.Query query.now → RefusesChange reading (database_of (S.shows store.old).working) (does.Insert insert.now) refusal) }
+    ensures limits { IfErr result TellsNoLimit }
     ensures device { IfErr result (λ refusal. AreOfSome checks.now.conditions → refusal ≡ Disk → HasRisen (S.refused store.old) (S.refused store.new)) }
     ensures shows { S.shows store.new ≡ S.shows store.old }
     ensures sound { S.is_sound store.old → S.is_sound store.new }
@@ -86,6 +88,7 @@ fn sources_of<S: Store>(
     ensures lists { IfOk result (λ sources. (rows : List Given) × (sources ≡ constants rows)
         × (S.is_sound store.old → tree_listing (rows_in (database_of (S.shows store.old).working)) tree.now [] ≡ record { rows = rows; faults = [] })) }
     ensures refused { S.is_sound store.old → IfErr result (MayRefuse (tree_listing (rows_in (database_of (S.shows store.old).working)) tree.now []).faults) }
+    ensures limits { IfErr result TellsNoLimit }
     ensures device { IfErr result (λ refusal. refusal ≡ Disk → HasRisen (S.refused store.old) (S.refused store.new)) }
     ensures prepared { S.prepared store.new ≡ S.prepared store.old }
     ensures shows { S.shows store.new ≡ S.shows store.old }
@@ -107,6 +110,7 @@ fn listed_sources(alloc: Global, listed: Listed) -> Result<Items<Items<Expressio
     ensures whole { IfOk result (λ _. listed.fault ≡ None) }
     ensures sources { IfOk result (λ sources. sources ≡ constants listed.rows) }
     ensures refused { IfErr result (λ refusal. (refusal ≡ Memory) ⊎ ((fault : Fault) × (refusal ≡ refusal_of fault) × (listed.fault ≡ Some fault))) }
+    ensures limits { IfErr result TellsNoLimit }
     ensures device { IfErr result (λ refusal. refusal ≢ Disk) }
 {
     match listed.fault {

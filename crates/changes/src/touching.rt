@@ -1,15 +1,17 @@
 //! UPDATE and DELETE.
 ghost use Rattle.std.specs.Prelude.{◌≡◌, ◌≤◌, IfOk, IfErr, OnErr};
+ghost use Rattle.std.specs.FinMap.{get};
 ghost use Rattle.refusals.specs.declared.refusal.Refusal.TheVariants.{Disk};
 ghost use Rattle.typing.specs.Check.{IsCheckReading};
 ghost use Rattle.typing.specs.declared.statement.Change.TheVariants as does;
 ghost use Rattle.denote.specs.Database.{CheckReading, IsGood};
 ghost use Rattle.denote.specs.SchemaOf.{IsSchemaOf};
-ghost use Rattle.transactions.specs.Refused.{IfRefused};
+ghost use Rattle.transactions.specs.Refused.{IfRefused, TellsReached};
 ghost use Rattle.store.specs.Contents.{database_of};
-ghost use Rattle.store.specs.Errors.{HasRisen};
+ghost use Rattle.store.specs.Errors.{ChangingReaches, HasRisen};
 ghost use Rattle.store.specs.Stored.{SameButMark};
 ghost use Rattle.constraint_checks.specs.Changed.{HasChanged, RefusesChange};
+ghost use Rattle.row_changes.specs.Reached.{IsNumberedOut, ReplacingReaches};
 
 use crate::named_checks::named_checks;
 use refusals::Refusal;
@@ -30,6 +32,7 @@ pub(crate) fn update<S: Store>(
     ensures refused { IfErr result (λ refusal. (reading : CheckReading) → IsCheckReading reading → S.is_sound store.old → IsSchemaOf (S.prepared store.old) (database_of (S.shows store.old).working)
         → IsGood reading (database_of (S.shows store.old).working) → RefusesChange reading (database_of (S.shows store.old).working) (does.Update update.now) refusal) }
     ensures accepted { IfOk result (λ reply. IfRefused reply (λ refusal. ⊥)) }
+    ensures limits { IfErr result (TellsReached (ReplacingReaches (S.counted store.new) (S.is_sound store.old → IsNumberedOut (get (S.shows store.old).working update.now.table)))) }
     ensures device { IfErr result (λ refusal. refusal ≡ Disk → HasRisen (S.refused store.old) (S.refused store.new)) }
     ensures same { S.is_sound store.old → OnErr result (SameButMark (S.shows store.old) (S.shows store.new)) }
     ensures sound { S.is_sound store.old → S.is_sound store.new }
@@ -52,6 +55,7 @@ pub(crate) fn delete<S: Store>(
     ensures refused { IfErr result (λ refusal. (reading : CheckReading) → IsCheckReading reading → S.is_sound store.old → IsSchemaOf (S.prepared store.old) (database_of (S.shows store.old).working)
         → IsGood reading (database_of (S.shows store.old).working) → RefusesChange reading (database_of (S.shows store.old).working) (does.Delete delete.now) refusal) }
     ensures accepted { IfOk result (λ reply. IfRefused reply (λ refusal. ⊥)) }
+    ensures limits { IfErr result (TellsReached (ChangingReaches (S.counted store.new))) }
     ensures device { IfErr result (λ refusal. refusal ≡ Disk → HasRisen (S.refused store.old) (S.refused store.new)) }
     ensures same { S.is_sound store.old → OnErr result (SameButMark (S.shows store.old) (S.shows store.new)) }
     ensures sound { S.is_sound store.old → S.is_sound store.new }

@@ -14,6 +14,7 @@ ghost use Rattle.query_answers.specs.Lent.{rows_lent};
 ghost use Rattle.query_answers.specs.Sources.{AreChecksOf, AreTreesOf, tables_in_rows};
 ghost use Rattle.store.specs.Contents.{database_of};
 ghost use Rattle.store.specs.Errors.{HasRisen};
+ghost use Rattle.transactions.specs.Refused.{TellsNoLimit};
 ghost use Rattle.constraint_checks.specs.Changed.{RefusesChange};
 ghost use Rattle.table_changes.specs.Given.{AreGiven};
 ghost use Rattle.table_checks.specs.Conditions.{AreOfSome};
@@ -45,6 +46,7 @@ pub(crate) fn value_rows<S: Store>(
     ensures refused { IfErr result (λ refusal. (reading : CheckReading) (table : Table) → S.is_sound store.old → IsSchemaOf (S.prepared store.old) (database_of (S.shows store.old).working)
         → get (database_of (S.shows store.old).working) insert.now.table ≡ Some table → AreChecksOf (checks_of reading insert.now.table table) checks.now.conditions
         → insert.now.source ≡ from.Values values.now → RefusesChange reading (database_of (S.shows store.old).working) (does.Insert insert.now) refusal) }
+    ensures limits { IfErr result TellsNoLimit }
     ensures device { IfErr result (λ refusal. AreOfSome checks.now.conditions → refusal ≡ Disk → HasRisen (S.refused store.old) (S.refused store.new)) }
     ensures shows { S.shows store.new ≡ S.shows store.old }
     ensures sound { S.is_sound store.old → S.is_sound store.new }
@@ -75,6 +77,7 @@ fn tables_named<S: Store>(
 ) -> Result<LentTables, Refusal>
     ensures lent { S.is_sound store.old → IfOk result (λ lent. Agree (rows_lent lent.tables) (rows_in (database_of (S.shows store.old).working)) (tables_in_rows trees.now)) }
     ensures refused { IfErr result (λ refusal. S.is_sound store.old → IsReserved refusal) }
+    ensures limits { IfErr result TellsNoLimit }
     ensures device { IfErr result (λ refusal. refusal ≡ Disk → HasRisen (S.refused store.old) (S.refused store.new)) }
     ensures prepared { S.prepared store.new ≡ S.prepared store.old }
     ensures shows { S.shows store.new ≡ S.shows store.old }
@@ -103,6 +106,7 @@ pub(crate) fn stored_rows(
     ensures refused { IfErr result (λ refusal. (reading : CheckReading) (db : Database) (table : Table) (values : List (List Typed)) → IsSchemaOf schema.now db → get db insert.now.table ≡ Some table
         → AreChecksOf (checks_of reading insert.now.table table) checks.now.conditions → AreTreesOf values trees.now → Agree (rows_lent lent.now.tables) (rows_in db) (tables_in_rows trees.now)
         → RefusesRows refusal (stored_of reading db insert.now table (from.Values values))) }
+    ensures limits { IfErr result TellsNoLimit }
     ensures device { IfErr result (λ refusal. (values : List (List Typed)) → AreTreesOf values trees.now → AreOfSome checks.now.conditions → refusal ≢ Disk) }
 {
     match table_named(schema, &insert.table) {

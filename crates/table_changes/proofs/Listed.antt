@@ -26,13 +26,16 @@ use Rattle.denote.specs.StoredRow.{key_faults}
 use Rattle.replies.specs.declared.reply.Reply.TheVariants as says
 use Rattle.store.specs.Contents.{Contents, StoredTable, database_of, indexed, rows_of}
 use Rattle.store.specs.Contents.{table_of as held}
-use Rattle.store.specs.Errors.{HasLongKey}
+use Rattle.store.specs.declared.error.StoreLimit.{StoreLimit}
+use Rattle.store.specs.Errors.{HasLongKey, ChangingReaches, IndexingReaches}
 use Rattle.store.specs.Indexes.{entries_of}
 use Rattle.store.specs.Stored.{Stored, marked_now, working_on}
+use Rattle.transactions.specs.Refused.{TellsReached}
 use Rattle.constraint_checks.specs.Changed.{HasChanged, RefusesChange}
 use Rattle.constraint_checks.specs.Stopped.{refused_by}
 use Rattle.constraint_checks.proofs.Declared.{no_table}
 use Rattle.constraint_checks.proofs.Held.{held_as, none_held}
+use Rattle.constraint_checks.proofs.Limits.{tells_wider}
 use Rattle.constraint_checks.proofs.Short.{short_key, none_in}
 use Rattle.table_changes.proofs.Made.{indexed-database}
 
@@ -112,3 +115,7 @@ no_long_key columns rows index e none long =
     one : Contains (index ∷ []) long.index → long.index ≡ index
     one (zero, below, is) = sym is
     one (suc k, below, is) = absurd (omega (arith, below))
+
+-- what it reaches, but for keys that are too long, is what the store counts
+pub indexing_reaches : (counted : StoreLimit → Type 0) (rows : List Row) (index : IndexDeclaration) (r : Refusal) → TellsReached (IndexingReaches counted rows index) r → TellsReached (ChangingReaches counted) r
+indexing_reaches counted rows index r h = tells_wider (IndexingReaches counted rows index) (ChangingReaches counted) (λ reached. reached) (λ reached. reached) (λ never. absurd never) r h

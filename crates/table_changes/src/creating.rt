@@ -9,9 +9,9 @@ ghost use Rattle.denote.specs.Change.{owned_index};
 ghost use Rattle.denote.specs.Database.{CheckReading, IndexDeclaration};
 ghost use Rattle.denote.specs.SchemaOf.{IsSchemaOf, index_of};
 ghost use Rattle.store.specs.Contents.{database_of};
-ghost use Rattle.store.specs.Errors.{HasRisen};
+ghost use Rattle.store.specs.Errors.{ChangingReaches, HasRisen};
 ghost use Rattle.store.specs.Stored.{SameButMark};
-ghost use Rattle.transactions.specs.Refused.{IfRefused};
+ghost use Rattle.transactions.specs.Refused.{IfRefused, TellsReached};
 ghost use Rattle.constraint_checks.specs.Changed.{HasChanged};
 ghost use Rattle.table_changes.specs.Indexes.{key_index};
 
@@ -36,6 +36,7 @@ pub fn create_table<S: Store>(
         → HasChanged reading (S.shows store.old) (does.CreateTable table) reply (S.shows store.new)) }
     ensures refused { IfErr result (λ refusal. S.is_sound store.old → IsReserved refusal) }
     ensures accepted { IfOk result (λ reply. IfRefused reply (λ refusal. ⊥)) }
+    ensures limits { IfErr result (TellsReached (ChangingReaches (S.counted store.new))) }
     ensures device { IfErr result (λ refusal. refusal ≡ Disk → HasRisen (S.refused store.old) (S.refused store.new)) }
     ensures same { OnErr result (SameButMark (S.shows store.old) (S.shows store.new)) }
     ensures sound { S.is_sound store.old → S.is_sound store.new }

@@ -4,6 +4,7 @@ ghost use Rattle.refusals.specs.declared.refusal.Refusal.TheVariants.{Disk};
 ghost use Rattle.denote.specs.Database.{CheckReading, Database};
 ghost use Rattle.store.specs.Contents.{database_of};
 ghost use Rattle.store.specs.Errors.{HasRisen};
+ghost use Rattle.transactions.specs.Refused.{TellsNoLimit};
 ghost use Rattle.constraint_checks.specs.Settled.{Decided, Holds, Breaks};
 ghost use Rattle.table_changes.specs.Given.{HasMore};
 
@@ -28,6 +29,7 @@ pub(crate) fn known_to_hold<S: Store, C: Checks>(
     ensures refused { IfErr result (λ refusal. (reading : CheckReading) (made : Database) → S.is_sound store.old → Decided (C.decides checks.now reading) (database_of (S.shows store.old).working) name.now
         → Holds reading (database_of (S.shows store.old).working) name.now → HasMore (database_of (S.shows store.old).working) name.now rows.now made → Breaks reading made name.now refusal) }
     ensures shows { S.shows store.new ≡ S.shows store.old }
+    ensures limits { IfErr result TellsNoLimit }
     ensures device { IfErr result (λ refusal. refusal ≡ Disk → HasRisen (S.refused store.old) (S.refused store.new)) }
     ensures sound { S.is_sound store.old → S.is_sound store.new }
     ensures counts { S.refused store.old ≤ S.refused store.new }

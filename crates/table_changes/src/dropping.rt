@@ -4,9 +4,9 @@ ghost use Rattle.refusals.specs.declared.refusal.Refusal.TheVariants.{Disk};
 ghost use Rattle.session_definitions.specs.Refusals.{IsReserved};
 ghost use Rattle.typing.specs.declared.statement.Change.TheVariants as does;
 ghost use Rattle.denote.specs.Database.{CheckReading};
-ghost use Rattle.store.specs.Errors.{HasRisen};
+ghost use Rattle.store.specs.Errors.{ChangingReaches, HasRisen};
 ghost use Rattle.store.specs.Stored.{SameButMark};
-ghost use Rattle.transactions.specs.Refused.{IfRefused};
+ghost use Rattle.transactions.specs.Refused.{IfRefused, TellsReached};
 ghost use Rattle.constraint_checks.specs.Changed.{HasChanged};
 
 use constraint_checks::begin;
@@ -16,12 +16,13 @@ use replies::Reply;
 use store::Store;
 use transactions::refusal_of;
 
-/// DROP TABLE: the table of this name goes, with its indexes. It sets the mark. It is refused for want of memory, by the device or by a limit of the store; all is then as it was,
-/// but for the mark.
+/// DROP TABLE: the table of this name goes, with its indexes. It sets the mark. It is refused for want of memory, by the device or by a limit of the store that it reached; all is
+/// then as it was, but for the mark.
 pub fn drop_table<S: Store>(store: &mut S, name: &Text) -> Result<Reply, Refusal>
     ensures changes { IfOk result (λ reply. (reading : CheckReading) → S.is_sound store.old → HasChanged reading (S.shows store.old) (does.DropTable name.now) reply (S.shows store.new)) }
     ensures refused { IfErr result (λ refusal. S.is_sound store.old → IsReserved refusal) }
     ensures accepted { IfOk result (λ reply. IfRefused reply (λ refusal. ⊥)) }
+    ensures limits { IfErr result (TellsReached (ChangingReaches (S.counted store.new))) }
     ensures device { IfErr result (λ refusal. refusal ≡ Disk → HasRisen (S.refused store.old) (S.refused store.new)) }
     ensures same { OnErr result (SameButMark (S.shows store.old) (S.shows store.new)) }
     ensures sound { S.is_sound store.old → S.is_sound store.new }
@@ -36,11 +37,13 @@ pub fn drop_table<S: Store>(store: &mut S, name: &Text) -> Result<Reply, Refusal
     }
 }
 
-/// DROP INDEX: the index of this name goes. It sets the mark. It is refused for want of memory, by the device or by a limit of the store; all is then as it was, but for the mark.
+/// DROP INDEX: the index of this name goes. It sets the mark. It is refused for want of memory, by the device or by a limit of the store that it reached; all is then as it was, but for
+/// the mark.
 pub fn drop_index<S: Store>(store: &mut S, name: &Text) -> Result<Reply, Refusal>
     ensures changes { IfOk result (λ reply. (reading : CheckReading) → S.is_sound store.old → HasChanged reading (S.shows store.old) (does.DropIndex name.now) reply (S.shows store.new)) }
     ensures refused { IfErr result (λ refusal. S.is_sound store.old → IsReserved refusal) }
     ensures accepted { IfOk result (λ reply. IfRefused reply (λ refusal. ⊥)) }
+    ensures limits { IfErr result (TellsReached (ChangingReaches (S.counted store.new))) }
     ensures device { IfErr result (λ refusal. refusal ≡ Disk → HasRisen (S.refused store.old) (S.refused store.new)) }
     ensures same { OnErr result (SameButMark (S.shows store.old) (S.shows store.new)) }
     ensures sound { S.is_sound store.old → S.is_sound store.new }

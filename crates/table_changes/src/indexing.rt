@@ -5,9 +5,9 @@ ghost use Rattle.typing.specs.declared.statement.Change.TheVariants as does;
 ghost use Rattle.denote.specs.Database.{CheckReading};
 ghost use Rattle.denote.specs.SchemaOf.{IsSchemaOf};
 ghost use Rattle.store.specs.Contents.{database_of};
-ghost use Rattle.store.specs.Errors.{HasRisen};
+ghost use Rattle.store.specs.Errors.{ChangingReaches, HasRisen};
 ghost use Rattle.store.specs.Stored.{SameButMark};
-ghost use Rattle.transactions.specs.Refused.{IfRefused};
+ghost use Rattle.transactions.specs.Refused.{IfRefused, TellsReached};
 ghost use Rattle.constraint_checks.specs.Changed.{HasChanged, RefusesChange};
 
 use constraint_checks::{begin, refusal_of_stop, rows_fit_key, table_named};
@@ -31,6 +31,7 @@ pub fn create_index<S: Store>(
     ensures refused { IfErr result (λ refusal. (reading : CheckReading) → S.is_sound store.old → IsSchemaOf (S.prepared store.old) (database_of (S.shows store.old).working)
         → RefusesChange reading (database_of (S.shows store.old).working) (does.CreateIndex index) refusal) }
     ensures accepted { IfOk result (λ reply. IfRefused reply (λ refusal. ⊥)) }
+    ensures limits { IfErr result (TellsReached (ChangingReaches (S.counted store.new))) }
     ensures device { IfErr result (λ refusal. refusal ≡ Disk → HasRisen (S.refused store.old) (S.refused store.new)) }
     ensures same { OnErr result (SameButMark (S.shows store.old) (S.shows store.new)) }
     ensures sound { S.is_sound store.old → S.is_sound store.new }

@@ -1,12 +1,13 @@
 //! INSERT of rows that are given.
 ghost use Rattle.std.specs.Prelude.{◌≡◌, ◌≤◌, IfOk, IfErr, OnErr};
+ghost use Rattle.std.specs.FinMap.{get};
 ghost use Rattle.refusals.specs.declared.refusal.Refusal.TheVariants.{Disk};
 ghost use Rattle.typing.specs.declared.statement.Change.TheVariants as does;
 ghost use Rattle.denote.specs.Database.{CheckReading};
 ghost use Rattle.store.specs.Contents.{database_of};
-ghost use Rattle.store.specs.Errors.{HasRisen};
+ghost use Rattle.store.specs.Errors.{HasRisen, StoringReaches};
 ghost use Rattle.store.specs.Stored.{SameButMark};
-ghost use Rattle.transactions.specs.Refused.{IfRefused};
+ghost use Rattle.transactions.specs.Refused.{IfRefused, TellsReached};
 ghost use Rattle.constraint_checks.specs.Changed.{RefusesChange};
 ghost use Rattle.constraint_checks.specs.Settled.{Decided, Holds};
 ghost use Rattle.table_changes.specs.Given.{AreGiven, HasAccepted};
@@ -36,6 +37,7 @@ pub fn insert_rows<S: Store, C: Checks>(
     ensures refused { IfErr result (λ refusal. (reading : CheckReading) → S.is_sound store.old → Decided (C.decides checks.now reading) (database_of (S.shows store.old).working) insert.now.table
         → Holds reading (database_of (S.shows store.old).working) insert.now.table → AreGiven reading (database_of (S.shows store.old).working) insert.now rows → RefusesChange reading (database_of (S.shows store.old).working) (does.Insert insert.now) refusal) }
     ensures accepted { IfOk result (λ reply. IfRefused reply (λ refusal. ⊥)) }
+    ensures limits { IfErr result (TellsReached (StoringReaches (S.counted store.new) (get (S.shows store.old).working insert.now.table) rows)) }
     ensures device { IfErr result (λ refusal. refusal ≡ Disk → HasRisen (S.refused store.old) (S.refused store.new)) }
     ensures same { S.is_sound store.old → OnErr result (SameButMark (S.shows store.old) (S.shows store.new)) }
     ensures sound { S.is_sound store.old → S.is_sound store.new }

@@ -1,4 +1,4 @@
-use Rattle.std.proofs.Common.{◌≡◌, ◌∙◌, sym, subst, Some}
+use Rattle.std.proofs.Common.{◌≡◌, ◌∙◌, sym, ap, subst, Some}
 use Rattle.session_definitions.specs.Refusals.{IsReserved}
 use Rattle.changes.proofs.Named.{no_device}
 use Rattle.std.proofs.lemmas.Result.{IfOk-weaker, IfErr-weaker}
@@ -11,6 +11,9 @@ use Rattle.store.specs.Stored.{Stored}
 use Rattle.constraint_checks.specs.Changed.{RefusesChange}
 use Rattle.constraint_checks.specs.Settled.{Holds}
 use Rattle.table_changes.specs.Given.{AreGiven, HasAccepted}
+use Rattle.constraint_checks.proofs.Limits.{tells_none}
+use Rattle.changes.specs.Reached.{ChangeReaches}
+use Rattle.changes.proofs.Reaching.{inserting_reaches}
 use Rattle.changes.proofs.insert.insert.Goals as goal
 
 pub returns-in-Ok-rows_of-clause-changes : goal.returns-in-Ok-rows_of-clause-changes
@@ -63,3 +66,22 @@ returns-in-Err-clause-refused g c = λ reading is_reading sound of good.
 
 pub returns-in-Err-clause-device : goal.returns-in-Err-clause-device
 returns-in-Err-clause-device g c = λ is. absurd (no_device c.in-Err.refusal c.in-Err.ensures.refused is)
+
+pub returns-in-Ok-rows_of-clause-limits : goal.returns-in-Ok-rows_of-clause-limits
+returns-in-Ok-rows_of-clause-limits g c =
+    let old = g.S.Store.shows c.args.store.now in
+    let db = database_of old.working in
+    IfErr-weaker c.insert_rows.result _ _
+    (λ refusal h. inserting_reaches (g.S.Store.counted c.insert_rows.new.store) (g.S.Store.is_sound c.args.store.now) (g.S.Store.prepared c.args.store.now) old.working (g.S.Store.shows c.rows_of.new.store).working c.args.insert.now c.in-Ok-rows_of.rows (ap (λ (s : Stored). s.working) c.rows_of.ensures.shows)
+    (λ reading is_reading sound of good.
+    let schema : IsSchemaOf c.schema.result.now db = subst (λ (s : Schema). IsSchemaOf s db) (sym c.schema.ensures) of in
+    let there = c.in-Ok.ensures.there db schema in
+    c.in-Ok-rows_of.ensures.gives reading there.0 sound of there.1 (c.in-Ok.ensures.decides reading db is_reading schema there.0 there.1))
+    refusal h)
+    c.insert_rows.ensures.limits
+
+pub returns-in-Err-clause-limits : goal.returns-in-Err-clause-limits
+returns-in-Err-clause-limits g c = tells_none (ChangeReaches (g.S.Store.counted c.args.store.now) (g.S.Store.is_sound c.args.store.now) (g.S.Store.prepared c.args.store.now) (g.S.Store.shows c.args.store.now).working (does.Insert c.args.insert.now)) c.in-Err.refusal c.in-Err.ensures.limits
+
+pub returns-clause-limits : goal.returns-clause-limits
+returns-clause-limits g c = tells_none (ChangeReaches (g.S.Store.counted c.rows_of.new.store) (g.S.Store.is_sound c.args.store.now) (g.S.Store.prepared c.args.store.now) (g.S.Store.shows c.args.store.now).working (does.Insert c.args.insert.now)) c.in-Err-rows_of.refusal c.in-Err-rows_of.ensures.limits

@@ -51,3 +51,24 @@ returns-in-Delete-clause-changes g c = rw c.in-Delete.is (IfOk-weaker c.delete.r
 
 pub returns-in-Delete-clause-refused : goal.returns-in-Delete-clause-refused
 returns-in-Delete-clause-refused g c = rw c.in-Delete.is c.delete.ensures.refused
+
+pub returns-in-CreateTable-clause-limits : goal.returns-in-CreateTable-clause-limits
+returns-in-CreateTable-clause-limits g c = rw c.in-CreateTable.is c.create_table.ensures.limits
+
+pub returns-in-DropTable-clause-limits : goal.returns-in-DropTable-clause-limits
+returns-in-DropTable-clause-limits g c = rw c.in-DropTable.is c.drop_table.ensures.limits
+
+pub returns-in-CreateIndex-clause-limits : goal.returns-in-CreateIndex-clause-limits
+returns-in-CreateIndex-clause-limits g c = rw c.in-CreateIndex.is c.create_index.ensures.limits
+
+pub returns-in-DropIndex-clause-limits : goal.returns-in-DropIndex-clause-limits
+returns-in-DropIndex-clause-limits g c = rw c.in-DropIndex.is c.drop_index.ensures.limits
+
+pub returns-in-Insert-clause-limits : goal.returns-in-Insert-clause-limits
+returns-in-Insert-clause-limits g c = rw c.in-Insert.is c.insert.ensures.limits
+
+pub returns-in-Update-clause-limits : goal.returns-in-Update-clause-limits
+returns-in-Update-clause-limits g c = rw c.in-Update.is c.update.ensures.limits
+
+pub returns-in-Delete-clause-limits : goal.returns-in-Delete-clause-limits
+returns-in-Delete-clause-limits g c = rw c.in-Delete.is c.delete.ensures.limits

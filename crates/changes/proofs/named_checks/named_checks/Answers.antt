@@ -1,4 +1,4 @@
-use Rattle.changes.proofs.Named.{decided, there, readable, refused_as, refused_good}
+use Rattle.changes.proofs.Named.{decided, there, readable, refused_as, refused_good, no_limit}
 use Rattle.changes.proofs.named_checks.named_checks.Goals as goal
 
 pub returns-in-Ok-clause-there : goal.returns-in-Ok-clause-there
@@ -14,3 +14,6 @@ returns-in-Err-clause-refused c = refused_as c.in-Err.fault c.refusal_of.result 
 pub returns-in-Err-clause-good : goal.returns-in-Err-clause-good
 returns-in-Err-clause-good c = λ reading db of good. refused_good c.in-Err.fault c.refusal_of.result c.refusal_of.ensures.memory
     (λ unreadable. c.in-Err.ensures.unreadable unreadable (readable reading c.args.schema.now db c.args.name.now c.in-Some.table.now of c.in-Some.ensures.there c.in-Some.ensures.named good))
+
+pub returns-in-Err-clause-limits : goal.returns-in-Err-clause-limits
+returns-in-Err-clause-limits c = no_limit c.refusal_of.result (refused_as c.in-Err.fault c.refusal_of.result c.refusal_of.ensures.memory c.refusal_of.ensures.damaged)

@@ -1,5 +1,7 @@
 use Rattle.std.proofs.Common.{◌≡◌, ◌∙◌, sym, inr}
 use Rattle.changes.proofs.Given.{fault_is_no_disk}
+use Rattle.denote.specs.declared.fault.Stop.TheVariants as stopped
+use Rattle.constraint_checks.proofs.Limits.{stop_tells}
 use Rattle.changes.proofs.query_rows.listed_sources.Goals as goal
 
 pub returns-in-Some-clause-refused : goal.returns-in-Some-clause-refused
@@ -7,3 +9,6 @@ returns-in-Some-clause-refused c = inr (c.in-Some.fault, c.refusal_of_stop.ensur
 
 pub returns-in-Some-clause-device : goal.returns-in-Some-clause-device
 returns-in-Some-clause-device c = λ is. fault_is_no_disk c.in-Some.fault (sym c.refusal_of_stop.ensures ∙ is)
+
+pub returns-in-Some-clause-limits : goal.returns-in-Some-clause-limits
+returns-in-Some-clause-limits c = stop_tells (stopped.Fault c.in-Some.fault) _ c.refusal_of_stop.ensures

@@ -6,6 +6,8 @@ use Rattle.store.specs.Contents.{database_of}
 use Rattle.session_definitions.specs.Refusals.{IsReserved}
 use Rattle.constraint_checks.specs.Changed.{RefusesChange}
 use Rattle.changes.proofs.Named.{no_device}
+use Rattle.store.specs.Errors.{ChangingReaches}
+use Rattle.constraint_checks.proofs.Limits.{tells_none}
 use Rattle.changes.proofs.touching.delete.Goals as goal
 
 pub returns-in-Ok-clause-changes : goal.returns-in-Ok-clause-changes
@@ -32,3 +34,6 @@ returns-in-Err-clause-refused g c = λ reading is_reading sound of good.
 
 pub returns-in-Err-clause-device : goal.returns-in-Err-clause-device
 returns-in-Err-clause-device g c = λ is. absurd (no_device c.in-Err.refusal c.in-Err.ensures.refused is)
+
+pub returns-in-Err-clause-limits : goal.returns-in-Err-clause-limits
+returns-in-Err-clause-limits g c = tells_none (ChangingReaches (g.S.Store.counted c.args.store.now)) c.in-Err.refusal c.in-Err.ensures.limits

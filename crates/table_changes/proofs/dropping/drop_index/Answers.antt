@@ -1,7 +1,16 @@
 use Rattle.table_changes.proofs.Dropped.{index_dropped}
+use Rattle.store.specs.Errors.{ChangingReaches}
+use Rattle.transactions.proofs.Tests.{tells_reached}
+use Rattle.constraint_checks.proofs.Limits.{tells_none}
 use Rattle.table_changes.proofs.dropping.drop_index.Goals as goal
 
 pub returns-in-Ok-clause-changes : goal.returns-in-Ok-clause-changes
 returns-in-Ok-clause-changes g c = λ reading sound.
     index_dropped reading (g.S.Store.shows c.args.store.now) (g.S.Store.shows c.begin.new.store) (g.S.Store.shows c.drop_index.new.self) c.args.name.now
     c.in_default.ensures.shows (c.in-Ok.ensures.shows (c.begin.ensures.sound sound))
+
+pub returns-in-Err-clause-limits : goal.returns-in-Err-clause-limits
+returns-in-Err-clause-limits g c = tells_none (ChangingReaches (g.S.Store.counted c.begin.new.store)) c.in-Err.refusal c.in-Err.ensures.limits
+
+pub returns-in-Err-drop_index-clause-limits : goal.returns-in-Err-drop_index-clause-limits
+returns-in-Err-drop_index-clause-limits g c = tells_reached _ _ _ (ChangingReaches (g.S.Store.counted c.drop_index.new.self)) c.in-Err-drop_index.error _ c.refusal_of.ensures c.in-Err-drop_index.ensures.refused

@@ -1,7 +1,16 @@
 use Rattle.table_changes.proofs.Dropped.{table_dropped}
+use Rattle.store.specs.Errors.{ChangingReaches}
+use Rattle.transactions.proofs.Tests.{tells_reached}
+use Rattle.constraint_checks.proofs.Limits.{tells_none}
 use Rattle.table_changes.proofs.dropping.drop_table.Goals as goal
 
 pub returns-in-Ok-clause-changes : goal.returns-in-Ok-clause-changes
 returns-in-Ok-clause-changes g c = λ reading sound.
     table_dropped reading (g.S.Store.shows c.args.store.now) (g.S.Store.shows c.begin.new.store) (g.S.Store.shows c.drop_table.new.self) c.args.name.now
     c.in_default.ensures.shows (c.in-Ok.ensures.shows (c.begin.ensures.sound sound))
+
+pub returns-in-Err-clause-limits : goal.returns-in-Err-clause-limits
+returns-in-Err-clause-limits g c = tells_none (ChangingReaches (g.S.Store.counted c.begin.new.store)) c.in-Err.refusal c.in-Err.ensures.limits
+
+pub returns-in-Err-drop_table-clause-limits : goal.returns-in-Err-drop_table-clause-limits
+returns-in-Err-drop_table-clause-limits g c = tells_reached _ _ _ (ChangingReaches (g.S.Store.counted c.drop_table.new.self)) c.in-Err-drop_table.error _ c.refusal_of.ensures c.in-Err-drop_table.ensures.refused

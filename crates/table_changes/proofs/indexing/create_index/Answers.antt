@@ -5,18 +5,21 @@ use Rattle.sqlval.specs.declared.schema.Schema.{Schema}
 use Rattle.sqlval.specs.Value.{Row}
 use Rattle.typing.specs.declared.statement.Change.TheVariants as does
 use Rattle.denote.specs.declared.fault.Fault.{Fault}
+use Rattle.denote.specs.Database.{IndexDeclaration}
 use Rattle.denote.specs.SchemaOf.{IsSchemaOf}
 use Rattle.denote.specs.Stop.{IsFaultOf}
 use Rattle.denote.specs.StoredRow.{key_faults}
 use Rattle.session_definitions.specs.Refusals.{IsReserved}
 use Rattle.store.specs.Contents.{database_of, rows_of}
-use Rattle.store.specs.Errors.{IndexingReaches}
+use Rattle.store.specs.Errors.{ChangingReaches, IndexingReaches, Never}
 use Rattle.store.specs.Indexes.{entries_of}
 use Rattle.store.specs.Stored.{Stored}
-use Rattle.transactions.proofs.Tests.{reserved}
+use Rattle.transactions.proofs.Tests.{reserved, tells_reached}
 use Rattle.constraint_checks.specs.Changed.{RefusesChange}
 use Rattle.constraint_checks.proofs.Declared.{table_there}
 use Rattle.table_changes.proofs.Listed.{unchanged, there_or_unchanged, index_made, no_long_key, faults_of}
+use Rattle.constraint_checks.proofs.Limits.{tells_none, stop_tells}
+use Rattle.table_changes.proofs.Listed.{indexing_reaches}
 use Rattle.table_changes.proofs.indexing.create_index.Goals as goal
 
 pub returns-in_default-clause-changes : goal.returns-in_default-clause-changes
@@ -62,3 +65,19 @@ returns-clause-refused g c = λ reading sound of.
     (IndexingReaches (g.S.Store.counted c.create_index.new.self) (rows_of (entries_of (get (g.S.Store.shows c.scan.new.self).working name))) (record { name = Some c.args.index.name; columns = c.args.index.columns }))
     c.in-Err-create_index.error c.in-Err-create_index.ensures.refused (c.scan.ensures.sound (c.begin.ensures.sound sound)) (λ none. none)
     (λ long. no_long_key c.args.index.columns (rows_of (entries_of (get (g.S.Store.shows c.scan.new.self).working name))) (record { name = Some c.args.index.name; columns = c.args.index.columns }) refl none long)))
+
+pub returns-in-Err-clause-limits : goal.returns-in-Err-clause-limits
+returns-in-Err-clause-limits g c = tells_none (ChangingReaches (g.S.Store.counted c.begin.new.store)) c.in-Err.refusal c.in-Err.ensures.limits
+
+pub returns-in-Err-scan-clause-limits : goal.returns-in-Err-scan-clause-limits
+returns-in-Err-scan-clause-limits g c = tells_none (ChangingReaches (g.S.Store.counted c.scan.new.self)) c.refusal_of.result (tells_reached _ _ _ Never c.in-Err-scan.error _ c.refusal_of.ensures c.in-Err-scan.ensures.refused)
+
+pub returns-in-Err-rows_fit_key-clause-limits : goal.returns-in-Err-rows_fit_key-clause-limits
+returns-in-Err-rows_fit_key-clause-limits g c = tells_none (ChangingReaches (g.S.Store.counted c.scan.new.self)) c.refusal_of_stop.result (stop_tells c.in-Err-rows_fit_key.stop _ c.refusal_of_stop.ensures)
+
+pub returns-clause-limits : goal.returns-clause-limits
+returns-clause-limits g c =
+    let index : IndexDeclaration = record { name = Some c.args.index.name; columns = c.args.index.columns } in
+    let rows = rows_of (entries_of (get (g.S.Store.shows c.scan.new.self).working c.args.index.table)) in
+    indexing_reaches (g.S.Store.counted c.create_index.new.self) rows index c.refusal_of-in-Err-create_index.result
+    (tells_reached _ _ _ (IndexingReaches (g.S.Store.counted c.create_index.new.self) rows index) c.in-Err-create_index.error _ c.refusal_of-in-Err-create_index.ensures c.in-Err-create_index.ensures.refused)

@@ -1,13 +1,18 @@
-use Rattle.std.proofs.Common.{◌≡◌, ◌∙◌, refl, sym, subst, List}
+use Rattle.std.proofs.Common.{◌≡◌, ◌∙◌, refl, sym, ap, subst, List, Option}
 use Rattle.sqlval.specs.Value.{Row}
 use Rattle.session_definitions.specs.Refusals.{IsReserved}
-use Rattle.store.specs.Contents.{database_of, appended}
+use Rattle.store.specs.Contents.{StoredTable, database_of, appended}
 use Rattle.store.specs.Stored.{Stored, working_on}
 use Rattle.constraint_checks.specs.Changed.{RefusesChange}
 use Rattle.constraint_checks.specs.Settled.{Decided, Holds}
 use Rattle.table_changes.specs.Given.{HasMore}
 use Rattle.table_changes.proofs.Replied.{no_refusal}
 use Rattle.table_changes.proofs.Inserted.{marked_same, withheld, inserted, broken, decided_made, more_there}
+use Rattle.std.specs.FinMap.{get}
+use Rattle.store.specs.Errors.{StoringReaches}
+use Rattle.transactions.specs.Refused.{TellsReached}
+use Rattle.transactions.proofs.Tests.{tells_reached}
+use Rattle.constraint_checks.proofs.Limits.{tells_none}
 use Rattle.table_changes.proofs.inserting.insert_rows.Goals as goal
 
 pub returns-in-Err-known_to_hold-clause-refused : goal.returns-in-Err-known_to_hold-clause-refused
@@ -74,3 +79,22 @@ returns-in-Err-settle_unless-clause-refused g c = λ reading sound decided holds
 
 pub returns-in-Ok-settle_unless-clause-accepted : goal.returns-in-Ok-settle_unless-clause-accepted
 returns-in-Ok-settle_unless-clause-accepted g c = no_refusal c.len-count.result c.reply_for.result c.reply_for.ensures
+
+pub returns-in-Err-clause-limits : goal.returns-in-Err-clause-limits
+returns-in-Err-clause-limits g c = tells_none (StoringReaches (g.S.Store.counted c.begin.new.store) (get (g.S.Store.shows c.args.store.now).working c.args.insert.now.table) c.args.rows) c.in-Err.refusal c.in-Err.ensures.limits
+
+pub returns-in-Err-known_to_hold-clause-limits : goal.returns-in-Err-known_to_hold-clause-limits
+returns-in-Err-known_to_hold-clause-limits g c = tells_none (StoringReaches (g.S.Store.counted c.known_to_hold.new.store) (get (g.S.Store.shows c.args.store.now).working c.args.insert.now.table) c.args.rows) c.in-Err-known_to_hold.refusal c.in-Err-known_to_hold.ensures.limits
+
+pub returns-in-Err-append-clause-limits : goal.returns-in-Err-append-clause-limits
+returns-in-Err-append-clause-limits g c =
+    let old = g.S.Store.shows c.args.store.now in
+    let looked = g.S.Store.shows c.known_to_hold.new.store in
+    let name = c.args.insert.now.table in
+    let counted = g.S.Store.counted c.append.new.self in
+    let same : get looked.working name ≡ get old.working name = ap (λ (s : Stored). get s.working name) (c.known_to_hold.ensures.shows ∙ c.in_default.ensures.shows) in
+    subst (λ (table : Option StoredTable). TellsReached (StoringReaches counted table c.args.rows) c.refusal_of.result) same
+    (tells_reached _ _ _ (StoringReaches counted (get looked.working name) c.args.rows) c.in-Err-append.error _ c.refusal_of.ensures c.in-Err-append.ensures.refused)
+
+pub returns-in-Err-settle_unless-clause-limits : goal.returns-in-Err-settle_unless-clause-limits
+returns-in-Err-settle_unless-clause-limits g c = tells_none (StoringReaches (g.S.Store.counted c.settle_unless.new.store) (get (g.S.Store.shows c.args.store.now).working c.args.insert.now.table) c.args.rows) c.in-Err-settle_unless.refusal c.in-Err-settle_unless.ensures.limits
