@@ -46,6 +46,14 @@ IsOfMemory Key = ⊤
 IsOfMemory Number = ⊤
 IsOfMemory Schema = ⊤
 
+-- there was no memory, and it is nothing else
+abbrev pub IsMemoryAlone : DatabaseError → Type 0
+IsMemoryAlone (Space fault) = fault ≡ Memory
+IsMemoryAlone Record = ⊥
+IsMemoryAlone Key = ⊥
+IsMemoryAlone Number = ⊥
+IsMemoryAlone Schema = ⊥
+
 -- ---- the other refusals
 
 -- a row's code, its key in an index, or its number is too great only where it is so; that a record of the schema is too long may be at any time

@@ -1,5 +1,5 @@
 //! An index of a table made, over the rows that are there.
-ghost use Rattle.std.specs.Prelude.{◌≡◌, ◌≤◌, ◌∷◌, [], ℕ, List, length, IfOk, IfErr, OnOk, Bool, false};
+ghost use Rattle.std.specs.Prelude.{◌≡◌, ◌≤◌, ◌∷◌, [], ℕ, List, length, Err, IfOk, IfErr, OnOk, Bool, false};
 ghost use Rattle.std.specs.FinMap.{get};
 ghost use Rattle.denote.specs.SchemaOf.{index_of};
 ghost use Rattle.store.specs.Contents as stored;
@@ -142,6 +142,7 @@ fn create_on<S: PageSpace>(
 ) -> Result<u32, DatabaseError>
     ensures indexed { (alone : Bool) (h : IsTableOf alone (S.pages space.old) root table.now) → ArePlaces index.columns → IfOk result (IndexMade alone (S.pages space.new) h.before h.at h.behind index) }
     ensures limits { (h : IsTableOf false (S.pages space.old) root table.now) → IfErr result (Reaches ⊥ (HasLongKey (index_of index ∷ []) (stored.rows_of h.at.rows)) ⊥) }
+    ensures places { (AreAmong (length table.now.columns) index.columns → ⊥) → result ≡ Err (DatabaseError.Space Fault.Memory) }
     ensures whole { OnOk result (S.is_whole space.old → S.is_whole space.new) }
     ensures refusal { IfErr result (SpaceRefused (S.at_limit space.new) (IsTableOf false (S.pages space.old) root table.now → S.is_whole space.old → ⊥) (S.refused space.old) (S.refused space.new)) }
     ensures rising { S.refused space.old ≤ S.refused space.new }

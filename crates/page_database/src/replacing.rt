@@ -7,7 +7,7 @@ ghost use Rattle.store.specs.View.{AreEntries};
 ghost use Rattle.store.specs.Errors.{HasLongRow, HasLongKey};
 ghost use Rattle.table_rows_changed.specs.Rows.{with_number};
 ghost use Rattle.page_database.specs.Held.{TableAt, HoldsDatabase, contents_of, IsAllOwned};
-ghost use Rattle.page_database.specs.Changed.{DatabaseWritten, HoldsNoDatabaseIn, SpaceRefused, Reaches, ReachesNone, StoringReaches, IsOfMemory, DatabaseOwned};
+ghost use Rattle.page_database.specs.Changed.{DatabaseWritten, HoldsNoDatabaseIn, SpaceRefused, Reaches, ReachesNone, StoringReaches, IsOfMemory, IsMemoryAlone, DatabaseOwned};
 ghost use Rattle.page_database.specs.Exchanged.{IsTableOf, HasRow, RowsExchanged};
 
 use crate::DatabaseError;
@@ -28,6 +28,7 @@ fn one_row(alloc: Global, number: u64, row: Row) -> Result<Numbered, DatabaseErr
     ensures entries { IfOk result (λ put. AreEntries put ((number, row) ∷ [])) }
     ensures limits { IfErr result ReachesNone }
     ensures memory { IfErr result IsOfMemory }
+    ensures alone { IfErr result IsMemoryAlone }
 {
     let mut numbers = Items::new(alloc);
     numbers.push(number)?;
