@@ -1,12 +1,12 @@
 -- What was carried out, one piece after another, and what was written of it.
-use Rattle.std.proofs.Common.{◌≡◌, refl, ap, sym, subst, ◌∙◌, ℕ, suc, ◌<◌, ◌≤◌, ◌+◌, ◌-◌, ◌||◌, Bool, true, false, List, [], ◌∷◌, ◌++◌, append_assoc, append-nil, add-one, take, take-append-drop, drop, drop-cons, replicate, get_or, length, Option, Some, None, Ok, Err, inl, inr, arith}
+use Rattle.std.proofs.Common.{◌≡◌, refl, ap, sym, subst, ◌∙◌, ℕ, ◌<◌, ◌≤◌, ◌+◌, ◌-◌, ◌||◌, Bool, true, false, List, [], ◌∷◌, ◌++◌, append_assoc, append-nil, take, take-append-drop, drop, replicate, get_or, length, Option, Some, None, Ok, Err, inl, inr, arith}
 use Rattle.std.specs.Prelude.{Result, MatchResult}
 use Rattle.std.specs.Option.{option_map}
 use Rattle.std.specs.FinMap.{get, insert}
 use Rattle.std.specs.Io.KnownBytes.{Consumes, IsAtEnd, Keeps}
 use Rattle.std.proofs.KnownBytes.{Appends-trans, Appends-nil, Appends-kept, Consumes-nil, Consumes-trans, Consumes-kept}
 use Rattle.std.proofs.Math.Bool.{or-false}
-use Rattle.std.proofs.lemmas.List.{drop_all, drop_more, take_more, same_from_push}
+use Rattle.std.proofs.lemmas.List.{drop_more, take_more, same_from_push}
 use Rattle.std.proofs.lemmas.List.Recursion.{or_push}
 use Rattle.lexer.specs.Token.{Bytes}
 use Rattle.refusals.specs.declared.refusal.Refusal.{Refusal}
@@ -23,7 +23,7 @@ use Rattle.script_pieces.specs.Pieces.{ArePieces, AreEnded}
 use Rattle.script_pieces.specs.Cutter.{HasRead, GoesOn, EndsAt, asked}
 use Rattle.script_pieces.proofs.OneRequest.{one_request}
 use Rattle.session_definitions.specs.Rules.{Rules}
-use Rattle.session_definitions.specs.Run.{MakesSession, DropsSession}
+use Rattle.session_definitions.specs.Run.{MakesSession}
 use Rattle.session_definitions.specs.Script.{Scene, Plays, Performs, ArePlayed, EndsSessions, IsPlayed, RepliesToFlush, IsStopped, first_scene, choosing, has_refusal, is_refused, printed_replies}
 use Rattle.session_definitions.specs.Step.{Step}
 use Rattle.session_definitions.specs.World.{World, is_live}
@@ -39,7 +39,7 @@ use Rattle.scripts.specs.Device.{has_disk, shows_disk, tells_disk}
 use Rattle.scripts.specs.Limits.{RequestReaches}
 use Rattle.scripts.specs.Played.{Streams, between, ArePiecesSoFar, AreWrittenButLast, IsPrinted, IsWhole, IsCutShort, EndsEarly}
 use Rattle.scripts.specs.Playing.{scene_of, numbers_of, standing_from, AreLive, IsReady, FindsSession, IsCarriedOut, HasPlayed, IsPlaying, HasStopped, HasPrinted, HasBroken, HasFinished, HasFailed, HasEnded, IsReading, FindsNone}
-use Rattle.scripts.proofs.Standing.{none_standing, none_numbered, get_standing, set_standing, values_standing, live_alike, live_dropped, live_made, live_at}
+use Rattle.scripts.proofs.Standing.{none_standing, none_numbered, get_standing, set_standing, values_standing, live_alike, live_made, live_at}
 use Rattle.scripts.proofs.Limits.{limits_more, piece_told}
 use Rattle.scripts.proofs.Pieces.{cut_nothing, cut_on, cut_at, cut_ended, cut_later, cut_last, cut_none}
 
@@ -464,44 +464,6 @@ unfoldable pub ends_failed : (rules : Rules) (streams : Streams) (start w new : 
 ends_failed rules streams start w new Memory sessions h ends = absurd h
 ends_failed rules streams start w new (Reader error) sessions h ends = ends_printed rules AreEnded streams start w new sessions h ends
 ends_failed rules streams start w new (Writer error) sessions h ends = ends_broken rules streams start w new sessions h ends
-
--- ---- sessions end, one after another
-
-numbers_none : (places : Places) (i : ℕ) → i < length places → get_or places i None ≡ None → numbers_of (drop i places) ≡ numbers_of (drop (i + 1) places)
-numbers_none places i within is = ap numbers_of (drop-cons places i None within ∙ ap (λ x. x ∷ drop (suc i) places) is) ∙ ap (λ n. numbers_of (drop n places)) (sym (add-one i))
-
-numbers_some : (places : Places) (i : ℕ) (session : SessionId) → i < length places → get_or places i None ≡ Some session → numbers_of (drop i places) ≡ number_of session ∷ numbers_of (drop (i + 1) places)
-numbers_some places i session within is =
-    ap numbers_of (drop-cons places i None within ∙ ap (λ x. x ∷ drop (suc i) places) is) ∙ ap (λ n. number_of session ∷ numbers_of (drop n places)) (sym (add-one i))
-
--- The sessions in the places from this one on stand in this world, and where these end, all have ended.
-pub record EndsFrom (start : World) (places : Places) (i : ℕ) (w : World) : Type 0 where
-  pub live : AreLive w (numbers_of (drop i places))
-  pub ends : (new : World) → EndsSessions w (numbers_of (drop i places)) new → EndsSessions start (numbers_of places) new
-
-pub ends_from_first : (start : World) (places : Places) → AreLive start (numbers_of places) → EndsFrom start places 0 start
-ends_from_first start places live = record { live = live; ends = λ new ends. ends }
-
-pub ends_next : (start : World) (places : Places) (i : ℕ) (session : SessionId) (old new : World) → i < length places → get_or places i None ≡ Some session
-    → (is_live old (number_of session) ≡ true → DropsSession old (number_of session) new) → EndsFrom start places i old → EndsFrom start places (i + 1) new
-ends_next start places i session old new within is drops h =
-    let split = numbers_some places i session within is in
-    let live : AreLive old (number_of session ∷ numbers_of (drop (i + 1) places)) = subst (λ ss. AreLive old ss) split h.live in
-    record {
-      live = live_dropped old new (number_of session) (numbers_of (drop (i + 1) places)) (drops live.0) live.1 live.2;
-      ends = λ end ends. h.ends end (subst (λ ss. EndsSessions old ss end) (sym split) (new, drops live.0, ends));
-    }
-
-pub ends_skip : (start : World) (places : Places) (i : ℕ) (w : World) → i < length places → get_or places i None ≡ None → EndsFrom start places i w → EndsFrom start places (i + 1) w
-ends_skip start places i w within is h =
-    let same = numbers_none places i within is in
-    record {
-      live = subst (λ ss. AreLive w ss) same h.live;
-      ends = λ end ends. h.ends end (subst (λ ss. EndsSessions w ss end) (sym same) ends);
-    }
-
-pub ends_all : (start : World) (places : Places) (i : ℕ) (w : World) → length places ≤ i → EndsFrom start places i w → EndsSessions start (numbers_of places) w
-ends_all start places i w past h = h.ends w (subst (λ ss. EndsSessions w ss w) (sym (ap numbers_of (drop_all i places past))) refl)
 
 -- ---- bytes, one after another
 

@@ -3,5 +3,6 @@ pub mod Keeping
 pub mod Standing
 pub mod Pieces
 pub mod Limits
+pub mod Ending
 pub mod Carried
 pub mod Counting

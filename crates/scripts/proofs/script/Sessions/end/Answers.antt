@@ -1,7 +1,7 @@
 use Rattle.std.proofs.Common.{rules, ◌<◌, length}
 use Rattle.std.proofs.Math.Nat.{le_trans}
 use Rattle.scripts.proofs.Keeping.{kept_ended, kept_skipped, settled_at_last}
-use Rattle.scripts.proofs.Carried.{ends_from_first, ends_next, ends_skip, ends_all}
+use Rattle.scripts.proofs.Ending.{ends_from_first, ends_next, ends_skip, ends_all}
 use Rattle.scripts.proofs.script.Sessions.end.Goals as goal
 use Rattle.scripts.proofs.script.Sessions.end.Goals.{in-Some, in_default}
 

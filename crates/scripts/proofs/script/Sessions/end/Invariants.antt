@@ -3,7 +3,7 @@ use Rattle.session_definitions.specs.Rules.{Rules, AreRules}
 use Rattle.sessions.specs.OfCore.{world_of}
 use Rattle.scripts.specs.Settled.{IsKept, store_of}
 use Rattle.scripts.specs.Playing.{AreLive, numbers_of}
-use Rattle.scripts.proofs.Carried.{EndsFrom}
+use Rattle.scripts.proofs.Ending.{EndsFrom}
 use Rattle.scripts.proofs.script.Sessions.end.Given as goal
 
 -- each session that stands is one of those that are left, and the count of refusals has not fallen
