@@ -23,8 +23,12 @@ use store::Store;
 pub struct EndedRuns<S: Store> {
     /// The exit status of the first.
     pub first: u8,
+    /// Whether each line that the first had to say of a fault was written whole and passed on.
+    pub first_is_told: bool,
     /// The exit status of the second; none where the store could not be closed after the first.
     pub second: Option<u8>,
+    /// Whether each line that the second had to say of a fault was written whole and passed on: also where there was no second.
+    pub second_is_told: bool,
     /// The device; none where the store could not be closed.
     pub device: Option<S::Device>,
     /// The core whose store could not be closed.
@@ -48,16 +52,19 @@ pub fn run_twice<S: Store, A: Read, B: Read, W: Write>(
 ) -> EndedRuns<S>
     ensures runs { (rules : Rules) (db : Database) → AreRules rules → S.saved device db → IsGood rules.check db
         → (mid : Option (List ℕ)) × (again : Option S.Device) × RunsTwice rules db (between (A.remaining first.old) (A.remaining first.new) (W.contents writer.old) mid)
-        (between (B.remaining second.old) (B.remaining second.new) mid (W.contents writer.new)) result.first result.second
+        (between (B.remaining second.old) (B.remaining second.new) mid (W.contents writer.new))
+        result.first result.first_is_told result.second result.second_is_told
         (HandsBack S.saved S.settled S.calls_refused (λ core. S.refused (store_of core)) (S.calls_refused device) again result.unclosed)
         (Leaves S.saved S.settled S.calls_refused (λ core. S.refused (store_of core)) rules.check (calls_from S.calls_refused device again) result.device result.unclosed) }
     ensures ends { (mid : Option (List ℕ)) × EndTwice S.settled S.calls_refused (λ core. S.refused (store_of core)) (S.calls_refused device)
         (between (A.remaining first.old) (A.remaining first.new) (W.contents writer.old) mid)
-        (between (B.remaining second.old) (B.remaining second.new) mid (W.contents writer.new)) result.first result.second result.device result.unclosed }
+        (between (B.remaining second.old) (B.remaining second.new) mid (W.contents writer.new))
+        result.first result.first_is_told result.second result.second_is_told result.device result.unclosed }
 {
     reopened_runs_are_runs();
     let EndedRun {
         status: first_status,
+        is_told: first_is_told,
         device,
         unclosed,
     } = run_to_end::<S, A, W>(alloc, settings, device, first, writer);
@@ -66,14 +73,18 @@ pub fn run_twice<S: Store, A: Read, B: Read, W: Write>(
             let again = run_to_end::<S, B, W>(alloc, settings, device, second, writer);
             EndedRuns {
                 first: first_status,
+                first_is_told,
                 second: Some(again.status),
+                second_is_told: again.is_told,
                 device: again.device,
                 unclosed: again.unclosed,
             }
         }
         None => EndedRuns {
             first: first_status,
+            first_is_told,
             second: None,
+            second_is_told: true,
             device: None,
             unclosed,
         },
@@ -94,17 +105,20 @@ pub fn run_twice_over_pages<D: Disk + Drop, A: Read, B: Read, W: Write>(
 ) -> EndedRuns<Paged<D>>
     ensures saved { (rules : Rules) (db : Database) → AreRules rules → ⟦<Paged<D> as Store>⟧.saved device db → IsGood rules.check db
         → (mid : Option (List ℕ)) × (again : Option D) × RunsTwice rules db (between (A.remaining first.old) (A.remaining first.new) (W.contents writer.old) mid)
-        (between (B.remaining second.old) (B.remaining second.new) mid (W.contents writer.new)) result.first result.second
+        (between (B.remaining second.old) (B.remaining second.new) mid (W.contents writer.new))
+        result.first result.first_is_told result.second result.second_is_told
         (HandsBack ⟦<Paged<D> as Store>⟧.saved D.settled D.refused (λ core. ⟦<Paged<D> as Store>⟧.refused (store_of core)) (D.refused device) again result.unclosed)
         (Leaves ⟦<Paged<D> as Store>⟧.saved D.settled D.refused (λ core. ⟦<Paged<D> as Store>⟧.refused (store_of core)) rules.check (calls_from D.refused device again) result.device result.unclosed) }
     ensures new { (rules : Rules) → AreRules rules → IsTrue D.is_honest → D.bytes device ≡ []
         → (mid : Option (List ℕ)) × (again : Option D) × RunsTwice rules empty (between (A.remaining first.old) (A.remaining first.new) (W.contents writer.old) mid)
-        (between (B.remaining second.old) (B.remaining second.new) mid (W.contents writer.new)) result.first result.second
+        (between (B.remaining second.old) (B.remaining second.new) mid (W.contents writer.new))
+        result.first result.first_is_told result.second result.second_is_told
         (HandsBack ⟦<Paged<D> as Store>⟧.saved D.settled D.refused (λ core. ⟦<Paged<D> as Store>⟧.refused (store_of core)) (D.refused device) again result.unclosed)
         (Leaves ⟦<Paged<D> as Store>⟧.saved D.settled D.refused (λ core. ⟦<Paged<D> as Store>⟧.refused (store_of core)) rules.check (calls_from D.refused device again) result.device result.unclosed) }
     ensures ends { (mid : Option (List ℕ)) × EndTwice D.settled D.refused (λ core. ⟦<Paged<D> as Store>⟧.refused (store_of core)) (D.refused device)
         (between (A.remaining first.old) (A.remaining first.new) (W.contents writer.old) mid)
-        (between (B.remaining second.old) (B.remaining second.new) mid (W.contents writer.new)) result.first result.second result.device result.unclosed }
+        (between (B.remaining second.old) (B.remaining second.new) mid (W.contents writer.new))
+        result.first result.first_is_told result.second result.second_is_told result.device result.unclosed }
 {
     databases_stay_good();
     run_twice::<Paged<D>, A, B, W>(alloc, settings, device, first, second, writer)

@@ -1,13 +1,13 @@
 -- Texts that are written one behind the other, and how what prints ends.
 use Rattle.std.proofs.Common.{◌≡◌, ◌⊎◌, inl, inr, ℕ, Bool, true, false, List, [], ◌++◌, append_assoc, Option, Result, Ok, Err, is_ok, IfOk, MatchBool, MatchResult, refl, sym, ap, ◌∙◌, subst}
 use Rattle.std.specs.Io.KnownBytes.{Keeps}
-use Rattle.std.proofs.KnownBytes.{Appends-kept, Appends-nil}
+use Rattle.std.proofs.KnownBytes.{Appends-kept, Appends-nil, Appends-trans}
 use Rattle.refusals.specs.declared.refusal.Refusal.{Refusal}
 use Rattle.refusals.specs.declared.refusal.Refusal.TheVariants.{Disk}
 use Rattle.replies.specs.Writes.{Writes}
 use Rattle.replies.proofs.Written.{HasTaken-none, HasTaken-next, Writes-last}
 use Rattle.many_scripts.specs.Cut.{Parts}
-use Rattle.many_scripts.specs.Ends.{Ends, EndsBy, IsStatus, Puts, Tells, refusal_line}
+use Rattle.many_scripts.specs.Ends.{Ends, EndsBy, EndsRefused, IsStatus, Puts, Tells, refusal_line}
 use Rattle.session_definitions.specs.World.{World}
 use Rattle.many_scripts.specs.Handed.{Left}
 use Rattle.many_scripts.specs.Many.{Shows, status_for}
@@ -43,14 +43,25 @@ begun_more old new text more w = record {
   complete = λ e. cc (e);
 }
 
--- nothing of a text was written
-pub none_written : (old new : Option (List ℕ)) (text : List ℕ) → Keeps old new → Writes old new false text
-none_written old new text k = record {
-  front = [];
-  rest = text;
-  whole = refl;
-  taken = Appends-kept old old new [] (Appends-nil old) k;
-  complete = λ e. cc (e);
+-- before a text nothing was written
+pub kept_before : (old mid new : Option (List ℕ)) (is_done : Bool) (text : List ℕ) → Keeps old mid → Writes mid new is_done text → Writes old new is_done text
+kept_before old mid new is_done text k w = record {
+  front = w.front;
+  rest = w.rest;
+  whole = w.whole;
+  taken = Appends-trans old mid new [] w.front (Appends-kept old old mid [] (Appends-nil old) k) w.taken;
+  complete = w.complete;
+}
+
+-- all of a text was written, and it is passed on or not
+pub whole_written : {A E : Type 0} (old mid new : Option (List ℕ)) (is_done : Bool) (text : List ℕ) (printed : Result A E) (x : A) → printed ≡ Ok x → Writes old mid (is_ok printed) text
+    → Keeps mid new → Writes old new is_done text
+whole_written old mid new is_done text printed x ok w k = record {
+  front = w.front;
+  rest = w.rest;
+  whole = w.whole;
+  taken = Appends-kept _ _ _ _ w.taken k;
+  complete = λ _. w.complete (ap is_ok ok);
 }
 
 -- a text, and then another
@@ -70,16 +81,17 @@ puts_by P Q held holds answer step h = record {
   is = h.is;
 }
 
-passes : {E : Type 0} (means : List ℕ → ℕ → Type 0) (held mid holds : Option (List ℕ)) (s exit : ℕ) → Puts {E = E} means held mid (Ok s) → Keeps mid holds → (exit ≡ s) ⊎ (exit ≡ 3) → Ends means held holds exit
-passes means held mid holds s exit p k (inl e) = Ends.written p.text (subst (λ (n : ℕ). means p.text n) (sym (e ∙ p.is)) p.meaning) (kept held mid holds true p.text p.written k)
-passes means held mid holds s exit p k (inr e) =
-    Ends.not_written p.text p.status mid p.meaning (begun held mid true p.text p.written) (none_written mid holds (refusal_line Disk) k) e
+passes : {E : Type 0} (means : List ℕ → ℕ → Type 0) (held mid holds : Option (List ℕ)) (s exit : ℕ) (is_told : Bool) → Puts {E = E} means held mid (Ok s)
+    → Keeps mid holds × (exit ≡ s) × (is_told ≡ true) ⊎ EndsRefused mid holds exit is_told → Ends means held holds exit is_told
+passes means held mid holds s exit is_told p (inl h) =
+    Ends.written p.text (subst (λ (n : ℕ). means p.text n) (sym (h.1 ∙ p.is)) p.meaning) (kept held mid holds true p.text p.written h.0) h.2
+passes means held mid holds s exit is_told p (inr h) = Ends.not_written p.text p.status mid p.meaning (begun held mid true p.text p.written) h.0 h.1
 
 -- what is printed, and then passed on or not
-pub ends_by : {E : Type 0} (means : List ℕ → ℕ → Type 0) (held mid holds : Option (List ℕ)) (outcome : Result ℕ E) (exit : ℕ) → Puts means held mid outcome → EndsBy outcome mid holds exit
-    → Ends means held holds exit
-ends_by means held mid holds (Ok s) exit p h = passes means held mid holds s exit p h.0 h.1
-ends_by means held mid holds (Err error) exit p h = Ends.not_written p.text p.status mid p.meaning p.written h.0 h.1
+pub ends_by : {E : Type 0} (means : List ℕ → ℕ → Type 0) (held mid holds : Option (List ℕ)) (outcome : Result ℕ E) (exit : ℕ) (is_told : Bool) → Puts means held mid outcome
+    → EndsBy outcome mid holds exit is_told → Ends means held holds exit is_told
+ends_by means held mid holds (Ok s) exit is_told p h = passes means held mid holds s exit is_told p h
+ends_by means held mid holds (Err error) exit is_told p h = Ends.not_written p.text p.status mid p.meaning p.written h.0 h.1
 
 -- a refusal is printed
 pub said : {A E : Type 0} (refusal : Refusal) (status : ℕ) (held holds : Option (List ℕ)) (printed : Result A E) (answer : Result ℕ E) → Writes held holds (is_ok printed) (refusal_line refusal)

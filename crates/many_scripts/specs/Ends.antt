@@ -1,5 +1,5 @@
 -- How what prints ends: the text that is written, and the exit status. All of this is our own choice.
-use Rattle.std.specs.Prelude.{◌≡◌, ◌⊎◌, ℕ, true, false, List, Option, Result, is_ok, IfOk, MatchResult}
+use Rattle.std.specs.Prelude.{◌≡◌, ◌⊎◌, ℕ, Bool, true, false, List, Option, Result, is_ok, IfOk, MatchResult}
 use Rattle.std.specs.Io.KnownBytes.{Keeps}
 use Rattle.refusals.specs.declared.refusal.Refusal.{Refusal}
 use Rattle.refusals.specs.declared.refusal.Refusal.TheVariants.{Disk}
@@ -27,14 +27,18 @@ pub record Puts {E : Type 0} (means : List ℕ → ℕ → Type 0) (held holds :
   pub written : Writes held holds (is_ok answer) text
   pub is : IfOk answer (λ s. s ≡ status)
 
--- A text was written and passed on, and the exit status is its status. Or the writer refused: a beginning of the text was written, and perhaps of the line of X0002 behind it, and the
--- exit status is 3.
-pub data Ends (means : List ℕ → ℕ → Type 0) (held holds : Option (List ℕ)) (exit : ℕ) : Type 0 where
-  written : (text : List ℕ) → means text exit → Writes held holds true text → Ends means held holds exit
-  not_written : (text : List ℕ) (status : ℕ) (mid : Option (List ℕ)) → means text status → Writes held mid false text → Writes mid holds false (refusal_line Disk) → exit ≡ 3
-      → Ends means held holds exit
+-- A text was written and passed on, and the exit status is its status. Or the writer refused: a beginning of the text was written, and of the line of X0002 behind it a beginning, or all where
+-- that is told; and the exit status is 3.
+pub data Ends (means : List ℕ → ℕ → Type 0) (held holds : Option (List ℕ)) (exit : ℕ) (is_told : Bool) : Type 0 where
+  written : (text : List ℕ) → means text exit → Writes held holds true text → is_told ≡ true → Ends means held holds exit is_told
+  not_written : (text : List ℕ) (status : ℕ) (mid : Option (List ℕ)) → means text status → Writes held mid false text → Writes mid holds is_told (refusal_line Disk) → exit ≡ 3
+      → Ends means held holds exit is_told
 
--- what was written is passed on, or that is refused; where the writer refused before, its fault is told
-abbrev pub EndsBy : {E : Type 0} → Result ℕ E → Option (List ℕ) → Option (List ℕ) → ℕ → Type 0
-EndsBy outcome held holds exit =
-    MatchResult outcome (λ status. Keeps held holds × ((exit ≡ status) ⊎ (exit ≡ 3))) (λ _. Writes held holds false (refusal_line Disk) × (exit ≡ 3))
+-- the fault of the writer is told, or a beginning of it
+abbrev pub EndsRefused : Option (List ℕ) → Option (List ℕ) → ℕ → Bool → Type 0
+EndsRefused held holds exit is_told = Writes held holds is_told (refusal_line Disk) × (exit ≡ 3)
+
+-- what was written is passed on; where the writer refuses that, or refused before, its fault is told
+abbrev pub EndsBy : {E : Type 0} → Result ℕ E → Option (List ℕ) → Option (List ℕ) → ℕ → Bool → Type 0
+EndsBy outcome held holds exit is_told =
+    MatchResult outcome (λ status. Keeps held holds × (exit ≡ status) × (is_told ≡ true) ⊎ EndsRefused held holds exit is_told) (λ _. EndsRefused held holds exit is_told)

@@ -1,9 +1,9 @@
 //! How what prints ends.
-ghost use Rattle.std.specs.Prelude.{◌≡◌, false, IfOk, MatchBool, MatchResult, Ok, Err};
+ghost use Rattle.std.specs.Prelude.{◌≡◌, is_ok, IfOk, MatchBool, MatchResult, Ok, Err};
 ghost use Rattle.std.specs.Io.KnownBytes.{Keeps};
 ghost use Rattle.refusals.specs.declared.refusal.Refusal.TheVariants.{Disk};
 ghost use Rattle.replies.specs.Writes.{Writes};
-ghost use Rattle.many_scripts.specs.Ends.{EndsBy, IsStatus, Puts, Tells, refusal_line};
+ghost use Rattle.many_scripts.specs.Ends.{EndsBy, EndsRefused, IsStatus, Puts, Tells, refusal_line};
 ghost use Rattle.many_scripts.specs.Handed.{is_closed};
 
 use crate::handed::HandedBack;
@@ -15,6 +15,15 @@ use store::Store;
 
 /// The exit status where something went wrong around the scripts: one could not be read, the store not be opened or closed, or the output not be written.
 pub(crate) const FAILED: u8 = 3;
+
+/// How what was printed ended.
+#[derive(Clone, Copy)]
+pub(crate) struct Exit {
+    /// The exit status.
+    pub(crate) status: u8,
+    /// Whether all was written and passed on, or the line that tells that it was not.
+    pub(crate) is_told: bool,
+}
 
 /// Prints a refusal, and answers this exit status.
 pub(crate) fn say<W: Write>(refusal: Refusal, status: u8, writer: &mut W) -> io::Result<u8>
@@ -51,28 +60,44 @@ pub(crate) fn say_unless_closed<S: Store, W: Write>(
     say(Refusal::Disk, FAILED, writer)
 }
 
-/// The exit status of what was printed so: its own, where the writer passes it on; and else 3, and the fault of the writer is told where that can be written.
-pub(crate) fn ended<W: Write>(outcome: io::Result<u8>, writer: &mut W) -> u8
-    ensures ends { EndsBy outcome (W.contents writer.old) (W.contents writer.new) result }
-    ensures status { IfOk outcome IsStatus → IsStatus result }
+/// The end of what was printed so: with its own status, where the writer passes it on; and else with 3, and the fault of the writer is told where that can be written.
+pub(crate) fn ended<W: Write>(outcome: io::Result<u8>, writer: &mut W) -> Exit
+    ensures ends { EndsBy outcome (W.contents writer.old) (W.contents writer.new) result.status result.is_told }
+    ensures status { IfOk outcome IsStatus → IsStatus result.status }
 {
     match outcome {
         Ok(status) => match pass_on(writer) {
-            Ok(()) => status,
-            Err(_) => FAILED,
+            Ok(()) => Exit {
+                status,
+                is_told: true,
+            },
+            Err(_error) => fail(writer),
         },
         Err(_error) => fail(writer),
     }
 }
 
 /// Tells that the writer refused, where that can be written.
-fn fail<W: Write>(writer: &mut W) -> u8
-    ensures status { result ≡ 3 }
-    ensures tells { Writes (W.contents writer.old) (W.contents writer.new) false (refusal_line Disk) }
+fn fail<W: Write>(writer: &mut W) -> Exit
+    ensures { EndsRefused (W.contents writer.old) (W.contents writer.new) result.status result.is_told }
 {
-    let _ = print_reply(&Reply::Refused(Refusal::Disk), writer);
-    let _ = pass_on(writer);
-    FAILED
+    let is_told = tell(writer).is_ok();
+    Exit {
+        status: FAILED,
+        is_told,
+    }
+}
+
+/// Prints that the writer refused, and has it pass that on. The answer is an error where not all of the line was written, or it was not passed on.
+fn tell<W: Write>(writer: &mut W) -> io::Result<()>
+    ensures { Writes (W.contents writer.old) (W.contents writer.new) (is_ok result) (refusal_line Disk) }
+{
+    let printed = print_reply(&Reply::Refused(Refusal::Disk), writer);
+    let passed_on = pass_on(writer);
+    match printed {
+        Ok(()) => passed_on,
+        Err(error) => Err(error),
+    }
 }
 
 /// Has the writer pass on what it took. What was interrupted is tried again.

@@ -14,7 +14,7 @@ ghost use Rattle.many_scripts.specs.Many.{ComesTo, Cuts, Opens, Runs};
 
 use crate::closing::{REFUSED, print_all};
 use crate::cut::{CutScripts, cut_all};
-use crate::ending::{FAILED, ended, say};
+use crate::ending::{Exit, FAILED, ended, say};
 use crate::handed::{EndedScripts, HandedBack, Printed};
 use engine::{Core, Sql};
 use page_frames::Frames;
@@ -30,7 +30,7 @@ use store::Store;
 /// Carries out scripts side by side over the store on this device, each in a session and on a thread of its own, and prints for each, in their order, a line with its number and its
 /// replies. The exit status is 0; 1 where a reply was a refusal; 1 where the scripts were refused, which alone is printed then: by the limit `sessions` exactly where
 /// there are more than 64, or for want of memory for their answers; 3 where there was no memory for the texts of their calls, or the store could not be opened or closed, which is
-/// printed, or the writer refused, which a line `ERROR X0002` says where it can be written.
+/// printed, or the writer refused, which a line `ERROR X0002` says where it can be written: `is_told` tells whether it was.
 ///
 /// Where the store was not opened, the device is handed back, saved as it was. Once scripts have run the store is closed, and its device is handed back, synced, with what was committed last
 /// saved on it; or the core is, where the device refuses that. That the device refused is said, in a reply or of the store, only where it refused a call: what is handed back counts more of them.
@@ -47,18 +47,20 @@ pub fn many_on<S: Store + Send, G: Gate + Sync, R: Threads + Wait + Sync, W: Wri
 where
     S::Device: Send,
     ensures status { IsStatus result.status }
-    ensures many { 64 < length scripts.now → Ends (Tells (Exceeded limit.Sessions) 1) (W.contents writer.old) (W.contents writer.new) result.status }
+    ensures many { 64 < length scripts.now → Ends (Tells (Exceeded limit.Sessions) 1) (W.contents writer.old) (W.contents writer.new) result.status result.is_told }
     ensures back { 64 < length scripts.now → result.back ≡ handed.Unopened device }
     ensures any_device { HandsAny (S.readable device) S.settled S.calls_refused S.refused (S.calls_refused device) result.back }
     ensures runs { (db : Database) → S.saved device db
         → Ends (ComesTo (opened db) (HandsBack S.saved S.settled S.calls_refused S.refused (S.calls_refused device) (opened db) result.back)
-        (HasRefused S.calls_refused S.refused (S.calls_refused device) result.back) scripts.now) (W.contents writer.old) (W.contents writer.new) result.status }
+        (HasRefused S.calls_refused S.refused (S.calls_refused device) result.back) scripts.now) (W.contents writer.old) (W.contents writer.new) result.status result.is_told }
 {
     let Printed { outcome, back } = count_and_run::<S, G, R, W>(
         rt, alloc, frames, device, scripts, gate, writer,
     );
+    let Exit { status, is_told } = ended(outcome, writer);
     EndedScripts {
-        status: ended(outcome, writer),
+        status,
+        is_told,
         back,
     }
 }

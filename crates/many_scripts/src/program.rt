@@ -64,7 +64,7 @@ fn run_files<R: Files + AllocGlobal + Threads + Wait + Sync, W: Write, S: AsStr>
             );
             done.status
         }
-        Err(error) => ended(say(refusal_of(&error), FAILED, writer), writer),
+        Err(error) => ended(say(refusal_of(&error), FAILED, writer), writer).status,
     }
 }
 

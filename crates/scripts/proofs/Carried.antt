@@ -1,11 +1,12 @@
 -- What was carried out, one piece after another, and what was written of it.
 use Rattle.std.proofs.Common.{◌≡◌, refl, ap, sym, subst, ◌∙◌, ℕ, ◌<◌, ◌≤◌, ◌+◌, ◌-◌, ◌||◌, Bool, true, false, List, [], ◌∷◌, ◌++◌, append_assoc, append-nil, take, take-append-drop, drop, replicate, get_or, length, Option, Some, None, Ok, Err, inl, inr, arith}
 use Rattle.std.specs.Prelude.{Result, MatchResult}
-use Rattle.std.specs.Option.{option_map}
+use Rattle.std.specs.Option.{ForSome, option_map}
 use Rattle.std.specs.FinMap.{get, insert}
 use Rattle.std.specs.Io.KnownBytes.{Consumes, IsAtEnd, Keeps}
 use Rattle.std.proofs.KnownBytes.{Appends-trans, Appends-nil, Appends-kept, Consumes-nil, Consumes-trans, Consumes-kept}
 use Rattle.std.proofs.Math.Bool.{or-false}
+use Rattle.std.proofs.lemmas.Bool.{true≢false}
 use Rattle.std.proofs.lemmas.List.{drop_more, take_more, same_from_push}
 use Rattle.std.proofs.lemmas.List.Recursion.{or_push}
 use Rattle.lexer.specs.Token.{Bytes}
@@ -19,28 +20,28 @@ use Rattle.script_pieces.specs.declared.cutter.Cutter.{Cutter}
 use Rattle.script_pieces.specs.declared.request.Request as found
 use Rattle.script_pieces.specs.declared.request.Request.TheVariants as found_variants
 use Rattle.script_pieces.specs.PieceMeaning.{Request, Asks, here}
-use Rattle.script_pieces.specs.Pieces.{ArePieces, AreEnded}
+use Rattle.script_pieces.specs.Pieces.{AreEnded}
 use Rattle.script_pieces.specs.Cutter.{HasRead, GoesOn, EndsAt, asked}
 use Rattle.script_pieces.proofs.OneRequest.{one_request}
 use Rattle.session_definitions.specs.Rules.{Rules}
 use Rattle.session_definitions.specs.Run.{MakesSession}
-use Rattle.session_definitions.specs.Script.{Scene, Plays, Performs, ArePlayed, EndsSessions, IsPlayed, RepliesToFlush, IsStopped, first_scene, choosing, has_refusal, is_refused, printed_replies}
+use Rattle.session_definitions.specs.Script.{Scene, Plays, Performs, ArePlayed, RepliesToFlush, first_scene, choosing, has_refusal, is_refused, printed_replies}
 use Rattle.session_definitions.specs.Step.{Step}
 use Rattle.session_definitions.specs.World.{World, is_live}
 use Rattle.session_laws.proofs.Live.{made_live}
-use Rattle.transactions.specs.Refused.{IfRefused, TellsReached}
+use Rattle.transactions.specs.Refused.{Counts, IfRefused, TellsReached}
 use Rattle.sessions.specs.declared.core_of.SessionId.{SessionId}
 use Rattle.sessions.specs.OfCore.{number_of}
-use Rattle.scripts.specs.declared.script.ScriptFault.{ScriptFault}
-use Rattle.scripts.specs.declared.script.ScriptFault.TheVariants.{Memory, Reader, Writer}
 use Rattle.scripts.specs.declared.script.Sessions.{Sessions}
 use Rattle.scripts.specs.Settled.{Places}
-use Rattle.scripts.specs.Device.{has_disk, shows_disk, tells_disk}
-use Rattle.scripts.specs.Limits.{RequestReaches}
-use Rattle.scripts.specs.Played.{Streams, between, ArePiecesSoFar, AreWrittenButLast, IsPrinted, IsWhole, IsCutShort, EndsEarly}
-use Rattle.scripts.specs.Playing.{scene_of, numbers_of, standing_from, AreLive, IsReady, FindsSession, IsCarriedOut, HasPlayed, IsPlaying, HasStopped, HasPrinted, HasBroken, HasFinished, HasFailed, HasEnded, IsReading, FindsNone}
-use Rattle.scripts.proofs.Standing.{none_standing, none_numbered, get_standing, set_standing, values_standing, live_alike, live_made, live_at}
-use Rattle.scripts.proofs.Limits.{limits_more, piece_told}
+use Rattle.scripts.specs.Limits.{Ever, RequestReaches, UpTo}
+use Rattle.scripts.specs.Played.{ArePiecesSoFar, AreWrittenButLast}
+use Rattle.scripts.specs.Shown.{Prints, IsReplied, AreReplied}
+use Rattle.scripts.specs.Playing.{Start, scene_of, numbers_of, standing_from, AreLive, IsReady, FindsSession, IsCarriedOut, HasPlayed, IsPlaying, HasStopped, HasPrinted, HasBroken, HasFinished, HasEnded, IsReading, FindsNone}
+use Rattle.scripts.proofs.Standing.{none_standing, none_numbered, get_standing, set_standing, live_alike, live_made, live_at}
+use Rattle.scripts.proofs.Limits.{limits_later, limits_more, piece_told}
+use Rattle.scripts.proofs.Commits.{performs_grows}
+use Rattle.scripts.proofs.Counting.{told_first, told_more, told_on, told_risen}
 use Rattle.scripts.proofs.Pieces.{cut_nothing, cut_on, cut_at, cut_ended, cut_later, cut_last, cut_none}
 
 -- ---- a call
@@ -141,6 +142,18 @@ module _ (rules : Rules) (piece : List ℕ) (old new : World) (before mid after 
   performs_flushes reply replies same ready =
       ((reply, replies, refl, ap (λ (w : World). scene_of w before) same), subst (λ (w : World). IsReady w before) (sym same) ready)
 
+-- what is printed for it
+
+pub prints_call : (request : found.Request) (chosen : Option ℕ) (text : List ℕ) (reply : Reply) → request ≡ found_variants.Calls chosen → Prints (asked request text) (Some reply)
+prints_call request chosen text reply is = subst (λ (q : found.Request). Prints (asked q text) (Some reply)) (sym is) (by chosen)
+  where
+    by : (chosen : Option ℕ) → Prints (asked (found_variants.Calls chosen) text) (Some reply)
+    by None = refl
+    by (Some session) = refl
+
+pub prints_flush : (request : found.Request) (text : List ℕ) (reply : Reply) → request ≡ found_variants.Flushes → RepliesToFlush reply → Prints (asked request text) (Some reply)
+prints_flush request text reply is replies = subst (λ (q : found.Request). Prints (asked q text) (Some reply)) (sym is) (reply, replies, refl)
+
 -- ---- printing
 
 pub writes_nothing : (known : Option (List ℕ)) (is_done : Bool) → Writes known known is_done []
@@ -149,35 +162,50 @@ writes_nothing known is_done = record { front = []; rest = []; whole = refl; tak
 pub writes_reply : (held holds : Option (List ℕ)) (is_done : Bool) (reply : Reply) → Writes held holds is_done (printed_reply reply) → Writes held holds is_done (printed_replies (Some reply ∷ []))
 writes_reply held holds is_done reply writes = subst (Writes held holds is_done) (sym (append-nil (printed_reply reply))) writes
 
-module _ (rules : Rules) (piece : List ℕ) (request : Request) (old new : World) (before mid after : Sessions) (held holds : Option (List ℕ)) (is_done : Bool) where
+module _ (known : Option Rules) (piece : List ℕ) (request : Request) (old new : World) (before mid after : Sessions) (held holds : Option (List ℕ)) (m n : ℕ) (is_done : Bool) where
   -- a piece without a reply
-  pub carried_silently : Asks piece request → Performs rules (scene_of old before) request None (scene_of new after) × IsReady new after → after.refused ≡ before.refused → after.told_disk ≡ before.told_disk
-      → IsCarriedOut rules piece old before new after held held is_done
-  carried_silently asks performs same told = record {
+  pub carried_silently : Asks piece request → Prints request None
+      → ForSome known (λ rules. IsReady old before → Performs rules (scene_of old before) request None (scene_of new after) × IsReady new after) → after.refused ≡ before.refused → m ≤ n
+      → IsCarriedOut known piece old before new after held held m n is_done
+  carried_silently asks prints performs same counts = record {
     request = request;
     asks = asks;
     reply = None;
-    performs = performs.0;
-    ready = performs.1;
+    prints = prints;
+    performs = performs;
     answer = same ∙ sym (or-false before.refused);
-    disk = told ∙ sym (or-false before.told_disk);
     written = writes_nothing held is_done;
+    device = λ is. absurd (true≢false (sym is));
+    counts = counts;
     limits = tt;
+    within = λ rules is. tt;
   }
 
-  pub carried_printing : (reply : Reply) → Asks piece request → Performs rules (scene_of old before) request (Some reply) (scene_of new mid) × IsReady new mid → mid.refused ≡ before.refused → mid.told_disk ≡ before.told_disk
-      → after ≡ record mid { refused = mid.refused || is_refusal reply; told_disk = mid.told_disk || tells_disk reply } → Writes held holds is_done (printed_reply reply)
-      → IfRefused reply (TellsReached (RequestReaches request)) → IsCarriedOut rules piece old before new after held holds is_done
-  carried_printing reply asks performs same told noted writes limits = record {
+  performed : (rules : Rules) (reply : Reply) → after ≡ record mid { refused = mid.refused || is_refusal reply }
+      → Performs rules (scene_of old before) request (Some reply) (scene_of new mid) × IsReady new mid
+      → Performs rules (scene_of old before) request (Some reply) (scene_of new after) × IsReady new after
+  performed rules reply noted performs = (
+    subst (λ (sessions : Sessions). Performs rules (scene_of old before) request (Some reply) (scene_of new sessions)) (sym noted) performs.0,
+    subst (λ (sessions : Sessions). IsReady new sessions) (sym noted) (record { live = performs.1.live; within = performs.1.within }),
+  )
+
+  pub carried_printing : (reply : Reply) → Asks piece request → Prints request (Some reply)
+      → ForSome known (λ rules. IsReady old before → Performs rules (scene_of old before) request (Some reply) (scene_of new mid) × IsReady new mid) → mid.refused ≡ before.refused
+      → after ≡ record mid { refused = mid.refused || is_refusal reply } → Writes held holds is_done (printed_reply reply)
+      → Counts reply m n → m ≤ n → IfRefused reply (TellsReached (RequestReaches Ever request)) → ForSome known (λ _. IfRefused reply (TellsReached (RequestReaches (UpTo new.commits) request)))
+      → IsCarriedOut known piece old before new after held holds m n is_done
+  carried_printing reply asks prints performs same noted writes device counts limits within = record {
     request = request;
     asks = asks;
     reply = Some reply;
-    performs = subst (λ (sessions : Sessions). Performs rules (scene_of old before) request (Some reply) (scene_of new sessions)) (sym noted) performs.0;
-    ready = subst (λ (sessions : Sessions). IsReady new sessions) (sym noted) (record { live = performs.1.live; within = performs.1.within });
+    prints = prints;
+    performs = λ rules is ready. performed rules reply noted (performs rules is ready);
     answer = ap (λ (sessions : Sessions). sessions.refused) noted ∙ ap (λ b. b || is_refusal reply) same;
-    disk = ap (λ (sessions : Sessions). sessions.told_disk) noted ∙ ap (λ b. b || tells_disk reply) told;
     written = writes_reply held holds is_done reply writes;
-    limits = piece_told piece request reply asks limits;
+    device = told_risen reply m n device;
+    counts = counts;
+    limits = piece_told Ever piece request reply asks limits;
+    within = λ rules is. piece_told (UpTo new.commits) piece request reply asks (within rules is);
   }
 
 -- ---- one more piece
@@ -199,8 +227,12 @@ printed_more (Some r ∷ replies) reply =
 refusal_more : (replies : List (Option Reply)) (reply : Option Reply) → has_refusal (replies ++ reply ∷ []) ≡ (has_refusal replies || is_refused reply)
 refusal_more = or_push has_refusal is_refused refl (λ x xs. refl)
 
-disk_more : (replies : List (Option Reply)) (reply : Option Reply) → has_disk (replies ++ reply ∷ []) ≡ (has_disk replies || shows_disk reply)
-disk_more = or_push has_disk shows_disk refl (λ x xs. refl)
+replied_more : (pieces : List (List ℕ)) (replies : List (Option Reply)) (piece : List ℕ) (reply : Option Reply) → AreReplied pieces replies → IsReplied piece reply
+    → AreReplied (pieces ++ piece ∷ []) (replies ++ reply ∷ [])
+replied_more [] [] piece reply h one = (one, tt)
+replied_more (p ∷ pieces) (r ∷ replies) piece reply h one = (h.0, replied_more pieces replies piece reply h.1 one)
+replied_more [] (r ∷ replies) piece reply h one = absurd h
+replied_more (p ∷ pieces) [] piece reply h one = absurd h
 
 text_more : (printed written front rest text : List ℕ) → printed ≡ written ++ [] → text ≡ front ++ rest → printed ++ text ≡ (written ++ front) ++ rest
 text_more printed written front rest text e f =
@@ -222,91 +254,103 @@ pub none_written : AreWrittenButLast [] []
 none_written [] last is = absurd (cc)
 none_written (r ∷ front) last is = absurd (cc)
 
-module _ (rules : Rules) (start : World) (held : Option (List ℕ)) where
-  pub played_next : (pieces : List (List ℕ)) (piece : List ℕ) (old new : World) (before after : Sessions) (had has : Option (List ℕ)) (is_done : Bool)
-      → HasPlayed rules start held pieces [] old before had
-      → (c : IsCarriedOut rules piece old before new after had has is_done)
-      → HasPlayed rules start held (pieces ++ piece ∷ []) c.written.rest new after has
-  played_next pieces piece old new before after had has is_done h c = record {
+grown : (rules : Rules) (old new : World) (before after : Sessions) (request : Request) (reply : Option Reply) → Performs rules (scene_of old before) request reply (scene_of new after)
+    → old.commits ≤ new.commits
+grown rules old new before after request reply performs = performs_grows rules (scene_of old before) request reply (scene_of new after) performs
+
+module _ (start : Start) where
+  pub played_next : (pieces : List (List ℕ)) (piece : List ℕ) (old new : World) (before after : Sessions) (had has : Option (List ℕ)) (m n : ℕ) (is_done : Bool)
+      → HasPlayed start pieces [] old before had m
+      → (c : IsCarriedOut start.known piece old before new after had has m n is_done)
+      → HasPlayed start (pieces ++ piece ∷ []) c.written.rest new after has n
+  played_next pieces piece old new before after had has m n is_done h c = record {
     replies = h.replies ++ c.reply ∷ [];
-    carried_out = played_more rules (first_scene start) (scene_of old before) (scene_of new after) pieces h.replies piece c.request c.reply h.carried_out c.asks c.performs;
-    ready = c.ready;
+    replied = replied_more pieces h.replies piece c.reply h.replied (c.request, c.asks, c.prints);
+    carried_out = λ rules is. played_more rules (first_scene start.world) (scene_of old before) (scene_of new after) pieces h.replies piece c.request c.reply (h.carried_out rules is) c.asks
+        (c.performs rules is (h.ready rules is)).0;
+    ready = λ rules is. (c.performs rules is (h.ready rules is)).1;
     answer = c.answer ∙ ap (λ b. b || is_refused c.reply) h.answer ∙ sym (refusal_more h.replies c.reply);
-    disk = c.disk ∙ ap (λ b. b || shows_disk c.reply) h.disk ∙ sym (disk_more h.replies c.reply);
     written = h.written ++ c.written.front;
     text = printed_more h.replies c.reply ∙ text_more (printed_replies h.replies) h.written c.written.front c.written.rest (printed_replies (c.reply ∷ [])) h.text c.written.whole;
-    taken = Appends-trans held had has h.written c.written.front h.taken c.written.taken;
+    taken = Appends-trans start.held had has h.written c.written.front h.taken c.written.taken;
     at_last = written_but_next h.replies c.reply h.written c.written.front h.text;
-    limits = limits_more pieces h.replies piece c.reply h.limits c.limits;
+    device = told_more h.replies c.reply start.refused m n h.device c.device c.counts;
+    limits = limits_more Ever pieces h.replies piece c.reply h.limits c.limits;
+    within = λ rules is. limits_more (UpTo new.commits) pieces h.replies piece c.reply
+        (limits_later old.commits new.commits (grown rules old new before after c.request c.reply (c.performs rules is (h.ready rules is)).0) pieces h.replies (h.within rules is)) (c.within rules is);
   }
 
-  pub all_written : (pieces : List (List ℕ)) (rest : List ℕ) (w : World) (sessions : Sessions) (has : Option (List ℕ)) → rest ≡ []
-      → HasPlayed rules start held pieces rest w sessions has → HasPlayed rules start held pieces [] w sessions has
-  all_written pieces rest w sessions has none h = subst (λ l. HasPlayed rules start held pieces l w sessions has) none h
+  pub all_written : (pieces : List (List ℕ)) (rest : List ℕ) (w : World) (sessions : Sessions) (has : Option (List ℕ)) (n : ℕ) → rest ≡ []
+      → HasPlayed start pieces rest w sessions has n → HasPlayed start pieces [] w sessions has n
+  all_written pieces rest w sessions has n none h = subst (λ l. HasPlayed start pieces l w sessions has n) none h
 
-  pub played_kept : (pieces : List (List ℕ)) (rest : List ℕ) (w : World) (sessions : Sessions) (had has : Option (List ℕ)) → Keeps had has
-      → HasPlayed rules start held pieces rest w sessions had → HasPlayed rules start held pieces rest w sessions has
-  played_kept pieces rest w sessions had has keeps h = record {
+  pub played_kept : (pieces : List (List ℕ)) (rest : List ℕ) (w : World) (sessions : Sessions) (had has : Option (List ℕ)) (n : ℕ) → Keeps had has
+      → HasPlayed start pieces rest w sessions had n → HasPlayed start pieces rest w sessions has n
+  played_kept pieces rest w sessions had has n keeps h = record {
     replies = h.replies;
+    replied = h.replied;
     carried_out = h.carried_out;
     ready = h.ready;
     answer = h.answer;
-    disk = h.disk;
     written = h.written;
     text = h.text;
-    taken = Appends-kept held had has h.written h.taken keeps;
+    taken = Appends-kept start.held had has h.written h.taken keeps;
     at_last = h.at_last;
+    device = h.device;
     limits = h.limits;
+    within = h.within;
   }
 
   -- ---- bytes
 
-  pub begins : (cutter : Cutter) (sessions : Sessions) → HasRead [] cutter → scene_of start sessions ≡ first_scene start → IsReady start sessions → sessions.refused ≡ false → sessions.told_disk ≡ false
-      → IsPlaying rules start held [] start cutter sessions held
-  begins cutter sessions read first ready answer disk = record {
+  pub begins : (cutter : Cutter) (sessions : Sessions) → HasRead [] cutter → scene_of start.world sessions ≡ first_scene start.world → IsReady start.world sessions → sessions.refused ≡ false
+      → IsPlaying start [] start.world cutter sessions start.held start.refused
+  begins cutter sessions read first ready answer = record {
     pieces = [];
     cut = cut_nothing cutter read;
     played = record {
       replies = [];
-      carried_out = (refl, first);
-      ready = ready;
+      replied = tt;
+      carried_out = λ rules is. (refl, first);
+      ready = λ rules is. ready;
       answer = answer;
-      disk = disk;
       written = [];
       text = refl;
-      taken = Appends-nil held;
+      taken = Appends-nil start.held;
       at_last = none_written;
+      device = told_first start.refused;
       limits = tt;
+      within = λ rules is. tt;
     };
   }
 
-  pub goes_on : (input : List ℕ) (w : World) (old new : Cutter) (sessions : Sessions) (holds : Option (List ℕ)) (b : ℕ)
-      → IsPlaying rules start held input w old sessions holds → GoesOn old b new → IsPlaying rules start held (input ++ b ∷ []) w new sessions holds
-  goes_on input w old new sessions holds b p goes = record { pieces = p.pieces; cut = cut_on input p.pieces old new b p.cut goes; played = p.played }
+  pub goes_on : (input : List ℕ) (w : World) (old new : Cutter) (sessions : Sessions) (holds : Option (List ℕ)) (n b : ℕ)
+      → IsPlaying start input w old sessions holds n → GoesOn old b new → IsPlaying start (input ++ b ∷ []) w new sessions holds n
+  goes_on input w old new sessions holds n b p goes = record { pieces = p.pieces; cut = cut_on input p.pieces old new b p.cut goes; played = p.played }
 
-  pub ends_piece : (input : List ℕ) (old new : World) (cutter ended cleared : Cutter) (before after : Sessions) (had has : Option (List ℕ)) (b : ℕ) (request : found.Request)
-      (p : IsPlaying rules start held input old cutter before had) → EndsAt cutter b request ended → HasRead [] cleared
-      → IsCarriedOut rules (p.cut.bytes ++ b ∷ []) old before new after had has true
-      → IsPlaying rules start held (input ++ b ∷ []) new cleared after has
-  ends_piece input old new cutter ended cleared before after had has b request p ends read c = record {
+  pub ends_piece : (input : List ℕ) (old new : World) (cutter ended cleared : Cutter) (before after : Sessions) (had has : Option (List ℕ)) (m n b : ℕ) (request : found.Request)
+      (p : IsPlaying start input old cutter before had m) → EndsAt cutter b request ended → HasRead [] cleared
+      → IsCarriedOut start.known (p.cut.bytes ++ b ∷ []) old before new after had has m n true
+      → IsPlaying start (input ++ b ∷ []) new cleared after has n
+  ends_piece input old new cutter ended cleared before after had has m n b request p ends read c = record {
     pieces = p.pieces ++ (p.cut.bytes ++ b ∷ []) ∷ [];
     cut = cut_at input p.pieces cutter ended cleared b request p.cut ends read;
-    played = all_written (p.pieces ++ (p.cut.bytes ++ b ∷ []) ∷ []) c.written.rest new after has (c.written.complete refl)
-        (played_next p.pieces (p.cut.bytes ++ b ∷ []) old new before after had has true p.played c);
+    played = all_written (p.pieces ++ (p.cut.bytes ++ b ∷ []) ∷ []) c.written.rest new after has n (c.written.complete refl)
+        (played_next p.pieces (p.cut.bytes ++ b ∷ []) old new before after had has m n true p.played c);
   }
 
-  pub stops_at : (input : List ℕ) (old new : World) (cutter ended : Cutter) (before after : Sessions) (had has : Option (List ℕ)) (b : ℕ) (request : found.Request) (more : List ℕ)
-      (p : IsPlaying rules start held input old cutter before had) → EndsAt cutter b request ended
-      → IsCarriedOut rules (p.cut.bytes ++ b ∷ []) old before new after had has false
-      → HasStopped rules start held (AreEnded (input ++ b ∷ more)) new after has
-  stops_at input old new cutter ended before after had has b request more p ends c =
+  pub stops_at : (input : List ℕ) (old new : World) (cutter ended : Cutter) (before after : Sessions) (had has : Option (List ℕ)) (m n b : ℕ) (request : found.Request) (more : List ℕ)
+      (p : IsPlaying start input old cutter before had m) → EndsAt cutter b request ended
+      → IsCarriedOut start.known (p.cut.bytes ++ b ∷ []) old before new after had has m n false
+      → HasStopped start (AreEnded (input ++ b ∷ more)) new after has n
+  stops_at input old new cutter ended before after had has m n b request more p ends c =
       let later = cut_later input p.pieces cutter ended b request more p.cut ends in
       record {
         done = p.pieces ++ (p.cut.bytes ++ b ∷ []) ∷ [];
         later = later.later;
         cut = later.are;
         unwritten = c.written.rest;
-        played = played_next p.pieces (p.cut.bytes ++ b ∷ []) old new before after had has false p.played c;
+        played = played_next p.pieces (p.cut.bytes ++ b ∷ []) old new before after had has m n false p.played c;
       }
 
   -- ---- the last piece
@@ -319,151 +363,89 @@ module _ (rules : Rules) (start : World) (held : Option (List ℕ)) where
   asks_nothing = record { body = []; begins = record { skipped = here []; firm = tt }; asks = record { rest = []; skipped = here []; finish = inl refl } }
 
   -- nothing stands behind the last semicolon
-  performs_nothing : (old new : Scene) (request : Request) (reply : Option Reply) → request ≡ Request.Nothing → Performs rules old request reply new → (reply ≡ None) × (new ≡ old)
-  performs_nothing old new request reply is performs = subst (λ (q : Request). Performs rules old q reply new) is performs
+  prints_nothing : (request : Request) (reply : Option Reply) → request ≡ Request.Nothing → Prints request reply → reply ≡ None
+  prints_nothing request reply is prints = subst (λ (q : Request). Prints q reply) is prints
 
-  played_nothing : (pieces : List (List ℕ)) (piece : List ℕ) (old new : World) (before after : Sessions) (had has : Option (List ℕ)) (is_done : Bool) → piece ≡ []
-      → HasPlayed rules start held pieces [] old before had
-      → IsCarriedOut rules piece old before new after had has is_done
-      → HasPlayed rules start held pieces [] new after has
-  played_nothing pieces piece old new before after had has is_done none h c =
+  performs_nothing : (rules : Rules) (old new : Scene) (request : Request) (reply : Option Reply) → request ≡ Request.Nothing → Performs rules old request reply new → new ≡ old
+  performs_nothing rules old new request reply is performs = (subst (λ (q : Request). Performs rules old q reply new) is performs).1
+
+  played_nothing : (pieces : List (List ℕ)) (piece : List ℕ) (old new : World) (before after : Sessions) (had has : Option (List ℕ)) (m n : ℕ) (is_done : Bool) → piece ≡ []
+      → HasPlayed start pieces [] old before had m
+      → IsCarriedOut start.known piece old before new after had has m n is_done
+      → HasPlayed start pieces [] new after has n
+  played_nothing pieces piece old new before after had has m n is_done none h c =
       let is : c.request ≡ Request.Nothing = one_request [] c.request Request.Nothing (subst (λ l. Asks l c.request) none c.asks) asks_nothing in
-      let did = performs_nothing (scene_of old before) (scene_of new after) c.request c.reply is c.performs in
-      let empty : [] ≡ c.written.front ++ c.written.rest = ap (λ (r : Option Reply). printed_replies (r ∷ [])) (sym did.0) ∙ c.written.whole in
+      let silent : c.reply ≡ None = prints_nothing c.request c.reply is c.prints in
+      let empty : [] ≡ c.written.front ++ c.written.rest = ap (λ (r : Option Reply). printed_replies (r ∷ [])) (sym silent) ∙ c.written.whole in
       let parts = nothing_first c.written.front c.written.rest empty in
       record {
         replies = h.replies;
-        carried_out = subst (λ (scene : Scene). ArePlayed rules (first_scene start) pieces h.replies scene) (sym did.1) h.carried_out;
-        ready = c.ready;
-        answer = c.answer ∙ ap (λ (r : Option Reply). before.refused || is_refused r) did.0 ∙ or-false before.refused ∙ h.answer;
-        disk = c.disk ∙ ap (λ (r : Option Reply). before.told_disk || shows_disk r) did.0 ∙ or-false before.told_disk ∙ h.disk;
+        replied = h.replied;
+        carried_out = λ rules at. subst (λ (scene : Scene). ArePlayed rules (first_scene start.world) pieces h.replies scene)
+            (sym (performs_nothing rules (scene_of old before) (scene_of new after) c.request c.reply is (c.performs rules at (h.ready rules at)).0)) (h.carried_out rules at);
+        ready = λ rules at. (c.performs rules at (h.ready rules at)).1;
+        answer = c.answer ∙ ap (λ (r : Option Reply). before.refused || is_refused r) silent ∙ or-false before.refused ∙ h.answer;
         written = h.written ++ c.written.front;
         text = h.text ∙ ap (λ l. (h.written ++ l)) (sym parts.0) ∙ sym (append-nil (h.written ++ c.written.front));
-        taken = Appends-trans held had has h.written c.written.front h.taken c.written.taken;
+        taken = Appends-trans start.held had has h.written c.written.front h.taken c.written.taken;
         at_last = written_on h.replies h.written c.written.front h.at_last;
+        device = told_on h.replies start.refused m n h.device c.counts;
         limits = h.limits;
+        within = λ rules at. limits_later old.commits new.commits (grown rules old new before after c.request c.reply (c.performs rules at (h.ready rules at)).0) pieces h.replies (h.within rules at);
       }
 
-  pub finishes : (input : List ℕ) (old new : World) (cutter : Cutter) (before after : Sessions) (had has : Option (List ℕ)) (is_done : Bool)
-      (p : IsPlaying rules start held input old cutter before had)
-      → IsCarriedOut rules p.cut.bytes old before new after had has is_done
-      → HasFinished rules start held input is_done new after has
-  finishes input old new cutter before after had has is_done p c = by p.cut.bytes refl
+  pub finishes : (input : List ℕ) (old new : World) (cutter : Cutter) (before after : Sessions) (had has : Option (List ℕ)) (m n : ℕ) (is_done : Bool)
+      (p : IsPlaying start input old cutter before had m)
+      → IsCarriedOut start.known p.cut.bytes old before new after had has m n is_done
+      → HasFinished start input is_done new after has n
+  finishes input old new cutter before after had has m n is_done p c = by p.cut.bytes refl
     where
-      by : (bytes : List ℕ) → p.cut.bytes ≡ bytes → HasFinished rules start held input is_done new after has
+      by : (bytes : List ℕ) → p.cut.bytes ≡ bytes → HasFinished start input is_done new after has n
       by [] is = record {
         pieces = p.pieces;
         cut = cut_none input p.pieces cutter p.cut is;
         unwritten = [];
         complete = λ _. refl;
-        played = played_nothing p.pieces p.cut.bytes old new before after had has is_done is p.played c;
+        played = played_nothing p.pieces p.cut.bytes old new before after had has m n is_done is p.played c;
       }
       by (b ∷ bytes) is = record {
         pieces = p.pieces ++ p.cut.bytes ∷ [];
         cut = cut_last input p.pieces cutter p.cut (λ none. let wrong : b ∷ bytes ≡ [] = sym is ∙ none in cc wrong);
         unwritten = c.written.rest;
         complete = c.written.complete;
-        played = played_next p.pieces p.cut.bytes old new before after had has is_done p.played c;
+        played = played_next p.pieces p.cut.bytes old new before after had has m n is_done p.played c;
       }
 
-  pub finished_kept : (input : List ℕ) (w : World) (sessions : Sessions) (had has : Option (List ℕ)) (is_done : Bool) → Keeps had has
-      → HasFinished rules start held input true w sessions had → HasFinished rules start held input is_done w sessions has
-  finished_kept input w sessions had has is_done keeps h = record {
+  pub finished_kept : (input : List ℕ) (w : World) (sessions : Sessions) (had has : Option (List ℕ)) (n : ℕ) (is_done : Bool) → Keeps had has
+      → HasFinished start input true w sessions had n → HasFinished start input is_done w sessions has n
+  finished_kept input w sessions had has n is_done keeps h = record {
     pieces = h.pieces;
     cut = h.cut;
     unwritten = [];
     complete = λ _. refl;
-    played = played_kept h.pieces [] w sessions had has keeps (all_written h.pieces h.unwritten w sessions had (h.complete refl) h.played);
+    played = played_kept h.pieces [] w sessions had has n keeps (all_written h.pieces h.unwritten w sessions had n (h.complete refl) h.played);
   }
 
-  pub playing_kept : (input : List ℕ) (w : World) (cutter : Cutter) (sessions : Sessions) (had has : Option (List ℕ)) → Keeps had has
-      → IsPlaying rules start held input w cutter sessions had → IsPlaying rules start held input w cutter sessions has
-  playing_kept input w cutter sessions had has keeps p = record { pieces = p.pieces; cut = p.cut; played = played_kept p.pieces [] w sessions had has keeps p.played }
+  pub playing_kept : (input : List ℕ) (w : World) (cutter : Cutter) (sessions : Sessions) (had has : Option (List ℕ)) (n : ℕ) → Keeps had has
+      → IsPlaying start input w cutter sessions had n → IsPlaying start input w cutter sessions has n
+  playing_kept input w cutter sessions had has n keeps p = record { pieces = p.pieces; cut = p.cut; played = played_kept p.pieces [] w sessions had has n keeps p.played }
 
   -- the writer refused to pass on what it had taken
-  pub playing_stopped : (input : List ℕ) (w : World) (cutter : Cutter) (sessions : Sessions) (had has : Option (List ℕ)) → Keeps had has
-      → IsPlaying rules start held input w cutter sessions had → HasStopped rules start held (AreEnded input) w sessions has
-  playing_stopped input w cutter sessions had has keeps p = record {
+  pub playing_stopped : (input : List ℕ) (w : World) (cutter : Cutter) (sessions : Sessions) (had has : Option (List ℕ)) (n : ℕ) → Keeps had has
+      → IsPlaying start input w cutter sessions had n → HasStopped start (AreEnded input) w sessions has n
+  playing_stopped input w cutter sessions had has n keeps p = record {
     done = p.pieces;
     later = [];
     cut = subst (AreEnded input) (sym (append-nil p.pieces)) (cut_ended input p.pieces cutter p.cut);
     unwritten = [];
-    played = played_kept p.pieces [] w sessions had has keeps p.played;
+    played = played_kept p.pieces [] w sessions had has n keeps p.played;
   }
 
-  pub passed_on : {A E : Type 0} (r : Result A E) (input : List ℕ) (w : World) (cutter : Cutter) (sessions : Sessions) (had has : Option (List ℕ)) → Keeps had has
-      → IsPlaying rules start held input w cutter sessions had
-      → MatchResult r (λ _. IsPlaying rules start held input w cutter sessions has) (λ _. HasStopped rules start held (AreEnded input) w sessions has)
-  passed_on (Ok x) input w cutter sessions had has keeps p = playing_kept input w cutter sessions had has keeps p
-  passed_on (Err e) input w cutter sessions had has keeps p = playing_stopped input w cutter sessions had has keeps p
-
-  -- ---- the end
-
-  unfoldable pub ends_played : (pieces : List (List ℕ)) (w new : World) (sessions : Sessions) (has : Option (List ℕ)) (h : HasPlayed rules start held pieces [] w sessions has)
-      → EndsSessions w (numbers_of sessions.standing) new → IsPlayed rules start pieces h.written new
-  ends_played pieces w new sessions has h ends = record {
-    scene = scene_of w sessions;
-    replies = h.replies;
-    carried_out = h.carried_out;
-    text = sym (h.text ∙ append-nil h.written);
-    ended = subst (λ ss. EndsSessions w ss new) (sym (values_standing sessions.standing 1)) ends;
-  }
-
-  unfoldable pub ends_stopped : (done later pieces : List (List ℕ)) (unwritten : List ℕ) (w new : World) (sessions : Sessions) (has : Option (List ℕ)) (h : HasPlayed rules start held done unwritten w sessions has)
-      → pieces ≡ done ++ later → EndsSessions w (numbers_of sessions.standing) new → IsStopped rules start pieces h.written new
-  ends_stopped done later pieces unwritten w new sessions has h order ends = record {
-    done = done;
-    later = later;
-    in_order = order;
-    scene = scene_of w sessions;
-    replies = h.replies;
-    carried_out = h.carried_out;
-    unwritten = unwritten;
-    beginning = h.text;
-    ended = subst (λ ss. EndsSessions w ss new) (sym (values_standing sessions.standing 1)) ends;
-  }
-
--- what was printed, and the sessions ended
-unfoldable pub ends_printed : (rules : Rules) (cuts : List ℕ → List (List ℕ) → Type 0) (streams : Streams) (start w new : World) (sessions : Sessions) (h : HasPrinted rules cuts streams start w sessions)
-    → EndsSessions w (numbers_of sessions.standing) new → IsPrinted rules cuts streams start new
-ends_printed rules cuts streams start w new sessions h ends = record {
-  input = h.input;
-  read = h.read;
-  pieces = h.pieces;
-  cut = h.cut;
-  printed = h.played.written;
-  played = ends_played rules start streams.held h.pieces w new sessions streams.holds h.played ends;
-  written = h.played.taken;
-}
-
-unfoldable pub ends_whole : (rules : Rules) (streams : Streams) (start w new : World) (sessions : Sessions) → HasEnded rules streams start w sessions
-    → EndsSessions w (numbers_of sessions.standing) new → IsWhole rules streams start sessions.refused new
-unfolding ends_printed ends_played
-ends_whole rules streams start w new sessions h ends = record {
-  all = h.all;
-  printed = ends_printed rules ArePieces streams start w new sessions h.printed ends;
-  answer = h.printed.played.answer;
-}
-
-unfoldable pub ends_broken : (rules : Rules) (streams : Streams) (start w new : World) (sessions : Sessions) (h : HasBroken rules streams start w sessions)
-    → EndsSessions w (numbers_of sessions.standing) new → IsCutShort rules streams start new
-unfolding ends_stopped
-ends_broken rules streams start w new sessions h ends = record {
-  input = h.input;
-  read = h.read;
-  pieces = h.stopped.done ++ h.stopped.later;
-  cut = h.stopped.cut;
-  written = h.stopped.played.written;
-  stopped = ends_stopped rules start streams.held h.stopped.done h.stopped.later (h.stopped.done ++ h.stopped.later) h.stopped.unwritten w new sessions streams.holds h.stopped.played refl ends;
-  taken = h.stopped.played.taken;
-  at_last = h.stopped.played.at_last;
-}
-
-unfoldable pub ends_failed : (rules : Rules) (streams : Streams) (start w new : World) (fault : ScriptFault) (sessions : Sessions) → HasFailed rules streams start fault w sessions
-    → EndsSessions w (numbers_of sessions.standing) new → EndsEarly rules streams start fault new
-ends_failed rules streams start w new Memory sessions h ends = absurd h
-ends_failed rules streams start w new (Reader error) sessions h ends = ends_printed rules AreEnded streams start w new sessions h ends
-ends_failed rules streams start w new (Writer error) sessions h ends = ends_broken rules streams start w new sessions h ends
+  pub passed_on : {A E : Type 0} (r : Result A E) (input : List ℕ) (w : World) (cutter : Cutter) (sessions : Sessions) (had has : Option (List ℕ)) (n : ℕ) → Keeps had has
+      → IsPlaying start input w cutter sessions had n
+      → MatchResult r (λ _. IsPlaying start input w cutter sessions has n) (λ _. HasStopped start (AreEnded input) w sessions has n)
+  passed_on (Ok x) input w cutter sessions had has n keeps p = playing_kept input w cutter sessions had has n keeps p
+  passed_on (Err e) input w cutter sessions had has n keeps p = playing_stopped input w cutter sessions had has n keeps p
 
 -- ---- bytes, one after another
 
@@ -477,22 +459,22 @@ the_rest input bytes i within =
 
 -- ---- turns
 
-module _ (rules : Rules) (start : World) (given held : Option (List ℕ)) where
+module _ (start : Start) where
   -- the reader refused
-  pub turn_unread : (old left has : Option (List ℕ)) (w : World) (cutter : Cutter) (sessions : Sessions) → Keeps old left
-      → IsReading rules (between given old held has) start w cutter sessions → HasPrinted rules AreEnded (between given left held has) start w sessions
-  turn_unread old left has w cutter sessions keeps h = record {
+  pub turn_unread : (old left has : Option (List ℕ)) (w : World) (cutter : Cutter) (sessions : Sessions) (n : ℕ) → Keeps old left
+      → IsReading start old w cutter sessions has n → HasPrinted start AreEnded left w sessions has n
+  turn_unread old left has w cutter sessions n keeps h = record {
     input = h.input;
-    read = Consumes-kept given old left h.input h.read keeps;
+    read = Consumes-kept start.given old left h.input h.read keeps;
     pieces = h.playing.pieces;
     cut = cut_ended h.input h.playing.pieces cutter h.playing.cut;
     played = h.playing.played;
   }
 
   -- the loop ended before the input did
-  pub reading_ended : (left has : Option (List ℕ)) (w : World) (cutter : Cutter) (sessions : Sessions)
-      → IsReading rules (between given left held has) start w cutter sessions → HasPrinted rules AreEnded (between given left held has) start w sessions
-  reading_ended left has w cutter sessions h = record {
+  pub reading_ended : (left has : Option (List ℕ)) (w : World) (cutter : Cutter) (sessions : Sessions) (n : ℕ)
+      → IsReading start left w cutter sessions has n → HasPrinted start AreEnded left w sessions has n
+  reading_ended left has w cutter sessions n h = record {
     input = h.input;
     read = h.read;
     pieces = h.playing.pieces;
@@ -501,39 +483,39 @@ module _ (rules : Rules) (start : World) (given held : Option (List ℕ)) where
   }
 
   -- some bytes were read, and their pieces carried out
-  pub turn_on : (old left has : Option (List ℕ)) (input bytes : List ℕ) (w : World) (cutter : Cutter) (sessions : Sessions) → Consumes given old input → Consumes old left bytes
-      → IsPlaying rules start held (input ++ bytes) w cutter sessions has → IsReading rules (between given left held has) start w cutter sessions
-  turn_on old left has input bytes w cutter sessions before read p = record { input = input ++ bytes; read = Consumes-trans given old left input bytes before read; playing = p }
+  pub turn_on : (old left has : Option (List ℕ)) (input bytes : List ℕ) (w : World) (cutter : Cutter) (sessions : Sessions) (n : ℕ) → Consumes start.given old input → Consumes old left bytes
+      → IsPlaying start (input ++ bytes) w cutter sessions has n → IsReading start left w cutter sessions has n
+  turn_on old left has input bytes w cutter sessions n before read p = record { input = input ++ bytes; read = Consumes-trans start.given old left input bytes before read; playing = p }
 
-  pub turn_broken : (old left has : Option (List ℕ)) (input bytes : List ℕ) (w : World) (sessions : Sessions) → Consumes given old input → Consumes old left bytes
-      → HasStopped rules start held (AreEnded (input ++ bytes)) w sessions has → HasBroken rules (between given left held has) start w sessions
-  turn_broken old left has input bytes w sessions before read h = record {
+  pub turn_broken : (old left has : Option (List ℕ)) (input bytes : List ℕ) (w : World) (sessions : Sessions) (n : ℕ) → Consumes start.given old input → Consumes old left bytes
+      → HasStopped start (AreEnded (input ++ bytes)) w sessions has n → HasBroken start left w sessions has n
+  turn_broken old left has input bytes w sessions n before read h = record {
     input = input ++ bytes;
-    read = Consumes-trans given old left input bytes before read;
+    read = Consumes-trans start.given old left input bytes before read;
     stopped = record { done = h.done; later = h.later; cut = inl h.cut; unwritten = h.unwritten; played = h.played };
   }
 
-  consumed_all : (old left : Option (List ℕ)) (input bytes : List ℕ) → bytes ≡ [] → Consumes given old input → Consumes old left bytes → Consumes given left input
+  consumed_all : (old left : Option (List ℕ)) (input bytes : List ℕ) → bytes ≡ [] → Consumes start.given old input → Consumes old left bytes → Consumes start.given left input
   consumed_all old left input bytes none before read =
-      subst (Consumes given left) (ap (λ l. input ++ l) none ∙ append-nil input) (Consumes-trans given old left input bytes before read)
+      subst (Consumes start.given left) (ap (λ l. input ++ l) none ∙ append-nil input) (Consumes-trans start.given old left input bytes before read)
 
   -- the input was at its end
-  pub turn_ended : (old left has : Option (List ℕ)) (input bytes : List ℕ) (w : World) (sessions : Sessions) → bytes ≡ [] → Consumes given old input → Consumes old left bytes → IsAtEnd left
-      → HasFinished rules start held input true w sessions has → HasEnded rules (between given left held has) start w sessions
-  turn_ended old left has input bytes w sessions none before read all h = record {
+  pub turn_ended : (old left has : Option (List ℕ)) (input bytes : List ℕ) (w : World) (sessions : Sessions) (n : ℕ) → bytes ≡ [] → Consumes start.given old input → Consumes old left bytes → IsAtEnd left
+      → HasFinished start input true w sessions has n → HasEnded start left w sessions has n
+  turn_ended old left has input bytes w sessions n none before read all h = record {
     all = all;
     printed = record {
       input = input;
       read = consumed_all old left input bytes none before read;
       pieces = h.pieces;
       cut = h.cut;
-      played = all_written rules start held h.pieces h.unwritten w sessions has (h.complete refl) h.played;
+      played = all_written start h.pieces h.unwritten w sessions has n (h.complete refl) h.played;
     };
   }
 
-  pub turn_stopped : (old left has : Option (List ℕ)) (input bytes : List ℕ) (w : World) (sessions : Sessions) → bytes ≡ [] → Consumes given old input → Consumes old left bytes → IsAtEnd left
-      → HasFinished rules start held input false w sessions has → HasBroken rules (between given left held has) start w sessions
-  turn_stopped old left has input bytes w sessions none before read all h = record {
+  pub turn_stopped : (old left has : Option (List ℕ)) (input bytes : List ℕ) (w : World) (sessions : Sessions) (n : ℕ) → bytes ≡ [] → Consumes start.given old input → Consumes old left bytes → IsAtEnd left
+      → HasFinished start input false w sessions has n → HasBroken start left w sessions has n
+  turn_stopped old left has input bytes w sessions n none before read all h = record {
     input = input;
     read = consumed_all old left input bytes none before read;
     stopped = record {
@@ -560,17 +542,10 @@ pub first_scene_is : (start : World) (n : ℕ) (sessions : Sessions) → session
 first_scene_is start n sessions standing chosen =
     λ i. record { world = start; chosen = (ap (λ k. k + 1) chosen) i; standing = (ap (standing_from 1) standing ∙ none_standing n 1) i }
 
-pub begins_reading : (rules : Rules) (start : World) (given held : Option (List ℕ)) (n : ℕ) (cutter : Cutter) (sessions : Sessions) → HasRead [] cutter
-    → sessions.standing ≡ replicate n None → sessions.chosen ≡ 0 → sessions.refused ≡ false → sessions.told_disk ≡ false
-    → IsReading rules (between given given held held) start start cutter sessions
-begins_reading rules start given held n cutter sessions read standing chosen refused disk = record {
+pub begins_reading : (start : Start) (n : ℕ) (cutter : Cutter) (sessions : Sessions) → HasRead [] cutter
+    → sessions.standing ≡ replicate n None → sessions.chosen ≡ 0 → sessions.refused ≡ false → IsReading start start.given start.world cutter sessions start.held start.refused
+begins_reading start n cutter sessions read standing chosen refused = record {
   input = [];
-  read = Consumes-nil given;
-  playing = begins rules start held cutter sessions read (first_scene_is start n sessions standing chosen) (ready_at_first start n sessions standing chosen) refused disk;
+  read = Consumes-nil start.given;
+  playing = begins start cutter sessions read (first_scene_is start.world n sessions standing chosen) (ready_at_first start.world n sessions standing chosen) refused;
 }
-
--- the sessions of a script that failed still stand
-pub failed_live : (rules : Rules) (streams : Streams) (start w : World) (fault : ScriptFault) (sessions : Sessions) → HasFailed rules streams start fault w sessions → AreLive w (numbers_of sessions.standing)
-failed_live rules streams start w Memory sessions h = absurd h
-failed_live rules streams start w (Reader error) sessions h = h.played.ready.live
-failed_live rules streams start w (Writer error) sessions h = h.stopped.played.ready.live

@@ -1,26 +1,16 @@
--- X0002 is told only where the device refused a call.
-use Rattle.std.proofs.Common.{◌≡◌, ◌≢◌, ◌∙◌, refl, ap, sym, ℕ, ◌≤◌, ◌||◌, Bool, true, false, List, Option, arith}
+-- Each X0002 among the replies has a refused call of its own.
+use Rattle.std.proofs.Common.{◌≡◌, ◌≢◌, refl, sym, subst, ℕ, ◌+◌, ◌-◌, ◌^◌, ◌≤◌, ◌||◌, Bool, true, false, cond, List, [], ◌∷◌, ◌++◌, Option, arith}
+use Rattle.std.specs.Prelude.{min}
 use Rattle.std.proofs.lemmas.Bool.{true≢false}
+use Rattle.std.proofs.lemmas.List.Sums.{sum_by_push, sum_by-cons}
 use Rattle.std.proofs.Math.Nat.{le_trans}
-use Rattle.std.proofs.KnownBytes.{Keeps-refl}
 use Rattle.refusals.specs.declared.refusal.Refusal.{Refusal}
 use Rattle.refusals.specs.declared.refusal.Refusal.TheVariants.{Disk}
 use Rattle.replies.specs.declared.reply.Reply.{Reply}
 use Rattle.replies.specs.declared.reply.Reply.TheVariants as says
-use Rattle.replies.specs.Refused.{is_refusal}
-use Rattle.session_definitions.specs.Rules.{Rules}
-use Rattle.session_definitions.specs.Script.{EndsSessions}
-use Rattle.session_definitions.specs.World.{World}
-use Rattle.sessions.proofs.Devices.{risen_later, risen_still}
 use Rattle.store.specs.Errors.{HasRisen}
 use Rattle.transactions.specs.Refused.{Counts}
-use Rattle.scripts.specs.declared.script.ScriptFault.{ScriptFault}
-use Rattle.scripts.specs.declared.script.ScriptFault.TheVariants.{Memory, Reader, Writer}
-use Rattle.scripts.specs.declared.script.Sessions.{Sessions}
-use Rattle.scripts.specs.Device.{IsCounted, TellDevice, has_disk, is_disk, tells_disk}
-use Rattle.scripts.specs.Played.{Streams, between, RunsInPart, RunsWhole}
-use Rattle.scripts.specs.Playing.{HasEnded, HasFailed, numbers_of}
-use Rattle.scripts.proofs.Carried.{ends_broken, ends_failed, ends_played, ends_printed, ends_stopped, ends_whole}
+use Rattle.scripts.specs.Device.{TellDevice, disk_count, has_disk, is_disk, shows_disk, tells_disk}
 
 -- ---- a reply
 
@@ -28,74 +18,75 @@ only_disk : (refusal : Refusal) → is_disk refusal ≡ true → refusal ≡ Dis
 only_disk Disk is = refl
 only_disk _ is = absurd (true≢false (sym is))
 
-told_risen : (reply : Reply) (m n : ℕ) → Counts reply m n → tells_disk reply ≡ true → HasRisen m n
+pub told_risen : (reply : Reply) (m n : ℕ) → Counts reply m n → tells_disk reply ≡ true → HasRisen m n
 told_risen (says.Refused refusal) m n counts is = counts (only_disk refusal is)
 told_risen _ m n counts is = absurd (true≢false (sym is))
-
-one_of : (a b : Bool) (A : Type 0) → (a ≡ true → A) → (b ≡ true → A) → (a || b) ≡ true → A
-one_of true b A f g is = f refl
-one_of false b A f g is = g is
-
--- the count is the same or greater, and no reply was noted
-pub counted_on : (since m n : ℕ) (before after : Sessions) → after.told_disk ≡ before.told_disk → m ≤ n → IsCounted since before m → IsCounted since after n
-counted_on since m n before after same more h = record {
-  least = le_trans h.least more;
-  risen = λ is. risen_still since m n (h.risen (sym same ∙ is)) more;
-}
-
--- a reply was noted
-pub counted_told : (since m n : ℕ) (before after : Sessions) (reply : Reply) → after.told_disk ≡ (before.told_disk || tells_disk reply) → Counts reply m n → m ≤ n
-    → IsCounted since before m → IsCounted since after n
-counted_told since m n before after reply told counts more h = record {
-  least = le_trans h.least more;
-  risen = λ is. one_of before.told_disk (tells_disk reply) (HasRisen since n) (λ was. risen_still since m n (h.risen was) more)
-      (λ now. risen_later since m n h.least (told_risen reply m n counts now)) (sym told ∙ is);
-}
-
--- it was noted by `note`
-pub counted_noted : (since m n : ℕ) (before mid after : Sessions) (reply : Reply) → mid.told_disk ≡ before.told_disk
-    → after ≡ record mid { refused = mid.refused || is_refusal reply; told_disk = mid.told_disk || tells_disk reply } → Counts reply m n → m ≤ n
-    → IsCounted since before m → IsCounted since after n
-counted_noted since m n before mid after reply same noted =
-    counted_told since m n before after reply (ap (λ (sessions : Sessions). sessions.told_disk) noted ∙ ap (λ b. b || tells_disk reply) same)
-
-pub counted_first : (count : ℕ) (sessions : Sessions) → sessions.told_disk ≡ false → IsCounted count sessions count
-counted_first count sessions none = record { least = omega arith; risen = λ is. absurd (true≢false (sym is ∙ none)) }
 
 -- a reply that is another refusal
 pub counts_other : (refusal : Refusal) (m n : ℕ) → refusal ≢ Disk → Counts (says.Refused refusal) m n
 counts_other refusal m n other = λ is. absurd (other is)
 
--- ---- the end
+-- ---- replies, one after another
 
--- there was no memory for the text of a statement
-pub nothing_ran : (rules : Rules) (given held : Option (List ℕ)) (w : World) (count : ℕ) → RunsInPart rules (between given given held held) w count Memory w count
-nothing_ran rules given held w count = record { some = record { reader = Keeps-refl given; writer = Keeps-refl held; world = refl }; device = λ is. absurd (true≢false (sym is)); limits = tt }
+none_counted : (top before : ℕ) → min (0 + before) top ≤ before
+none_counted top before = omega arith
 
-tell_at_last : (since m n : ℕ) (sessions : Sessions) (replies : List (Option Reply)) → sessions.told_disk ≡ has_disk replies → IsCounted since sessions m → m ≤ n → TellDevice replies since n
-tell_at_last since m n sessions replies told counted more = λ is. risen_still since m n (counted.risen (told ∙ is)) more
+one_counted : (top told before m n : ℕ) → min (told + before) top ≤ m → min (m + 1) top ≤ n → min ((told + 1) + before) top ≤ n
+one_counted top told before m n counted risen = omega (arith, counted, risen)
 
-module _ (rules : Rules) (streams : Streams) (start w new : World) (since m n : ℕ) (sessions : Sessions) where
-  pub runs_whole : HasEnded rules streams start w sessions → EndsSessions w (numbers_of sessions.standing) new → IsCounted since sessions m → m ≤ n
-      → RunsWhole rules streams start since sessions.refused new n
-  unfolding ends_whole ends_printed ends_played
-  runs_whole h ends counted more = record {
-    all = ends_whole rules streams start w new sessions h ends;
-    device = tell_at_last since m n sessions h.printed.played.replies h.printed.played.disk counted more;
-    limits = h.printed.played.limits;
-  }
+still_counted : (top told before m n : ℕ) → min (told + before) top ≤ m → m ≤ n → min ((told + 0) + before) top ≤ n
+still_counted top told before m n counted more = omega (arith, counted, more)
 
-  pub runs_in_part : (fault : ScriptFault) → HasFailed rules streams start fault w sessions → EndsSessions w (numbers_of sessions.standing) new → IsCounted since sessions m → m ≤ n
-      → RunsInPart rules streams start since fault new n
-  unfolding ends_failed ends_broken ends_stopped ends_printed ends_played
-  runs_in_part Memory h ends counted more = absurd h
-  runs_in_part (Reader error) h ends counted more = record {
-    some = ends_failed rules streams start w new (Reader error) sessions h ends;
-    device = tell_at_last since m n sessions h.played.replies h.played.disk counted more;
-    limits = h.played.limits;
-  }
-  runs_in_part (Writer error) h ends counted more = record {
-    some = ends_failed rules streams start w new (Writer error) sessions h ends;
-    device = tell_at_last since m n sessions h.stopped.played.replies h.stopped.played.disk counted more;
-    limits = h.stopped.played.limits;
-  }
+pub told_first : (before : ℕ) → TellDevice [] before before
+told_first before = none_counted (2 ^ 64 - 1) before
+
+-- the count has not fallen
+pub told_on : (replies : List (Option Reply)) (before m n : ℕ) → TellDevice replies before m → m ≤ n → TellDevice replies before n
+told_on replies before m n counted more = le_trans counted more
+
+told_by : (one : Bool) (told before m n : ℕ) → min (told + before) (2 ^ 64 - 1) ≤ m → (one ≡ true → HasRisen m n) → m ≤ n → min ((told + cond one 1 0) + before) (2 ^ 64 - 1) ≤ n
+told_by true told before m n counted risen more = one_counted (2 ^ 64 - 1) told before m n counted (risen refl)
+told_by false told before m n counted risen more = still_counted (2 ^ 64 - 1) told before m n counted more
+
+-- one reply more
+pub told_more : (replies : List (Option Reply)) (reply : Option Reply) (before m n : ℕ) → TellDevice replies before m → (shows_disk reply ≡ true → HasRisen m n) → m ≤ n
+    → TellDevice (replies ++ reply ∷ []) before n
+told_more replies reply before m n counted risen more =
+    subst (λ (told : ℕ). min (told + before) (2 ^ 64 - 1) ≤ n) (sym (sum_by_push (λ (x : Option Reply). cond (shows_disk x) 1 0) replies reply))
+    (told_by (shows_disk reply) (disk_count replies) before m n counted risen more)
+
+-- ---- for those who ask only whether there is one
+
+counted_there : (one : Bool) (told others : ℕ) → told ≡ cond one 1 0 + others → one ≡ true → 1 ≤ told
+counted_there true told others sum is = omega (arith, sum)
+counted_there false told others sum is = absurd (true≢false (sym is))
+
+counted_behind : (one : Bool) (told others : ℕ) → told ≡ cond one 1 0 + others → 1 ≤ others → 1 ≤ told
+counted_behind true told others sum more = omega (arith, sum, more)
+counted_behind false told others sum more = omega (arith, sum, more)
+
+-- some reply is X0002, so at least one is
+one_told : (replies : List (Option Reply)) → has_disk replies ≡ true → 1 ≤ disk_count replies
+one_told [] is = absurd (true≢false (sym is))
+one_told (reply ∷ replies) is = by (shows_disk reply) refl is (λ h. one_told replies h)
+  where
+    sum : disk_count (reply ∷ replies) ≡ cond (shows_disk reply) 1 0 + disk_count replies
+    sum = sum_by-cons (λ (x : Option Reply). cond (shows_disk x) 1 0) reply replies
+
+    by : (one : Bool) → shows_disk reply ≡ one → (one || has_disk replies) ≡ true → (has_disk replies ≡ true → 1 ≤ disk_count replies) → 1 ≤ disk_count (reply ∷ replies)
+    by true e h others = counted_there (shows_disk reply) (disk_count (reply ∷ replies)) (disk_count replies) sum e
+    by false e h others = counted_behind (shows_disk reply) (disk_count (reply ∷ replies)) (disk_count replies) sum (others h)
+
+rises_by : (top told before after : ℕ) → 1 ≤ told → min (told + before) top ≤ after → min (before + 1) top ≤ after
+rises_by top told before after some counted = omega (arith, some, counted)
+
+-- X0002 is among these replies only where the count of refused calls rose
+pub risen_where_told : (replies : List (Option Reply)) (before after : ℕ) → TellDevice replies before after → has_disk replies ≡ true → HasRisen before after
+risen_where_told replies before after counted is = rises_by (2 ^ 64 - 1) (disk_count replies) before after (one_told replies is) counted
+
+-- what was counted between is counted from before it to behind it
+told_between : (top told first before m n : ℕ) → first ≤ before → min (told + before) top ≤ m → m ≤ n → min (told + first) top ≤ n
+told_between top told first before m n less counted more = omega (arith, less, counted, more)
+
+pub told_since : (replies : List (Option Reply)) (first before m n : ℕ) → first ≤ before → TellDevice replies before m → m ≤ n → TellDevice replies first n
+told_since replies first before m n less counted more = told_between (2 ^ 64 - 1) (disk_count replies) first before m n less counted more

@@ -1,6 +1,6 @@
 -- What each call of a core keeps.
-use Rattle.std.proofs.Common.{◌≡◌, refl, ap, sym, subst, ◌∙◌, ℕ, ◌<◌, ◌≤◌, ◌+◌, Bool, true, false, List, [], ◌∷◌, drop, get_or, length, Option, Some, None, Ok}
-use Rattle.std.specs.Prelude.{slice_set, is_some}
+use Rattle.std.proofs.Common.{◌≡◌, ◌≤◌, refl, ap, sym, subst, ◌∙◌, ℕ, Bool, true, false, List, [], ◌∷◌, Option, Some, None, Ok}
+use Rattle.std.specs.Prelude.{is_some}
 use Rattle.std.specs.FinMap.{get}
 use Rattle.lexer.specs.Token.{Bytes}
 use Rattle.ast.specs.declared.statement.AccessMode.{AccessMode}
@@ -12,7 +12,6 @@ use Rattle.session_definitions.specs.Step.{Step}
 use Rattle.session_definitions.specs.World.{Transaction, World, is_live}
 use Rattle.session_laws.specs.Sound.{IsGoodWorld}
 use Rattle.session_laws.proofs.GoodSteps.{good_drops, good_made_or_not}
-use Rattle.session_laws.proofs.Live.{keeps_live}
 use Rattle.store.specs.Stored.{Found, Stored}
 use Rattle.transactions.specs.Orderly.{IsOrderly, WriterIsCurrent}
 use Rattle.transactions.specs.Shown.{Slots, slot_at, session_of, shown}
@@ -24,8 +23,8 @@ use Rattle.sessions.specs.OfCore.{IsSound, number_of, world_of}
 use Rattle.sessions.specs.Seen.{seen_in}
 use Rattle.sessions.proofs.Cores.{live_is}
 use Rattle.sessions.proofs.QuerySteps.{sees}
-use Rattle.scripts.specs.Settled.{IsSettled, IsCommitted, IsKept, Places, HoldAll}
-use Rattle.scripts.proofs.Placed.{held_same, held_made, held_fallen, held_dropped, held_skipped, held_past}
+use Rattle.scripts.specs.Settled.{HasNoSession, IsSettled, IsCommitted, IsKept}
+use Rattle.scripts.proofs.Commits.{same_number, step_grows}
 
 -- ---- databases stay good
 
@@ -54,16 +53,11 @@ same_world shows old new (modes, writer, store) = λ i. shown (store i) (writer 
 module _ {S L D : Type 0} (is_sound : S → Type 0) (shows : S → Stored) (rules : Rules) where
   -- ---- at the beginning and at the end
 
-  pub kept_at_first : (places : Places) (core : Core S L D) → IsSettled is_sound shows rules.check core → IsKept is_sound shows rules.check places core
-  kept_at_first places core h = record {
-    sound = h.sound;
-    good = h.good;
-    held = λ k live. let dead : is_live (world_of shows core) k ≡ false = h.ended k in absurd (cc);
-  }
+  pub kept_at_first : (core : Core S L D) → IsSettled is_sound shows rules.check core → IsKept is_sound shows rules.check core
+  kept_at_first core h = record { sound = h.sound; good = h.good }
 
-  pub settled_at_last : (places : Places) (i : ℕ) (core : Core S L D) → length places ≤ i → IsKept is_sound shows rules.check (drop i places) core
-      → IsSettled is_sound shows rules.check core
-  settled_at_last places i core past h = record { sound = h.sound; good = h.good; ended = held_past places i (world_of shows core) past h.held }
+  pub settled_at_last : (core : Core S L D) → IsKept is_sound shows rules.check core → HasNoSession (world_of shows core) → IsSettled is_sound shows rules.check core
+  settled_at_last core h none = record { sound = h.sound; good = h.good; ended = none }
 
   -- where no session stands, none has written
   pub settled_committed : (core : Core S L D) → IsSettled is_sound shows rules.check core → IsCommitted shows core
@@ -89,66 +83,58 @@ module _ {S L D : Type 0} (is_sound : S → Type 0) (shows : S → Stored) (rule
 
   -- ---- calls
 
-  pub kept_step : KeepsGood rules → (places : Places) (old new : Core S L D) (session : SessionId) (text : Bytes) (reply : Reply)
+  pub kept_step : KeepsGood rules → (old new : Core S L D) (session : SessionId) (text : Bytes) (reply : Reply)
       → (IsSound is_sound shows old → is_live (world_of shows old) (number_of session) ≡ true → IsGood rules.check (seen_in (shows old.store) old.writer (number_of session))
       → Step rules (world_of shows old) (number_of session) text reply (world_of shows new))
       → (IsSound is_sound shows old → IsGood rules.check (seen_in (shows old.store) old.writer (number_of session)) → IsSound is_sound shows new)
       → (is_live (world_of shows old) (number_of session) ≡ false → new ≡ old)
-      → IsKept is_sound shows rules.check places old → IsKept is_sound shows rules.check places new
-  kept_step keeps places old new session text reply step sound ended h = by (is_live (world_of shows old) (number_of session)) refl
+      → IsKept is_sound shows rules.check old → IsKept is_sound shows rules.check new
+  kept_step keeps old new session text reply step sound ended h = by (is_live (world_of shows old) (number_of session)) refl
     where
-      by : (b : Bool) → is_live (world_of shows old) (number_of session) ≡ b → IsKept is_sound shows rules.check places new
+      by : (b : Bool) → is_live (world_of shows old) (number_of session) ≡ b → IsKept is_sound shows rules.check new
       by true live =
           let good = good_seen rules.check (shows old.store) old.writer old.slots.modes (number_of session) h.sound.order live h.good in
           let steps = step h.sound live good in
           record {
             sound = sound h.sound good;
             good = keeps (world_of shows old) (world_of shows new) (record { before = world_of shows old; event = Event.Calls (number_of session) text reply steps.0 } ∷ []) h.good (refl, steps.1);
-            held = held_same places (world_of shows old) (world_of shows new)
-                (keeps_live rules (world_of shows old) (world_of shows new) (number_of session) text reply steps) h.held;
           }
-      by false dead = subst (λ (core : Core S L D). IsKept is_sound shows rules.check places core) (sym (ended dead)) h
+      by false dead = subst (λ (core : Core S L D). IsKept is_sound shows rules.check core) (sym (ended dead)) h
 
-  pub kept_made : (places : Places) (i : ℕ) (session : SessionId) (old new : Core S L D) → i < length places → get_or places i None ≡ None
-      → (IsSound is_sound shows old → MakesSession (world_of shows old) (Ok (number_of session)) (world_of shows new))
-      → (IsSound is_sound shows old → IsSound is_sound shows new)
-      → IsKept is_sound shows rules.check places old → IsKept is_sound shows rules.check (slice_set places i (Some session)) new
-  kept_made places i session old new within empty makes sound h = record {
+  -- no call takes a commit back
+  pub commits_grow : (old new : Core S L D) (session : SessionId) (text : Bytes) (reply : Reply)
+      → (IsSound is_sound shows old → is_live (world_of shows old) (number_of session) ≡ true → IsGood rules.check (seen_in (shows old.store) old.writer (number_of session))
+      → Step rules (world_of shows old) (number_of session) text reply (world_of shows new))
+      → (is_live (world_of shows old) (number_of session) ≡ false → new ≡ old)
+      → IsKept is_sound shows rules.check old → (shows old.store).commits ≤ (shows new.store).commits
+  commits_grow old new session text reply step ended h = by (is_live (world_of shows old) (number_of session)) refl
+    where
+      by : (b : Bool) → is_live (world_of shows old) (number_of session) ≡ b → (shows old.store).commits ≤ (shows new.store).commits
+      by true live =
+          let good = good_seen rules.check (shows old.store) old.writer old.slots.modes (number_of session) h.sound.order live h.good in
+          step_grows rules (world_of shows old) (number_of session) text reply (world_of shows new) (step h.sound live good)
+      by false dead = same_number (shows old.store).commits (shows new.store).commits (sym (ap (λ (core : Core S L D). (shows core.store).commits) (ended dead)))
+
+  pub kept_made : (session : SessionId) (old new : Core S L D) → (IsSound is_sound shows old → MakesSession (world_of shows old) (Ok (number_of session)) (world_of shows new))
+      → (IsSound is_sound shows old → IsSound is_sound shows new) → IsKept is_sound shows rules.check old → IsKept is_sound shows rules.check new
+  kept_made session old new makes sound h = record {
     sound = sound h.sound;
     good = good_made_or_not rules (world_of shows old) (Ok (number_of session)) (world_of shows new) h.good (makes h.sound);
-    held = held_made places i session (world_of shows old) (world_of shows new) within empty (makes h.sound) h.held;
   }
 
   -- what shows the same world is kept alike
-  pub kept_same : (places : Places) (old new : Core S L D) → (new.slots.modes ≡ old.slots.modes) × (new.writer ≡ old.writer) × (shows new.store ≡ shows old.store)
-      → (IsSound is_sound shows old → IsSound is_sound shows new)
-      → IsKept is_sound shows rules.check places old → IsKept is_sound shows rules.check places new
-  kept_same places old new (modes, writer, store) sound h =
+  pub kept_same : (old new : Core S L D) → (new.slots.modes ≡ old.slots.modes) × (new.writer ≡ old.writer) × (shows new.store ≡ shows old.store)
+      → (IsSound is_sound shows old → IsSound is_sound shows new) → IsKept is_sound shows rules.check old → IsKept is_sound shows rules.check new
+  kept_same old new (modes, writer, store) sound h =
       let same : world_of shows old ≡ world_of shows new = λ i. shown (sym store i) (sym writer i) (sym modes i) in
-      record {
-        sound = sound h.sound;
-        good = subst (λ (w : World). IsGoodWorld rules.check w) same h.good;
-        held = subst (λ (w : World). HoldAll places w) same h.held;
-      }
+      record { sound = sound h.sound; good = subst (λ (w : World). IsGoodWorld rules.check w) same h.good }
 
-  -- ---- sessions end, one after another
-
-  pub kept_ended : (places : Places) (i : ℕ) (session : SessionId) (old new : Core S L D) → i < length places → get_or places i None ≡ Some session
+  pub kept_ended : (session : SessionId) (old new : Core S L D)
       → (is_live (world_of shows old) (number_of session) ≡ true → DropsSession (world_of shows old) (number_of session) (world_of shows new))
       → (is_live (world_of shows old) (number_of session) ≡ false → new ≡ old)
-      → (IsSound is_sound shows old → IsSound is_sound shows new)
-      → IsKept is_sound shows rules.check (drop i places) old → IsKept is_sound shows rules.check (drop (i + 1) places) new
-  kept_ended places i session old new within is drops ended sound h = by (is_live (world_of shows old) (number_of session)) refl
+      → (IsSound is_sound shows old → IsSound is_sound shows new) → IsKept is_sound shows rules.check old → IsKept is_sound shows rules.check new
+  kept_ended session old new drops ended sound h = by (is_live (world_of shows old) (number_of session)) refl
     where
-      by : (b : Bool) → is_live (world_of shows old) (number_of session) ≡ b → IsKept is_sound shows rules.check (drop (i + 1) places) new
-      by true live = record {
-        sound = sound h.sound;
-        good = good_drops rules (world_of shows old) (number_of session) (world_of shows new) h.good (drops live);
-        held = held_dropped places i session (world_of shows old) (world_of shows new) within is (drops live) h.held;
-      }
-      by false dead = subst (λ (core : Core S L D). IsKept is_sound shows rules.check (drop (i + 1) places) core) (sym (ended dead))
-          (record { sound = h.sound; good = h.good; held = held_fallen places i session (world_of shows old) within is dead h.held })
-
-  pub kept_skipped : (places : Places) (i : ℕ) (core : Core S L D) → i < length places → get_or places i None ≡ None
-      → IsKept is_sound shows rules.check (drop i places) core → IsKept is_sound shows rules.check (drop (i + 1) places) core
-  kept_skipped places i core within is h = record { sound = h.sound; good = h.good; held = held_skipped places i (world_of shows core) within is h.held }
+      by : (b : Bool) → is_live (world_of shows old) (number_of session) ≡ b → IsKept is_sound shows rules.check new
+      by true live = record { sound = sound h.sound; good = good_drops rules (world_of shows old) (number_of session) (world_of shows new) h.good (drops live) }
+      by false dead = subst (λ (core : Core S L D). IsKept is_sound shows rules.check core) (sym (ended dead)) h

@@ -1,8 +1,10 @@
+pub mod Commits
 pub mod Placed
 pub mod Keeping
 pub mod Standing
 pub mod Pieces
 pub mod Limits
 pub mod Ending
-pub mod Carried
 pub mod Counting
+pub mod Carried
+pub mod Outcomes

@@ -1,5 +1,6 @@
 -- A limit of what the store counts is told only of a piece that may reach it.
-use Rattle.std.proofs.Common.{◌≡◌, ℕ, List, [], ◌∷◌, ◌++◌, Option, Some, None, sym, subst, inl, inr}
+use Rattle.std.proofs.Common.{◌≡◌, ◌≤◌, ℕ, List, [], ◌∷◌, ◌++◌, Option, Some, None, sym, subst, inl, inr}
+use Rattle.std.proofs.Math.Nat.{le_trans}
 use Rattle.refusals.specs.declared.refusal.Refusal.{Refusal}
 use Rattle.refusals.specs.declared.refusal.Refusal.TheVariants as refused
 use Rattle.refusals.specs.declared.refusal.Refusal.TheVariants.{Exceeded}
@@ -20,7 +21,7 @@ use Rattle.sessions.proofs.Limits.{tells_none, told_wider}
 use Rattle.store.specs.declared.error.StoreLimit.{StoreLimit}
 use Rattle.store.specs.declared.error.StoreLimit.TheVariants as reached
 use Rattle.transactions.specs.Refused.{IfRefused, TellsReached, TellsNoLimit}
-use Rattle.scripts.specs.Limits.{MayReach, RequestReaches, PieceReaches, TellsLimits, TellLimits}
+use Rattle.scripts.specs.Limits.{UpTo, MayReach, RequestReaches, PieceReaches, TellsLimits, TellLimits}
 
 -- ---- a call
 
@@ -30,17 +31,17 @@ statement_may counted commits (asks.Commit work) reached.Kept h = tt
 statement_may counted commits (asks.Commit work) which h = h
 statement_may counted commits _ which h = h
 
-pub call_told : (counted : StoreLimit → Type 0) (commits : ℕ) (text : Bytes) (reply : Reply) → IfRefused reply (TellsReached (CallReaches counted commits text))
-    → IfRefused reply (TellsReached (MayReach text))
-call_told counted commits text reply h =
-    told_wider (CallReaches counted commits text) (MayReach text) (λ which h. (commits, (h.0, h.1, statement_may counted commits h.0 which h.2))) reply h
+pub call_told : (may : ℕ → Type 0) (counted : StoreLimit → Type 0) (commits : ℕ) (text : Bytes) (reply : Reply) → may commits → IfRefused reply (TellsReached (CallReaches counted commits text))
+    → IfRefused reply (TellsReached (MayReach may text))
+call_told may counted commits text reply after h =
+    told_wider (CallReaches counted commits text) (MayReach may text) (λ which h. (commits, after, (h.0, h.1, statement_may counted commits h.0 which h.2))) reply h
 
 -- the session was not made
 pub not_made_told : (refusal : Refusal) → refusal ≡ Exceeded limit.Sessions → TellsNoLimit refusal
 not_made_told refusal is = subst TellsNoLimit (sym is) tt
 
-pub none_told : (text : Bytes) (refusal : Refusal) → TellsNoLimit refusal → IfRefused (says.Refused refusal) (TellsReached (MayReach text))
-none_told text refusal h = tells_none (MayReach text) refusal h
+pub none_told : (may : ℕ → Type 0) (text : Bytes) (refusal : Refusal) → TellsNoLimit refusal → IfRefused (says.Refused refusal) (TellsReached (MayReach may text))
+none_told may text refusal h = tells_none (MayReach may text) refusal h
 
 -- ---- a request
 
@@ -49,29 +50,50 @@ flush_tells refused.Memory stops = tt
 flush_tells refused.Disk stops = tt
 flush_tells _ stops = absurd stops
 
-pub flush_told : (request : Request) (reply : Reply) → RepliesToFlush reply → IfRefused reply (TellsReached (RequestReaches request))
-flush_told request reply (inl done) = subst (λ r. IfRefused r (TellsReached (RequestReaches request))) (sym done) tt
-flush_told request reply (inr (refusal, stops, is)) =
-    subst (λ r. IfRefused r (TellsReached (RequestReaches request))) (sym is) (tells_none (RequestReaches request) refusal (flush_tells refusal stops))
+pub flush_told : (may : ℕ → Type 0) (request : Request) (reply : Reply) → RepliesToFlush reply → IfRefused reply (TellsReached (RequestReaches may request))
+flush_told may request reply (inl done) = subst (λ r. IfRefused r (TellsReached (RequestReaches may request))) (sym done) tt
+flush_told may request reply (inr (refusal, stops, is)) =
+    subst (λ r. IfRefused r (TellsReached (RequestReaches may request))) (sym is) (tells_none (RequestReaches may request) refusal (flush_tells refusal stops))
 
-pub request_told : (request : found.Request) (chosen : Option ℕ) (text call : List ℕ) (reply : Reply) → request ≡ found_variants.Calls chosen → call ≡ text
-    → IfRefused reply (TellsReached (MayReach call)) → IfRefused reply (TellsReached (RequestReaches (asked request text)))
-request_told request chosen text call reply is same h =
-    subst (λ (q : found.Request). IfRefused reply (TellsReached (RequestReaches (asked q text)))) (sym is)
-    (told_wider (MayReach call) (RequestReaches (asked (found_variants.Calls chosen) text)) (λ which reaches. reaching chosen which (subst (λ (t : List ℕ). MayReach t which) same reaches)) reply h)
+pub request_told : (may : ℕ → Type 0) (request : found.Request) (chosen : Option ℕ) (text call : List ℕ) (reply : Reply) → request ≡ found_variants.Calls chosen → call ≡ text
+    → IfRefused reply (TellsReached (MayReach may call)) → IfRefused reply (TellsReached (RequestReaches may (asked request text)))
+request_told may request chosen text call reply is same h =
+    subst (λ (q : found.Request). IfRefused reply (TellsReached (RequestReaches may (asked q text)))) (sym is)
+    (told_wider (MayReach may call) (RequestReaches may (asked (found_variants.Calls chosen) text)) (λ which reaches. reaching chosen which (subst (λ (t : List ℕ). MayReach may t which) same reaches)) reply h)
   where
-    reaching : (chosen : Option ℕ) (which : StoreLimit) → MayReach text which → RequestReaches (asked (found_variants.Calls chosen) text) which
+    reaching : (chosen : Option ℕ) (which : StoreLimit) → MayReach may text which → RequestReaches may (asked (found_variants.Calls chosen) text) which
     reaching None which h = h
     reaching (Some session) which h = h
 
 -- ---- a piece
 
-pub piece_told : (piece : List ℕ) (request : Request) (reply : Reply) → Asks piece request → IfRefused reply (TellsReached (RequestReaches request)) → IfRefused reply (TellsReached (PieceReaches piece))
-piece_told piece request reply asks h = told_wider (RequestReaches request) (PieceReaches piece) (λ which reaches. (request, asks, reaches)) reply h
+pub piece_told : (may : ℕ → Type 0) (piece : List ℕ) (request : Request) (reply : Reply) → Asks piece request → IfRefused reply (TellsReached (RequestReaches may request))
+    → IfRefused reply (TellsReached (PieceReaches may piece))
+piece_told may piece request reply asks h = told_wider (RequestReaches may request) (PieceReaches may piece) (λ which reaches. (request, asks, reaches)) reply h
 
-pub limits_more : (pieces : List (List ℕ)) (replies : List (Option Reply)) (piece : List ℕ) (reply : Option Reply) → TellLimits pieces replies → TellsLimits piece reply
-    → TellLimits (pieces ++ piece ∷ []) (replies ++ reply ∷ [])
-limits_more [] [] piece reply h one = (one, tt)
-limits_more (p ∷ pieces) (r ∷ replies) piece reply h one = (h.0, limits_more pieces replies piece reply h.1 one)
-limits_more [] (r ∷ replies) piece reply h one = absurd h
-limits_more (p ∷ pieces) [] piece reply h one = absurd h
+-- ---- the pieces of a script
+
+pub limits_more : (may : ℕ → Type 0) (pieces : List (List ℕ)) (replies : List (Option Reply)) (piece : List ℕ) (reply : Option Reply) → TellLimits may pieces replies → TellsLimits may piece reply
+    → TellLimits may (pieces ++ piece ∷ []) (replies ++ reply ∷ [])
+limits_more may [] [] piece reply h one = (one, tt)
+limits_more may (p ∷ pieces) (r ∷ replies) piece reply h one = (h.0, limits_more may pieces replies piece reply h.1 one)
+limits_more may [] (r ∷ replies) piece reply h one = absurd h
+limits_more may (p ∷ pieces) [] piece reply h one = absurd h
+
+-- what is told after so many commits at most is told after no more than are there later
+
+request_later : (m n : ℕ) → m ≤ n → (request : Request) (which : StoreLimit) → RequestReaches (UpTo m) request which → RequestReaches (UpTo n) request which
+request_later m n more (Request.Calls text) which h = (h.0, le_trans h.1 more, h.2)
+request_later m n more (Request.ChoosesAndCalls session text) which h = (h.0, le_trans h.1 more, h.2)
+request_later m n more _ which h = absurd h
+
+piece_later : (m n : ℕ) → m ≤ n → (piece : List ℕ) (reply : Option Reply) → TellsLimits (UpTo m) piece reply → TellsLimits (UpTo n) piece reply
+piece_later m n more piece (Some reply) h =
+    told_wider (PieceReaches (UpTo m) piece) (PieceReaches (UpTo n) piece) (λ which reaches. (reaches.0, reaches.1, request_later m n more reaches.0 which reaches.2)) reply h
+piece_later m n more piece None h = tt
+
+pub limits_later : (m n : ℕ) → m ≤ n → (pieces : List (List ℕ)) (replies : List (Option Reply)) → TellLimits (UpTo m) pieces replies → TellLimits (UpTo n) pieces replies
+limits_later m n more [] [] h = tt
+limits_later m n more (piece ∷ pieces) (reply ∷ replies) h = (piece_later m n more piece reply h.0, limits_later m n more pieces replies h.1)
+limits_later m n more [] (reply ∷ replies) h = absurd h
+limits_later m n more (piece ∷ pieces) [] h = absurd h

@@ -1,15 +1,13 @@
 -- Which sessions stand, and whether a script has them in its places.
-use Rattle.std.proofs.Common.{◌≡◌, ◌≢◌, ◌⊎◌, refl, ap, sym, ◌∙◌, ℕ, suc, zero, ◌<◌, ◌≤◌, ◌+◌, add-one, Bool, true, false, [], ◌∷◌, drop, drop-cons, get_or, length, Some, None, Ok, inl, inr}
+use Rattle.std.proofs.Common.{◌≡◌, ◌≢◌, ◌⊎◌, refl, ap, sym, ◌∙◌, ℕ, suc, zero, ◌<◌, ◌≤◌, ◌+◌, add-one, Bool, true, false, [], ◌∷◌, drop, drop-cons, get_or, length, Some, None, inl, inr}
 use Rattle.std.specs.Prelude.{slice_get, slice_set}
 use Rattle.std.proofs.lemmas.Bool.{cases_eq}
 use Rattle.std.proofs.lemmas.List.{drop_all}
 use Rattle.std.proofs.lemmas.Option.{slice_get-get_or}
-use Rattle.session_definitions.specs.Run.{MakesSession, DropsSession}
 use Rattle.session_definitions.specs.World.{World, is_live}
-use Rattle.session_laws.proofs.Live.{made_others, dropped_live, dropped_others}
 use Rattle.transactions.proofs.SlotLemmas.{got_set, got_beside}
 use Rattle.sessions.specs.declared.core_of.SessionId.{SessionId}
-use Rattle.sessions.specs.OfCore.{number_of}
+use Rattle.sessions.specs.OfCore.{StandBeside, number_of}
 use Rattle.scripts.specs.Settled.{HasNoSession, Places, IsIn, HoldAll}
 
 -- ---- the same sessions stand
@@ -30,12 +28,12 @@ moved places i session k within empty (IsIn.at_place place other there is) = by 
     by (inr ne) = IsIn.at_place place other (got_beside places i place (Some session) ne ∙ there) is
 
 pub held_made : (places : Places) (i : ℕ) (session : SessionId) (old new : World) → i < length places → get_or places i None ≡ None
-    → MakesSession old (Ok (number_of session)) new → HoldAll places old → HoldAll (slice_set places i (Some session)) new
-held_made places i session old new within empty made held k live = by (cases_eq k (number_of session))
+    → StandBeside (number_of session) old new → HoldAll places old → HoldAll (slice_set places i (Some session)) new
+held_made places i session old new within empty beside held k live = by (cases_eq k (number_of session))
   where
     by : (k ≡ number_of session) ⊎ (k ≡ number_of session → ⊥) → IsIn (slice_set places i (Some session)) k
     by (inl same) = IsIn.at_place i session (got_set places i (Some session) within) (sym same)
-    by (inr ne) = moved places i session k within empty (held k (sym (made_others old new (number_of session) k made ne) ∙ live))
+    by (inr ne) = moved places i session k within empty (held k (sym (beside k ne) ∙ live))
 
 -- ---- sessions end, one after another
 
@@ -62,30 +60,20 @@ after_other : (session : SessionId) (others : Places) (k : ℕ) → k ≢ number
 after_other session others k ne (IsIn.at_place zero other there is) = absurd (ne (sym is ∙ sym (ap (λ (s : SessionId). s.number) (unwrapped session other there))))
 after_other session others k ne (IsIn.at_place (suc place) other there is) = IsIn.at_place place other there is
 
--- the session of the first place does not stand
-fallen : (session : SessionId) (others : Places) (w : World) → is_live w (number_of session) ≡ false → HoldAll (Some session ∷ others) w → HoldAll others w
-fallen session others w dead held k live =
-    after_other session others k (λ same. let stands : is_live w (number_of session) ≡ true = ap (is_live w) (sym same) ∙ live in absurd (cc)) (held k live)
-
-dropped : (session : SessionId) (others : Places) (old new : World) → DropsSession old (number_of session) new → HoldAll (Some session ∷ others) old → HoldAll others new
-dropped session others old new drops held k live =
-    let ne : k ≢ number_of session = λ same. let stands : is_live new (number_of session) ≡ true = ap (is_live new) (sym same) ∙ live in
-    let dead : is_live new (number_of session) ≡ false = dropped_live old new (number_of session) drops in absurd (cc) in
-    after_other session others k ne (held k (sym (dropped_others old new (number_of session) k drops ne) ∙ live))
+-- the session of the first place has ended
+ended_first : (session : SessionId) (others : Places) (old new : World) → is_live new (number_of session) ≡ false → StandBeside (number_of session) old new
+    → HoldAll (Some session ∷ others) old → HoldAll others new
+ended_first session others old new dead beside held k live =
+    let ne : k ≢ number_of session = λ same. let stands : is_live new (number_of session) ≡ true = ap (is_live new) (sym same) ∙ live in absurd (cc) in
+    after_other session others k ne (held k (sym (beside k ne) ∙ live))
 
 -- a place of the list, and the places after it
 
-pub held_fallen : (places : Places) (i : ℕ) (session : SessionId) (w : World) → i < length places → get_or places i None ≡ Some session
-    → is_live w (number_of session) ≡ false → HoldAll (drop i places) w → HoldAll (drop (i + 1) places) w
-held_fallen places i session w within is dead held =
+pub held_ended : (places : Places) (i : ℕ) (session : SessionId) (old new : World) → i < length places → get_or places i None ≡ Some session
+    → is_live new (number_of session) ≡ false → StandBeside (number_of session) old new → HoldAll (drop i places) old → HoldAll (drop (i + 1) places) new
+held_ended places i session old new within is dead beside held =
     let split : drop i places ≡ Some session ∷ drop (suc i) places = drop-cons places i None within ∙ ap (λ x. x ∷ drop (suc i) places) is in
-    rw add-one (fallen session (drop (suc i) places) w dead (rw split at held))
-
-pub held_dropped : (places : Places) (i : ℕ) (session : SessionId) (old new : World) → i < length places → get_or places i None ≡ Some session
-    → DropsSession old (number_of session) new → HoldAll (drop i places) old → HoldAll (drop (i + 1) places) new
-held_dropped places i session old new within is drops held =
-    let split : drop i places ≡ Some session ∷ drop (suc i) places = drop-cons places i None within ∙ ap (λ x. x ∷ drop (suc i) places) is in
-    rw add-one (dropped session (drop (suc i) places) old new drops (rw split at held))
+    rw add-one (ended_first session (drop (suc i) places) old new dead beside (rw split at held))
 
 pub held_skipped : (places : Places) (i : ℕ) (w : World) → i < length places → get_or places i None ≡ None
     → HoldAll (drop i places) w → HoldAll (drop (i + 1) places) w
@@ -95,3 +83,8 @@ held_skipped places i w within is held =
 
 pub held_past : (places : Places) (i : ℕ) (w : World) → length places ≤ i → HoldAll (drop i places) w → HasNoSession w
 held_past places i w past held = held_by_none w (rw (drop_all i places past) at held)
+
+-- ---- none stands
+
+pub held_at_first : (places : Places) (w : World) → HasNoSession w → HoldAll places w
+held_at_first places w none k live = let dead : is_live w k ≡ false = none k in absurd (cc)

@@ -1,12 +1,10 @@
 -- Which replies say that the device refused, and when they come.
-use Rattle.std.specs.Prelude.{◌≡◌, ℕ, ◌≤◌, Bool, true, false, List, Option, Some, None}
+use Rattle.std.specs.Prelude.{ℕ, ◌+◌, ◌-◌, ◌^◌, ◌≤◌, min, count_by, Bool, true, false, List, Option, Some, None}
 use Rattle.std.specs.List.{list_any}
 use Rattle.refusals.specs.declared.refusal.Refusal.{Refusal}
 use Rattle.refusals.specs.declared.refusal.Refusal.TheVariants.{Disk}
 use Rattle.replies.specs.declared.reply.Reply.{Reply}
 use Rattle.replies.specs.declared.reply.Reply.TheVariants as says
-use Rattle.store.specs.Errors.{HasRisen}
-use Rattle.scripts.specs.declared.script.Sessions.{Sessions}
 
 -- X0002
 abbrev pub is_disk : Refusal → Bool
@@ -26,13 +24,10 @@ shows_disk None = false
 abbrev pub has_disk : List (Option Reply) → Bool
 has_disk = list_any shows_disk
 
--- X0002 is among these replies only where the count of refused calls rose from the one to the other.
+-- and how many do
+abbrev pub disk_count : List (Option Reply) → ℕ
+disk_count = count_by shows_disk
+
+-- Each X0002 among these replies has a refused call of its own: the count of refused calls rose by as many from the one to the other, or stands at its greatest.
 abbrev pub TellDevice : List (Option Reply) → ℕ → ℕ → Type 0
-TellDevice replies before after = has_disk replies ≡ true → HasRisen before after
-
--- ---- while a script runs
-
--- The count has not fallen since the script began, and rose where a reply was X0002.
-pub record IsCounted (since : ℕ) (sessions : Sessions) (count : ℕ) : Type 0 where
-  pub least : since ≤ count
-  pub risen : sessions.told_disk ≡ true → HasRisen since count
+TellDevice replies before after = min (disk_count replies + before) (2 ^ 64 - 1) ≤ after

@@ -10,7 +10,7 @@ use Rattle.session_definitions.specs.World.{World}
 use Rattle.scripts.specs.declared.script.ScriptFault.{ScriptFault}
 use Rattle.scripts.specs.declared.script.ScriptFault.TheVariants.{Memory, Reader, Writer}
 use Rattle.scripts.specs.Device.{TellDevice}
-use Rattle.scripts.specs.Limits.{TellLimits}
+use Rattle.scripts.specs.Limits.{UpTo, TellLimits}
 
 -- Of a reader the bytes that it had, and those that it has left; of a writer the bytes that it held, and those that it holds: each where
 -- its type tells them.
@@ -83,17 +83,17 @@ replies_before rules streams old (Writer error) new early = early.stopped.replie
 
 -- ---- over a store, whose device had refused `before` calls, and has refused `after` then
 
--- All was carried out, X0002 told only where the device refused a call, and a limit of the store only of what may reach it.
+-- All was carried out, X0002 told only where the device refused a call, and a limit of the store only of what may reach it after no more commits than there are at the end.
 pub record RunsWhole (rules : Rules) (streams : Streams) (old : World) (before : ℕ) (refused : Bool) (new : World) (after : ℕ) : Type 0 where
   pub all : IsWhole rules streams old refused new
   pub device : TellDevice all.printed.played.replies before after
-  pub limits : TellLimits all.printed.pieces all.printed.played.replies
+  pub limits : TellLimits (UpTo new.commits) all.printed.pieces all.printed.played.replies
 
--- A fault ended it; X0002 was told only where the device refused a call, and a limit of the store only of what may reach it.
+-- A fault ended it; X0002 was told only where the device refused a call, and a limit of the store only of what may reach it after no more commits than there are at the end.
 pub record RunsInPart (rules : Rules) (streams : Streams) (old : World) (before : ℕ) (fault : ScriptFault) (new : World) (after : ℕ) : Type 0 where
   pub some : EndsEarly rules streams old fault new
   pub device : TellDevice (replies_before rules streams old fault new some) before after
-  pub limits : TellLimits (pieces_before rules streams old fault new some) (replies_before rules streams old fault new some)
+  pub limits : TellLimits (UpTo new.commits) (pieces_before rules streams old fault new some) (replies_before rules streams old fault new some)
 
 -- no script ends since a read or a write was interrupted: it is tried again
 abbrev pub IsNotInterrupted : ScriptFault → Type 0

@@ -1,5 +1,6 @@
 -- Where a script stands between its pieces: words of the proof, of which none stands in the contract of `run`.
-use Rattle.std.specs.Prelude.{◌≡◌, ◌≢◌, ◌<◌, ◌||◌, ℕ, ◌+◌, Bool, true, false, List, [], ◌∷◌, ◌++◌, get_or, length, slice_set, Option, Some, None, Ok, Err}
+use Rattle.std.specs.Prelude.{◌≡◌, ◌≢◌, ◌<◌, ◌≤◌, ◌||◌, ℕ, ◌+◌, Bool, true, false, List, [], ◌∷◌, ◌++◌, get_or, length, slice_set, Option, Some, None, Ok, Err}
+use Rattle.std.specs.Option.{ForSome}
 use Rattle.std.specs.Ordering.{nat_cmp}
 use Rattle.std.specs.FinMap.{FinMap, insert, empty}
 use Rattle.std.specs.Io.KnownBytes.{Appends, Consumes, IsAtEnd}
@@ -14,15 +15,17 @@ use Rattle.session_definitions.specs.Rules.{Rules}
 use Rattle.session_definitions.specs.Run.{MakesSession}
 use Rattle.session_definitions.specs.Script.{Scene, Performs, ArePlayed, first_scene, has_refusal, is_refused, printed_replies}
 use Rattle.session_definitions.specs.World.{World, is_live}
+use Rattle.store.specs.Errors.{HasRisen}
 use Rattle.sessions.specs.declared.core_of.SessionId.{SessionId}
 use Rattle.sessions.specs.OfCore.{number_of}
 use Rattle.scripts.specs.declared.script.ScriptFault.{ScriptFault}
 use Rattle.scripts.specs.declared.script.ScriptFault.TheVariants.{Memory, Reader, Writer}
 use Rattle.scripts.specs.declared.script.Sessions.{Sessions}
 use Rattle.scripts.specs.Settled.{Places}
-use Rattle.scripts.specs.Device.{has_disk, shows_disk}
-use Rattle.scripts.specs.Limits.{TellsLimits, TellLimits}
-use Rattle.scripts.specs.Played.{Streams, ArePiecesSoFar, AreWrittenButLast}
+use Rattle.scripts.specs.Device.{TellDevice, shows_disk}
+use Rattle.scripts.specs.Limits.{Ever, UpTo, TellsLimits, TellLimits}
+use Rattle.scripts.specs.Played.{ArePiecesSoFar, AreWrittenButLast}
+use Rattle.scripts.specs.Shown.{Prints, AreReplied}
 
 -- ---- the sessions of a script
 
@@ -70,17 +73,20 @@ pub record FindsNone (old : World) (before : Sessions) (refusal : Refusal) (new 
 
 -- ---- a piece
 
--- A piece was carried out, and its reply written: all of it where the writer did not refuse.
-pub record IsCarriedOut (rules : Rules) (piece : List ℕ) (old : World) (before : Sessions) (new : World) (after : Sessions) (held holds : Option (List ℕ)) (is_done : Bool) : Type 0 where
+-- A piece was carried out, and its reply written: all of it where the writer did not refuse. The device had refused m calls before, and has refused n then. Where rules are known, what the
+-- piece asks for was done by them.
+pub record IsCarriedOut (known : Option Rules) (piece : List ℕ) (old : World) (before : Sessions) (new : World) (after : Sessions) (held holds : Option (List ℕ)) (m n : ℕ) (is_done : Bool) : Type 0 where
   pub request : Request
   pub asks : Asks piece request
   pub reply : Option Reply
-  pub performs : Performs rules (scene_of old before) request reply (scene_of new after)
-  pub ready : IsReady new after
+  pub prints : Prints request reply
+  pub performs : ForSome known (λ rules. IsReady old before → Performs rules (scene_of old before) request reply (scene_of new after) × IsReady new after)
   pub answer : after.refused ≡ (before.refused || is_refused reply)
-  pub disk : after.told_disk ≡ (before.told_disk || shows_disk reply)
   pub written : Writes held holds is_done (printed_replies (reply ∷ []))
-  pub limits : TellsLimits piece reply
+  pub device : shows_disk reply ≡ true → HasRisen m n
+  pub counts : m ≤ n
+  pub limits : TellsLimits Ever piece reply
+  pub within : ForSome known (λ _. TellsLimits (UpTo new.commits) piece reply)
 
 -- ---- the pieces so far
 
@@ -103,75 +109,85 @@ pub record HasCut (input : List ℕ) (pieces : List (List ℕ)) (cutter : Cutter
   pub ended : AreEndedPieces pieces
   pub has_read : HasRead bytes cutter
 
--- From the world `start` these pieces were carried out, and of the text that they print `unwritten` was not written, which is the last one's.
-pub record HasPlayed (rules : Rules) (start : World) (held : Option (List ℕ)) (pieces : List (List ℕ)) (unwritten : List ℕ) (w : World) (sessions : Sessions) (holds : Option (List ℕ)) : Type 0 where
+-- What a script begins with: the rules that are known, if any; the world; what the reader gives and the writer holds; and how many calls the device has refused.
+pub record Start : Type 0 where
+  pub known : Option Rules
+  pub world : World
+  pub given : Option (List ℕ)
+  pub held : Option (List ℕ)
+  pub refused : ℕ
+
+-- These pieces were carried out, and of the text that they print `unwritten` was not written, which is the last one's. Where rules are known, it was done by them. The device has refused `count` calls.
+pub record HasPlayed (start : Start) (pieces : List (List ℕ)) (unwritten : List ℕ) (w : World) (sessions : Sessions) (holds : Option (List ℕ)) (count : ℕ) : Type 0 where
   pub replies : List (Option Reply)
-  pub carried_out : ArePlayed rules (first_scene start) pieces replies (scene_of w sessions)
-  pub ready : IsReady w sessions
+  pub replied : AreReplied pieces replies
+  pub carried_out : ForSome start.known (λ rules. ArePlayed rules (first_scene start.world) pieces replies (scene_of w sessions))
+  pub ready : ForSome start.known (λ _. IsReady w sessions)
   pub answer : sessions.refused ≡ has_refusal replies
-  pub disk : sessions.told_disk ≡ has_disk replies
   pub written : List ℕ
   pub text : printed_replies replies ≡ written ++ unwritten
-  pub taken : Appends held holds written
+  pub taken : Appends start.held holds written
   pub at_last : AreWrittenButLast replies written
-  pub limits : TellLimits pieces replies
+  pub device : TellDevice replies start.refused count
+  pub limits : TellLimits Ever pieces replies
+  pub within : ForSome start.known (λ _. TellLimits (UpTo w.commits) pieces replies)
 
 -- the pieces that end in this input were carried out, and all that they print was written
-pub record IsPlaying (rules : Rules) (start : World) (held : Option (List ℕ)) (input : List ℕ) (w : World) (cutter : Cutter) (sessions : Sessions) (holds : Option (List ℕ)) : Type 0 where
+pub record IsPlaying (start : Start) (input : List ℕ) (w : World) (cutter : Cutter) (sessions : Sessions) (holds : Option (List ℕ)) (count : ℕ) : Type 0 where
   pub pieces : List (List ℕ)
   pub cut : HasCut input pieces cutter
-  pub played : HasPlayed rules start held pieces [] w sessions holds
+  pub played : HasPlayed start pieces [] w sessions holds count
 
 -- the writer refused at one of the pieces, and those behind it were not carried out
-pub record HasStopped (rules : Rules) (start : World) (held : Option (List ℕ)) (cuts : List (List ℕ) → Type 0) (w : World) (sessions : Sessions) (holds : Option (List ℕ)) : Type 0 where
+pub record HasStopped (start : Start) (cuts : List (List ℕ) → Type 0) (w : World) (sessions : Sessions) (holds : Option (List ℕ)) (count : ℕ) : Type 0 where
   pub done : List (List ℕ)
   pub later : List (List ℕ)
   pub cut : cuts (done ++ later)
   pub unwritten : List ℕ
-  pub played : HasPlayed rules start held done unwritten w sessions holds
+  pub played : HasPlayed start done unwritten w sessions holds count
 
 -- All pieces of the input were carried out, of which the last may lack its semicolon.
-pub record HasFinished (rules : Rules) (start : World) (held : Option (List ℕ)) (input : List ℕ) (is_done : Bool) (w : World) (sessions : Sessions) (holds : Option (List ℕ)) : Type 0 where
+pub record HasFinished (start : Start) (input : List ℕ) (is_done : Bool) (w : World) (sessions : Sessions) (holds : Option (List ℕ)) (count : ℕ) : Type 0 where
   pub pieces : List (List ℕ)
   pub cut : ArePieces input pieces
   pub unwritten : List ℕ
   pub complete : is_done ≡ true → unwritten ≡ []
-  pub played : HasPlayed rules start held pieces unwritten w sessions holds
+  pub played : HasPlayed start pieces unwritten w sessions holds count
 
--- ---- the whole input
+-- ---- the whole input, of which the reader has `left`
 
 -- what was read has these pieces, which were carried out
-pub record HasPrinted (rules : Rules) (cuts : List ℕ → List (List ℕ) → Type 0) (streams : Streams) (start w : World) (sessions : Sessions) : Type 0 where
+pub record HasPrinted (start : Start) (cuts : List ℕ → List (List ℕ) → Type 0) (left : Option (List ℕ)) (w : World) (sessions : Sessions) (holds : Option (List ℕ)) (count : ℕ) : Type 0 where
   pub input : List ℕ
-  pub read : Consumes streams.given streams.left input
+  pub read : Consumes start.given left input
   pub pieces : List (List ℕ)
   pub cut : cuts input pieces
-  pub played : HasPlayed rules start streams.held pieces [] w sessions streams.holds
+  pub played : HasPlayed start pieces [] w sessions holds count
 
 -- the pieces that end in what was read were carried out, and the input may go on
-pub record IsReading (rules : Rules) (streams : Streams) (start w : World) (cutter : Cutter) (sessions : Sessions) : Type 0 where
+pub record IsReading (start : Start) (left : Option (List ℕ)) (w : World) (cutter : Cutter) (sessions : Sessions) (holds : Option (List ℕ)) (count : ℕ) : Type 0 where
   pub input : List ℕ
-  pub read : Consumes streams.given streams.left input
-  pub playing : IsPlaying rules start streams.held input w cutter sessions streams.holds
+  pub read : Consumes start.given left input
+  pub playing : IsPlaying start input w cutter sessions holds count
 
 -- the writer refused at one of the pieces
-pub record HasBroken (rules : Rules) (streams : Streams) (start w : World) (sessions : Sessions) : Type 0 where
+pub record HasBroken (start : Start) (left : Option (List ℕ)) (w : World) (sessions : Sessions) (holds : Option (List ℕ)) (count : ℕ) : Type 0 where
   pub input : List ℕ
-  pub read : Consumes streams.given streams.left input
-  pub stopped : HasStopped rules start streams.held (ArePiecesSoFar streams.left input) w sessions streams.holds
+  pub read : Consumes start.given left input
+  pub stopped : HasStopped start (ArePiecesSoFar left input) w sessions holds count
 
 -- the input was read to its end, and all its pieces were carried out
-pub record HasEnded (rules : Rules) (streams : Streams) (start w : World) (sessions : Sessions) : Type 0 where
-  pub all : IsAtEnd streams.left
-  pub printed : HasPrinted rules ArePieces streams start w sessions
+pub record HasEnded (start : Start) (left : Option (List ℕ)) (w : World) (sessions : Sessions) (holds : Option (List ℕ)) (count : ℕ) : Type 0 where
+  pub all : IsAtEnd left
+  pub printed : HasPrinted start ArePieces left w sessions holds count
 
 -- whether the input may go on after a turn
-abbrev pub AfterTurn : Bool → Rules → Streams → World → World → Cutter → Sessions → Type 0
-AfterTurn true rules streams start w cutter sessions = IsReading rules streams start w cutter sessions
-AfterTurn false rules streams start w cutter sessions = HasEnded rules streams start w sessions
+abbrev pub AfterTurn : Bool → Start → Option (List ℕ) → World → Cutter → Sessions → Option (List ℕ) → ℕ → Type 0
+AfterTurn true start left w cutter sessions holds count = IsReading start left w cutter sessions holds count
+AfterTurn false start left w cutter sessions holds count = HasEnded start left w sessions holds count
 
 -- what a fault leaves before the sessions end
-abbrev pub HasFailed : Rules → Streams → World → ScriptFault → World → Sessions → Type 0
-HasFailed rules streams start Memory w sessions = ⊥
-HasFailed rules streams start (Reader error) w sessions = HasPrinted rules AreEnded streams start w sessions
-HasFailed rules streams start (Writer error) w sessions = HasBroken rules streams start w sessions
+abbrev pub HasFailed : Start → ScriptFault → Option (List ℕ) → World → Sessions → Option (List ℕ) → ℕ → Type 0
+HasFailed start Memory left w sessions holds count = ⊥
+HasFailed start (Reader error) left w sessions holds count = HasPrinted start AreEnded left w sessions holds count
+HasFailed start (Writer error) left w sessions holds count = HasBroken start left w sessions holds count

@@ -1,6 +1,8 @@
 -- What a script leaves of a core, and what holds of it while one runs.
 use Rattle.std.specs.Prelude.{◌≡◌, ℕ, true, false, List, slice_get, Option, Some}
+use Rattle.std.specs.Option.{ForSome}
 use Rattle.denote.specs.Database.{CheckReading}
+use Rattle.session_definitions.specs.Rules.{Rules, AreRules}
 use Rattle.session_definitions.specs.World.{World, is_live}
 use Rattle.session_laws.specs.Sound.{IsGoodWorld}
 use Rattle.store.specs.Stored.{Stored}
@@ -39,8 +41,11 @@ pub data IsIn (places : Places) (k : ℕ) : Type 0 where
 abbrev pub HoldAll : Places → World → Type 0
 HoldAll places w = (k : ℕ) → is_live w k ≡ true → IsIn places k
 
--- The core is sound, its databases are good, and the script has each session that stands in it.
-pub record IsKept {S L D : Type 0} (is_sound : S → Type 0) (shows : S → Stored) (reading : CheckReading) (places : Places) (core : Core S L D) : Type 0 where
+-- The core is sound, and its databases are good.
+pub record IsKept {S L D : Type 0} (is_sound : S → Type 0) (shows : S → Stored) (reading : CheckReading) (core : Core S L D) : Type 0 where
   pub sound : IsSound is_sound shows core
   pub good : IsGoodWorld reading (world_of shows core)
-  pub held : HoldAll places (world_of shows core)
+
+-- where rules are known: they are those of names and types, and the core is sound and good by them
+abbrev pub IsKeptBy : {S L D : Type 0} → (S → Type 0) → (S → Stored) → Option Rules → Core S L D → Type 0
+IsKeptBy is_sound shows known core = ForSome known (λ rules. AreRules rules × IsKept is_sound shows rules.check core)

@@ -7,14 +7,13 @@ ghost use Rattle.script_pieces.specs.Pieces.{AreEnded};
 ghost use Rattle.script_pieces.specs.Cutter.{asked, call_text};
 ghost use Rattle.session_definitions.specs.Rules.{Rules, AreRules};
 ghost use Rattle.session_definitions.specs.Script.{EndsSessions, Performs, Plays, RepliesToFlush};
-ghost use Rattle.session_definitions.specs.World.{World};
 ghost use Rattle.sessions.specs.OfCore.{IsSound, world_of};
 ghost use Rattle.transactions.specs.Refused.{Counts, IfRefused, TellsReached};
-ghost use Rattle.scripts.specs.Settled.{IsCommitted, IsKept, IsSettled, Places, store_of};
-ghost use Rattle.scripts.specs.Device.{IsCounted, tells_disk};
-ghost use Rattle.scripts.specs.Limits.{MayReach, RequestReaches};
+ghost use Rattle.scripts.specs.Settled.{HasNoSession, HoldAll, IsCommitted, IsKept, IsKeptBy, IsSettled, store_of};
+ghost use Rattle.scripts.specs.Limits.{Ever, MayReach, RequestReaches, UpTo};
 ghost use Rattle.scripts.specs.Played.{between, IsNotInterrupted, RunsInPart, RunsWhole};
-ghost use Rattle.scripts.specs.Playing.{AfterTurn, AreLive, FindsNone, FindsSession, HasEnded, HasFailed, HasFinished, HasStopped, IsCarriedOut, IsPlaying, IsReading, IsReady, numbers_of, scene_of};
+ghost use Rattle.scripts.specs.Shown.{Prints, ShowsEarly, ShowsWhole};
+ghost use Rattle.scripts.specs.Playing.{AfterTurn, AreLive, FindsNone, FindsSession, HasEnded, HasFailed, HasFinished, HasStopped, IsCarriedOut, IsPlaying, IsReading, IsReady, Start, numbers_of, scene_of};
 
 use refusals::{Reason, Refusal};
 use replies::{Reply, print_reply};
@@ -47,37 +46,42 @@ pub enum ScriptFault {
     Writer(io::Error),
 }
 
-/// The sessions of a script, the one that is chosen, and whether a reply was a refusal, and one the device's.
+/// The sessions of a script, the one that is chosen, and whether a reply was a refusal.
 #[derive(Drop)]
 struct Sessions {
     standing: [Option<SessionId>; SESSIONS],
     /// Its place among them, one less than its number.
     chosen: usize,
     refused: bool,
-    /// Whether a reply was X0002.
-    told_disk: bool,
 }
 
 /// Reads a script, makes the calls of its pieces in order and prints each reply; then ends its sessions.
 ///
 /// The answer tells whether a reply was a refusal. After a fault of the reader only the pieces that ended
 /// before it were carried out, and after one of the writer no later piece; of the text of the replies a beginning
-/// was then written. A read or a write that was interrupted is tried again. However it ends, what is not committed
-/// is rolled back: where no session stood before, none stands after it. A reply is X0002 only where the device
-/// refused a call; the limits `pages`, `private` and `kept` are told only of a change, or of a COMMIT.
+/// was then written. Without memory nothing is read, written or called. A read or a write that was interrupted is
+/// tried again. However it ends, what is not committed is rolled back: where no session stood before, none stands
+/// after it. Each reply X0002 has a call of its own that the device refused; the limits `pages`, `private` and
+/// `kept` are told only of a change, or of a COMMIT.
 pub fn run<S: Store, L: Language + Changes<S>, R: Read, W: Write>(
     alloc: Global,
     core: &mut Core<S, L>,
     reader: &mut R,
     writer: &mut W,
 ) -> Result<bool, ScriptFault>
+    ensures shows { MatchResult result (λ refused. ShowsWhole (between (R.remaining reader.old) (R.remaining reader.new) (W.contents writer.old) (W.contents writer.new))
+        (S.refused (store_of core.old)) refused (S.refused (store_of core.new)))
+        (λ fault. ShowsEarly (between (R.remaining reader.old) (R.remaining reader.new) (W.contents writer.old) (W.contents writer.new))
+        (S.refused (store_of core.old)) fault (S.refused (store_of core.new))) }
     ensures plays { (rules : Rules) → AreRules rules → IsSettled S.is_sound S.shows rules.check core.old
         → IfOk result (λ refused. RunsWhole rules (between (R.remaining reader.old) (R.remaining reader.new) (W.contents writer.old) (W.contents writer.new)) (world_of S.shows core.old)
         (S.refused (store_of core.old)) refused (world_of S.shows core.new) (S.refused (store_of core.new))) }
     ensures stopped { (rules : Rules) → AreRules rules → IsSettled S.is_sound S.shows rules.check core.old
         → IfErr result (λ fault. RunsInPart rules (between (R.remaining reader.old) (R.remaining reader.new) (W.contents writer.old) (W.contents writer.new)) (world_of S.shows core.old)
         (S.refused (store_of core.old)) fault (world_of S.shows core.new) (S.refused (store_of core.new))) }
+    ensures untouched { IfErr result (λ fault. fault ≡ ScriptFault.Memory → (reader.new ≡ reader.old) × (writer.new ≡ writer.old) × (core.new ≡ core.old)) }
     ensures tried_again { IfErr result IsNotInterrupted }
+    ensures ended { HasNoSession (world_of S.shows core.old) → HasNoSession (world_of S.shows core.new) }
     ensures settled { (rules : Rules) → AreRules rules → IsSettled S.is_sound S.shows rules.check core.old → IsSettled S.is_sound S.shows rules.check core.new }
     ensures committed { (rules : Rules) → AreRules rules → IsSettled S.is_sound S.shows rules.check core.old → IsCommitted S.shows core.new }
     ensures counts { S.refused (store_of core.old) ≤ S.refused (store_of core.new) }
@@ -90,7 +94,6 @@ pub fn run<S: Store, L: Language + Changes<S>, R: Read, W: Write>(
         standing: [None; SESSIONS],
         chosen: 0,
         refused: false,
-        told_disk: false,
     };
     let mut waits = false;
     let outcome = play(core, &mut cutter, &mut sessions, reader, writer, &mut waits);
@@ -113,13 +116,13 @@ fn play<S: Store, L: Language + Changes<S>, R: Read, W: Write>(
 ) -> Result<(), ScriptFault>
     requires { waits.old ≡ false }
     ensures flushed { IfOk result (λ _. waits.new ≡ false) }
-    ensures plays { (rules : Rules) (start : World) (given held : Option (List ℕ)) → AreRules rules → IsKept S.is_sound S.shows rules.check sessions.old.standing core.old
-        → IsReading rules (between given (R.remaining reader.old) held (W.contents writer.old)) start (world_of S.shows core.old) cutter.old sessions.old
-        → MatchResult result (λ _. HasEnded rules (between given (R.remaining reader.new) held (W.contents writer.new)) start (world_of S.shows core.new) sessions.new)
-        (λ fault. HasFailed rules (between given (R.remaining reader.new) held (W.contents writer.new)) start fault (world_of S.shows core.new) sessions.new) }
+    ensures plays { (start : Start) → IsKeptBy S.is_sound S.shows start.known core.old
+        → IsReading start (R.remaining reader.old) (world_of S.shows core.old) cutter.old sessions.old (W.contents writer.old) (S.refused (store_of core.old))
+        → MatchResult result (λ _. HasEnded start (R.remaining reader.new) (world_of S.shows core.new) sessions.new (W.contents writer.new) (S.refused (store_of core.new)))
+        (λ fault. HasFailed start fault (R.remaining reader.new) (world_of S.shows core.new) sessions.new (W.contents writer.new) (S.refused (store_of core.new))) }
     ensures tried_again { IfErr result IsNotInterrupted }
-    ensures kept { (rules : Rules) → AreRules rules → IsKept S.is_sound S.shows rules.check sessions.old.standing core.old → IsKept S.is_sound S.shows rules.check sessions.new.standing core.new }
-    ensures device { (since : ℕ) → IsCounted since sessions.old (S.refused (store_of core.old)) → IsCounted since sessions.new (S.refused (store_of core.new)) }
+    ensures kept { (rules : Rules) → AreRules rules → IsKept S.is_sound S.shows rules.check core.old → IsKept S.is_sound S.shows rules.check core.new }
+    ensures held { HoldAll sessions.old.standing (world_of S.shows core.old) → HoldAll sessions.new.standing (world_of S.shows core.new) }
     ensures counts { S.refused (store_of core.old) ≤ S.refused (store_of core.new) }
 {
     let mut chunk = [0u8; CHUNK];
@@ -145,14 +148,15 @@ fn turn<S: Store, L: Language + Changes<S>, R: Read, W: Write>(
 ) -> Result<bool, ScriptFault>
     requires { (0 < length chunk.old) × (waits.old ≡ false) }
     ensures flushed { IfOk result (λ _. waits.new ≡ false) }
-    ensures plays { (rules : Rules) (start : World) (given held : Option (List ℕ)) → AreRules rules → IsKept S.is_sound S.shows rules.check sessions.old.standing core.old
-        → IsReading rules (between given (R.remaining reader.old) held (W.contents writer.old)) start (world_of S.shows core.old) cutter.old sessions.old
-        → MatchResult result (λ goes_on. AfterTurn goes_on rules (between given (R.remaining reader.new) held (W.contents writer.new)) start (world_of S.shows core.new) cutter.new sessions.new)
-        (λ fault. HasFailed rules (between given (R.remaining reader.new) held (W.contents writer.new)) start fault (world_of S.shows core.new) sessions.new) }
+    ensures plays { (start : Start) → IsKeptBy S.is_sound S.shows start.known core.old
+        → IsReading start (R.remaining reader.old) (world_of S.shows core.old) cutter.old sessions.old (W.contents writer.old) (S.refused (store_of core.old))
+        → MatchResult result
+        (λ goes_on. AfterTurn goes_on start (R.remaining reader.new) (world_of S.shows core.new) cutter.new sessions.new (W.contents writer.new) (S.refused (store_of core.new)))
+        (λ fault. HasFailed start fault (R.remaining reader.new) (world_of S.shows core.new) sessions.new (W.contents writer.new) (S.refused (store_of core.new))) }
     ensures tried_again { IfErr result IsNotInterrupted }
     ensures room { length chunk.new ≡ length chunk.old }
-    ensures kept { (rules : Rules) → AreRules rules → IsKept S.is_sound S.shows rules.check sessions.old.standing core.old → IsKept S.is_sound S.shows rules.check sessions.new.standing core.new }
-    ensures device { (since : ℕ) → IsCounted since sessions.old (S.refused (store_of core.old)) → IsCounted since sessions.new (S.refused (store_of core.new)) }
+    ensures kept { (rules : Rules) → AreRules rules → IsKept S.is_sound S.shows rules.check core.old → IsKept S.is_sound S.shows rules.check core.new }
+    ensures held { HoldAll sessions.old.standing (world_of S.shows core.old) → HoldAll sessions.new.standing (world_of S.shows core.new) }
     ensures counts { S.refused (store_of core.old) ≤ S.refused (store_of core.new) }
 {
     match read_some(reader, chunk) {
@@ -177,12 +181,12 @@ fn play_last<S: Store, L: Language + Changes<S>, W: Write>(
     waits: &mut bool,
 ) -> io::Result<()>
     ensures flushed { IfOk result (λ _. waits.new ≡ false) }
-    ensures plays { (rules : Rules) (start : World) (held : Option (List ℕ)) (input : List ℕ) → AreRules rules → IsKept S.is_sound S.shows rules.check sessions.old.standing core.old
-        → IsPlaying rules start held input (world_of S.shows core.old) cutter.old sessions.old (W.contents writer.old)
-        → HasFinished rules start held input (is_ok result) (world_of S.shows core.new) sessions.new (W.contents writer.new) }
+    ensures plays { (start : Start) (input : List ℕ) → IsKeptBy S.is_sound S.shows start.known core.old
+        → IsPlaying start input (world_of S.shows core.old) cutter.old sessions.old (W.contents writer.old) (S.refused (store_of core.old))
+        → HasFinished start input (is_ok result) (world_of S.shows core.new) sessions.new (W.contents writer.new) (S.refused (store_of core.new)) }
     ensures tried_again { IfErr result IsNoInterruption }
-    ensures kept { (rules : Rules) → AreRules rules → IsKept S.is_sound S.shows rules.check sessions.old.standing core.old → IsKept S.is_sound S.shows rules.check sessions.new.standing core.new }
-    ensures device { (since : ℕ) → IsCounted since sessions.old (S.refused (store_of core.old)) → IsCounted since sessions.new (S.refused (store_of core.new)) }
+    ensures kept { (rules : Rules) → AreRules rules → IsKept S.is_sound S.shows rules.check core.old → IsKept S.is_sound S.shows rules.check core.new }
+    ensures held { HoldAll sessions.old.standing (world_of S.shows core.old) → HoldAll sessions.new.standing (world_of S.shows core.new) }
     ensures counts { S.refused (store_of core.old) ≤ S.refused (store_of core.new) }
 {
     let last = cutter.finish();
@@ -244,13 +248,14 @@ fn play_bytes<S: Store, L: Language + Changes<S>, W: Write>(
     waits: &mut bool,
 ) -> io::Result<()>
     ensures flushed { IfOk result (λ _. waits.new ≡ false) }
-    ensures plays { (rules : Rules) (start : World) (held : Option (List ℕ)) (input : List ℕ) → AreRules rules → IsKept S.is_sound S.shows rules.check sessions.old.standing core.old
-        → IsPlaying rules start held input (world_of S.shows core.old) cutter.old sessions.old (W.contents writer.old)
-        → MatchResult result (λ _. IsPlaying rules start held (input ++ bytes.now) (world_of S.shows core.new) cutter.new sessions.new (W.contents writer.new))
-        (λ _. HasStopped rules start held (AreEnded (input ++ bytes.now)) (world_of S.shows core.new) sessions.new (W.contents writer.new)) }
+    ensures plays { (start : Start) (input : List ℕ) → IsKeptBy S.is_sound S.shows start.known core.old
+        → IsPlaying start input (world_of S.shows core.old) cutter.old sessions.old (W.contents writer.old) (S.refused (store_of core.old))
+        → MatchResult result
+        (λ _. IsPlaying start (input ++ bytes.now) (world_of S.shows core.new) cutter.new sessions.new (W.contents writer.new) (S.refused (store_of core.new)))
+        (λ _. HasStopped start (AreEnded (input ++ bytes.now)) (world_of S.shows core.new) sessions.new (W.contents writer.new) (S.refused (store_of core.new))) }
     ensures tried_again { IfErr result IsNoInterruption }
-    ensures kept { (rules : Rules) → AreRules rules → IsKept S.is_sound S.shows rules.check sessions.old.standing core.old → IsKept S.is_sound S.shows rules.check sessions.new.standing core.new }
-    ensures device { (since : ℕ) → IsCounted since sessions.old (S.refused (store_of core.old)) → IsCounted since sessions.new (S.refused (store_of core.new)) }
+    ensures kept { (rules : Rules) → AreRules rules → IsKept S.is_sound S.shows rules.check core.old → IsKept S.is_sound S.shows rules.check core.new }
+    ensures held { HoldAll sessions.old.standing (world_of S.shows core.old) → HoldAll sessions.new.standing (world_of S.shows core.new) }
     ensures counts { S.refused (store_of core.old) ≤ S.refused (store_of core.new) }
 {
     for byte in bytes {
@@ -274,12 +279,12 @@ fn carry_out_piece<S: Store, L: Language + Changes<S>, W: Write>(
     waits: &mut bool,
 ) -> io::Result<()>
     ensures told { waits.new ≡ false → writer.new ≡ writer.old }
-    ensures carries_out { (rules : Rules) (piece : List ℕ) → AreRules rules → IsKept S.is_sound S.shows rules.check sessions.old.standing core.old
-        → IsReady (world_of S.shows core.old) sessions.old → Asks piece (asked request (call_text cutter.now))
-        → IsCarriedOut rules piece (world_of S.shows core.old) sessions.old (world_of S.shows core.new) sessions.new (W.contents writer.old) (W.contents writer.new) (is_ok result) }
+    ensures carries_out { (known : Option Rules) (piece : List ℕ) → IsKeptBy S.is_sound S.shows known core.old → Asks piece (asked request (call_text cutter.now))
+        → IsCarriedOut known piece (world_of S.shows core.old) sessions.old (world_of S.shows core.new) sessions.new (W.contents writer.old) (W.contents writer.new)
+        (S.refused (store_of core.old)) (S.refused (store_of core.new)) (is_ok result) }
     ensures tried_again { IfErr result IsNoInterruption }
-    ensures kept { (rules : Rules) → AreRules rules → IsKept S.is_sound S.shows rules.check sessions.old.standing core.old → IsKept S.is_sound S.shows rules.check sessions.new.standing core.new }
-    ensures device { (since : ℕ) → IsCounted since sessions.old (S.refused (store_of core.old)) → IsCounted since sessions.new (S.refused (store_of core.new)) }
+    ensures kept { (rules : Rules) → AreRules rules → IsKept S.is_sound S.shows rules.check core.old → IsKept S.is_sound S.shows rules.check core.new }
+    ensures held { HoldAll sessions.old.standing (world_of S.shows core.old) → HoldAll sessions.new.standing (world_of S.shows core.new) }
     ensures counts { S.refused (store_of core.old) ≤ S.refused (store_of core.new) }
 {
     match reply_to(core, cutter, sessions, request) {
@@ -300,15 +305,19 @@ fn reply_to<S: Store, L: Language + Changes<S>>(
     sessions: &mut Sessions,
     request: Request,
 ) -> Option<Reply>
-    ensures performs { (rules : Rules) (piece : List ℕ) → AreRules rules → IsKept S.is_sound S.shows rules.check sessions.old.standing core.old
+    ensures prints { Prints (asked request (call_text cutter.now)) result }
+    ensures performs { (rules : Rules) (piece : List ℕ) → AreRules rules → IsKept S.is_sound S.shows rules.check core.old
         → IsReady (world_of S.shows core.old) sessions.old → Asks piece (asked request (call_text cutter.now))
         → Performs rules (scene_of (world_of S.shows core.old) sessions.old) (asked request (call_text cutter.now)) result (scene_of (world_of S.shows core.new) sessions.new)
         × IsReady (world_of S.shows core.new) sessions.new }
     ensures flushes { request ≡ Request.Flushes → IfSome result (λ reply. reply ≡ Reply.Done → S.unwritten (store_of core.new) ≡ 0) }
-    ensures refused { (sessions.new.refused ≡ sessions.old.refused) × (sessions.new.told_disk ≡ sessions.old.told_disk) }
+    ensures refused { sessions.new.refused ≡ sessions.old.refused }
     ensures device { IfSome result (λ reply. Counts reply (S.refused (store_of core.old)) (S.refused (store_of core.new))) }
-    ensures limits { IfSome result (λ reply. IfRefused reply (TellsReached (RequestReaches (asked request (call_text cutter.now))))) }
-    ensures kept { (rules : Rules) → AreRules rules → IsKept S.is_sound S.shows rules.check sessions.old.standing core.old → IsKept S.is_sound S.shows rules.check sessions.new.standing core.new }
+    ensures limits { IfSome result (λ reply. IfRefused reply (TellsReached (RequestReaches Ever (asked request (call_text cutter.now))))) }
+    ensures within { (rules : Rules) → AreRules rules → IsKept S.is_sound S.shows rules.check core.old
+        → IfSome result (λ reply. IfRefused reply (TellsReached (RequestReaches (UpTo (world_of S.shows core.new).commits) (asked request (call_text cutter.now))))) }
+    ensures kept { (rules : Rules) → AreRules rules → IsKept S.is_sound S.shows rules.check core.old → IsKept S.is_sound S.shows rules.check core.new }
+    ensures held { HoldAll sessions.old.standing (world_of S.shows core.old) → HoldAll sessions.new.standing (world_of S.shows core.new) }
     ensures counts { S.refused (store_of core.old) ≤ S.refused (store_of core.new) }
 {
     match request {
@@ -333,7 +342,7 @@ fn flush_all<S: Store, L: Language + Changes<S>>(core: &mut Core<S, L>) -> Reply
     ensures flushed { result ≡ Reply.Done → S.unwritten (store_of core.new) ≡ 0 }
     ensures device { Counts result (S.refused (store_of core.old)) (S.refused (store_of core.new)) }
     ensures same { world_of S.shows core.new ≡ world_of S.shows core.old }
-    ensures kept { (rules : Rules) (places : Places) → IsKept S.is_sound S.shows rules.check places core.old → IsKept S.is_sound S.shows rules.check places core.new }
+    ensures kept { (rules : Rules) → IsKept S.is_sound S.shows rules.check core.old → IsKept S.is_sound S.shows rules.check core.new }
     ensures counts { S.refused (store_of core.old) ≤ S.refused (store_of core.new) }
 {
     let mut left = match core.flush() {
@@ -349,13 +358,6 @@ fn flush_all<S: Store, L: Language + Changes<S>>(core: &mut Core<S, L>) -> Reply
     Reply::Done
 }
 
-/// Whether it is X0002.
-fn tells_disk(reply: &Reply) -> bool
-    ensures { result ≡ tells_disk reply.now }
-{
-    matches!(reply, Reply::Refused(Refusal::Disk))
-}
-
 impl Sessions {
     ghost use Rattle.std.specs.Prelude.{◌||◌, ◌≢◌, zero};
     ghost use Rattle.refusals.specs.declared.refusal.Refusal.TheVariants.{Disk};
@@ -369,12 +371,11 @@ impl Sessions {
         self.chosen = session.saturating_sub(1);
     }
 
-    /// Keeps whether a reply was a refusal, and whether one was the device's.
+    /// Keeps whether a reply was a refusal.
     fn note(&mut self, reply: &Reply)
-        ensures { self.new ≡ record self.old { refused = self.old.refused || is_refusal reply.now; told_disk = self.old.told_disk || tells_disk reply.now } }
+        ensures { self.new ≡ record self.old { refused = self.old.refused || is_refusal reply.now } }
     {
         self.refused = self.refused || reply.is_refused();
-        self.told_disk = self.told_disk || tells_disk(reply);
     }
 
     /// Calls the chosen session, which is made where it does not stand; where that is refused, the refusal
@@ -384,12 +385,15 @@ impl Sessions {
         core: &mut Core<S, L>,
         text: &[u8],
     ) -> Reply
-        ensures plays { (rules : Rules) → AreRules rules → IsKept S.is_sound S.shows rules.check self.old.standing core.old → IsReady (world_of S.shows core.old) self.old
+        ensures plays { (rules : Rules) → AreRules rules → IsKept S.is_sound S.shows rules.check core.old → IsReady (world_of S.shows core.old) self.old
             → Plays rules (scene_of (world_of S.shows core.old) self.old) text.now result (scene_of (world_of S.shows core.new) self.new) × IsReady (world_of S.shows core.new) self.new }
-        ensures refused { (self.new.refused ≡ self.old.refused) × (self.new.told_disk ≡ self.old.told_disk) }
+        ensures refused { self.new.refused ≡ self.old.refused }
         ensures device { Counts result (S.refused (store_of core.old)) (S.refused (store_of core.new)) }
-        ensures limits { IfRefused result (TellsReached (MayReach text.now)) }
-        ensures kept { (rules : Rules) → AreRules rules → IsKept S.is_sound S.shows rules.check self.old.standing core.old → IsKept S.is_sound S.shows rules.check self.new.standing core.new }
+        ensures limits { IfRefused result (TellsReached (MayReach Ever text.now)) }
+        ensures within { (rules : Rules) → AreRules rules → IsKept S.is_sound S.shows rules.check core.old
+            → IfRefused result (TellsReached (MayReach (UpTo (world_of S.shows core.new).commits) text.now)) }
+        ensures kept { (rules : Rules) → AreRules rules → IsKept S.is_sound S.shows rules.check core.old → IsKept S.is_sound S.shows rules.check core.new }
+        ensures held { HoldAll self.old.standing (world_of S.shows core.old) → HoldAll self.new.standing (world_of S.shows core.new) }
         ensures counts { S.refused (store_of core.old) ≤ S.refused (store_of core.new) }
     {
         databases_stay_good();
@@ -407,10 +411,11 @@ impl Sessions {
         ensures finds { IsSound S.is_sound S.shows core.old → self.old.chosen < 64
             → MatchResult result (λ session. FindsSession (world_of S.shows core.old) self.old session (world_of S.shows core.new) self.new)
             (λ refusal. FindsNone (world_of S.shows core.old) self.old refusal (world_of S.shows core.new) self.new) }
-        ensures refused { (self.new.refused ≡ self.old.refused) × (self.new.told_disk ≡ self.old.told_disk) }
+        ensures refused { self.new.refused ≡ self.old.refused }
         ensures device { IfErr result (λ refusal. refusal ≢ Disk) }
         ensures limits { IfErr result TellsNoLimit }
-        ensures kept { (rules : Rules) → AreRules rules → IsKept S.is_sound S.shows rules.check self.old.standing core.old → IsKept S.is_sound S.shows rules.check self.new.standing core.new }
+        ensures kept { (rules : Rules) → AreRules rules → IsKept S.is_sound S.shows rules.check core.old → IsKept S.is_sound S.shows rules.check core.new }
+        ensures held { HoldAll self.old.standing (world_of S.shows core.old) → HoldAll self.new.standing (world_of S.shows core.new) }
         ensures counts { S.refused (store_of core.old) ≤ S.refused (store_of core.new) }
     {
         if self.chosen >= SESSIONS {
@@ -432,7 +437,8 @@ impl Sessions {
     fn end<S: Store, L: Language + Changes<S>>(&self, core: &mut Core<S, L>)
         ensures ends { AreLive (world_of S.shows core.old) (numbers_of self.now.standing)
             → EndsSessions (world_of S.shows core.old) (numbers_of self.now.standing) (world_of S.shows core.new) }
-        ensures settled { (rules : Rules) → AreRules rules → IsKept S.is_sound S.shows rules.check self.now.standing core.old → IsSettled S.is_sound S.shows rules.check core.new }
+        ensures kept { (rules : Rules) → AreRules rules → IsKept S.is_sound S.shows rules.check core.old → IsKept S.is_sound S.shows rules.check core.new }
+        ensures ended { HoldAll self.now.standing (world_of S.shows core.old) → HasNoSession (world_of S.shows core.new) }
         ensures counts { S.refused (store_of core.old) ≤ S.refused (store_of core.new) }
     {
         for slot in &self.standing {

@@ -1,5 +1,6 @@
 -- The calls of a script, as its answers come.
-use Rattle.std.proofs.Common.{Bool, ◌≡◌, ◌⊎◌, inl, inr, ⊎_elim, slice_get, get_or, ℕ, zero, suc, ◌+◌, List, [], ◌∷◌, ◌++◌, length, Some, refl, sym, ap, ◌∙◌, subst, arith, append_assoc, append-nil}
+use Rattle.std.proofs.Common.{Bool, ◌≡◌, ◌⊎◌, inl, inr, ⊎_elim, slice_get, get_or, ℕ, zero, suc, ◌+◌, ◌<◌, List, [], ◌∷◌, ◌++◌, length, Some, refl, sym, ap, ◌∙◌, subst, arith, append_assoc, append-nil}
+use Rattle.std.proofs.lemmas.Bool.{cases_eq}
 use mathlib.Core.List.{IsPrefix}
 use Rattle.session_definitions.specs.World.{World}
 use Rattle.shared.specs.declared.event.Event.{Event}
@@ -15,11 +16,11 @@ asks_append (e ∷ xs) ys = ap (λ l. ask_of e.act ∷ l) (asks_append xs ys)
 prefix_trans : {A : Type 0} (xs ys zs : List A) → IsPrefix xs ys → IsPrefix ys zs → IsPrefix xs zs
 prefix_trans xs ys zs p q = (p.0 ++ q.0, sym (append_assoc xs p.0 q.0) ∙ (ap (λ w. w ++ q.0) p.1 ∙ q.1))
 
-pub asks_one : (premise : Type 0) (start : World) (v w : Past) (act : Act) → Extends premise start v act w → Asks v (ask_of act ∷ []) w
-asks_one premise start v w act e = record {
+pub asks_one : (premise : Type 0) (start : World) (before : ℕ) (v w : Past) (act : Act) → Extends premise start before v act w → Asks v (ask_of act ∷ []) w
+asks_one premise start before v w act e = record {
   who = e.who;
-  saw = (e.between ++ event v.who act ∷ [], sym (append_assoc v.seen e.between (event v.who act ∷ [])) ∙ sym e.seen);
-  mine = ap asks e.mine ∙ asks_append v.mine (event v.who act ∷ []);
+  saw = (e.between ++ event v.who act e.refused ∷ [], sym (append_assoc v.seen e.between (event v.who act e.refused ∷ [])) ∙ sym e.seen);
+  mine = ap asks e.mine ∙ asks_append v.mine (event v.who act e.refused ∷ []);
 }
 
 pub asks_then : (u v w : Past) (a b : List Ask) → Asks u a v → Asks v b w → Asks u (a ++ b) w
@@ -59,6 +60,14 @@ pub each_reply : {A : Type 0} (P : ℕ → A → Type 0) (xs : List A) (a : A) �
     → (k : ℕ) (b : A) → slice_get (xs ++ a ∷ []) k ≡ Some b → P k b
 each_reply {A} P xs a old new k b e =
     ⊎_elim (λ s. old k b s) (λ (s : (k ≡ length xs) × (a ≡ b)). subst (λ (y : ℕ × A). P y.0 y.1) (λ i. (sym s.0 i, s.1 i)) new) (get_snoc xs a b k e)
+
+-- what holds of the first n numbers and of the next one
+pub each_below : (P : ℕ → Type 0) (n m : ℕ) → m ≡ n + 1 → ((k : ℕ) → k < n → P k) → P n → (k : ℕ) → k < m → P k
+each_below P n m is old new k less = by (cases_eq k n)
+  where
+    by : (k ≡ n) ⊎ (k ≡ n → ⊥) → P k
+    by (inl e) = subst P (sym e) new
+    by (inr apart) = old k (omega (arith, less, is, apart))
 
 pub later_is : {A : Type 0} (s t first : List A) (one : A) (done k : ℕ) (d : A) → s ≡ one ∷ t → get_or s (k + 1) d ≡ get_or first (done + (k + 1)) d → get_or t k d ≡ get_or first (done + 1 + k) d
 later_is s t first one done k d is h =

@@ -9,10 +9,10 @@ use Rattle.sessions.specs.OfCore.{StandBeside}
 use Rattle.shared.specs.declared.event.Act.{Act}
 use Rattle.shared.specs.declared.event.Act.TheVariants.{Connects, Refused, Says, Ends}
 use Rattle.shared.specs.declared.rule.View.{View}
-use Rattle.shared.specs.History.{Happens, event, given, moved, holder_of, lives_after}
+use Rattle.shared.specs.History.{Happens, IsCounted, event, given, moved, holder_of, lives_after}
 use Rattle.shared.specs.Views.{host, keeper_in, caller_in, one_more, extended, past, IsAt, Told, IsDesk, Extends}
 use Rattle.shared.proofs.Goods.{KeepsGood, good_told}
-use Rattle.shared.proofs.Histories.{same, differs, told_snoc, holder_snoc, all_snoc, all_more, none_some, calls_after}
+use Rattle.shared.proofs.Histories.{same, differs, told_snoc, holder_snoc, all_snoc, all_more, none_some, calls_own}
 
 count_on : (count n : ℕ) → count ≡ n % 2 ^ 64 → (count + 1) % 2 ^ 64 ≡ (n + 1) % 2 ^ 64
 count_on count n is = omega (arith, is)
@@ -66,50 +66,40 @@ nobodys premise start callers sound w count k id d free = by (holder_of id k.log
 
 -- ---- calls
 
-module _ (keeps : KeepsGood) (premise : Type 0) (start : World) (callers : Option ℕ) (sound sound' : Type 0) (w w' : World) (count : ℕ) (k m : View) (act : Act) where
+module _ (keeps : KeepsGood) (premise : Type 0) (start : World) (callers : Option ℕ) (sound sound' : Type 0) (w w' : World) (count : ℕ) (k m : View) (act : Act) (n : ℕ) where
   pub desk_after : IsDesk premise start callers sound w count k → Told (host k m)
       → ((id : ℕ) → is_live w' id ≡ lives_after act id (is_live w id))
       → ((rules : Rules) → AreRules rules → sound → IsGoodWorld rules.check w → sound' × Happens rules w act w')
-      → IsDesk premise start callers sound' w' ((count + 1) % 2 ^ 64) (keeper_in (extended (event m.who act) (host k m)))
+      → IsDesk premise start callers sound' w' ((count + 1) % 2 ^ 64) (keeper_in (extended (event m.who act n) (host k m)))
   desk_after d told live on = record {
     keeps = refl;
-    counted = count_on count (length k.log) d.counted ∙ ap (λ (n : ℕ). n % 2 ^ 64) (sym (length-append k.log (event m.who act ∷ [])));
-    live = λ id. live id ∙ lives_on id m.who act (is_live w id) (holder_of id k.log) (d.live id) ∙ ap is_some (sym (holder_snoc id None k.log (event m.who act)));
+    counted = count_on count (length k.log) d.counted ∙ ap (λ (n : ℕ). n % 2 ^ 64) (sym (length-append k.log (event m.who act n ∷ [])));
+    live = λ id. live id ∙ lives_on id m.who act (is_live w id) (holder_of id k.log) (d.live id) ∙ ap is_some (sym (holder_snoc id None k.log (event m.who act n)));
     limit = d.limit;
-    all_of = all_snoc k.names k.log (event m.who act) d.all_of told.named;
+    all_of = all_snoc k.names k.log (event m.who act n) d.all_of told.named;
     tells = λ p rules are good.
         let was = d.tells p rules are good in
         let next = on rules are was.0 (good_told keeps rules are start k.log w good was.1) in
-        (next.0, told_snoc rules start k.log (event m.who act) w w' was.1 next.1);
+        (next.0, told_snoc rules start k.log (event m.who act n) w w' was.1 next.1);
   }
 
-  pub extends_after : IsDesk premise start callers sound w count k → Told (host k m)
+  pub extends_after : (before : ℕ) → IsDesk premise start callers sound w count k → Told (host k m) → IsCounted before n (k.log ++ event m.who act n ∷ [])
       → ((rules : Rules) → AreRules rules → sound → IsGoodWorld rules.check w → sound' × Happens rules w act w')
-      → Extends premise start (past m) act (past (caller_in (extended (event m.who act) (host k m))))
-  extends_after d told on = record {
+      → Extends premise start before (past m) act (past (caller_in (extended (event m.who act n) (host k m))))
+  extends_after before d told counted on = record {
     who = refl;
     at = refl;
+    refused = n;
     between = told.saw.0;
-    seen = ap (λ l. l ++ event m.who act ∷ []) (sym told.saw.1);
+    seen = ap (λ l. l ++ event m.who act n ∷ []) (sym told.saw.1);
     mine = refl;
-    made = (calls_after (host k m) (event m.who act) refl told).made;
+    made = calls_own m.who k.log m.mine (event m.who act n) refl told.made;
+    counted = counted;
     legal = λ p rules are good.
         let was = d.tells p rules are good in
         let next = on rules are was.0 (good_told keeps rules are start k.log w good was.1) in
-        (w', told_snoc rules start k.log (event m.who act) w w' was.1 next.1);
+        (w', told_snoc rules start k.log (event m.who act n) w w' was.1 next.1);
   }
-
--- what is no call changes nothing of it
-pub desk_same : (premise : Type 0) (start : World) (callers : Option ℕ) (sound sound' : Type 0) (w w' : World) (count : ℕ) (v : View) → w' ≡ w → (sound → sound')
-    → IsDesk premise start callers sound w count v → IsDesk premise start callers sound' w' count v
-desk_same premise start callers sound sound' w w' count v e stays d = subst (λ x. IsDesk premise start callers sound' x count v) (sym e) (record {
-  keeps = d.keeps;
-  counted = d.counted;
-  live = d.live;
-  limit = d.limit;
-  all_of = d.all_of;
-  tells = λ p rules are good. let was = d.tells p rules are good in (stays was.0, was.1);
-})
 
 -- one caller more
 pub desk_opened : (premise : Type 0) (start : World) (callers : Option ℕ) (sound : Type 0) (w : World) (count : ℕ) (v : View) → callers ≡ None → IsDesk premise start callers sound w count v → IsDesk premise start callers sound w count (one_more v)

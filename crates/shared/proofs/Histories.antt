@@ -1,5 +1,5 @@
 -- A history that grows by one call.
-use Rattle.std.proofs.Common.{◌≡◌, ◌≢◌, ℕ, ◌+◌, ◌<◌, ◌==◌, Bool, true, false, ◌||◌, ◌&&◌, List, [], ◌∷◌, ◌++◌, Some, None, Ok, Err, Option, refl, sym, ap, ◌∙◌, subst, arith, append_assoc, append-nil}
+use Rattle.std.proofs.Common.{◌≡◌, ◌≢◌, ℕ, ◌+◌, ◌<◌, ◌==◌, Bool, true, false, is_some, ◌||◌, ◌&&◌, List, [], ◌∷◌, ◌++◌, Some, None, Ok, Err, Option, refl, sym, ap, ◌∙◌, subst, arith, append_assoc, append-nil}
 use Rattle.std.proofs.lemmas.Bool.Decides.{nat_tests}
 use mathlib.Core.List.{IsPrefix}
 use Rattle.std.specs.List.{list_all}
@@ -13,7 +13,7 @@ use Rattle.shared.specs.declared.event.Event.{Event}
 use Rattle.shared.specs.declared.event.Act.{Act}
 use Rattle.shared.specs.declared.event.Act.TheVariants.{Connects, Refused, Says, Ends}
 use Rattle.shared.specs.declared.rule.View.{View}
-use Rattle.shared.specs.History.{IsTold, Happens, told_of, acts_of, kept, calls_by, given, moved, holder_from, holder_of, AllOf, at_after}
+use Rattle.shared.specs.History.{IsTold, Happens, event, told_of, acts_of, kept, calls_by, given, moved, holder_from, holder_of, AllOf, at_after}
 use Rattle.shared.specs.Views.{IsAt, May, Calls, extended}
 
 pub same : (a : ℕ) → (a == a) ≡ true
@@ -90,7 +90,7 @@ pub moved_other : (v : View) (id who : ℕ) (act : Act) → May v act → IsAt v
 moved_other v id who (Connects i) may at apart h = go (i == id) refl
   where
     go : (b : Bool) → (i == id) ≡ b → given b (Some v.who) (holder_of id v.log) ≡ Some who
-    go true e = let is : i ≡ id = grind (arith, nat_tests) in none_some who (sym may ∙ ap (λ k. holder_of k v.log) is ∙ h)
+    go true e = let is : i ≡ id = grind (arith, nat_tests) in none_some who (sym may.1 ∙ ap (λ k. holder_of k v.log) is ∙ h)
     go false e = h
 moved_other v id who (Refused refusal) may at apart h = h
 moved_other v id who (Says i text reply) may at apart h = h
@@ -108,26 +108,99 @@ pub stays_other : (v : View) (who : ℕ) (e : Event) (at : Option ℕ) → e.who
 stays_other v who e None is may own apart h = tt
 stays_other v who e (Some id) is may own apart h = holder_snoc id None v.log e ∙ ap (λ k. moved id k e.act (holder_of id v.log)) is ∙ moved_other v id who e.act may own apart h
 
-stays : (log : List Event) (who k : ℕ) (act : Act) (at : Option ℕ) → ((id : ℕ) → moved id k act (holder_of id log) ≡ holder_of id log) → IsAt log who at → IsAt (log ++ record { who = k; act = act } ∷ []) who at
-stays log who k act None same h = tt
-stays log who k act (Some id) same h = holder_snoc id None log (record { who = k; act = act }) ∙ same id ∙ h
+stays : (log : List Event) (who k : ℕ) (act : Act) (n : ℕ) (at : Option ℕ) → ((id : ℕ) → moved id k act (holder_of id log) ≡ holder_of id log) → IsAt log who at
+    → IsAt (log ++ event k act n ∷ []) who at
+stays log who k act n None same h = tt
+stays log who k act n (Some id) same h = holder_snoc id None log (event k act n) ∙ same id ∙ h
 
-own_at : (log : List Event) (who : ℕ) (act : Act) (at : Option ℕ) → IsAt log who at → IsAt (log ++ record { who = who; act = act } ∷ []) who (at_after act at)
-own_at log who (Connects id) at h = holder_snoc id None log (record { who = who; act = Connects id }) ∙ ap (λ b. given b (Some who) (holder_of id log)) (same id)
-own_at log who (Refused refusal) at h = stays log who who (Refused refusal) at (λ id. refl) h
-own_at log who (Says id text reply) at h = stays log who who (Says id text reply) at (λ i. refl) h
-own_at log who (Ends id) at h = tt
+own_at : (log : List Event) (who : ℕ) (act : Act) (n : ℕ) (at : Option ℕ) → IsAt log who at → IsAt (log ++ event who act n ∷ []) who (at_after act at)
+own_at log who (Connects id) n at h = holder_snoc id None log (event who (Connects id) n) ∙ ap (λ b. given b (Some who) (holder_of id log)) (same id)
+own_at log who (Refused refusal) n at h = stays log who who (Refused refusal) n at (λ id. refl) h
+own_at log who (Says id text reply) n at h = stays log who who (Says id text reply) n at (λ i. refl) h
+own_at log who (Ends id) n at h = tt
 
 pub stays_own : (v : View) (e : Event) → e.who ≡ v.who → IsAt v.log v.who v.at → IsAt (v.log ++ e ∷ []) v.who (at_after e.act v.at)
-stays_own v e is h = subst (λ (k : ℕ). IsAt (v.log ++ record { who = k; act = e.act } ∷ []) v.who (at_after e.act v.at)) (sym is) (own_at v.log v.who e.act v.at h)
+stays_own v e is h = subst (λ (k : ℕ). IsAt (v.log ++ event k e.act e.refused ∷ []) v.who (at_after e.act v.at)) (sym is) (own_at v.log v.who e.act e.refused v.at h)
 
--- the caller's call, and what it means for the others
-pub calls_after : (v : View) (e : Event) → e.who ≡ v.who → Calls v.names v.log v → Calls v.names (v.log ++ e ∷ []) (extended e v)
-calls_after v e is c = record {
+-- ---- whose a session is
+
+-- after its own call a caller has no other session than the one that it knows
+moved_own : (v : View) (id : ℕ) (act : Act) → May v act → (holder_of id v.log ≡ Some v.who → v.at ≡ Some id) → moved id v.who act (holder_of id v.log) ≡ Some v.who
+    → at_after act v.at ≡ Some id
+moved_own v id (Connects i) may alone h = go (i == id) refl h
+  where
+    go : (b : Bool) → (i == id) ≡ b → given b (Some v.who) (holder_of id v.log) ≡ Some v.who → Some i ≡ Some id
+    go true e h = let is : i ≡ id = grind (arith, nat_tests) in ap Some is
+    go false e h = none_some id (sym may.0 ∙ alone h)
+moved_own v id (Refused refusal) may alone h = alone h
+moved_own v id (Says i text reply) may alone h = alone h
+moved_own v id (Ends i) may alone h = go (i == id) refl h
+  where
+    go : (b : Bool) → (i == id) ≡ b → given b None (holder_of id v.log) ≡ Some v.who → None ≡ Some id
+    go true e h = none_some v.who h
+    go false e h =
+        let both : Some i ≡ Some id = sym may ∙ alone h in
+        let is : i ≡ id = cc both in
+        let bad : true ≡ false = sym (same i) ∙ ap (λ k. i == k) is ∙ e in
+        absurd (cc bad)
+
+-- a session that another caller has after a call was its own before
+moved_back : (v : View) (id who : ℕ) (act : Act) → who ≢ v.who → moved id v.who act (holder_of id v.log) ≡ Some who → holder_of id v.log ≡ Some who
+moved_back v id who (Connects i) apart h = go (i == id) h
+  where
+    go : (b : Bool) → given b (Some v.who) (holder_of id v.log) ≡ Some who → holder_of id v.log ≡ Some who
+    go true h = let is : who ≡ v.who = cc h in absurd (apart is)
+    go false h = h
+moved_back v id who (Refused refusal) apart h = h
+moved_back v id who (Says i text reply) apart h = h
+moved_back v id who (Ends i) apart h = go (i == id) h
+  where
+    go : (b : Bool) → given b None (holder_of id v.log) ≡ Some who → holder_of id v.log ≡ Some who
+    go true h = none_some who h
+    go false h = h
+
+moved_by : (v : View) (e : Event) (id : ℕ) (to : Option ℕ) → e.who ≡ v.who → holder_of id (v.log ++ e ∷ []) ≡ to → moved id v.who e.act (holder_of id v.log) ≡ to
+moved_by v e id to is h = ap (λ k. moved id k e.act (holder_of id v.log)) (sym is) ∙ sym (holder_snoc id None v.log e) ∙ h
+
+moved_below : (n id k : ℕ) (act : Act) (h : Option ℕ) → k < n → ((who : ℕ) → h ≡ Some who → who < n) → (who : ℕ) → moved id k act h ≡ Some who → who < n
+moved_below n id k (Connects i) h less first who is = go (i == id) is
+  where
+    go : (b : Bool) → given b (Some k) h ≡ Some who → who < n
+    go true is = let one : k ≡ who = cc is in subst (λ (x : ℕ). x < n) one less
+    go false is = first who is
+moved_below n id k (Refused refusal) h less first who is = first who is
+moved_below n id k (Says i text reply) h less first who is = first who is
+moved_below n id k (Ends i) h less first who is = go (i == id) is
+  where
+    go : (b : Bool) → given b None h ≡ Some who → who < n
+    go true is = none_some who is
+    go false is = first who is
+
+below_from : (n id : ℕ) (h : Option ℕ) (log : List Event) → ((who : ℕ) → h ≡ Some who → who < n) → AllOf n log → (who : ℕ) → holder_from id h log ≡ Some who → who < n
+below_from n id h [] first all who is = first who is
+below_from n id h (e ∷ log) first all who is = below_from n id (moved id e.who e.act h) log (moved_below n id e.who e.act h all.0 first) all.1 who is
+
+-- a session is one of the callers'
+pub holder_below : (n id : ℕ) (log : List Event) → AllOf n log → (who : ℕ) → holder_of id log ≡ Some who → who < n
+holder_below n id log all who is = below_from n id None log (λ k none. none_some k none) all who is
+
+-- where the history leaves none of them a session, none stands
+pub none_stands : (n : ℕ) (log : List Event) → AllOf n log → ((k : ℕ) → k < n → (id : ℕ) → holder_of id log ≢ Some k) → (id : ℕ) → is_some (holder_of id log) ≡ false
+none_stands n log all idle id = by (holder_of id log) refl
+  where
+    by : (h : Option ℕ) → holder_of id log ≡ h → is_some (holder_of id log) ≡ false
+    by None e = ap is_some e
+    by (Some k) e = absurd (idle k (holder_below n id log all k e) id e)
+
+-- ---- a caller's call, and what it means for the others
+
+pub calls_after : (v : View) (e : Event) → e.who ≡ v.who → May v e.act → Calls v.names v.log v → Calls v.names (v.log ++ e ∷ []) (extended e v)
+calls_after v e is may c = record {
   named = c.named;
   saw = prefix_self (v.log ++ e ∷ []);
   made = calls_own v.who v.log v.mine e is c.made;
   stands = stays_own v e is c.stands;
+  alone = λ id h. moved_own v id e.act may (c.alone id) (moved_by v e id (Some v.who) is h);
 }
 
 pub calls_beside : (v u : View) (e : Event) → e.who ≡ v.who → May v e.act → Calls v.names v.log v → u.who ≢ v.who → Calls v.names v.log u → Calls v.names (v.log ++ e ∷ []) u
@@ -136,6 +209,7 @@ calls_beside v u e is may own apart c = record {
   saw = prefix_more u.seen v.log (e ∷ []) c.saw;
   made = calls_other u.who v.log u.mine e (λ k. apart (sym k ∙ is)) c.made;
   stands = stays_other v u.who e u.at is may own.stands apart c.stands;
+  alone = λ id h. c.alone id (moved_back v id u.who e.act apart (moved_by v e id (Some u.who) is h));
 }
 
 -- each kind of call is an event, of which just the call is told

@@ -9,7 +9,7 @@ use Rattle.shared.specs.declared.event.Event.{Event}
 use Rattle.shared.specs.declared.rule.View.{View}
 use Rattle.shared.specs.History.{AllOf}
 use Rattle.shared.specs.Views.{keeper, host, nobody, keeper_in, caller_in, one_more, newcomer, extended, Fits, Kept, May, Adds, Peeks}
-use Rattle.shared.proofs.Histories.{same, differs, all_snoc, all_more, none_yet, calls_after, calls_beside}
+use Rattle.shared.proofs.Histories.{same, differs, all_snoc, all_more, none_yet, holder_below, calls_after, calls_beside}
 
 at_end : {A : Type 0} (l : List A) (a b : A) (j : ℕ) → get_elem? (l ++ a ∷ []) j ≡ some b → ((j ≢ length l) × (get_elem? l j ≡ some b)) ⊎ ((j ≡ length l) × (a ≡ b))
 at_end [] a b zero e = inr (refl, some-injective a b e)
@@ -90,7 +90,7 @@ adds by v e c keeps calls is may count words views h at =
               (λ k. absurd (apart (f.0 k).0)),
               (λ c. ((f.1 c).0, calls_beside v u e is may mine.1 (λ k. apart ((f.1 c).0 ∙ ap a.seats k ∙ sym mine.0)) (f.1 c).1)),
             ))
-            ((λ _. (refl, refl, refl)), (λ _. (mine.0, calls_after v e is mine.1)));
+            ((λ _. (refl, refl, refl)), (λ _. (mine.0, calls_after v e is may mine.1)));
       },
       refl,
     )
@@ -134,7 +134,7 @@ gives_back by v keeps calls words views h at =
             (λ c. ((f.1 c).0 ∙ placed_else v.who (length rest) a.seats x.who (λ k. apart ((f.1 c).0 ∙ ap a.seats k ∙ sym mine.0)), (f.1 c).1)),
           ))
           ((λ _. (refl, refl, refl)), (λ c. off c)) j u there)
-          ((λ k. off k), (λ _. (placed_at v.who (length rest) a.seats, record { named = mine.1.named; saw = mine.1.saw; made = mine.1.made; stands = mine.1.stands })));
+          ((λ k. off k), (λ _. (placed_at v.who (length rest) a.seats, record { named = mine.1.named; saw = mine.1.saw; made = mine.1.made; stands = mine.1.stands; alone = mine.1.alone })));
     }
 
 pub names_one : (by : ℕ) (v : View) → v.keeps ≡ true → Forks Kept by v (one_more v) (newcomer v)
@@ -156,11 +156,22 @@ names_one by v keeps words views h at =
             (λ k. absurd (apart (f.0 k).0)),
             (λ c. let t = (f.1 c).1 in (
               (f.1 c).0 ∙ placed_else v.names (length rest) a.seats x.who (λ k. omega (arith, k, t.named)),
-              record { named = omega (arith, t.named); saw = t.saw; made = t.made; stands = t.stands },
+              record { named = omega (arith, t.named); saw = t.saw; made = t.made; stands = t.stands; alone = t.alone },
             )),
           ))
-          ((λ _. (refl, refl, refl)), (λ c. off c)) j u there)
-          ((λ k. off k), (λ _. (placed_at v.names (length rest) a.seats, record { named = omega arith; saw = (v.log, refl); made = none_yet v.names v.log a.all_of; stands = tt })));
+          ((λ _. (refl, refl, refl)), (λ c. off c)) j u there) (
+            (λ k. off k),
+            (λ _. (
+              placed_at v.names (length rest) a.seats,
+              record {
+                named = omega arith;
+                saw = (v.log, refl);
+                made = none_yet v.names v.log a.all_of;
+                stands = tt;
+                alone = λ id h. let below : v.names < v.names = holder_below v.names id v.log a.all_of v.names h in absurd (omega (arith, below));
+              },
+            )),
+          );
     }
 
 pub takes_in : (by : ℕ) (v : View) (other : ℕ) (w : View) → v.keeps ≡ true → w.calls ≡ true → Merges Kept by v other w (host v w) nobody
@@ -184,7 +195,7 @@ takes_in by v other w keeps calls words views h at apart there =
             (λ k. f.0 k),
             (λ c. ((f.1 c).0 ∙ placed_else w.who by a.seats x.who (λ k. away ((f.1 c).0 ∙ ap a.seats k ∙ sym theirs.0)), (f.1 c).1)),
           ))
-          (λ _. ((λ _. (refl, refl, refl)), (λ _. (placed_at w.who by a.seats, record { named = theirs.1.named; saw = theirs.1.saw; made = theirs.1.made; stands = theirs.1.stands }))))
+          (λ _. ((λ _. (refl, refl, refl)), (λ _. (placed_at w.who by a.seats, record { named = theirs.1.named; saw = theirs.1.saw; made = theirs.1.made; stands = theirs.1.stands; alone = theirs.1.alone }))))
           j u e far)
           ((λ k. off k), (λ c. off c));
     }

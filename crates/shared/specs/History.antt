@@ -1,6 +1,7 @@
 -- Histories of many callers of one core: what each was told, in one order; and which of them are legal (sessions are those of ISO/IEC 9075:1992, 4.30; that their calls
 -- have one order is our own choice).
-use Rattle.std.specs.Prelude.{Option, Some, None, Ok, Err, ◌≡◌, ℕ, ◌<◌, ◌≤◌, ◌==◌, Bool, true, false, not, ◌||◌, ◌&&◌, List, [], ◌∷◌, ◌++◌, map}
+use Rattle.std.specs.Prelude.{Option, Some, None, Ok, Err, ◌≡◌, ℕ, ◌+◌, ◌-◌, ◌^◌, ◌<◌, ◌≤◌, ◌==◌, min, Bool, true, false, not, ◌||◌, ◌&&◌, List, [], ◌∷◌, ◌++◌, map}
+use Rattle.refusals.specs.declared.refusal.Refusal.{Refusal}
 use Rattle.refusals.specs.declared.refusal.Refusal.TheVariants.{Disk, Exceeded}
 use Rattle.refusals.specs.declared.limit.Limit.TheVariants as limit
 use Rattle.session_definitions.specs.Rules.{Rules, AreRules}
@@ -9,6 +10,8 @@ use Rattle.session_definitions.specs.World.{World}
 use Rattle.session_laws.specs.Sound.{IsGoodWorld}
 use Rattle.store.specs.Errors.{HasRisen}
 use Rattle.lexer.specs.Token.{Bytes}
+use Rattle.replies.specs.declared.reply.Reply.{Reply}
+use Rattle.replies.specs.declared.reply.Reply.TheVariants as says
 use Rattle.sessions.specs.Limits.{CallReaches}
 use Rattle.store.specs.declared.error.StoreLimit.{StoreLimit}
 use Rattle.transactions.specs.Refused.{Counts, IfRefused, TellsReached}
@@ -16,8 +19,8 @@ use Rattle.shared.specs.declared.event.Event.{Event}
 use Rattle.shared.specs.declared.event.Act.{Act}
 use Rattle.shared.specs.declared.event.Act.TheVariants.{Connects, Refused, Says, Ends}
 
-abbrev pub event : ℕ → Act → Event
-event who act = record { who = who; act = act }
+abbrev pub event : ℕ → Act → ℕ → Event
+event who act refused = record { who = who; act = act; refused = refused }
 
 -- ---- legal histories
 
@@ -124,9 +127,38 @@ TellsDevice (Refused refusal) before after = refusal ≡ Disk → HasRisen befor
 TellsDevice (Says id text reply) before after = Counts reply before after
 TellsDevice (Ends id) before after = Unit {0}
 
--- of each call
+-- The counts after the calls do not fall, from the one before the history to the one that is reached now, and where a call is told X0002 the count rose since the call before it.
 abbrev pub AllTellDevice : List Event → ℕ → ℕ → Type 0
-AllTellDevice log before after = EachAct (λ act. TellsDevice act before after) log
+AllTellDevice [] before after = before ≤ after
+AllTellDevice (e ∷ es) before after = (before ≤ e.refused) × TellsDevice e.act before e.refused × AllTellDevice es e.refused after
+
+abbrev pub is_disk : Refusal → Bool
+is_disk Disk = true
+is_disk _ = false
+
+abbrev pub says_disk : Reply → Bool
+says_disk (says.Refused refusal) = is_disk refusal
+says_disk _ = false
+
+-- whether a call is told X0002
+abbrev pub tells_disk : Act → Bool
+tells_disk (Connects id) = false
+tells_disk (Refused refusal) = is_disk refusal
+tells_disk (Says id text reply) = says_disk reply
+tells_disk (Ends id) = false
+
+abbrev pub one_if : Bool → ℕ
+one_if true = 1
+one_if false = 0
+
+-- how many calls of a history are told X0002
+abbrev pub disks_told : List Event → ℕ
+disks_told [] = 0
+disks_told (e ∷ es) = one_if (tells_disk e.act) + disks_told es
+
+-- a count of 64 bits rose by so much at least, or stays at its greatest
+abbrev pub HasRisenBy : ℕ → ℕ → ℕ → Type 0
+HasRisenBy n before after = min (before + n) (2 ^ 64 - 1) ≤ after
 
 -- The text may reach a limit of what the store counts, its pages, private pages or kept page images: a change each of them, and a COMMIT, which takes no private page, the others.
 abbrev pub MayReach : Bytes → StoreLimit → Type 0
@@ -139,8 +171,10 @@ TellsLimits (Refused refusal) = refusal ≡ Exceeded limit.Sessions
 TellsLimits (Says id text reply) = IfRefused reply (TellsReached (MayReach text))
 TellsLimits (Ends id) = Unit {0}
 
--- The count of refused calls has not fallen since it was the one, and rose where X0002 was told; limits of the store were told only of what may reach them.
+-- The count of refused calls has not fallen since it was the one. X0002 was told of a call only where it rose with this call, and so of no more calls than the device refused; limits of
+-- the store were told only of what may reach them.
 pub record IsCounted (before after : ℕ) (log : List Event) : Type 0 where
   pub least : before ≤ after
   pub told : AllTellDevice log before after
+  pub as_many : HasRisenBy (disks_told log) before after
   pub limits : EachAct TellsLimits log

@@ -6,7 +6,7 @@ use Rattle.refusals.specs.declared.refusal.Refusal.{Refusal}
 use Rattle.refusals.specs.declared.refusal.Refusal.TheVariants.{Disk, Exceeded}
 use Rattle.refusals.specs.declared.limit.Limit.TheVariants as limit
 use Rattle.replies.specs.declared.reply.Reply.{Reply}
-use Rattle.session_definitions.specs.World.{World}
+use Rattle.session_definitions.specs.World.{World, is_live}
 use Rattle.sessions.specs.declared.core_of.Core.{Core}
 use Rattle.store.specs.Errors.{HasRisen}
 use Rattle.transactions.specs.Refused.{IfRefused, TellsReached}
@@ -131,9 +131,10 @@ pub record OneHistory (premise : Type 0) (start : World) (scripts : List Script)
   pub tells : premise → Stays start log sound end
 
 -- There is one history of the scripts, from a core whose device had refused `before` calls to one whose device has refused `after`. X0002 is told in it, and is an answer, only where the
--- device refused a call; a limit of what the store counts is told in it, and is an answer, only where the text may reach it.
+-- device refused a call; a limit of what the store counts is told in it, and is an answer, only where the text may reach it. No session stands then.
 pub record RunSideBySide (premise : Type 0) (start : World) (before : ℕ) (scripts : List Script) (replies : List Answers) (sound : Type 0) (end : World) (after : ℕ) : Type 0 where
   pub history : OneHistory premise start scripts replies sound end
   pub counted : IsCounted before after history.log
+  pub none_left : (id : ℕ) → is_live end id ≡ false
   pub device : (k : ℕ) (answers : Answers) → slice_get replies k ≡ Some answers → AllTellDeviceIf (HasRisen before after) answers.items
   pub limits : (k : ℕ) (answers : Answers) → slice_get replies k ≡ Some answers → AnswersTellLimits (texts_at scripts k) answers.items

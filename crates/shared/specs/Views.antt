@@ -1,19 +1,21 @@
 -- What passes know, the rule of the cell, and what a call tells its caller.
-use Rattle.std.specs.Prelude.{Option, Some, None, ◌≡◌, ℕ, ◌+◌, ◌%◌, ◌^◌, ◌<◌, true, false, List, [], ◌∷◌, ◌++◌, length, slice_index, is_some}
+use Rattle.std.specs.Prelude.{Option, Some, None, ◌≡◌, ◌≢◌, ℕ, ◌+◌, ◌%◌, ◌^◌, ◌<◌, true, false, List, [], ◌∷◌, ◌++◌, length, slice_get, slice_index, is_some}
 use mathlib.Core.Option.{some}
 use mathlib.Core.List.{IsPrefix}
 use lib.ListN.{get_elem?}
 use Rattle.atomic_table.specs.Seated.{TableId}
 use Rattle.lexer.specs.Token.{Bytes}
 use Rattle.replies.specs.declared.reply.Reply.{Reply}
+use Rattle.replies.specs.declared.reply.Reply.TheVariants.{Done}
 use Rattle.transactions.specs.Refused.{IfRefused, TellsReached}
 use Rattle.refusals.specs.declared.refusal.Refusal.{Refusal}
 use Rattle.session_definitions.specs.World.{World, is_live}
+use Rattle.statement_reading.specs.Rollback.{IsRollback}
 use Rattle.shared.specs.declared.event.Event.{Event}
 use Rattle.shared.specs.declared.event.Act.{Act}
 use Rattle.shared.specs.declared.event.Act.TheVariants.{Connects, Refused, Says, Ends}
 use Rattle.shared.specs.declared.rule.View.{View}
-use Rattle.shared.specs.History.{IsLegal, Stays, event, calls_by, holder_of, AllOf, MayReach, at_after}
+use Rattle.shared.specs.History.{IsCounted, IsLegal, Stays, event, calls_by, holder_of, AllOf, MayReach, at_after}
 
 -- the name of no cell
 abbrev pub no_table : TableId
@@ -60,12 +62,13 @@ abbrev pub IsAt : List Event → ℕ → Option ℕ → Type 0
 IsAt log who None = Unit {0}
 IsAt log who (Some id) = holder_of id log ≡ Some who
 
--- A caller has seen a beginning of the history, and the calls that it made are all that the history has of it.
+-- A caller has seen a beginning of the history, and the calls that it made are all that the history has of it. Its session is the one that the history leaves to it, and no other is.
 pub record Calls (names : ℕ) (log : List Event) (v : View) : Type 0 where
   pub named : v.who < names
   pub saw : IsPrefix v.seen log
   pub made : calls_by v.who log ≡ v.mine
   pub stands : IsAt log v.who v.at
+  pub alone : (id : ℕ) → holder_of id log ≡ Some v.who → v.at ≡ Some id
 
 -- what the rule says of a pass in its seat: one knows the history, and each caller has one
 abbrev pub Fits : ℕ → (ℕ → ℕ) → ℕ → List Event → ℕ → View → Type 0
@@ -83,9 +86,9 @@ pub record Kept (words : List ℕ) (views : List View) : Type 0 where
   pub all_of : AllOf names log
   pub fits : (by : ℕ) (v : View) → get_elem? views by ≡ some v → Fits seat seats names log by v
 
--- the call may come next: a new session's number is nobody's, and a call of a session is its caller's
+-- the call may come next: a new session's number is nobody's, and its caller has none; and a call of a session is its caller's
 abbrev pub May : View → Act → Type 0
-May v (Connects id) = holder_of id v.log ≡ None
+May v (Connects id) = (v.at ≡ None) × (holder_of id v.log ≡ None)
 May v (Refused refusal) = Unit {0}
 May v (Says id text reply) = v.at ≡ Some id
 May v (Ends id) = v.at ≡ Some id
@@ -126,51 +129,68 @@ pub record Past : Type 0 where
 abbrev pub past : View → Past
 past v = record { who = v.who; at = v.at; seen = v.seen; mine = v.mine }
 
--- a caller has seen a beginning of the history, in which its calls are those that it made
+-- the caller of this number, which has made no call and has no session
+abbrev pub IsNew : ℕ → Past → Type 0
+IsNew who caller = (caller.who ≡ who) × (caller.seen ≡ []) × (caller.mine ≡ []) × (caller.at ≡ None)
+
+-- so many of them, by their numbers
+abbrev pub AreNew : ℕ → List Past → Type 0
+AreNew count callers = (length callers ≡ count) × ((k : ℕ) (caller : Past) → slice_get callers k ≡ Some caller → IsNew k caller)
+
+-- a caller has seen a beginning of the history, in which its calls are those that it made; and the history leaves it no session
 pub record IsHeard (log : List Event) (caller : Past) : Type 0 where
   pub saw : IsPrefix caller.seen log
   pub made : calls_by caller.who log ≡ caller.mine
+  pub idle : (id : ℕ) → holder_of id log ≢ Some caller.who
 
 abbrev pub AllHeard : List Event → List Past → Type 0
 AllHeard log [] = Unit {0}
 AllHeard log (caller ∷ callers) = IsHeard log caller × AllHeard log callers
 
--- There is one history, in which each of these callers is heard. Under the premise it is legal, and the world is the one after it.
-pub record HasHistory (premise : Type 0) (start : World) (callers : List Past) (is_sound : Type 0) (world : World) : Type 0 where
+-- There is one history, in which each of these callers is heard; where it was settled how many callers there are, no other made a call in it. The device had refused `before` calls when it
+-- began, and has refused `after` in the core that is handed back. The sessions that stand are those that the history leaves to somebody. Under the premise it is legal, and the world is the
+-- one after it.
+pub record HasHistory (premise : Type 0) (start : World) (before : ℕ) (settled : Option ℕ) (callers : List Past) (is_sound : Type 0) (world : World) (after : ℕ) : Type 0 where
   pub log : List Event
   pub heard : AllHeard log callers
+  pub all_of : (n : ℕ) → settled ≡ Some n → AllOf n log
+  pub counted : IsCounted before after log
+  pub live : (id : ℕ) → is_live world id ≡ is_some (holder_of id log)
   pub tells : premise → Stays start log is_sound world
 
 -- One call. The history after it begins with all that the caller had seen, and ends with the call. The calls of the caller in it are those that it made: those from before,
--- and this one. Under the premise the history is legal.
-pub record Extends (premise : Type 0) (start : World) (v : Past) (act : Act) (w : Past) : Type 0 where
+-- and this one. The device had refused `before` calls when the history began, and `refused` after this call. Under the premise the history is legal.
+pub record Extends (premise : Type 0) (start : World) (before : ℕ) (v : Past) (act : Act) (w : Past) : Type 0 where
   pub who : w.who ≡ v.who
   pub at : w.at ≡ at_after act v.at
+  pub refused : ℕ
   pub between : List Event
-  pub seen : w.seen ≡ (v.seen ++ between) ++ event v.who act ∷ []
-  pub mine : w.mine ≡ v.mine ++ event v.who act ∷ []
+  pub seen : w.seen ≡ (v.seen ++ between) ++ event v.who act refused ∷ []
+  pub mine : w.mine ≡ v.mine ++ event v.who act refused ∷ []
   pub made : calls_by w.who w.seen ≡ w.mine
+  pub counted : IsCounted before refused w.seen
   pub legal : premise → IsLegal start w.seen
 
--- its session was asked this, and this is the reply, which tells a limit of what the store counts only of a text that may reach it
-pub record Said (premise : Type 0) (start : World) (v : Past) (text : Bytes) (reply : Reply) (w : Past) : Type 0 where
+-- Its session was asked this, and this is the reply, which tells a limit of what the store counts only of a text that may reach it. ROLLBACK is always carried out.
+pub record Said (premise : Type 0) (start : World) (before : ℕ) (v : Past) (text : Bytes) (reply : Reply) (w : Past) : Type 0 where
   pub id : ℕ
   pub at : v.at ≡ Some id
-  pub call : Extends premise start v (Says id text reply) w
+  pub call : Extends premise start before v (Says id text reply) w
   pub limits : IfRefused reply (TellsReached (MayReach text))
+  pub rolled_back : IsRollback text → reply ≡ Done
 
 -- it was made a session
-pub record Joined (premise : Type 0) (start : World) (v w : Past) : Type 0 where
+pub record Joined (premise : Type 0) (start : World) (before : ℕ) (v w : Past) : Type 0 where
   pub id : ℕ
   pub at : w.at ≡ Some id
-  pub call : Extends premise start v (Connects id) w
+  pub call : Extends premise start before v (Connects id) w
 
 -- it was made none, for this reason
-abbrev pub TurnedAway : Type 0 → World → Past → Refusal → Past → Type 0
-TurnedAway premise start v refusal w = Extends premise start v (Refused refusal) w
+abbrev pub TurnedAway : Type 0 → World → ℕ → Past → Refusal → Past → Type 0
+TurnedAway premise start before v refusal w = Extends premise start before v (Refused refusal) w
 
 -- its session was ended
-pub record Left (premise : Type 0) (start : World) (v w : Past) : Type 0 where
+pub record Left (premise : Type 0) (start : World) (before : ℕ) (v w : Past) : Type 0 where
   pub id : ℕ
   pub at : v.at ≡ Some id
-  pub call : Extends premise start v (Ends id) w
+  pub call : Extends premise start before v (Ends id) w

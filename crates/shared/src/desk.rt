@@ -1,14 +1,14 @@
 //! What lies under the lock: a core, and the pass that knows the history of all that was called.
-ghost use Rattle.std.specs.Prelude.{◌≡◌, ◌≤◌, ℕ, ◌+◌, ◌%◌, ◌^◌, Some, None, List, [], true, false, length, IfOk, IfErr};
+ghost use Rattle.std.specs.Prelude.{◌≡◌, ◌≢◌, ◌≤◌, ℕ, ◌+◌, ◌%◌, ◌^◌, Some, None, List, [], true, false, is_some, length, IfOk, IfErr};
 ghost use Rattle.refusals.specs.declared.refusal.Refusal.TheVariants.{Exceeded};
 ghost use Rattle.refusals.specs.declared.limit.Limit.TheVariants as limit;
 ghost use mathlib.Core.List.{IsPrefix};
 ghost use Rattle.crossbeam_utils.specs.Seq.{cell_view};
 ghost use Rattle.session_definitions.specs.World.{is_live};
 ghost use Rattle.sessions.specs.OfCore.{IsSound, world_of};
-ghost use Rattle.shared.specs.History.{event, calls_by, AllOf, IsCounted, Stays};
+ghost use Rattle.shared.specs.History.{event, calls_by, holder_of, AllOf, IsCounted, Stays};
 ghost use Rattle.shared.specs.Scripts.{store_of};
-ghost use Rattle.shared.specs.Views.{keeper as keeper_of, one_more, host, keeper_in, caller_in, extended, May, Told, Extends, Said, Joined, TurnedAway, Left};
+ghost use Rattle.shared.specs.Views.{keeper as keeper_of, one_more, host, keeper_in, caller_in, extended, IsNew, May, Told, Extends, Said, Joined, TurnedAway, Left};
 ghost use Rattle.shared.specs.Called.{act_of};
 
 use crate::callers::{Client, Session};
@@ -82,6 +82,7 @@ impl<S: Store, L: Language + Changes<S>, J: Room> Desk<S, L, J> {
         ensures all_of { (n : ℕ) → J.callers ≡ Some n → AllOf n (cell_view result.1).log }
         ensures history { J.premise → Stays J.start (cell_view result.1).log (IsSound S.is_sound S.shows result.0) (world_of S.shows result.0) }
         ensures device { IsCounted J.refused (S.refused (store_of result.0)) (cell_view result.1).log }
+        ensures live { (id : ℕ) → is_live (world_of S.shows result.0) id ≡ is_some (holder_of id (cell_view result.1).log) }
     {
         let Desk {
             core,
@@ -90,13 +91,6 @@ impl<S: Store, L: Language + Changes<S>, J: Room> Desk<S, L, J> {
             of: _,
         } = self;
         (core, keeper)
-    }
-
-    /// Writes some of what is committed. It is no call of a caller, and is not in the history.
-    pub(crate) fn flush(&mut self) -> Result<u32, Refusal>
-        ensures { self.new ≡ self.old }
-    {
-        self.core.flush()
     }
 
     /// One caller more, which has seen nothing yet.
@@ -118,19 +112,15 @@ impl<S: Store, L: Language + Changes<S>, J: Room> Desk<S, L, J> {
         text: &[u8],
     ) -> Reply
         requires { cell.now.table.shared.table_id ≡ J.table }
-        ensures { Said J.premise J.start me.old text.now result me.new }
+        ensures { Said J.premise J.start J.refused me.old text.now result me.new }
     {
         databases_stay_good();
         take_in(rt, cell, &mut self.keeper, &mut me.token);
         let reply = self.core.step(me.id, text);
         self.count = self.count.wrapping_add(1);
-        me.token = record::<Brand, R>(
-            rt,
-            cell,
-            &mut self.keeper,
-            self.count,
-            Called::Says(me.id, text, &reply),
-        );
+        let call = Called::Says(me.id, text, &reply);
+        let keeper = &mut self.keeper;
+        me.token = record::<S, L, Brand, R>(rt, cell, keeper, self.count, call, &self.core);
         reply
     }
 
@@ -142,8 +132,8 @@ impl<S: Store, L: Language + Changes<S>, J: Room> Desk<S, L, J> {
         me: Client<J>,
     ) -> Result<Session<J>, (Refusal, Client<J>)>
         requires { cell.now.table.shared.table_id ≡ J.table }
-        ensures ok { IfOk result (λ s. Joined J.premise J.start me s) }
-        ensures err { IfErr result (λ e. TurnedAway J.premise J.start me e.0 e.1) }
+        ensures ok { IfOk result (λ s. Joined J.premise J.start J.refused me s) }
+        ensures err { IfErr result (λ e. TurnedAway J.premise J.start J.refused me e.0 e.1) }
         ensures full { IfErr result (λ e. e.0 ≡ Exceeded limit.Sessions) }
     {
         databases_stay_good();
@@ -153,11 +143,13 @@ impl<S: Store, L: Language + Changes<S>, J: Room> Desk<S, L, J> {
         let (keeper, count) = (&mut self.keeper, self.count);
         match self.core.new_session() {
             Ok(id) => {
-                let token = record::<Brand, R>(rt, cell, keeper, count, Called::Connects(id));
+                let call = Called::Connects(id);
+                let token = record::<S, L, Brand, R>(rt, cell, keeper, count, call, &self.core);
                 Ok(Session { id, token, of })
             }
             Err(refusal) => {
-                let token = record::<Brand, R>(rt, cell, keeper, count, Called::Refused(&refusal));
+                let call = Called::Refused(&refusal);
+                let token = record::<S, L, Brand, R>(rt, cell, keeper, count, call, &self.core);
                 Err((refusal, Client { token, of }))
             }
         }
@@ -166,14 +158,16 @@ impl<S: Store, L: Language + Changes<S>, J: Room> Desk<S, L, J> {
     /// Ends the session.
     pub(crate) fn end<R: Wait>(&mut self, rt: &R, cell: &Cell, me: Session<J>) -> Client<J>
         requires { cell.now.table.shared.table_id ≡ J.table }
-        ensures { Left J.premise J.start me result }
+        ensures { Left J.premise J.start J.refused me result }
     {
         databases_stay_good();
         let Session { id, mut token, of } = me;
         take_in(rt, cell, &mut self.keeper, &mut token);
         self.core.end_session(id);
         self.count = self.count.wrapping_add(1);
-        let token = record::<Brand, R>(rt, cell, &mut self.keeper, self.count, Called::Ends(id));
+        let keeper = &mut self.keeper;
+        let call = Called::Ends(id);
+        let token = record::<S, L, Brand, R>(rt, cell, keeper, self.count, call, &self.core);
         Client { token, of }
     }
 }
@@ -183,7 +177,7 @@ pub(crate) fn newcomer<J: Room>(cell: &Cell, keeper: &mut Token) -> Client<J>
     requires cell { (keeper.old.table_id ≡ cell.now.table.shared.table_id) × (cell.now.table.shared.table_id ≡ J.table) }
     requires view { (cell_view keeper.old).keeps ≡ true }
     ensures keeper { (keeper.new.table_id ≡ keeper.old.table_id) × (cell_view keeper.new ≡ one_more (cell_view keeper.old)) }
-    ensures caller { (result.who ≡ (cell_view keeper.old).names) × (result.seen ≡ []) × (result.mine ≡ []) × (result.at ≡ None) }
+    ensures caller { IsNew (cell_view keeper.old).names result }
 {
     let token = cell.split_pass::<Newcomer>(keeper);
     Client {
@@ -192,13 +186,14 @@ pub(crate) fn newcomer<J: Room>(cell: &Cell, keeper: &mut Token) -> Client<J>
     }
 }
 
-/// The pass that knows the history takes a caller's in for good: its calls are those that it made, and it has seen a beginning of the history.
+/// The pass that knows the history takes a caller's in for good: its calls are those that it made, it has seen a beginning of the history, and no session of it stands.
 pub(crate) fn hear<J: Room, R: Wait>(rt: &R, cell: &Cell, keeper: &mut Token, client: Client<J>)
     requires cell { (keeper.old.table_id ≡ cell.now.table.shared.table_id) × (cell.now.table.shared.table_id ≡ J.table) }
     requires view { (cell_view keeper.old).keeps ≡ true }
     ensures keeper { (keeper.new.table_id ≡ keeper.old.table_id) × (cell_view keeper.new ≡ keeper_in (cell_view keeper.old)) }
     ensures made { calls_by client.who (cell_view keeper.old).log ≡ client.mine }
     ensures saw { IsPrefix client.seen (cell_view keeper.old).log }
+    ensures idle { (id : ℕ) → holder_of id (cell_view keeper.old).log ≢ Some client.who }
 {
     let Client { mut token, of: _ } = client;
     take_in(rt, cell, keeper, &mut token);
@@ -219,17 +214,19 @@ fn take_in<R: Wait>(rt: &R, cell: &Cell, keeper: &mut Token, caller: &mut Token)
     cell.load_as::<Peek, R>(rt, keeper);
 }
 
-/// Puts a call of the caller that was taken in at the end of the history, and gives the caller its pass back, which has then seen all of the history.
-fn record<E: Asked, R: Wait>(
+/// Puts a call of the caller that was taken in at the end of the history, with what this core's device has refused, and gives the caller its pass back, which has then seen all of the
+/// history.
+fn record<S: Store, L: Language + Changes<S>, E: Asked, R: Wait>(
     rt: &R,
     cell: &Cell,
     keeper: &mut Token,
     count: u64,
     call: Called<'_>,
+    _core: &Core<S, L>,
 ) -> Token
     requires cell { keeper.old.table_id ≡ cell.now.table.shared.table_id }
     requires views { ((cell_view keeper.old).keeps ≡ true) × ((cell_view keeper.old).calls ≡ true) }
-    requires event { E.event ≡ event (cell_view keeper.old).who (act_of call) }
+    requires event { E.event ≡ event (cell_view keeper.old).who (act_of call) (S.refused (store_of _core.now)) }
     requires next { May (cell_view keeper.old) (act_of call) }
     requires count { count ≡ (length (cell_view keeper.old).log + 1) % 2 ^ 64 }
     ensures keeper { (keeper.new.table_id ≡ keeper.old.table_id) × (cell_view keeper.new ≡ keeper_in (extended E.event (cell_view keeper.old))) }

@@ -14,6 +14,6 @@ pub use callers::{Client, Session};
 pub use desk::Desk;
 pub use gate::{Gate, NoGate};
 pub use jobs::Answers;
-pub use lock::Shared;
+pub use lock::{Shared, new_cell};
 pub use rule::{Cell, Room, Token};
 pub use scripts::run_scripts;

@@ -51,7 +51,7 @@ impl Asked for Brand {
     ghost use Rattle.shared.specs.History.{event};
     ghost use Rattle.shared.specs.declared.event.Act.TheVariants.{Ends};
 
-    ghost event = { event 0 (Ends 0) };
+    ghost event = { event 0 (Ends 0) 0 };
 }
 
 /// A step that puts an event at the end of the history.

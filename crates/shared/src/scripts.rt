@@ -12,7 +12,7 @@ use crate::callers::Client;
 use crate::desk::{Desk, hear, newcomer};
 use crate::gate::Gate;
 use crate::jobs::{Answers, Caller, Done, Job, numbered};
-use crate::lock::Shared;
+use crate::lock::{Shared, new_cell};
 use crate::rule::{Cell, Room, Token};
 use refusals::Refusal;
 use replies::Reply;
@@ -48,7 +48,7 @@ where
     ensures { IfOk result (λ r. RunSideBySide (IsSound S.is_sound S.shows core) (world_of S.shows core) (S.refused (store_of core)) scripts.now r.1.items
         (IsSound S.is_sound S.shows r.0) (world_of S.shows r.0) (S.refused (store_of r.0))) }
 {
-    let (cell, keeper) = Cell::ruled(alloc, [0])?;
+    let (cell, keeper) = new_cell(alloc)?;
     run_in::<S, L, Brand, G, R>(rt, alloc, cell, keeper, core, scripts, gate)
 }
 

@@ -1,5 +1,6 @@
 //! Several sessions over tables in lists.
 
+mod back;
 mod ended_sessions;
 mod meeting;
 mod memory;

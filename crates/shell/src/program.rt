@@ -81,22 +81,22 @@ pub fn run_over_pages<D: Disk + Drop, R: Read, W: Write>(
 ) -> EndedRun<Paged<D>>
     ensures status { IsStatus result.status }
     ensures runs { IfOk device (λ device. (rules : Rules) (db : Database) → AreRules rules → ⟦<Paged<D> as Store>⟧.saved device db → IsGood rules.check db
-        → Runs rules (opened db) (between (R.remaining reader.old) (R.remaining reader.new) (W.contents writer.old) (W.contents writer.new)) result.status
+        → Runs rules (opened db) (between (R.remaining reader.old) (R.remaining reader.new) (W.contents writer.old) (W.contents writer.new)) result.status result.is_told
         (Leaves ⟦<Paged<D> as Store>⟧.saved D.settled D.refused (λ core. ⟦<Paged<D> as Store>⟧.refused (store_of core)) rules.check (D.refused device) result.device result.unclosed)) }
     ensures new { IfOk device (λ device. (rules : Rules) → AreRules rules → IsTrue D.is_honest → D.bytes device ≡ []
-        → Runs rules new_world (between (R.remaining reader.old) (R.remaining reader.new) (W.contents writer.old) (W.contents writer.new)) result.status
+        → Runs rules new_world (between (R.remaining reader.old) (R.remaining reader.new) (W.contents writer.old) (W.contents writer.new)) result.status result.is_told
         (Leaves ⟦<Paged<D> as Store>⟧.saved D.settled D.refused (λ core. ⟦<Paged<D> as Store>⟧.refused (store_of core)) rules.check (D.refused device) result.device result.unclosed)) }
     ensures ends { IfOk device (λ device. Ends D.settled D.refused (λ core. ⟦<Paged<D> as Store>⟧.refused (store_of core)) (D.refused device)
-        (between (R.remaining reader.old) (R.remaining reader.new) (W.contents writer.old) (W.contents writer.new)) result.status result.device result.unclosed) }
+        (between (R.remaining reader.old) (R.remaining reader.new) (W.contents writer.old) (W.contents writer.new)) result.status result.is_told result.device result.unclosed) }
     ensures unreadable { IfOk device (λ device. (⟦<Paged<D> as Store>⟧.readable device → ⊥)
-        → IsNotOpened (between (R.remaining reader.old) (R.remaining reader.new) (W.contents writer.old) (W.contents writer.new)) result.status
+        → IsNotOpened (between (R.remaining reader.old) (R.remaining reader.new) (W.contents writer.old) (W.contents writer.new)) result.status result.is_told
         (HasRefused D.refused (D.refused device) result.device)) }
-    ensures not_opened { OnErr device ((R.remaining reader.new ≡ R.remaining reader.old) × Tells Refusal.Disk (W.contents writer.old) (W.contents writer.new) × (result.status ≡ 3)) }
+    ensures not_opened { OnErr device ((R.remaining reader.new ≡ R.remaining reader.old) × Tells Refusal.Disk result.is_told (W.contents writer.old) (W.contents writer.new) × (result.status ≡ 3)) }
 {
     databases_stay_good();
     match device {
         Ok(device) => run_to_end::<Paged<D>, R, W>(alloc, settings, device, reader, writer),
-        Err(_) => failed(Refusal::Disk, None, None, writer),
+        Err(_) => failed(Refusal::Disk, true, None, None, writer),
     }
 }
 

@@ -10,8 +10,7 @@ ghost use Rattle.scripts.specs.Played.{between};
 ghost use Rattle.scripts.specs.Settled.{HasNoSession, IsSettled, store_of};
 ghost use Rattle.store.specs.Errors.{HasRisen};
 ghost use Rattle.shell.specs.Status.{refusal_of, status_of, IsStatus};
-ghost use Rattle.shell.specs.Runs.{CarriesOutOver, Ends, HasRefused, IsNotOpened, Leaves, Runs, Says};
-ghost use Rattle.shell.specs.Tells.{Tells};
+ghost use Rattle.shell.specs.Runs.{CarriesOutOver, Ends, HasRefused, IsNotOpened, Leaves, Runs, Says, ScriptEnds, TellsBehind};
 
 use crate::options::Settings;
 use crate::telling::tell;
@@ -36,17 +35,28 @@ pub(crate) const FAILED: u8 = 3;
 pub struct EndedRun<S: Store> {
     /// The exit status.
     pub status: u8,
+    /// Whether each line `ERROR` that had to be said of a fault was written whole and passed on: also where none had to be.
+    pub is_told: bool,
     /// The device: as it was where the store could not be opened, with all that is committed, and synced, where it was closed, and none where it could not be closed.
     pub device: Option<S::Device>,
     /// The core whose store could not be closed.
     pub unclosed: Option<Core<S>>,
 }
 
+/// How a script ended.
+#[derive(Clone, Copy)]
+struct EndedScript {
+    /// The exit status.
+    status: u8,
+    /// Whether the line that had to be said of a fault was written whole and passed on: also where none had to be.
+    is_told: bool,
+}
+
 /// Does what `sqlsh run` does over the store on this device, from reader to writer: opens it, carries out the script
 /// and closes it. The exit status is 0; 1 where a reply was a refusal; 3 where the store could not be
 /// opened or closed, or the script was not read or printed to its end, which a line `ERROR` and the code then says
-/// where it can be written. The device is handed back, with what was committed last saved on it for the next run, and synced behind the last write; where the store could not be closed, the
-/// core is.
+/// where it can be written: `is_told` tells whether it was. The device is handed back, with what was committed last saved on it for the next run, and synced behind the last write;
+/// where the store could not be closed, the core is.
 ///
 /// Where a database was saved on the device, the store is refused for want of memory or by the device alone, and no reply is that the file is damaged. The device is said to have refused
 /// that the store was opened or closed, or a call of the script, only where what is handed back counts more refused calls than the device did. A device that cannot be read as a store's is
@@ -60,33 +70,35 @@ pub fn run_to_end<S: Store, R: Read, W: Write>(
 ) -> EndedRun<S>
     ensures status { IsStatus result.status }
     ensures runs { (rules : Rules) (db : Database) → AreRules rules → S.saved device db → IsGood rules.check db
-        → Runs rules (opened db) (between (R.remaining reader.old) (R.remaining reader.new) (W.contents writer.old) (W.contents writer.new)) result.status
+        → Runs rules (opened db) (between (R.remaining reader.old) (R.remaining reader.new) (W.contents writer.old) (W.contents writer.new)) result.status result.is_told
         (Leaves S.saved S.settled S.calls_refused (λ core. S.refused (store_of core)) rules.check (S.calls_refused device) result.device result.unclosed) }
     ensures ends { Ends S.settled S.calls_refused (λ core. S.refused (store_of core)) (S.calls_refused device)
-        (between (R.remaining reader.old) (R.remaining reader.new) (W.contents writer.old) (W.contents writer.new)) result.status result.device result.unclosed }
+        (between (R.remaining reader.old) (R.remaining reader.new) (W.contents writer.old) (W.contents writer.new)) result.status result.is_told result.device result.unclosed }
     ensures unreadable { (S.readable device → ⊥)
-        → IsNotOpened (between (R.remaining reader.old) (R.remaining reader.new) (W.contents writer.old) (W.contents writer.new)) result.status
+        → IsNotOpened (between (R.remaining reader.old) (R.remaining reader.new) (W.contents writer.old) (W.contents writer.new)) result.status result.is_told
         (HasRefused S.calls_refused (S.calls_refused device) result.device) }
 {
     databases_stay_good();
     let mut core: Core<S> = match opened(alloc, settings, device) {
         Ok(core) => core,
-        Err(refused) => return failed(refused.refusal, Some(refused.value), None, writer),
+        Err(refused) => return failed(refused.refusal, true, Some(refused.value), None, writer),
     };
-    let status = carry_out(alloc, &mut core, reader, writer);
+    let EndedScript { status, is_told } = carry_out(alloc, &mut core, reader, writer);
     match core.close() {
         Ok(device) => EndedRun {
             status,
+            is_told,
             device: Some(device),
             unclosed: None,
         },
-        Err(refused) => failed(refused.refusal, None, Some(refused.value), writer),
+        Err(refused) => failed(refused.refusal, is_told, None, Some(refused.value), writer),
     }
 }
 
-/// Says why a store was not opened or closed, and hands back the device or the core that there is.
+/// Says why a store was not opened or closed, behind what was said before, and hands back the device or the core that there is.
 pub(crate) fn failed<S: Store, W: Write>(
     refusal: Refusal,
+    was_told: bool,
     device: Option<S::Device>,
     unclosed: Option<Core<S>>,
     writer: &mut W,
@@ -94,10 +106,12 @@ pub(crate) fn failed<S: Store, W: Write>(
     ensures status { result.status ≡ 3 }
     ensures device { result.device ≡ device }
     ensures unclosed { result.unclosed ≡ unclosed }
-    ensures tells { Tells refusal (W.contents writer.old) (W.contents writer.new) }
+    ensures tells { TellsBehind was_told result.is_told refusal (W.contents writer.old) (W.contents writer.new) }
 {
+    let line = tell(refusal, writer).is_ok();
     EndedRun {
-        status: tell(refusal, FAILED, writer),
+        status: FAILED,
+        is_told: was_told && line,
         device,
         unclosed,
     }
@@ -130,17 +144,19 @@ fn frames_of(settings: &Settings<'_>) -> usize
     settings.frames.get() as usize
 }
 
-/// Carries out the script, and answers the exit status.
+/// Carries out the script, and answers how it ended.
 fn carry_out<S: Store, R: Read, W: Write>(
     alloc: Global,
     core: &mut Core<S>,
     reader: &mut R,
     writer: &mut W,
-) -> u8
-    ensures status { IsStatus result }
+) -> EndedScript
+    ensures status { IsStatus result.status }
     ensures carries_out { (rules : Rules) → AreRules rules → IsSettled S.is_sound S.shows rules.check core.old
         → CarriesOutOver rules (between (R.remaining reader.old) (R.remaining reader.new) (W.contents writer.old) (W.contents writer.new)) (world_of S.shows core.old)
-        (S.refused (store_of core.old)) result (world_of S.shows core.new) (S.refused (store_of core.new)) }
+        (S.refused (store_of core.old)) result.status result.is_told (world_of S.shows core.new) (S.refused (store_of core.new)) }
+    ensures ends { ScriptEnds (between (R.remaining reader.old) (R.remaining reader.new) (W.contents writer.old) (W.contents writer.new)) (S.refused (store_of core.old))
+        result.status result.is_told (S.refused (store_of core.new)) }
     ensures settled { (rules : Rules) → AreRules rules → IsSettled S.is_sound S.shows rules.check core.old → IsSettled S.is_sound S.shows rules.check core.new }
     ensures counts { S.refused (store_of core.old) ≤ S.refused (store_of core.new) }
 {
@@ -149,15 +165,27 @@ fn carry_out<S: Store, R: Read, W: Write>(
     ended(outcome, writer)
 }
 
-/// The exit status of a script that ended so. Of a fault it says `ERROR` and the code, where it can be written.
-fn ended<W: Write>(outcome: Result<bool, ScriptFault>, writer: &mut W) -> u8
-    ensures status { result ≡ status_of outcome }
-    ensures says { Says outcome (W.contents writer.old) (W.contents writer.new) }
+/// How a script ends that ended so. Of a fault it says `ERROR` and the code, where it can be written.
+fn ended<W: Write>(outcome: Result<bool, ScriptFault>, writer: &mut W) -> EndedScript
+    ensures status { result.status ≡ status_of outcome }
+    ensures says { Says outcome result.is_told (W.contents writer.old) (W.contents writer.new) }
 {
     match outcome {
-        Ok(true) => REFUSED,
-        Ok(false) => 0,
-        Err(fault) => tell(refusal_of(&fault), FAILED, writer),
+        Ok(true) => EndedScript {
+            status: REFUSED,
+            is_told: true,
+        },
+        Ok(false) => EndedScript {
+            status: 0,
+            is_told: true,
+        },
+        Err(fault) => {
+            let is_told = tell(refusal_of(&fault), writer).is_ok();
+            EndedScript {
+                status: FAILED,
+                is_told,
+            }
+        }
     }
 }
 

@@ -1,17 +1,42 @@
 //! What is said of a fault.
-ghost use Rattle.std.specs.Prelude.{◌≡◌};
+ghost use Rattle.std.specs.Prelude.{is_ok, IfErr};
+ghost use Rattle.std.specs.Io.KnownBytes.{Keeps};
+ghost use Rattle.replies.specs.Writes.{IsNoInterruption};
 ghost use Rattle.shell.specs.Tells.{Tells};
 
 use refusals::Refusal;
 use replies::{Reply, print_reply};
-use std::io::Write;
+use std::io;
+use std::io::{ErrorKind, Write};
 
-/// Prints a refusal, where it can be written, and gives the exit status back.
-pub fn tell<W: Write>(refusal: Refusal, status: u8, writer: &mut W) -> u8
-    ensures status { result ≡ status }
-    ensures tells { Tells refusal (W.contents writer.old) (W.contents writer.new) }
+/// Prints the line of a refusal, and has the writer pass it on. The answer is an error where not all of the line was written, or it was not passed on. What was interrupted is tried
+/// again.
+pub fn tell<W: Write>(refusal: Refusal, writer: &mut W) -> io::Result<()>
+    ensures tells { Tells refusal (is_ok result) (W.contents writer.old) (W.contents writer.new) }
+    ensures tried_again { IfErr result IsNoInterruption }
 {
-    let _ = print_reply(&Reply::Refused(refusal), writer);
-    let _ = writer.flush();
-    status
+    let printed = print_reply(&Reply::Refused(refusal), writer);
+    let passed_on = pass_on(writer);
+    match printed {
+        Ok(()) => passed_on,
+        Err(error) => Err(error),
+    }
+}
+
+/// Has the writer pass on what it took.
+fn pass_on<W: Write>(writer: &mut W) -> io::Result<()>
+    ensures bytes { Keeps (W.contents writer.old) (W.contents writer.new) }
+    ensures tried_again { IfErr result IsNoInterruption }
+{
+    for _ in 0..u64::MAX {
+        match writer.flush() {
+            Ok(()) => return Ok(()),
+            Err(error) => {
+                if error.kind() != ErrorKind::Interrupted {
+                    return Err(error);
+                }
+            }
+        }
+    }
+    Err(io::Error::from(ErrorKind::TimedOut))
 }

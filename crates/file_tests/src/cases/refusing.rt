@@ -86,6 +86,7 @@ fn played(
     let mut printed = Vec::new(alloc);
     let EndedRun {
         status: _status,
+        is_told: _is_told,
         device,
         unclosed: _core,
     } = run_to_end::<Paged<FaultyDisk<MemDisk>>, _, _>(

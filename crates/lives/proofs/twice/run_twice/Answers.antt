@@ -9,8 +9,8 @@ pub returns-in-Some-clause-runs : goal.returns-in-Some-clause-runs
 returns-in-Some-clause-runs g c = λ rules db are saved good. (
   g.W.Write.contents c.run_to_end-first_status.new.writer,
   Some c.in-Some.device,
-  together rules (c.reopened_runs_are_runs.ensures rules) db _ _ _ _ _ _
-      (run_again g.S.Store.saved g.S.Store.settled g.S.Store.calls_refused (λ core. g.S.Store.refused (store_of core)) rules are c.args.device db _ _ _ _ _
+  together rules (c.reopened_runs_are_runs.ensures rules) db _ _ _ _ _ _ _ _
+      (run_again g.S.Store.saved g.S.Store.settled g.S.Store.calls_refused (λ core. g.S.Store.refused (store_of core)) rules are c.args.device db _ _ _ _ _ _ _
       c.run_to_end-first_status.result.device c.run_to_end-first_status.result.unclosed c.run_to_end-again.result.unclosed c.in-Some.device c.in-Some.is
       (c.run_to_end-first_status.ensures.runs rules db are saved good) (λ next asked kept sound. c.run_to_end-again.ensures.runs rules next asked kept sound)),
 )
@@ -32,8 +32,8 @@ returns-in-None-clause-runs g c = λ rules db are saved good.
     let reader = g.B.Read.remaining c.args.second.now in (
       writer,
       None,
-      together rules (c.reopened_runs_are_runs.ensures rules) db _ _ _ _ _ _
-          (run_no_more g.S.Store.saved g.S.Store.settled g.S.Store.calls_refused (λ core. g.S.Store.refused (store_of core)) rules are c.args.device db _ (between reader reader writer writer) _
+      together rules (c.reopened_runs_are_runs.ensures rules) db _ _ _ _ _ _ _ _
+          (run_no_more g.S.Store.saved g.S.Store.settled g.S.Store.calls_refused (λ core. g.S.Store.refused (store_of core)) rules are c.args.device db _ (between reader reader writer writer) _ _
           c.run_to_end-first_status.result.device c.run_to_end-first_status.result.unclosed c.in-None.is refl refl (c.run_to_end-first_status.ensures.runs rules db are saved good)),
     )
 
@@ -44,6 +44,6 @@ returns-in-None-clause-ends g c = (
     again = None;
     one_core = c.run_to_end-first_status.result.unclosed;
     ends = rw c.in-None.is at c.run_to_end-first_status.ensures.ends;
-    goes_on = (refl, refl, refl, refl, refl);
+    goes_on = (refl, refl, refl, refl, refl, refl);
   },
 )

@@ -1,12 +1,29 @@
 use Rattle.std.proofs.Common.{rules, ◌≡◌, ◌∙◌, sym, subst, Some, None}
 use Rattle.script_pieces.specs.declared.request.Request.TheVariants as found
 use Rattle.script_pieces.specs.Cutter.{asked, call_text}
+use Rattle.session_definitions.specs.World.{World}
 use Rattle.sessions.specs.OfCore.{world_of}
-use Rattle.scripts.specs.Settled.{IsKept}
+use Rattle.scripts.specs.Settled.{HoldAll}
+use Rattle.scripts.specs.Limits.{Ever, UpTo}
 use Rattle.scripts.specs.declared.script.Sessions.{Sessions}
-use Rattle.scripts.proofs.Carried.{performs_calls, performs_chosen_call}
+use Rattle.scripts.proofs.Carried.{performs_calls, performs_chosen_call, prints_call, prints_flush}
 use Rattle.scripts.proofs.Limits.{flush_told, request_told}
 use Rattle.scripts.proofs.script.reply_to.Goals as goal
+
+pub returns-in-Calls-None-clause-prints : goal.returns-in-Calls-None-clause-prints
+returns-in-Calls-None-clause-prints g c =
+    let is : c.args.request ≡ found.Calls None = search rules in
+    prints_call c.args.request None (call_text c.args.cutter.now) c.call.result is
+
+pub returns-in-Calls-Some-clause-prints : goal.returns-in-Calls-Some-clause-prints
+returns-in-Calls-Some-clause-prints g c =
+    let is : c.args.request ≡ found.Calls (Some c.in-Calls-Some.session) = search rules in
+    prints_call c.args.request (Some c.in-Calls-Some.session) (call_text c.args.cutter.now) c.call-in-Calls-Some.result is
+
+pub returns-in-Flushes-clause-prints : goal.returns-in-Flushes-clause-prints
+returns-in-Flushes-clause-prints g c =
+    let is : c.args.request ≡ found.Flushes = search rules in
+    prints_flush c.args.request (call_text c.args.cutter.now) c.flush_all.result is c.flush_all.ensures.replies
 
 pub returns-in-Calls-None-clause-performs : goal.returns-in-Calls-None-clause-performs
 returns-in-Calls-None-clause-performs g c = λ r piece are h ready asks.
@@ -17,17 +34,22 @@ returns-in-Calls-None-clause-performs g c = λ r piece are h ready asks.
 pub returns-in-Calls-Some-clause-performs : goal.returns-in-Calls-Some-clause-performs
 returns-in-Calls-Some-clause-performs g c = λ r piece are h ready asks.
     let is : c.args.request ≡ found.Calls (Some c.in-Calls-Some.session) = search rules in
-    let kept = subst (λ (s : Sessions). IsKept g.S.Store.is_sound g.S.Store.shows r.check s.standing c.args.core.now) (sym c.choose-in-Calls-Some.ensures) h in
     performs_chosen_call r piece (world_of g.S.Store.shows c.args.core.now) (world_of g.S.Store.shows c.call-in-Calls-Some.new.core) c.args.sessions.now c.choose-in-Calls-Some.new.self c.call-in-Calls-Some.new.self
     c.args.request c.in-Calls-Some.session _ c.text-in-Calls-Some.result.now c.call-in-Calls-Some.result is asks c.choose-in-Calls-Some.ensures c.text-in-Calls-Some.ensures ready
-    (λ ready_then. c.call-in-Calls-Some.ensures.plays r are kept ready_then)
+    (λ ready_then. c.call-in-Calls-Some.ensures.plays r are h ready_then)
 
-pub returns-in-Calls-Some-clause-kept : goal.returns-in-Calls-Some-clause-kept
-returns-in-Calls-Some-clause-kept g c = λ r are h.
-    c.call-in-Calls-Some.ensures.kept r are (subst (λ (s : Sessions). IsKept g.S.Store.is_sound g.S.Store.shows r.check s.standing c.args.core.now) (sym c.choose-in-Calls-Some.ensures) h)
+pub returns-in-Chooses-clause-held : goal.returns-in-Chooses-clause-held
+returns-in-Chooses-clause-held g c = λ held. subst (λ (s : Sessions). HoldAll s.standing (world_of g.S.Store.shows c.args.core.now)) (sym c.choose.ensures) held
+
+pub returns-in-Calls-Some-clause-held : goal.returns-in-Calls-Some-clause-held
+returns-in-Calls-Some-clause-held g c = λ held.
+    c.call-in-Calls-Some.ensures.held (subst (λ (s : Sessions). HoldAll s.standing (world_of g.S.Store.shows c.args.core.now)) (sym c.choose-in-Calls-Some.ensures) held)
+
+pub returns-in-Flushes-clause-held : goal.returns-in-Flushes-clause-held
+returns-in-Flushes-clause-held g c = λ held. subst (λ (w : World). HoldAll c.args.sessions.now.standing w) (sym c.flush_all.ensures.same) held
 
 pub returns-in-Flushes-clause-kept : goal.returns-in-Flushes-clause-kept
-returns-in-Flushes-clause-kept g c = λ r are h. c.flush_all.ensures.kept r c.args.sessions.now.standing h
+returns-in-Flushes-clause-kept g c = λ r are h. c.flush_all.ensures.kept r h
 
 pub returns-in-Calls-None-clause-flushes : goal.returns-in-Calls-None-clause-flushes
 returns-in-Calls-None-clause-flushes g c = λ e.
@@ -50,12 +72,27 @@ returns-in-Flushes-clause-flushes g c = λ e. c.flush_all.ensures.flushed
 pub returns-in-Calls-None-clause-limits : goal.returns-in-Calls-None-clause-limits
 returns-in-Calls-None-clause-limits g c =
     let is : c.args.request ≡ found.Calls None = search rules in
-    request_told c.args.request None _ c.text.result.now c.call.result is c.text.ensures c.call.ensures.limits
+    request_told Ever c.args.request None _ c.text.result.now c.call.result is c.text.ensures c.call.ensures.limits
 
 pub returns-in-Calls-Some-clause-limits : goal.returns-in-Calls-Some-clause-limits
 returns-in-Calls-Some-clause-limits g c =
     let is : c.args.request ≡ found.Calls (Some c.in-Calls-Some.session) = search rules in
-    request_told c.args.request (Some c.in-Calls-Some.session) _ c.text-in-Calls-Some.result.now c.call-in-Calls-Some.result is c.text-in-Calls-Some.ensures c.call-in-Calls-Some.ensures.limits
+    request_told Ever c.args.request (Some c.in-Calls-Some.session) _ c.text-in-Calls-Some.result.now c.call-in-Calls-Some.result is c.text-in-Calls-Some.ensures c.call-in-Calls-Some.ensures.limits
 
 pub returns-in-Flushes-clause-limits : goal.returns-in-Flushes-clause-limits
-returns-in-Flushes-clause-limits g c = flush_told (asked c.args.request (call_text c.args.cutter.now)) c.flush_all.result c.flush_all.ensures.replies
+returns-in-Flushes-clause-limits g c = flush_told Ever (asked c.args.request (call_text c.args.cutter.now)) c.flush_all.result c.flush_all.ensures.replies
+
+pub returns-in-Calls-None-clause-within : goal.returns-in-Calls-None-clause-within
+returns-in-Calls-None-clause-within g c = λ r are h.
+    let is : c.args.request ≡ found.Calls None = search rules in
+    request_told (UpTo (world_of g.S.Store.shows c.call.new.core).commits) c.args.request None _ c.text.result.now c.call.result is c.text.ensures (c.call.ensures.within r are h)
+
+pub returns-in-Calls-Some-clause-within : goal.returns-in-Calls-Some-clause-within
+returns-in-Calls-Some-clause-within g c = λ r are h.
+    let is : c.args.request ≡ found.Calls (Some c.in-Calls-Some.session) = search rules in
+    request_told (UpTo (world_of g.S.Store.shows c.call-in-Calls-Some.new.core).commits) c.args.request (Some c.in-Calls-Some.session) _ c.text-in-Calls-Some.result.now c.call-in-Calls-Some.result is
+    c.text-in-Calls-Some.ensures (c.call-in-Calls-Some.ensures.within r are h)
+
+pub returns-in-Flushes-clause-within : goal.returns-in-Flushes-clause-within
+returns-in-Flushes-clause-within g c = λ r are h.
+    flush_told (UpTo (world_of g.S.Store.shows c.flush_all.new.core).commits) (asked c.args.request (call_text c.args.cutter.now)) c.flush_all.result c.flush_all.ensures.replies

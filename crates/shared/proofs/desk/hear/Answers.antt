@@ -1,7 +1,15 @@
-use Rattle.std.proofs.Common.{rules, ap, ◌∙◌}
+use Rattle.std.proofs.Common.{rules, Some, sym, ap, ◌∙◌, subst}
 use Rattle.shared.specs.declared.rule.View.{View}
+use Rattle.shared.specs.Views.{Past, Told}
+use Rattle.shared.proofs.Histories.{none_some}
 use Rattle.shared.proofs.Moves.{gives_back}
 use Rattle.shared.proofs.desk.hear.Goals as goal
+
+pub returns-clause-idle : goal.returns-clause-idle
+returns-clause-idle g c =
+    let t = c.take_in.ensures in
+    let told = subst Told t.view t.told in
+    λ id held. none_some id (sym c.client.invariant.3 ∙ told.alone id (held ∙ ap (λ (p : Past). Some p.who) (sym c.client.view_is)))
 
 pub split_pass-parted-requires : goal.split_pass-parted-requires
 split_pass-parted-requires g c =

@@ -6,4 +6,4 @@ use Rattle.shared.proofs.Asking.{asks_one}
 use Rattle.shared.proofs.scripts.finish.Goals as goal
 
 pub returns-in-Stands : goal.returns-in-Stands
-returns-in-Stands g c = subst (λ (x : Caller g.row.J.Denot). Asks (past_of x) (closing (stands_of x)) c.end.result) (sym c.in-Stands.is) (asks_one _ _ _ _ _ c.end.ensures.call)
+returns-in-Stands g c = subst (λ (x : Caller g.row.J.Denot). Asks (past_of x) (closing (stands_of x)) c.end.result) (sym c.in-Stands.is) (asks_one _ _ _ _ _ _ c.end.ensures.call)

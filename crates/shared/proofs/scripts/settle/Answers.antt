@@ -1,13 +1,14 @@
-use Rattle.std.proofs.Common.{rules, arith, ◌≡◌, ℕ, ◌+◌, ◌<◌, Some, [], ◌∷◌, ◌++◌, Option, length, get_or, sym, ap, ◌∙◌, subst, slice_get}
+use Rattle.std.proofs.Common.{rules, arith, ◌≡◌, ◌≢◌, ℕ, ◌+◌, ◌<◌, Some, [], ◌∷◌, ◌++◌, Option, length, get_or, sym, ap, ◌∙◌, subst, slice_get}
 use Rattle.std.specs.Vec.Iter.{into_iter_items, into_iter_len}
 use Rattle.crossbeam_utils.specs.Seq.{cell_view}
 use Rattle.shared.specs.declared.rule.View.{View}
-use Rattle.shared.specs.History.{calls_by}
+use Rattle.shared.specs.History.{calls_by, holder_of}
 use Rattle.shared.specs.Scripts.{Answers, asks, Played, texts_at}
 use Rattle.shared.specs.Callers.{HasPlayed}
 use Rattle.shared.specs.declared.jobs.Done.{Done}
-use Rattle.shared.proofs.Asking.{each_reply, later_is}
+use Rattle.shared.proofs.Asking.{each_below, each_reply, later_is}
 use Rattle.shared.proofs.Counting.{answered}
+use Rattle.shared.proofs.Histories.{none_stands}
 use Rattle.shared.proofs.Limits.{limits_answered}
 use Rattle.shared.proofs.scripts.settle.Goals as goal
 
@@ -31,6 +32,7 @@ loop-one-preserved g c =
     let who : c.in-Some-one.field-0.client.who ≡ done = search rules in
     let said : Played (texts_at c.args.scripts.now done) c.in-Some-one.field-0.client.mine c.in-Some-one.answers.items = search rules in
     let new : P done c.in-Some-one.answers = (ap asks (ap (λ n. calls_by n log) (sym who) ∙ ap (calls_by c.in-Some-one.field-0.client.who) (sym was.2) ∙ h.made) ∙ said.0, said.1) in
+    let Idle : ℕ → Type 0 = λ k. (id : ℕ) → holder_of id log ≢ Some k in
     let grown : length c.push.new.self.items ≡ done + 1 = search rules in
     let pushed : c.push.new.self.items ≡ c.loop-one.replies.items ++ c.in-Some-one.answers ∷ [] = search rules in (
       h.keeper.0 ∙ was.0,
@@ -39,6 +41,7 @@ loop-one-preserved g c =
       search rules,
       (λ k d below. later k d below ∙ ap (λ n. get_or first (n + k) d) (sym grown)),
       subst (λ l. (k : ℕ) (b : Answers) → slice_get l k ≡ Some b → P k b) (sym pushed) (each_reply P c.loop-one.replies.items c.in-Some-one.answers was.5 new),
+      each_below Idle done (length c.push.new.self.items) grown was.6 (λ id held. h.idle id (ap (λ l. holder_of id l) was.2 ∙ held ∙ ap Some (sym who))),
     )
 
 pub returns : goal.returns
@@ -57,6 +60,9 @@ returns g c =
         tells = held.history;
       };
       counted = held.device;
+      none_left = λ id. held.live id
+          ∙ none_stands (length c.args.scripts.now) (cell_view c.into_parts-core.result.1).log (held.all_of (length c.args.scripts.now) c.requires.limit)
+          (λ k less. was.6 k (omega (arith, less, all))) id;
       device = λ k answers is.
           answered g.J.Room.refused _ (texts_at c.args.scripts.now k) k (cell_view c.into_parts-core.result.1).log answers.items (was.5 k answers is) held.device.told;
       limits = λ k answers is. limits_answered (texts_at c.args.scripts.now k) k (cell_view c.into_parts-core.result.1).log answers.items (was.5 k answers is) held.device.limits;

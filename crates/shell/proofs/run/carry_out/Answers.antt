@@ -1,7 +1,10 @@
-use Rattle.shell.proofs.Running.{carries_out}
+use Rattle.shell.proofs.Running.{carries_out, script_ends}
 use Rattle.shell.proofs.run.carry_out.Goals as goal
 
 pub returns-clause-carries_out : goal.returns-clause-carries_out
 returns-clause-carries_out g c = λ rules are settled.
-    carries_out rules (c.no_reply_is_damaged.ensures.script rules are) _ _ _ _ _ _ _ _ _ c.run-outcome.result _ (c.run-outcome.ensures.plays rules are settled)
+    carries_out rules (c.no_reply_is_damaged.ensures.script rules are) _ _ _ _ _ _ _ _ _ c.run-outcome.result _ _ (c.run-outcome.ensures.plays rules are settled)
     (c.run-outcome.ensures.stopped rules are settled) c.ended.ensures.says c.ended.ensures.status
+
+pub returns-clause-ends : goal.returns-clause-ends
+returns-clause-ends g c = script_ends _ _ _ _ _ _ _ c.run-outcome.result _ _ c.run-outcome.ensures.shows c.ended.ensures.says c.ended.ensures.status

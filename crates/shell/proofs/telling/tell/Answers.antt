@@ -1,6 +1,8 @@
-use Rattle.std.proofs.Common.{rules}
-use Rattle.shell.proofs.Flushed.{flushed}
+use Rattle.shell.proofs.Flushed.{flushed, passed_on}
 use Rattle.shell.proofs.telling.tell.Goals as goal
 
-pub returns-clause-tells : goal.returns-clause-tells
-returns-clause-tells g c = flushed _ _ _ _ _ c.print_reply.ensures.writes (search rules)
+pub returns-in-Ok-clause-tells : goal.returns-in-Ok-clause-tells
+returns-in-Ok-clause-tells g c = passed_on _ _ _ _ _ _ _ c.in-Ok.is c.print_reply-printed.ensures.writes c.pass_on-passed_on.ensures.bytes
+
+pub returns-in-Err-clause-tells : goal.returns-in-Err-clause-tells
+returns-in-Err-clause-tells g c = flushed _ _ _ _ _ c.print_reply-printed.ensures.writes c.pass_on-passed_on.ensures.bytes

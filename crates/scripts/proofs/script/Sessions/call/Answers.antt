@@ -1,5 +1,7 @@
 use Rattle.sessions.specs.OfCore.{world_of}
-use Rattle.scripts.proofs.Keeping.{kept_step, good_seen}
+use Rattle.scripts.specs.Limits.{Ever, UpTo}
+use Rattle.scripts.proofs.Keeping.{commits_grow, kept_step, good_seen}
+use Rattle.scripts.proofs.Placed.{held_same}
 use Rattle.scripts.proofs.Carried.{plays_found, ready_found, live_found, ready_alike, plays_not_made, ready_not_made}
 use Rattle.scripts.proofs.Limits.{call_told, none_told}
 use Rattle.scripts.proofs.script.Sessions.call.Goals as goal
@@ -29,11 +31,24 @@ returns-in-Err-clause-plays g c = λ r are h ready.
 
 pub returns-in-Ok-clause-kept : goal.returns-in-Ok-clause-kept
 returns-in-Ok-clause-kept g c = λ r are h.
-    kept_step g.S.Store.is_sound g.S.Store.shows r (λ start end moments. c.databases_stay_good.ensures.run r start end moments are) c.session.new.self.standing c.session.new.core c.step.new.self c.in-Ok.session c.args.text.now c.step.result
+    kept_step g.S.Store.is_sound g.S.Store.shows r (λ start end moments. c.databases_stay_good.ensures.run r start end moments are) c.session.new.core c.step.new.self c.in-Ok.session c.args.text.now c.step.result
     (c.step.ensures.step r are) (c.step.ensures.sound r are) (λ dead. (c.step.ensures.ended dead).1) (c.session.ensures.kept r are h)
 
+pub returns-in-Ok-clause-held : goal.returns-in-Ok-clause-held
+returns-in-Ok-clause-held g c = λ held.
+    held_same c.session.new.self.standing (world_of g.S.Store.shows c.session.new.core) (world_of g.S.Store.shows c.step.new.self) c.step.ensures.live (c.session.ensures.held held)
+
 pub returns-in-Ok-clause-limits : goal.returns-in-Ok-clause-limits
-returns-in-Ok-clause-limits g c = call_told (g.S.Store.counted c.session.new.core.store) (g.S.Store.shows c.session.new.core.store).commits c.args.text.now c.step.result c.step.ensures.limits
+returns-in-Ok-clause-limits g c = call_told Ever (g.S.Store.counted c.session.new.core.store) (g.S.Store.shows c.session.new.core.store).commits c.args.text.now c.step.result tt c.step.ensures.limits
 
 pub returns-in-Err-clause-limits : goal.returns-in-Err-clause-limits
-returns-in-Err-clause-limits g c = none_told c.args.text.now c.in-Err.refusal c.in-Err.ensures.limits
+returns-in-Err-clause-limits g c = none_told Ever c.args.text.now c.in-Err.refusal c.in-Err.ensures.limits
+
+pub returns-in-Ok-clause-within : goal.returns-in-Ok-clause-within
+returns-in-Ok-clause-within g c = λ r are h.
+    call_told (UpTo (g.S.Store.shows c.step.new.self.store).commits) (g.S.Store.counted c.session.new.core.store) (g.S.Store.shows c.session.new.core.store).commits c.args.text.now c.step.result
+    (commits_grow g.S.Store.is_sound g.S.Store.shows r c.session.new.core c.step.new.self c.in-Ok.session c.args.text.now c.step.result
+    (c.step.ensures.step r are) (λ dead. (c.step.ensures.ended dead).1) (c.session.ensures.kept r are h)) c.step.ensures.limits
+
+pub returns-in-Err-clause-within : goal.returns-in-Err-clause-within
+returns-in-Err-clause-within g c = λ r are h. none_told (UpTo (g.S.Store.shows c.session.new.core.store).commits) c.args.text.now c.in-Err.refusal c.in-Err.ensures.limits

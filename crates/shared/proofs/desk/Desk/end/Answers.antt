@@ -16,25 +16,28 @@ invariant_of-self g c =
     let told = subst Told t.view t.told in
     let r = c.record-token.ensures.keeper in
     let act = Ends (number_of c.me.inside.id) in
-    let x = r.1 ∙ ap (λ (v : View). keeper_in (extended (event v.who act) v)) t.view in (
+    let n = g.S.Store.refused c.end_session.new.self.store in
+    let x = r.1 ∙ ap (λ (v : View). keeper_in (extended (event v.who act n) v)) t.view in (
       r.0 ∙ t.cell.0 ∙ c.self.invariant.0,
       subst (λ (v : View). IsDesk g.J.Room.premise g.J.Room.start g.J.Room.callers (IsSound g.S.Store.is_sound g.S.Store.shows c.end_session.new.self) (world_of g.S.Store.shows c.end_session.new.self) ((c.self.inside.count + 1) % 2 ^ 64) v) (sym x)
-          (desk_after c.databases_stay_good.ensures.run _ _ _ _ _ _ _ _ (cell_view c.self.inside.keeper) (cell_view c.me.inside.token) act c.self.invariant.1 told (live_ended (world_of g.S.Store.shows c.self.inside.core) (world_of g.S.Store.shows c.end_session.new.self) (number_of c.me.inside.id) c.end_session.ensures.live.0 c.end_session.ensures.live.1)
+          (desk_after c.databases_stay_good.ensures.run _ _ _ _ _ _ _ _ (cell_view c.self.inside.keeper) (cell_view c.me.inside.token) act n c.self.invariant.1 told (live_ended (world_of g.S.Store.shows c.self.inside.core) (world_of g.S.Store.shows c.end_session.new.self) (number_of c.me.inside.id) c.end_session.ensures.live.0 c.end_session.ensures.live.1)
           (ends_on g.S.Store.is_sound g.S.Store.shows c.self.inside.core c.end_session.new.self c.me.inside.id (c.end_session.ensures.drops (stands_at _ _ _ _ _ _ (cell_view c.self.inside.keeper) (cell_view c.me.inside.token) _ c.self.invariant.1 told c.me.invariant.3)) c.end_session.ensures.sound)),
       subst (λ (v : View). IsCounted g.J.Room.refused (g.S.Store.refused c.end_session.new.self.store) v.log) (sym x)
-          (counted_after _ _ _ (cell_view c.self.inside.keeper).log (event (cell_view c.me.inside.token).who act) c.end_session.ensures.counts tt tt c.self.invariant.2),
+          (counted_after _ _ (cell_view c.self.inside.keeper).log (event (cell_view c.me.inside.token).who act n) c.end_session.ensures.counts tt tt c.self.invariant.2),
     )
 
 pub returns : goal.returns
 returns g c =
     let t = c.take_in.ensures in
     let act = Ends (number_of c.me.inside.id) in
-    let x = c.record-token.ensures.caller.2 ∙ ap (λ (v : View). caller_in (extended (event v.who act) v)) t.view in
+    let n = g.S.Store.refused c.end_session.new.self.store in
+    let x = c.record-token.ensures.caller.2 ∙ ap (λ (v : View). caller_in (extended (event v.who act n) v)) t.view in
     let told = subst Told t.view t.told in
     record {
       id = number_of c.me.inside.id;
       at = ap (λ (p : Past). p.at) (sym c.me.view_is) ∙ c.me.invariant.3;
-      call = subst₂ (λ (p q : Past). Extends g.J.Room.premise g.J.Room.start p act q) c.me.view_is (ap past (sym x))
-          (extends_after c.databases_stay_good.ensures.run _ _ _ _ (IsSound g.S.Store.is_sound g.S.Store.shows c.end_session.new.self) _ _ _ (cell_view c.self.inside.keeper) (cell_view c.me.inside.token) act c.self.invariant.1 told
+      call = subst₂ (λ (p q : Past). Extends g.J.Room.premise g.J.Room.start g.J.Room.refused p act q) c.me.view_is (ap past (sym x))
+          (extends_after c.databases_stay_good.ensures.run _ _ _ _ (IsSound g.S.Store.is_sound g.S.Store.shows c.end_session.new.self) _ _ _ (cell_view c.self.inside.keeper) (cell_view c.me.inside.token) act n g.J.Room.refused c.self.invariant.1 told
+          (counted_after _ _ (cell_view c.self.inside.keeper).log (event (cell_view c.me.inside.token).who act n) c.end_session.ensures.counts tt tt c.self.invariant.2)
           (ends_on g.S.Store.is_sound g.S.Store.shows c.self.inside.core c.end_session.new.self c.me.inside.id (c.end_session.ensures.drops (stands_at _ _ _ _ _ _ (cell_view c.self.inside.keeper) (cell_view c.me.inside.token) _ c.self.invariant.1 told c.me.invariant.3)) c.end_session.ensures.sound));
     }

@@ -23,7 +23,7 @@ loop-client-preserved g c =
     let h = c.hear.ensures in
     let one : Past = c.in-Some.client in
     let log = (cell_view c.into_parts-core.result.1).log in
-    let heard : IsHeard log one = subst (λ (l : List Event). IsHeard l one) was.2 (record { saw = h.saw; made = h.made }) in
+    let heard : IsHeard log one = subst (λ (l : List Event). IsHeard l one) was.2 (record { saw = h.saw; made = h.made; idle = h.idle }) in
     let fewer = was.3 in
     let gone = step.1 in
     let short = ap length step.0 in (
@@ -42,5 +42,8 @@ returns g c =
     record {
       log = log;
       heard = subst (AllHeard log) c.into_iter-client-iterator.ensures.into_iter_gives.0 (was.4 (subst (AllHeard log) (sym none) tt));
+      all_of = c.into_parts-core.ensures.all_of;
+      counted = c.into_parts-core.ensures.device;
+      live = c.into_parts-core.ensures.live;
       tells = c.into_parts-core.ensures.history;
     }
