@@ -104,7 +104,7 @@ class Edit:
                 is_goal = line.startswith("note: ") or code[3].startswith("error")
                 if is_goal and code[1] == self.file and self.first <= int(code[2]) <= self.last:
                     found.append(line)
-            elif proof:
+            elif proof and proof[2].startswith("error"):  # a note there says of a term that it is large, and of no goal that it is open
                 parts = proof[1].split("/")
                 if any(it.startswith("+") for it in parts):
                     # the proofs of a cycle stand in one file, each goal under the name of its function
