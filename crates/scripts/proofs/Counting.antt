@@ -1,8 +1,8 @@
 -- Each X0002 among the replies has a refused call of its own.
-use Rattle.std.proofs.Common.{◌≡◌, ◌≢◌, refl, sym, subst, ℕ, ◌+◌, ◌-◌, ◌^◌, ◌≤◌, ◌||◌, Bool, true, false, cond, List, [], ◌∷◌, ◌++◌, Option, arith}
+use Rattle.std.proofs.Common.{◌≡◌, ◌≢◌, refl, sym, subst, ℕ, ◌+◌, ◌-◌, ◌^◌, ◌≤◌, Bool, true, false, cond, List, [], ◌∷◌, ◌++◌, Option, arith}
 use Rattle.std.specs.Prelude.{min}
 use Rattle.std.proofs.lemmas.Bool.{true≢false}
-use Rattle.std.proofs.lemmas.List.Sums.{sum_by_push, sum_by-cons}
+use Rattle.std.proofs.lemmas.List.Sums.{sum_by_push}
 use Rattle.std.proofs.Math.Nat.{le_trans}
 use Rattle.refusals.specs.declared.refusal.Refusal.{Refusal}
 use Rattle.refusals.specs.declared.refusal.Refusal.TheVariants.{Disk}
@@ -10,7 +10,7 @@ use Rattle.replies.specs.declared.reply.Reply.{Reply}
 use Rattle.replies.specs.declared.reply.Reply.TheVariants as says
 use Rattle.store.specs.Errors.{HasRisen}
 use Rattle.transactions.specs.Refused.{Counts}
-use Rattle.scripts.specs.Device.{TellDevice, disk_count, has_disk, is_disk, shows_disk, tells_disk}
+use Rattle.scripts.specs.Device.{TellDevice, disk_count, is_disk, shows_disk, tells_disk}
 
 -- ---- a reply
 
@@ -54,39 +54,3 @@ pub told_more : (replies : List (Option Reply)) (reply : Option Reply) (before m
 told_more replies reply before m n counted risen more =
     subst (λ (told : ℕ). min (told + before) (2 ^ 64 - 1) ≤ n) (sym (sum_by_push (λ (x : Option Reply). cond (shows_disk x) 1 0) replies reply))
     (told_by (shows_disk reply) (disk_count replies) before m n counted risen more)
-
--- ---- for those who ask only whether there is one
-
-counted_there : (one : Bool) (told others : ℕ) → told ≡ cond one 1 0 + others → one ≡ true → 1 ≤ told
-counted_there true told others sum is = omega (arith, sum)
-counted_there false told others sum is = absurd (true≢false (sym is))
-
-counted_behind : (one : Bool) (told others : ℕ) → told ≡ cond one 1 0 + others → 1 ≤ others → 1 ≤ told
-counted_behind true told others sum more = omega (arith, sum, more)
-counted_behind false told others sum more = omega (arith, sum, more)
-
--- some reply is X0002, so at least one is
-one_told : (replies : List (Option Reply)) → has_disk replies ≡ true → 1 ≤ disk_count replies
-one_told [] is = absurd (true≢false (sym is))
-one_told (reply ∷ replies) is = by (shows_disk reply) refl is (λ h. one_told replies h)
-  where
-    sum : disk_count (reply ∷ replies) ≡ cond (shows_disk reply) 1 0 + disk_count replies
-    sum = sum_by-cons (λ (x : Option Reply). cond (shows_disk x) 1 0) reply replies
-
-    by : (one : Bool) → shows_disk reply ≡ one → (one || has_disk replies) ≡ true → (has_disk replies ≡ true → 1 ≤ disk_count replies) → 1 ≤ disk_count (reply ∷ replies)
-    by true e h others = counted_there (shows_disk reply) (disk_count (reply ∷ replies)) (disk_count replies) sum e
-    by false e h others = counted_behind (shows_disk reply) (disk_count (reply ∷ replies)) (disk_count replies) sum (others h)
-
-rises_by : (top told before after : ℕ) → 1 ≤ told → min (told + before) top ≤ after → min (before + 1) top ≤ after
-rises_by top told before after some counted = omega (arith, some, counted)
-
--- X0002 is among these replies only where the count of refused calls rose
-pub risen_where_told : (replies : List (Option Reply)) (before after : ℕ) → TellDevice replies before after → has_disk replies ≡ true → HasRisen before after
-risen_where_told replies before after counted is = rises_by (2 ^ 64 - 1) (disk_count replies) before after (one_told replies is) counted
-
--- what was counted between is counted from before it to behind it
-told_between : (top told first before m n : ℕ) → first ≤ before → min (told + before) top ≤ m → m ≤ n → min (told + first) top ≤ n
-told_between top told first before m n less counted more = omega (arith, less, counted, more)
-
-pub told_since : (replies : List (Option Reply)) (first before m n : ℕ) → first ≤ before → TellDevice replies before m → m ≤ n → TellDevice replies first n
-told_since replies first before m n less counted more = told_between (2 ^ 64 - 1) (disk_count replies) first before m n less counted more

@@ -1,6 +1,5 @@
 -- Which replies say that the device refused, and when they come.
 use Rattle.std.specs.Prelude.{ℕ, ◌+◌, ◌-◌, ◌^◌, ◌≤◌, min, count_by, Bool, true, false, List, Option, Some, None}
-use Rattle.std.specs.List.{list_any}
 use Rattle.refusals.specs.declared.refusal.Refusal.{Refusal}
 use Rattle.refusals.specs.declared.refusal.Refusal.TheVariants.{Disk}
 use Rattle.replies.specs.declared.reply.Reply.{Reply}
@@ -20,11 +19,7 @@ abbrev pub shows_disk : Option Reply → Bool
 shows_disk (Some reply) = tells_disk reply
 shows_disk None = false
 
--- some reply of a script does
-abbrev pub has_disk : List (Option Reply) → Bool
-has_disk = list_any shows_disk
-
--- and how many do
+-- how many replies of a script do
 abbrev pub disk_count : List (Option Reply) → ℕ
 disk_count = count_by shows_disk
 
