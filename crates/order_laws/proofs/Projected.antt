@@ -74,8 +74,8 @@ found-shown [] items h row env values e start column place f = absurd (cc)
 found-shown (seen ∷ columns) [] h row env values e start column place f = absurd h
 found-shown (seen ∷ columns) (item ∷ items) h row env values e start column place f =
     let parts = all-of (item (row ∷ env)) (values_of items (row ∷ env)) values e in
-    at (is_column column seen) refl f parts.0 parts.1.0 parts.1.1.0 parts.1.1.1.1
-    (λ g. found-shown columns items h.1 row env parts.1.0 parts.1.1.1.0 (start + 1) column place g)
+    at (is_column column seen) refl f parts.0 parts.1 parts.2 parts.4
+    (λ g. found-shown columns items h.1 row env parts.1 parts.3 (start + 1) column place g)
   where
     first-is : (x : Option ℕ) → is_column column x ≡ true → x ≡ Some column
     first-is None e = absurd (cc)
@@ -89,20 +89,20 @@ found-shown (seen ∷ columns) (item ∷ items) h row env values e start column 
         let same : start ≡ place = cc in
         let shown : item (row ∷ env) ≡ Ok (cell row column) = h.0 column (first-is seen g) row env in
         let value : first ≡ cell row column = value-same first (cell row column) (sym here ∙ shown) in
-        (0, (omega (arith, same), ap (λ (v : Row). cell v 0) made ∙ value))
+        (0, omega (arith, same), ap (λ (v : Row). cell v 0) made ∙ value)
       where
         value-same : (a b : Value) → let left : Evaluation Value = Ok a in let right : Evaluation Value = Ok b in left ≡ right → a ≡ b
         value-same a b e = cc
     at false g f first rest here made further =
         let found = further f in
-        (suc found.0, (omega (arith, found.1.0), ap (λ (v : Row). cell v (suc found.0)) made ∙ found.1.1))
+        (suc found.0, omega (arith, found.1), ap (λ (v : Row). cell v (suc found.0)) made ∙ found.2)
 
 has-columns : (columns : List (Option ℕ)) (items : List ExpressionMeaning) → Each ShowsColumn columns items → (row : Row) (env : Env) (values : Row)
     → values_of items (row ∷ env) ≡ Ok values → HasColumns columns values row
 has-columns columns items h row env values e column place f =
     let found = found-shown columns items h row env values e 0 column place f in
-    let same : place ≡ found.0 = omega (arith, found.1.0) in
-    ap (λ (k : ℕ). cell values k) same ∙ found.1.1
+    let same : place ≡ found.0 = omega (arith, found.1) in
+    ap (λ (k : ℕ). cell values k) same ∙ found.2
 
 shown-made : (columns : List (Option ℕ)) (items : List ExpressionMeaning) → Each ShowsColumn columns items → (env : Env) (row : Row)
     → IsMadeOf (HasColumns columns) (ended (shown_row items env row)).rows row

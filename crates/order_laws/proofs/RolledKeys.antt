@@ -7,10 +7,10 @@ use Rattle.algebra.specs.declared.tree.Tree.{Tree-F, roll-Tree, map-Tree, fold-r
 use Rattle.algebra.specs.OrderKeys.{KeyLayer, condition_key_step, column_step, function_key_step, order_step, column_of, order_keys}
 use Rattle.algebra_laws.proofs.RolledTrees.{Node}
 
-condition_keys : Condition → Unit {0}
+unfoldable pub condition_keys : Condition → Unit {0}
 condition_keys = fold-Condition _ _ _ _ condition_key_step column_step function_key_step order_step
 
-function_keys : SetFunction → Unit {0}
+unfoldable pub function_keys : SetFunction → Unit {0}
 function_keys = fold-SetFunction _ _ _ _ condition_key_step column_step function_key_step order_step
 
 -- a node with its parts' columns and keys in their places
