@@ -65,14 +65,14 @@ sorted-ascends keys (row ∷ rows) = put-ascends keys row (sorted keys rows) (so
 
 -- ---- without keys
 
-none-before : (first : Row) (rows : List Row) → NoneBefore [] first rows
-none-before first [] = tt
-none-before first (row ∷ rows) = (refl, none-before first rows)
+no_keys-none : (first : Row) (rows : List Row) → NoneBefore [] first rows
+no_keys-none first [] = tt
+no_keys-none first (row ∷ rows) = (refl, no_keys-none first rows)
 
 -- every list is sorted by no keys
 pub unsorted-ascends : (rows : List Row) → Ascends [] rows
 unsorted-ascends [] = tt
-unsorted-ascends (row ∷ rows) = (none-before row rows, unsorted-ascends rows)
+unsorted-ascends (row ∷ rows) = (no_keys-none row rows, unsorted-ascends rows)
 
 -- ---- each row and the next one
 

@@ -1,18 +1,17 @@
 -- The rows of a select list ascend by the keys whose columns are among its items.
-use Rattle.std.proofs.Common.{◌≡◌, refl, ap, sym, ◌∙◌, subst, ℕ, zero, suc, ◌+◌, Bool, true, false, if◌then◌else◌, List, [], ◌∷◌, map, Option, Some, None, Ok, Err, arith}
-use Rattle.std.specs.Prelude.{nat_eq}
+use Rattle.std.proofs.Common.{◌≡◌, refl, ap, sym, ◌∙◌, subst, ℕ, suc, ◌+◌, Bool, true, false, if◌then◌else◌, List, [], ◌∷◌, Option, Some, None, Ok, Err, arith}
+use Rattle.std.proofs.lemmas.Bool.{eqb-true}
 use Rattle.std.specs.List.{position_from}
 use Rattle.std.specs.Ordering.{is_lt, ordering_then}
 use Rattle.std.specs.declared.cmp.Ordering.{Ordering}
 use Rattle.std.specs.declared.cmp.Ordering.TheVariants.{Less, Equal, Greater}
-use Rattle.sqlval.specs.Comparison.{value_order}
 use Rattle.sqlval.specs.Value.{Row}
 use Rattle.sqlval.specs.declared.value.Value.{Value}
 use Rattle.typing.specs.declared.typed.OrderKey.{OrderKey}
 use Rattle.algebra.specs.Listing.{ended, onwards, row_by_row}
 use Rattle.algebra.specs.OrderKeys.{is_column, key_at, handed_on}
 use Rattle.denote.specs.Answer.{directed, by_keys}
-use Rattle.denote.specs.Evaluation.{Env, Evaluation, ◌>>=◌, joined, together}
+use Rattle.denote.specs.Evaluation.{Env, Evaluation, ◌>>=◌, joined}
 use Rattle.denote.specs.Expression.{ExpressionMeaning, cell}
 use Rattle.denote.specs.Outcome.{Outcome}
 use Rattle.denote.specs.Select.{values_of, shown_row}
@@ -54,11 +53,9 @@ handed-keeps columns (key ∷ keys) made other row next h k e = at (position_fro
 
 -- ---- items that are columns
 
-nat-same : (m n : ℕ) → nat_eq m n ≡ true → m ≡ n
-nat-same m n e = grind (arith, e)
-
 -- the values of items, one after another
-all-of : (x : Evaluation Value) (xs : Evaluation Row) (values : Row) → joined x xs ≡ Ok values → (first : Value) × (rest : Row) × (x ≡ Ok first) × (xs ≡ Ok rest) × (values ≡ first ∷ rest)
+all-of : (x : Evaluation Value) (xs : Evaluation Row) (values : Row) → joined x xs ≡ Ok values
+    → (first : Value) × (rest : Row) × (x ≡ Ok first) × (xs ≡ Ok rest) × (values ≡ first ∷ rest)
 all-of (Ok x) (Ok xs) values e = (x, xs, refl, refl, sym (ok-same (x ∷ xs) values e))
   where
     ok-same : (a b : Row) → let left : Evaluation Row = Ok a in let right : Evaluation Row = Ok b in left ≡ right → a ≡ b
@@ -79,7 +76,7 @@ found-shown (seen ∷ columns) (item ∷ items) h row env values e start column 
   where
     first-is : (x : Option ℕ) → is_column column x ≡ true → x ≡ Some column
     first-is None e = absurd (cc)
-    first-is (Some other) e = ap (λ n. Some n) (sym (nat-same column other e))
+    first-is (Some other) e = ap (λ n. Some n) (sym (eqb-true column other e))
 
     at : (b : Bool) → is_column column seen ≡ b → (if b then Some start else position_from (is_column column) (start + 1) columns) ≡ Some place
         → (first : Value) (rest : Row) → item (row ∷ env) ≡ Ok first → values ≡ first ∷ rest

@@ -1,7 +1,6 @@
 -- The reply of a listing answers the ordered outcome of its tree.
-use Rattle.std.proofs.Common.{◌≡◌, refl, ap, sym, ◌∙◌, subst, List, [], ◌∷◌, ◌++◌, append-nil, Result, Ok, Err, rules}
+use Rattle.std.proofs.Common.{◌≡◌, refl, ap, sym, ◌∙◌, subst, List, [], ◌∷◌, ◌++◌, append-nil, rules}
 use Rattle.std.specs.Prelude.{Contains, IsSorted}
-use Rattle.std.proofs.lemmas.List.Elements.{Contains-append_left}
 use Rattle.sqlval.specs.Value.{Row}
 use Rattle.typing.specs.declared.typed.OrderKey.{OrderKey}
 use Rattle.algebra.specs.declared.tree.Tree.{Tree}

@@ -7,7 +7,7 @@ use Rattle.sqlval.specs.declared.truth.Truth.{Truth}
 use Rattle.sqlval.specs.declared.truth.Truth.TheVariants.{False, Unknown, True}
 use Rattle.typing.specs.declared.typed.OrderKey.{OrderKey}
 use Rattle.algebra.specs.Joined.{some_true, half_row}
-use Rattle.algebra.specs.Listing.{end_by, ended, unless_ended, in_order, onwards, whole_first, by_left_rows, row_by_row}
+use Rattle.algebra.specs.Listing.{end_by, ended, unless_ended, in_order, onwards, by_left_rows}
 use Rattle.denote.specs.declared.fault.Fault.{Fault}
 use Rattle.denote.specs.Answer.{by_keys}
 use Rattle.denote.specs.Condition.{ConditionMeaning}
@@ -75,7 +75,8 @@ pub handed-ascends : (keys : List OrderKey) (part : Outcome) (list : Row → Out
 handed-ascends keys part list of_each h = onwards-ascends keys keys (λ (a b : Row). a ≡ b) (same-keeps keys) list of_each part h
 
 -- the same of left rows, the right side being taken whole
-pub left-ascends : (keys : List OrderKey) (left right : Outcome) (list : List Row → Row → Outcome) → ((others : List Row) (row : Row) → IsMadeOf (λ (a b : Row). a ≡ b) (list others row).rows row)
+pub left-ascends : (keys : List OrderKey) (left right : Outcome) (list : List Row → Row → Outcome)
+    → ((others : List Row) (row : Row) → IsMadeOf (λ (a b : Row). a ≡ b) (list others row).rows row)
     → Ascends keys left.rows → Ascends keys (by_left_rows left right list).rows
 left-ascends keys left right list of_each h = at right.faults
   where

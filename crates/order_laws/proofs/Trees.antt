@@ -1,12 +1,11 @@
 -- The listing of a tree ascends by the tree's order keys: by induction over the trees.
-use Rattle.std.proofs.Common.{◌≡◌, refl, sym, ◌∙◌, subst, ap, ℕ, zero, suc, Bool, true, false, List, [], ◌∷◌, map, Option, Some, None, Ok}
-use Rattle.sqlval.specs.Value.{Row}
+use Rattle.std.proofs.Common.{◌≡◌, refl, sym, subst, ℕ, zero, suc, true, false, List, [], ◌∷◌, map, Option}
 use Rattle.typing.specs.declared.typed.OrderKey.{OrderKey}
 use Rattle.algebra.specs.declared.tree.Condition.{Condition}
 use Rattle.algebra.specs.declared.tree.Expression.{Expression, Expression-F, roll-Expression, map-Expression}
 use Rattle.algebra.specs.declared.tree.SetFunction.{SetFunction}
 use Rattle.algebra.specs.declared.tree.Tree.{Tree, Tree-F, roll-Tree, map-Tree, ind-Tree}
-use Rattle.algebra.specs.Meaning.{Layer, TreeMeaning, expression_step, value_by, truth_by, function_by, tree_by}
+use Rattle.algebra.specs.Meaning.{Layer, TreeMeaning, expression_step, value_by, truth_by, tree_by}
 use Rattle.algebra.specs.Bounds.{rows_within}
 use Rattle.algebra.specs.Joined.{half_row, is_member}
 use Rattle.algebra.specs.Listing.{ended, listed_rows, unless_ended, whole_first, listing_step}
@@ -37,6 +36,7 @@ module _ (tables : Tables) where
   abbrev listed : Layer Tree-F → TreeMeaning
   listed = listing_step tables
 
+  -- an expression that is a column has the column's value
   abbrev SeesColumn : Expression → Type 0
   SeesColumn e = ShowsColumn (column_of e) (value_by listed e)
 
@@ -44,9 +44,11 @@ module _ (tables : Tables) where
   abbrev AscendsBy : List OrderKey → TreeMeaning → Type 0
   AscendsBy keys t = (env : Env) → Ascends keys (t env).rows
 
+  -- the listing of a tree ascends by the tree's keys
   abbrev AscendsTree : Tree → Type 0
   AscendsTree t = AscendsBy (order_keys t) (tree_by listed t)
 
+  -- a node whose parts have this already
   abbrev Parts : ((A B C D : Type 0) → Type 0) → Type 0
   Parts T = T (Condition × Unit {0}) ((e : Expression) × SeesColumn e) (SetFunction × Unit {0}) ((t : Tree) × AscendsTree t)
 
