@@ -1,0 +1,6 @@
+mod Ascending
+mod RowByRow
+mod Projected
+mod RolledKeys
+mod Trees
+mod Replies
