@@ -109,7 +109,7 @@ abbrev pub IsLocated : ℕ → Scope → Located → Type 0
 IsLocated depth scope l = (k : ℕ) × (l.depth ≡ depth + k) × (slice_get scope k ≡ Some l.frame) × (slice_get (offered_types l.frame.columns) l.column.place ≡ Some l.column.value_type)
 
 outwards : (depth : ℕ) (frame : Frame) (outer : Scope) (x : Finding Located) → IfOk x (IsLocated (depth + 1) outer) → IfOk x (IsLocated depth (frame ∷ outer))
-outwards depth frame outer (Ok l) (k, is, there, typed) = (suc k, omega (arith, is), there, typed)
+outwards depth frame outer (Ok l) (k, is, there, has) = (suc k, omega (arith, is), there, has)
 outwards depth frame outer (Err reasons) h = tt
 
 located_from-is : (column : Column) (scope : Scope) (depth : ℕ) → IfOk (located_from depth column scope) (IsLocated depth scope)
@@ -145,28 +145,28 @@ module _ (known : Known) where
 
   keyed : (key : List ℕ) (from row : List ValueType) (rows : Rows) (depth : ℕ) (x : Found) → slice_get rows depth ≡ Some row → BeginsWithKey from key row → slice_get from x.place ≡ Some x.value_type
       → (p : Option ℕ) → IfSome p (IsAt (λ place. place == x.place) 0 key) → IfOk (in_key x.value_type depth p) (Gives rows)
-  keyed key from row rows depth x there begins typed None h = tt
-  keyed key from row rows depth x there begins typed (Some p) (j, is, place, at, same) =
+  keyed key from row rows depth x there begins has None h = tt
+  keyed key from row rows depth x there begins has (Some p) (j, is, place, at, same) =
       let placed : place ≡ x.place = eqb-true place x.place same in
       let e : p ≡ j = omega (arith, is) in
       let in_key_at : slice_get key p ≡ Some x.place = ap (slice_get key) e ∙ at ∙ ap Some placed in
-      let type : slice_get begins.types p ≡ Some x.value_type = key_type from key begins.types begins.columns p x.place x.value_type in_key_at typed in
+      let type : slice_get begins.types p ≡ Some x.value_type = key_type from key begins.types begins.columns p x.place x.value_type in_key_at has in
       typed.column depth p row there (ap (λ l. slice_get l p) begins.is ∙ in_front begins.types begins.values p x.value_type type)
 
   -- a column of a row of a FROM or of a group, as it is seen there
   pub seen : (key : Option (List ℕ)) (from row : List ValueType) (rows : Rows) (depth : ℕ) (x : Found) → slice_get rows depth ≡ Some row → IsRowBy key from row → slice_get from x.place ≡ Some x.value_type
       → IfOk (seen_in key depth x) (Gives rows)
-  seen None from row rows depth x there is typed = typed.column depth x.place row there (ap (λ l. slice_get l x.place) is ∙ typed)
-  seen (Some key) from row rows depth x there is typed = keyed key from row rows depth x there is typed (position_from (λ place. place == x.place) 0 key) (position (λ place. place == x.place) 0 key)
+  seen None from row rows depth x there is has = typed.column depth x.place row there (ap (λ l. slice_get l x.place) is ∙ has)
+  seen (Some key) from row rows depth x there is has = keyed key from row rows depth x there is has (position_from (λ place. place == x.place) 0 key) (position (λ place. place == x.place) 0 key)
 
   pub columns-typed : (column : Column) (scope : Scope) (rows : Rows) → AreRowsOf scope rows → IfOk (column_in column scope) (Gives rows)
   columns-typed column scope rows h = goes_on (IsLocated 0 scope) (Gives rows) (located column scope) (λ l. seen_in l.frame.key l.depth l.column) (located-is column scope) found
     where
       found : (l : Located) → IsLocated 0 scope l → IfOk (seen_in l.frame.key l.depth l.column) (Gives rows)
-      found l (k, is, there, typed) =
+      found l (k, is, there, has) =
           let (row, at, of) = row_at scope rows h k l.frame there in
           let e : l.depth ≡ k = omega (arith, is) in
-          seen l.frame.key (offered_types l.frame.columns) row rows l.depth l.column (ap (slice_get rows) e ∙ at) of typed
+          seen l.frame.key (offered_types l.frame.columns) row rows l.depth l.column (ap (slice_get rows) e ∙ at) of has
 
   -- ---- columns of the SELECT's own FROM
 
@@ -176,9 +176,9 @@ module _ (known : Known) where
 
   own : (scope : Scope) (l : Located) (depth : ℕ) → l.depth ≡ depth → IsLocated 0 scope l → IfOk (only_own depth l.column) (IsOwn scope)
   own scope l (suc depth) e h = tt
-  own scope l zero e (k, is, there, typed) =
+  own scope l zero e (k, is, there, has) =
       let first : k ≡ 0 = omega (arith, is, e) in
-      (l.frame, ap (slice_get scope) (sym first) ∙ there, typed)
+      (l.frame, ap (slice_get scope) (sym first) ∙ there, has)
 
   pub own-is : (column : Column) (scope : Scope) → IfOk (own_column column scope) (IsOwn scope)
   own-is column scope = goes_on (IsLocated 0 scope) (IsOwn scope) (located column scope) (λ l. only_own l.depth l.column) (located-is column scope) (λ l h. own scope l l.depth refl h)
@@ -191,10 +191,10 @@ module _ (known : Known) where
   own-typed column scope rows h plain = goes_on (IsOwn scope) (Gives rows) (own_column column scope) (λ x. Ok (column_at x.value_type 0 x.place)) (own-is column scope) found
     where
       found : (x : Found) → IsOwn scope x → HasType known rows (expression.Column 0 x.place) x.value_type
-      found x (frame, first, typed) =
+      found x (frame, first, has) =
           let (row, at, of) = row_at scope rows h 0 frame first in
           let same : row ≡ offered_types frame.columns = subst (λ key. IsRowBy key (offered_types frame.columns) row) (plain frame first) of in
-          typed.column 0 x.place row at (ap (λ l. slice_get l x.place) same ∙ typed)
+          typed.column 0 x.place row at (ap (λ l. slice_get l x.place) same ∙ has)
 
   -- ---- `*`
 

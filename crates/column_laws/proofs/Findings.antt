@@ -48,17 +48,21 @@ pub mapped : {X A : Type 0} (P : X → Type 0) (Q : A → Type 0) (f : X → Fin
 mapped P Q f good [] h = tt
 mapped P Q f good (x ∷ xs) h = ahead Q (f x) (each (map f xs)) (good x h.0) (mapped P Q f good xs h.1)
 
--- what is known of it anyway
-pub anything : {A : Type 0} (x : Finding A) → IfOk x (λ a. Unit {0})
-anything (Ok a) = tt
-anything (Err reasons) = tt
+pub mapped_any : {X A : Type 0} (Q : A → Type 0) (f : X → Finding A) → ((x : X) → IfOk (f x) Q) → (xs : List X) → IfOk (each (map f xs)) (AllByRecursion Q)
+mapped_any Q f good [] = tt
+mapped_any Q f good (x ∷ xs) = ahead Q (f x) (each (map f xs)) (good x) (mapped_any Q f good xs)
+
+-- of two beside each other, the second
+pub second : {A B : Type 0} (Q : B → Type 0) (x : Finding A) (y : Finding B) → IfOk y Q → IfOk (also x y) (λ p. Q p.1)
+second Q (Ok a) (Ok b) h = h
+second Q (Ok a) (Err reasons) h = tt
+second Q (Err reasons) y h = tt
 
 pub either : {A : Type 0} (P : A → Type 0) (b : Bool) (x y : Finding A) → IfOk x P → IfOk y P → IfOk (if b then x else y) P
 either P true x y h k = h
 either P false x y h k = k
 
 -- ---- what is found, as an equation
-
 
 -- a property where it is found holds of what is found
 pub holds : {A : Type 0} (P : A → Type 0) (x : Finding A) (a : A) → IfOk x P → x ≡ Ok a → P a

@@ -1,2 +1,4 @@
 mod Findings
 mod Columns
+mod Fitting
+mod Parts

@@ -93,7 +93,7 @@ mutual
     inner : {rows : Rows} {on : Condition} {left right : Source} {ls rs : List ValueType} → HasColumns known rows left ls → HasColumns known rows right rs
         → IsWellTyped known ((ls ++ rs) ∷ rows) on → HasColumns known rows (source.Inner on left right) (ls ++ rs)
     left : {rows : Rows} {on : Condition} {left right : Source} {ls rs : List ValueType} → HasColumns known rows left ls → HasColumns known rows right rs
-        → IsWellTyped known ((ls ++ rs) ∷ rows) on → HasColumns known rows (source.Left on left right (length rs)) (ls ++ rs)
+        → IsWellTyped known ((ls ++ rs) ∷ rows) on → (width : ℕ) → width ≡ length rs → HasColumns known rows (source.Left on left right width) (ls ++ rs)
 
   -- A set function over rows of FROM has values of this type.
   pub data FunctionHasType (known : Known) : Rows → SetFunction → ValueType → Type 0 where
