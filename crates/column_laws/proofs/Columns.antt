@@ -138,6 +138,25 @@ row_at (f ∷ scope) [] h k frame e = absurd h
 row_at (f ∷ scope) (row ∷ rows) h zero frame e = (row, refl, subst (λ (g : Frame). IsRowOf g row) (same_some f frame e) h.0)
 row_at (f ∷ scope) (row ∷ rows) h (suc k) frame e = row_at scope rows h.1 k frame e
 
+-- ---- columns of the SELECT's own FROM
+
+-- a column of the first FROM
+abbrev pub IsOwn : Scope → Found → Type 0
+IsOwn scope x = (frame : Frame) × (slice_get scope 0 ≡ Some frame) × (slice_get (offered_types frame.columns) x.place ≡ Some x.value_type)
+
+own : (scope : Scope) (l : Located) (depth : ℕ) → l.depth ≡ depth → IsLocated 0 scope l → IfOk (only_own depth l.column) (IsOwn scope)
+own scope l (suc depth) e h = tt
+own scope l zero e (k, is, there, has) =
+    let first : k ≡ 0 = omega (arith, is, e) in
+    (l.frame, ap (slice_get scope) (sym first) ∙ there, has)
+
+pub own-is : (column : Column) (scope : Scope) → IfOk (own_column column scope) (IsOwn scope)
+own-is column scope = goes_on (IsLocated 0 scope) (IsOwn scope) (located column scope) (λ l. only_own l.depth l.column) (located-is column scope) (λ l h. own scope l l.depth refl h)
+
+-- where the rows of the first FROM are seen, and no groups
+abbrev pub IsUngrouped : Scope → Type 0
+IsUngrouped scope = (frame : Frame) → slice_get scope 0 ≡ Some frame → frame.key ≡ None
+
 module _ (known : Known) where
   -- an expression has the type that is found of it
   abbrev pub Gives : Rows → TypedExpression → Type 0
@@ -169,23 +188,6 @@ module _ (known : Known) where
           seen l.frame.key (offered_types l.frame.columns) row rows l.depth l.column (ap (slice_get rows) e ∙ at) of has
 
   -- ---- columns of the SELECT's own FROM
-
-  -- a column of the first FROM
-  abbrev pub IsOwn : Scope → Found → Type 0
-  IsOwn scope x = (frame : Frame) × (slice_get scope 0 ≡ Some frame) × (slice_get (offered_types frame.columns) x.place ≡ Some x.value_type)
-
-  own : (scope : Scope) (l : Located) (depth : ℕ) → l.depth ≡ depth → IsLocated 0 scope l → IfOk (only_own depth l.column) (IsOwn scope)
-  own scope l (suc depth) e h = tt
-  own scope l zero e (k, is, there, has) =
-      let first : k ≡ 0 = omega (arith, is, e) in
-      (l.frame, ap (slice_get scope) (sym first) ∙ there, has)
-
-  pub own-is : (column : Column) (scope : Scope) → IfOk (own_column column scope) (IsOwn scope)
-  own-is column scope = goes_on (IsLocated 0 scope) (IsOwn scope) (located column scope) (λ l. only_own l.depth l.column) (located-is column scope) (λ l h. own scope l l.depth refl h)
-
-  -- where the rows of the first FROM are seen, and no groups
-  abbrev pub IsUngrouped : Scope → Type 0
-  IsUngrouped scope = (frame : Frame) → slice_get scope 0 ≡ Some frame → frame.key ≡ None
 
   pub own-typed : (column : Column) (scope : Scope) (rows : Rows) → AreRowsOf scope rows → IsUngrouped scope → IfOk (own_column column scope >>= (λ x. Ok (column_at x.value_type 0 x.place))) (Gives rows)
   own-typed column scope rows h plain = goes_on (IsOwn scope) (Gives rows) (own_column column scope) (λ x. Ok (column_at x.value_type 0 x.place)) (own-is column scope) found

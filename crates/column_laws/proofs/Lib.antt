@@ -2,3 +2,7 @@ mod Findings
 mod Columns
 mod Fitting
 mod Parts
+mod Froms
+mod Selects
+mod Sets
+mod Trees
