@@ -42,7 +42,7 @@ in_front [] ys k x e = absurd (none_some x e)
 in_front (y ∷ xs) ys zero x e = e
 in_front (y ∷ xs) ys (suc k) x e = in_front xs ys k x e
 
-element-map : {A B : Type 0} (f : A → B) (xs : List A) (k : ℕ) → slice_get (map f xs) k ≡ option_map f (slice_get xs k)
+pub element-map : {A B : Type 0} (f : A → B) (xs : List A) (k : ℕ) → slice_get (map f xs) k ≡ option_map f (slice_get xs k)
 element-map f [] k = refl
 element-map f (x ∷ xs) zero = refl
 element-map f (x ∷ xs) (suc k) = element-map f xs k

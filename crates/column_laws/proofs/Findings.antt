@@ -30,6 +30,10 @@ pub goes_on : {A B : Type 0} (P : A → Type 0) (Q : B → Type 0) (x : Finding 
 goes_on P Q (Ok a) next h good = good a h
 goes_on P Q (Err reasons) next h good = tt
 
+pub follows : {A B : Type 0} (Q : B → Type 0) (x : Finding A) (next : A → Finding B) → ((a : A) → IfOk (next a) Q) → IfOk (x >>= next) Q
+follows Q (Ok a) next good = good a
+follows Q (Err reasons) next good = tt
+
 pub beside : {A B : Type 0} (P : A → Type 0) (Q : B → Type 0) (x : Finding A) (y : Finding B) → IfOk x P → IfOk y Q → IfOk (also x y) (λ p. P p.0 × Q p.1)
 beside P Q (Ok a) (Ok b) h k = (h, k)
 beside P Q (Ok a) (Err reasons) h k = tt
@@ -67,8 +71,3 @@ either P false x y h k = k
 -- a property where it is found holds of what is found
 pub holds : {A : Type 0} (P : A → Type 0) (x : Finding A) (a : A) → IfOk x P → x ≡ Ok a → P a
 holds P x a h e = subst (λ y. IfOk y P) e h
-
--- a property of what it may be found to be holds where it is found
-pub holding : {A : Type 0} (P : A → Type 0) (x : Finding A) → ((a : A) → x ≡ Ok a → P a) → IfOk x P
-holding P (Ok a) h = h a refl
-holding P (Err reasons) h = tt

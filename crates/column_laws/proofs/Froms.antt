@@ -32,7 +32,7 @@ IfBoth R (Err reasons) y = Unit {0}
 
 -- ---- the types of what is offered
 
-stored_types : (shown : List ℕ) (columns : List Stored) → offered_types (map (offer_of shown) columns) ≡ map (λ column. type_in column.column_type) columns
+pub stored_types : (shown : List ℕ) (columns : List Stored) → offered_types (map (offer_of shown) columns) ≡ column_types columns
 stored_types shown [] = refl
 stored_types shown (column ∷ columns) = ap (λ l. type_in column.column_type ∷ l) (stored_types shown columns)
 

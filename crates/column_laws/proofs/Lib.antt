@@ -6,3 +6,4 @@ mod Froms
 mod Selects
 mod Sets
 mod Trees
+mod Statements

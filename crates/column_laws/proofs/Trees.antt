@@ -16,7 +16,7 @@ use Rattle.ast.specs.declared.tree.Expression.{Expression, Expression-F, roll-Ex
 use Rattle.ast.specs.declared.tree.Factor.{Factor, Factor-F, roll-Factor, map-Factor}
 use Rattle.ast.specs.declared.tree.Negation.{Negation, Negation-F, roll-Negation, map-Negation}
 use Rattle.ast.specs.declared.tree.Query.{Query, Query-F, roll-Query, map-Query, ind-Query}
-use Rattle.ast.specs.declared.tree.Select.{Select, Select-F, roll-Select, map-Select}
+use Rattle.ast.specs.declared.tree.Select.{Select, Select-F, roll-Select, map-Select, ind-Select}
 use Rattle.ast.specs.declared.tree.SelectItem.{SelectItem, SelectItem-F, roll-SelectItem, map-SelectItem}
 use Rattle.ast.specs.declared.tree.TableReference.{TableReference, TableReference-F, roll-TableReference, map-TableReference}
 use Rattle.ast.specs.declared.tree.Term.{Term, Term-F, roll-Term, map-Term}
@@ -351,4 +351,8 @@ module _ (k : Known) where
 
   pub trees-queries : (t : Query) → GoodQuery t
   trees-queries = ind-Query GoodJoin GoodOperand GoodPredicate GoodPrimary GoodTableSource GoodAddend GoodCondition GoodConjunction GoodExpression GoodFactor GoodNegation GoodQuery GoodSelect GoodSelectItem GoodTableReference GoodTerm GoodTest
+      join_node operand_node predicate_node primary_node source_node addend_node condition_node conjunction_node expression_node factor_node negation_node query_node select_node item_node reference_node term_node test_node
+
+  pub trees-selects : (t : Select) → GoodSelect t
+  trees-selects = ind-Select GoodJoin GoodOperand GoodPredicate GoodPrimary GoodTableSource GoodAddend GoodCondition GoodConjunction GoodExpression GoodFactor GoodNegation GoodQuery GoodSelect GoodSelectItem GoodTableReference GoodTerm GoodTest
       join_node operand_node predicate_node primary_node source_node addend_node condition_node conjunction_node expression_node factor_node negation_node query_node select_node item_node reference_node term_node test_node

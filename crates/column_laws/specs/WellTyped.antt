@@ -2,6 +2,7 @@
 -- 7.5 to 7.10, 8.2 to 8.8). Types are those of values: an integer or a text, whatever its length.
 use Rattle.std.specs.Prelude.{◌≡◌, ℕ, Bool, List, [], ◌∷◌, ◌++◌, map, length, slice_get, Contains, Option, Some, None}
 use Rattle.sqlval.specs.declared.comparison.CompOp.{CompOp}
+use Rattle.sqlval.specs.declared.schema.Column.{Column}
 use Rattle.sqlval.specs.declared.truth.Truth.{Truth}
 use Rattle.sqlval.specs.declared.value.Value.{Value}
 use Rattle.sqlval.specs.declared.value.Value.TheVariants.{Null}
@@ -32,8 +33,8 @@ abbrev pub Rows : Type 0
 Rows = List (List ValueType)
 
 -- the types of a table's columns
-abbrev pub column_types : KnownTable → List ValueType
-column_types table = map (λ column. type_in column.column_type) table.columns
+abbrev pub column_types : List Column → List ValueType
+column_types columns = map (λ column. type_in column.column_type) columns
 
 -- where the columns of GROUP BY stand; without GROUP BY there are none
 abbrev pub key_places : Option (List ℕ) → List ℕ
@@ -86,7 +87,7 @@ mutual
 
   -- What gives the rows of a FROM gives rows of these types. The rows seen are those outside the SELECT; ON sees the left row and then the right one as one row.
   pub data HasColumns (known : Known) : Rows → Source → List ValueType → Type 0 where
-    table : {rows : Rows} (name : List ℕ) (stored : KnownTable) → known.table name ≡ Some stored → HasColumns known rows (source.Table name) (column_types stored)
+    table : {rows : Rows} (name : List ℕ) (stored : KnownTable) → known.table name ≡ Some stored → HasColumns known rows (source.Table name) (column_types stored.columns)
     derived : {rows : Rows} {q : Query} {types : List ValueType} → HasResult known rows q types → HasColumns known rows (source.Derived q) types
     product : {rows : Rows} {left right : Source} {ls rs : List ValueType} → HasColumns known rows left ls → HasColumns known rows right rs
         → HasColumns known rows (source.Product left right) (ls ++ rs)

@@ -3,4 +3,6 @@
 
 mod laws;
 
-pub use laws::typed_queries_are_well_typed;
+pub use laws::{
+    typed_parts_are_well_typed, typed_queries_are_well_typed, typed_statements_are_well_typed,
+};
