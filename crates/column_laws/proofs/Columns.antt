@@ -12,7 +12,7 @@ use Rattle.typing.specs.declared.scope.Matches.TheVariants.{Nothing, One, Severa
 use Rattle.typing.specs.declared.scope.Offer.{Offer}
 use Rattle.typing.specs.declared.scope.ShownItem.{ShownItem}
 use Rattle.typing.specs.declared.scope.TypedExpression.{TypedExpression}
-use Rattle.typing.specs.Finding.{Finding, ◌>>=◌, each}
+use Rattle.typing.specs.Finding.{Finding, ◌>>=◌}
 use Rattle.typing.specs.Known.{Known}
 use Rattle.typing.specs.Scope.{Located, Scope, as_matches, column_at, column_in, has_table, in_key, is_meant, located, located_from, meant, only_own, own_column, seen_in}
 use Rattle.typing.specs.Select.{all_columns, columns_from, shown_item}

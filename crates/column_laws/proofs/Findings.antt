@@ -1,6 +1,6 @@
 -- Findings with a property where something is found, and what is put together of them.
-use Rattle.std.proofs.Common.{◌≡◌, ◌<◌, refl, ap, sym, subst, ℕ, zero, suc, ◌+◌, Bool, true, false, List, [], ◌∷◌, ◌++◌, map, length, Ok, Err, Option, Some, None, IfOk, Contains, arith}
-use Rattle.std.specs.Prelude.{slice_index_or, flat_map, if◌then◌else◌}
+use Rattle.std.proofs.Common.{◌≡◌, refl, subst, zero, suc, Bool, true, false, List, [], ◌∷◌, map, Ok, Err, IfOk, Contains, arith}
+use Rattle.std.specs.Prelude.{flat_map, if◌then◌else◌}
 use Rattle.std.specs.List.{AllByRecursion}
 use Rattle.typing.specs.Finding.{Finding, ◌>>=◌, also, before, each}
 use Rattle.type_laws.proofs.Parts.{appended}

@@ -1,5 +1,5 @@
 -- What is found of expressions and conditions is well typed, where what is found of their parts is.
-use Rattle.std.proofs.Common.{◌≡◌, refl, ap, sym, ◌∙◌, subst, ℕ, ℤ, Bool, true, false, List, [], ◌∷◌, map, Ok, Err, Option, Some, None, IfOk, rules, pos}
+use Rattle.std.proofs.Common.{◌≡◌, refl, sym, subst, ℕ, ℤ, Bool, true, false, List, [], ◌∷◌, map, Ok, Err, Option, Some, None, IfOk, rules, pos}
 use Rattle.std.specs.Prelude.{◌-ℤ◌, flat_map, if◌then◌else◌}
 use Rattle.std.specs.List.{AllByRecursion}
 use Rattle.sqlval.specs.declared.comparison.CompOp.{CompOp}
@@ -29,7 +29,7 @@ use Rattle.typing.specs.declared.typed.Query.{Query}
 use Rattle.typing.specs.declared.scope.ResultColumn.{ResultColumn}
 use Rattle.typing.specs.declared.scope.TypedExpression.{TypedExpression}
 use Rattle.typing.specs.declared.scope.TypedQuery.{TypedQuery}
-use Rattle.typing.specs.Condition.{ConditionLayer, alike, and_of, between, compared, conjunction, conjuncts, conjuncts_at, disjunction, disjuncts, disjuncts_at, in_list, like, literal_of, negated, null_test, operator_of, or_of, tested, truth_asked}
+use Rattle.typing.specs.Condition.{ConditionLayer, and_of, between, compared, conjunction, conjuncts, conjuncts_at, disjunction, disjuncts, disjuncts_at, in_list, like, literal_of, negated, null_test, operator_of, or_of, tested, truth_asked}
 use Rattle.typing.specs.Expression.{as_number, calculation, concatenation, integer, must_be, must_concatenate, only_if_same, product_chain, product_operand, product_operator, signed, signed_number, sum_chain, sum_operand, sum_operator, text, text_operand}
 use Rattle.typing.specs.Finding.{Finding, ◌>>=◌, also, each}
 use Rattle.typing.specs.Known.{Known}

@@ -1,9 +1,7 @@
 -- What is found of a FROM gives rows of the types of the columns that it offers.
-use Rattle.std.proofs.Common.{◌≡◌, refl, ap, ap₂, sym, ◌∙◌, subst, ℕ, zero, suc, ◌+◌, List, [], ◌∷◌, ◌++◌, map, length, Ok, Err, Option, Some, None, IfOk}
+use Rattle.std.proofs.Common.{◌≡◌, refl, ap, sym, subst, ℕ, suc, List, [], ◌∷◌, ◌++◌, map, length, Ok, Err, Option, Some, None, IfOk}
 use Rattle.std.specs.List.{AllByRecursion}
 use Rattle.sqlval.specs.declared.schema.Column.{Column as Stored}
-use Rattle.sqlval.specs.declared.value.ValueType.{ValueType}
-use Rattle.ast.specs.declared.operator.Alias.{Alias}
 use Rattle.typing.specs.declared.typed.Condition.{Condition}
 use Rattle.typing.specs.declared.typed.Source.{Source}
 use Rattle.typing.specs.declared.typed.Source.TheVariants as source
@@ -12,7 +10,7 @@ use Rattle.typing.specs.declared.scope.ResultColumn.{ResultColumn}
 use Rattle.typing.specs.declared.scope.Sides.{Sides}
 use Rattle.typing.specs.declared.scope.TypedQuery.{TypedQuery}
 use Rattle.typing.specs.Finding.{Finding, ◌>>=◌, also}
-use Rattle.typing.specs.From.{From, all_crossed, crossed, derived_table, from_of, frame_over, inner_join, joined_by, joined_columns, joined_on, left_join, on_found, result_offer, stored_table}
+use Rattle.typing.specs.From.{From, all_crossed, crossed, derived_table, from_of, frame_over, inner_join, joined_by, joined_on, left_join, result_offer, stored_table}
 use Rattle.typing.specs.Known.{Known, KnownTable}
 use Rattle.typing.specs.Part.{Part, Plain}
 use Rattle.typing.specs.Scope.{Scope}

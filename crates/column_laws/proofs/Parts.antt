@@ -1,5 +1,5 @@
 -- Parts of a text that are well typed wherever they stand, with the types of their set functions, and what is put together of them one after the other.
-use Rattle.std.proofs.Common.{◌≡◌, refl, ap, ap₂, sym, ◌∙◌, subst, ℕ, zero, suc, ◌+◌, List, [], ◌∷◌, ◌++◌, map, length, length-append, append_assoc, Ok, Err, Option, Some, None, IfOk, slice_get, arith}
+use Rattle.std.proofs.Common.{◌≡◌, refl, ap, ap₂, sym, ◌∙◌, subst, ℕ, suc, ◌+◌, List, [], ◌∷◌, ◌++◌, map, length, length-append, append_assoc, Ok, Err, Option, Some, None, IfOk, slice_get, arith}
 use Rattle.std.specs.Prelude.{Bool}
 use Rattle.std.specs.List.{AllByRecursion, zip}
 use Rattle.sqlval.specs.declared.value.ValueType.{ValueType}
@@ -9,24 +9,22 @@ use Rattle.ast.specs.declared.operator.Quantifier.{Quantifier}
 use Rattle.ast.specs.declared.operator.SetFunction.{SetFunction as Written}
 use Rattle.ast.specs.declared.operator.SetFunction.TheVariants as written
 use Rattle.ast.specs.declared.operator.Sign.{Sign}
-use Rattle.typing.specs.declared.typed.SetFunction.{SetFunction}
 use Rattle.typing.specs.declared.scope.Frame.{Frame}
 use Rattle.typing.specs.declared.scope.TypedExpression.{TypedExpression}
 use Rattle.typing.specs.declared.scope.TypedQuery.{TypedQuery}
 use Rattle.typing.specs.Expression.{must_be, signed}
-use Rattle.typing.specs.Finding.{Finding, ◌>>=◌, each, misplaced}
+use Rattle.typing.specs.Finding.{Finding, ◌>>=◌}
 use Rattle.typing.specs.Known.{Known}
 use Rattle.typing.specs.Part.{Clause, Shown, Plain, Argument, Checked, FunctionFinding, Part, View, functions_of, if_chain, if_written, in_turn, moved, of_all, of_none, of_one, of_three, of_two, past}
 use Rattle.typing.specs.Scope.{Scope, column_at, ungrouped}
 use Rattle.typing.specs.SetFunction.{Aggregate, aggregate_found, aggregate_of, aggregate_part, column_part, column_seen, count_rows, is_distinct, query_part, query_seen, value_seen}
-use Rattle.typing.specs.SetOperator.{types_of}
 use Rattle.typing.specs.Typing.{in_parentheses, with_sign}
-use Rattle.column_laws.specs.Scopes.{AreRowsOf, offered_types}
+use Rattle.column_laws.specs.Scopes.{AreRowsOf}
 use Rattle.column_laws.specs.WellTyped.{FunctionHasType, FunctionsHaveTypes, HasResult, HasType, Rows}
 use Rattle.column_laws.specs.WellTyped as typed
 use Rattle.column_laws.proofs.Columns.{Gives, IsUngrouped, columns-typed, none_some, own-typed, same_some}
 use Rattle.column_laws.proofs.Findings.{goes_on}
-use Rattle.column_laws.proofs.Fitting.{IsOperandFound, IsResult, must, sign-typed}
+use Rattle.column_laws.proofs.Fitting.{IsResult, must, sign-typed}
 
 -- ---- the values of set functions in the row that is seen
 

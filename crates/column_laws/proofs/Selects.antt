@@ -21,23 +21,22 @@ use Rattle.typing.specs.declared.scope.Offer.{Offer}
 use Rattle.typing.specs.declared.scope.Settled.{Settled}
 use Rattle.typing.specs.declared.scope.ShownItem.{ShownItem}
 use Rattle.typing.specs.declared.scope.TypedExpression.{TypedExpression}
-use Rattle.typing.specs.declared.scope.TypedQuery.{TypedQuery}
 use Rattle.typing.specs.Finding.{Finding, ◌>>=◌, also, before, each}
-use Rattle.typing.specs.From.{From, frame_over}
+use Rattle.typing.specs.From.{frame_over}
 use Rattle.typing.specs.Known.{Known}
 use Rattle.typing.specs.Part.{FunctionFinding, Part, Plain, Shown, View, if_written}
-use Rattle.typing.specs.Scope.{Scope, own_column, ungrouped}
-use Rattle.typing.specs.Select.{Clauses, all_columns, clauses_found, column_of, functions_found, grouping_columns, grouping_of, groups_found, is_grouped, item_name, key_found, limited, named_item, select_list, settled_over, shown, shown_item, tables_found, typed_item, typed_select, width}
+use Rattle.typing.specs.Scope.{Scope, own_column}
+use Rattle.typing.specs.Select.{Clauses, all_columns, clauses_found, column_of, functions_found, grouping_columns, groups_found, is_grouped, item_name, key_found, limited, named_item, select_list, settled_over, shown, shown_item, tables_found, typed_item, typed_select, width}
 use Rattle.typing.specs.SetOperator.{types_of}
 use Rattle.typing.specs.Table.{at_most}
-use Rattle.column_laws.specs.Scopes.{AreRowsOf, BeginsWithKey, IsRowBy, offered_types}
+use Rattle.column_laws.specs.Scopes.{AreRowsOf, BeginsWithKey, offered_types}
 use Rattle.column_laws.specs.WellTyped.{FunctionHasType, FunctionsHaveTypes, HasColumns, HasResult, HasType, HaveTypes, IsSeen, IsWellTyped, Rows, item_values, key_places}
 use Rattle.column_laws.specs.WellTyped as typed
 use Rattle.column_laws.proofs.Columns.{Gives, IsOwn, Shows, all-shown, own-is, same_some}
 use Rattle.column_laws.proofs.Findings.{all, beside, goes_on, mapped_any, second}
 use Rattle.column_laws.proofs.Fitting.{IsResult}
 use Rattle.column_laws.proofs.Froms.{Asks, IfBoth, IsTypedFrom, Offers}
-use Rattle.column_laws.proofs.Parts.{AreFunctions, IfThere, IfWritten, IsTyped, IsTypedQuery, MayStand, StandFrom, every, followed, none, two, written-typed}
+use Rattle.column_laws.proofs.Parts.{AreFunctions, IfThere, IfWritten, IsTyped, IsTypedQuery, StandFrom, every, followed, none, two, written-typed}
 
 -- ---- nodes opened again
 

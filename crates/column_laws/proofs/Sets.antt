@@ -1,5 +1,5 @@
 -- What is found of set operators is well typed, where what is found of their operands is.
-use Rattle.std.proofs.Common.{◌≡◌, refl, ap, sym, ◌∙◌, subst, ℕ, Bool, true, false, true≢false, List, [], ◌∷◌, map, length, Ok, Err, IfOk}
+use Rattle.std.proofs.Common.{◌≡◌, refl, ap, sym, subst, Bool, true, false, true≢false, List, [], ◌∷◌, map, length, Ok, Err, IfOk}
 use Rattle.std.specs.Prelude.{◌==◌, if◌then◌else◌}
 use Rattle.std.specs.Cmp.Lexicographic.{pointwise}
 use Rattle.std.specs.List.{AllByRecursion}

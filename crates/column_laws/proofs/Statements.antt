@@ -1,5 +1,5 @@
 -- What is found of ordered queries, changes of rows and CHECKs is well typed.
-use Rattle.std.proofs.Common.{◌≡◌, ◌<◌, ◌≤◌, refl, ap, sym, ◌∙◌, subst, ℕ, zero, suc, ◌+◌, ◌-◌, Bool, true, false, true≢false, List, [], ◌∷◌, ◌++◌, map, length, Ok, Err, Option, Some, None, IfOk, slice_get, option_map, arith, eqb-true, nat_le, leb-true}
+use Rattle.std.proofs.Common.{◌≡◌, ◌<◌, refl, ap, sym, ◌∙◌, subst, ℕ, suc, ◌+◌, ◌-◌, Bool, true, false, List, [], ◌∷◌, map, length, Ok, Err, Option, Some, None, IfOk, slice_get, option_map, arith, eqb-true, nat_le, leb-true}
 use Rattle.std.specs.Prelude.{◌==◌, ◌&&◌, if◌then◌else◌}
 use Rattle.std.specs.List.{AllByRecursion, zip}
 use Rattle.sqlval.specs.declared.schema.Column.{Column}
@@ -30,18 +30,13 @@ use Rattle.typing.specs.declared.scope.TypedQuery.{TypedQuery}
 use Rattle.typing.specs.declared.statement.Assignment.{Assignment}
 use Rattle.typing.specs.declared.statement.Change.{Change}
 use Rattle.typing.specs.declared.statement.Change.TheVariants as change
-use Rattle.typing.specs.declared.statement.Insert.{Insert}
 use Rattle.typing.specs.declared.statement.InsertSource.{InsertSource}
 use Rattle.typing.specs.declared.statement.InsertSource.TheVariants as from
-use Rattle.typing.specs.declared.statement.Typed.{Typed}
 use Rattle.typing.specs.declared.statement.Typed.TheVariants as typed_statement
-use Rattle.typing.specs.declared.statement.Delete.{Delete}
 use Rattle.typing.specs.declared.statement.Update.{Update}
 use Rattle.typing.specs.declared.typed.Condition.{Condition}
 use Rattle.typing.specs.declared.typed.Expression.{Expression}
-use Rattle.typing.specs.declared.typed.Expression.TheVariants as expression
 use Rattle.typing.specs.declared.typed.OrderKey.{OrderKey}
-use Rattle.typing.specs.declared.typed.OrderedQuery.{OrderedQuery}
 use Rattle.typing.specs.Check.{check_found}
 use Rattle.typing.specs.CreateTable.{create_found}
 use Rattle.typing.specs.Finding.{Finding, ◌>>=◌, also, before, each, invalid, misplaced}
@@ -52,7 +47,7 @@ use Rattle.typing.specs.Order.{is_descending, key_found, named_from, only_place,
 use Rattle.typing.specs.Part.{Checked, Plain}
 use Rattle.typing.specs.Scope.{Scope}
 use Rattle.typing.specs.SetOperator.{agreeing, types_of}
-use Rattle.typing.specs.Statement.{changes, found_over, mode_of, statement_found}
+use Rattle.typing.specs.Statement.{changes, found_over, statement_found}
 use Rattle.typing.specs.Table.{as_found, distinct_found, frame_of, table_found, type_in}
 use Rattle.typing.specs.Typing.{condition_part, expression_part, query_found}
 use Rattle.typing.specs.Update.{assignment_found, changes_found, delete_found, filter_found, update_found}

@@ -33,13 +33,12 @@ use Rattle.typing.specs.SetOperator.{exists, in_query, intersection, of_one_colu
 use Rattle.typing.specs.declared.typed.SetOperation.{SetOperation}
 use Rattle.typing.specs.declared.scope.TypedExpression.{TypedExpression}
 use Rattle.typing.specs.declared.scope.TypedQuery.{TypedQuery}
-use Rattle.typing.specs.Table.{table_found}
 use Rattle.typing.specs.Typing.{Layer, in_parentheses, join_step, operand_step, predicate_step, primary_step, source_step, addend_step, condition_step, conjunction_step, expression_step, factor_step, negation_step, query_step, select_step, item_step, reference_step, term_step, test_step, join_part, operand_found, predicate_part, primary_part, source_part, addend_found, condition_part, conjunction_part, expression_part, factor_part, negation_part, query_found, select_found, item_part, reference_part, term_part, test_part}
 use Rattle.column_laws.specs.Scopes.{AreRowsOf}
 use Rattle.column_laws.specs.WellTyped.{Rows}
 use Rattle.column_laws.proofs.Columns.{Gives, Shows}
 use Rattle.column_laws.proofs.Parts.{IfWritten, IsTyped, IsTypedOperand, IsTypedQuery, aggregate-typed, chain, column-typed, count_rows-typed, every, followed, none, one, parenthesized, query-typed, three, two, with_its_sign}
-use Rattle.column_laws.proofs.Fitting.{IsOneColumn, IsResult, between-typed, compared-typed, conjunction-typed, disjunction-typed, exists-typed, in_list-typed, in_query-typed, like-typed, negated-typed, null-typed, number-typed, of_one_column-typed, product_chain-typed, scalar-typed, sum_chain-typed, tested-typed}
+use Rattle.column_laws.proofs.Fitting.{IsOneColumn, between-typed, compared-typed, conjunction-typed, disjunction-typed, exists-typed, in_list-typed, in_query-typed, like-typed, negated-typed, null-typed, number-typed, of_one_column-typed, product_chain-typed, scalar-typed, sum_chain-typed, tested-typed}
 use Rattle.column_laws.proofs.Froms.{Asks, IsTypedFrom, IsTypedJoin, crossed-typed, derived-typed, from-typed, inner-joins, joined-typed, joined_by-typed, left-joins, stored-typed}
 use Rattle.column_laws.proofs.Selects.{IfItems, clauses-typed, item-typed}
 use Rattle.column_laws.proofs.Sets.{IsResultOperand, set_chain-typed}

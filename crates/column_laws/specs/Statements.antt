@@ -1,5 +1,5 @@
 -- Typed statements that are well typed.
-use Rattle.std.specs.Prelude.{◌≡◌, ◌<◌, ℕ, List, [], ◌∷◌, map, length, slice_get, Contains, Option, Some}
+use Rattle.std.specs.Prelude.{◌≡◌, ◌<◌, List, [], ◌∷◌, map, length, slice_get, Contains, Option, Some}
 use Rattle.sqlval.specs.declared.value.ValueType.{ValueType}
 use Rattle.typing.specs.declared.statement.Assignment.{Assignment}
 use Rattle.typing.specs.declared.statement.Change.{Change}
