@@ -107,9 +107,9 @@ module _ (known : Known) where
     types = λ scope. h.types scope ++ k.types scope;
     count = λ scope. length-append (h.types scope) (k.types scope) ∙ ap₂ (λ m n. m + n) (h.count scope) (k.count scope) ∙ sym (length-append x.functions y.functions);
     functions = λ scope rows are. are-appended rows scope x.functions y.functions (h.types (ungrouped scope)) (k.types (ungrouped scope)) (h.functions scope rows are) (k.functions scope rows are);
-    found = λ view rows are may. (
-    let both = split view.clause view.scope (length x.functions) (h.types (ungrouped view.scope)) (k.types (ungrouped view.scope)) rows (h.count (ungrouped view.scope)) may in
-    good rows (x.found view) (y.found (past x view)) (h.found view rows are both.0) (k.found (past x view) rows are both.1));
+    found = λ view rows are may.
+        let both = split view.clause view.scope (length x.functions) (h.types (ungrouped view.scope)) (k.types (ungrouped view.scope)) rows (h.count (ungrouped view.scope)) may in
+        good rows (x.found view) (y.found (past x view)) (h.found view rows are both.0) (k.found (past x view) rows are both.1);
   }
 
   pub three : {A B C D : Type 0} (Is : Rows → A → Type 0) (IsOther : Rows → B → Type 0) (IsThird : Rows → C → Type 0) (IsMade : Rows → D → Type 0)
@@ -118,24 +118,22 @@ module _ (known : Known) where
       → IsTyped Is x → IsTyped IsOther y → IsTyped IsThird z → IsTyped IsMade (of_three made x y z)
   three Is IsOther IsThird IsMade made x y z good h k l = record {
     types = λ scope. h.types scope ++ (k.types scope ++ l.types scope);
-    count = λ scope. (
-    let a = length-append (h.types scope) (k.types scope ++ l.types scope) in
-    let b = length-append (k.types scope) (l.types scope) in
-    let c = length-append (x.functions ++ y.functions) z.functions in
-    let d = length-append x.functions y.functions in
-    let e = h.count scope in
-    let f = k.count scope in
-    let g = l.count scope in omega (arith, a, b, c, d, e, f, g));
-    functions = λ scope rows are. (
-    let s = ungrouped scope in
-    subst (AreFunctions rows scope (x.functions ++ y.functions ++ z.functions)) (append_assoc (h.types s) (k.types s) (l.types s))
-    (are-appended rows scope (x.functions ++ y.functions) z.functions (h.types s ++ k.types s) (l.types s)
-    (are-appended rows scope x.functions y.functions (h.types s) (k.types s) (h.functions scope rows are) (k.functions scope rows are)) (l.functions scope rows are)));
-    found = λ view rows are may. (
-    let s = ungrouped view.scope in
-    let some = split view.clause view.scope (length x.functions) (h.types s) (k.types s ++ l.types s) rows (h.count s) may in
-    let rest = split (moved (length x.functions) view.clause) view.scope (length y.functions) (k.types s) (l.types s) rows (k.count s) some.1 in
-    good rows (x.found view) (y.found (past x view)) (z.found (past y (past x view))) (h.found view rows are some.0) (k.found (past x view) rows are rest.0) (l.found (past y (past x view)) rows are rest.1));
+    count = λ scope.
+        let a = length-append (h.types scope) (k.types scope ++ l.types scope) in
+        let b = length-append (k.types scope) (l.types scope) in
+        let c = length-append (x.functions ++ y.functions) z.functions in
+        let d = length-append x.functions y.functions in
+        omega (arith, a, b, c, d, h.count scope, k.count scope, l.count scope);
+    functions = λ scope rows are.
+        let s = ungrouped scope in
+        subst (AreFunctions rows scope (x.functions ++ y.functions ++ z.functions)) (append_assoc (h.types s) (k.types s) (l.types s))
+        (are-appended rows scope (x.functions ++ y.functions) z.functions (h.types s ++ k.types s) (l.types s)
+        (are-appended rows scope x.functions y.functions (h.types s) (k.types s) (h.functions scope rows are) (k.functions scope rows are)) (l.functions scope rows are));
+    found = λ view rows are may.
+        let s = ungrouped view.scope in
+        let some = split view.clause view.scope (length x.functions) (h.types s) (k.types s ++ l.types s) rows (h.count s) may in
+        let rest = split (moved (length x.functions) view.clause) view.scope (length y.functions) (k.types s) (l.types s) rows (k.count s) some.1 in
+        good rows (x.found view) (y.found (past x view)) (z.found (past y (past x view))) (h.found view rows are some.0) (k.found (past x view) rows are rest.0) (l.found (past y (past x view)) rows are rest.1);
   }
 
   -- ---- parts one after the other
@@ -198,11 +196,11 @@ module _ (known : Known) where
           types = λ scope. h.types scope ++ types_all parts all scope;
           count = λ scope. length-append (h.types scope) (types_all parts all scope) ∙ ap₂ (λ m n. m + n) (h.count scope) (count_all parts all scope) ∙ sym (length-append first.functions (functions_of parts));
           functions = λ scope rows are.
-          are-appended rows scope first.functions (functions_of parts) (h.types (ungrouped scope)) (types_all parts all (ungrouped scope)) (h.functions scope rows are) (functions_all parts all scope rows are);
-          found = λ view rows are may. (
-          let s = ungrouped view.scope in
-          let both = split view.clause view.scope (length first.functions) (h.types s) (types_all parts all s) rows (h.count s) may in
-          good rows (first.found view) (zip signs (in_turn parts (past first view))) (h.found view rows are both.0) (zipped rows signs (in_turn parts (past first view)) (turns_all parts all (past first view) rows are both.1)));
+              are-appended rows scope first.functions (functions_of parts) (h.types (ungrouped scope)) (types_all parts all (ungrouped scope)) (h.functions scope rows are) (functions_all parts all scope rows are);
+          found = λ view rows are may.
+              let s = ungrouped view.scope in
+              let both = split view.clause view.scope (length first.functions) (h.types s) (types_all parts all s) rows (h.count s) may in
+              good rows (first.found view) (zip signs (in_turn parts (past first view))) (h.found view rows are both.0) (zipped rows signs (in_turn parts (past first view)) (turns_all parts all (past first view) rows are both.1));
         }
 
   -- ---- parts that may be left out, signs, parentheses

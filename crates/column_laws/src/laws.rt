@@ -14,7 +14,7 @@ ghost use Rattle.typing.specs.declared.scope.TypedQuery.{TypedQuery};
 ghost use Rattle.typing.specs.declared.statement.Typed.{Typed};
 ghost use Rattle.typing.specs.declared.typed.Condition.{Condition};
 ghost use Rattle.typing.specs.declared.typed.OrderedQuery.{OrderedQuery};
-ghost use Rattle.typing.specs.Check.{check_found};
+ghost use Rattle.typing.specs.Check.{ReadsCheck, check_found};
 ghost use Rattle.typing.specs.Known.{Known, known, nothing_known};
 ghost use Rattle.typing.specs.Order.{ordered_found};
 ghost use Rattle.typing.specs.Part.{Plain};
@@ -39,7 +39,7 @@ pub fn typed_queries_are_well_typed()
 {}
 
 /// Likewise an expression and a condition where no set function may stand; and the condition of a CHECK, which sees a row
-/// of its own table and no table else.
+/// of its own table and no other table, as it is written and as its kept text is read.
 pub fn typed_parts_are_well_typed()
     ensures expressions { (known : Known) (tree : ExpressionTree) (scope : Scope) (rows : Rows) (found : TypedExpression) → AreRowsOf scope rows
         → (expression_part known tree).found (record { scope = scope; clause = Plain }) ≡ Ok found → HasType known rows found.expression found.value_type }
@@ -47,6 +47,7 @@ pub fn typed_parts_are_well_typed()
         → (condition_part known tree).found (record { scope = scope; clause = Plain }) ≡ Ok found → IsWellTyped known rows found }
     ensures checks { (name : List ℕ) (columns : List Column) (tree : ConditionTree) (found : Condition) → check_found (frame_of name columns) tree ≡ Ok found
         → IsWellTyped nothing_known (column_types columns ∷ []) found }
+    ensures kept { (name : List ℕ) (columns : List Column) (text : List ℕ) (found : Condition) → ReadsCheck name columns text found → IsWellTyped nothing_known (column_types columns ∷ []) found }
 {}
 
 /// A statement over a schema stands for queries and changes of rows that are well typed over it: what is stored in a

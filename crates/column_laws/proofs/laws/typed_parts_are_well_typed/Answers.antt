@@ -22,3 +22,7 @@ returns-clause-conditions c known tree scope rows found are is =
 pub returns-clause-checks : goal.returns-clause-checks
 returns-clause-checks c name columns tree found is =
     holds (IsWellTyped nothing_known (column_types columns ∷ [])) (check_found (frame_of name columns) tree) found (check-typed name columns tree) is
+
+pub returns-clause-kept : goal.returns-clause-kept
+returns-clause-kept c name columns text found reads =
+    holds (IsWellTyped nothing_known (column_types columns ∷ [])) (check_found (frame_of name columns) reads.tree) found (check-typed name columns reads.tree) reads.found
