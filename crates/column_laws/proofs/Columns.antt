@@ -2,6 +2,7 @@
 use Rattle.std.proofs.Common.{◌≡◌, refl, ap, sym, ◌∙◌, subst, ℕ, zero, suc, ◌+◌, Bool, true, false, cond, List, [], ◌∷◌, ◌++◌, map, Ok, Err, Option, Some, None, IfOk, IfSome, slice_get, option_map, arith, eqb-true}
 use Rattle.std.specs.Prelude.{◌==◌, if◌then◌else◌}
 use Rattle.std.specs.List.{AllByRecursion, position_from}
+use Rattle.std.proofs.lemmas.Option.{none-some, same_Some, slice_get-map}
 use Rattle.sqlval.specs.declared.value.ValueType.{ValueType}
 use Rattle.ast.specs.declared.operator.Column.{Column}
 use Rattle.typing.specs.declared.typed.Expression.TheVariants as expression
@@ -23,40 +24,21 @@ use Rattle.column_laws.proofs.Findings.{either, goes_on}
 
 -- ---- elements of lists
 
-abbrev some_or : {A : Type 0} → A → Option A → A
-some_or a None = a
-some_or a (Some b) = b
-
-pub same_some : {A : Type 0} (a b : A) → Some a ≡ Some b → a ≡ b
-same_some a b e = ap (some_or a) e
-
-abbrev is_none_type : {A : Type 0} → Option A → Type 0
-is_none_type None = Unit {0}
-is_none_type (Some x) = ⊥
-
-pub none_some : {A : Type 0} (a : A) → None ≡ Some a → ⊥
-none_some a e = subst (λ o. is_none_type o) e tt
-
-pub in_front : {A : Type 0} (xs ys : List A) (k : ℕ) (x : A) → slice_get xs k ≡ Some x → slice_get (xs ++ ys) k ≡ Some x
-in_front [] ys k x e = absurd (none_some x e)
+in_front : {A : Type 0} (xs ys : List A) (k : ℕ) (x : A) → slice_get xs k ≡ Some x → slice_get (xs ++ ys) k ≡ Some x
+in_front [] ys k x e = absurd (none-some x e)
 in_front (y ∷ xs) ys zero x e = e
 in_front (y ∷ xs) ys (suc k) x e = in_front xs ys k x e
 
-pub element-map : {A B : Type 0} (f : A → B) (xs : List A) (k : ℕ) → slice_get (map f xs) k ≡ option_map f (slice_get xs k)
-element-map f [] k = refl
-element-map f (x ∷ xs) zero = refl
-element-map f (x ∷ xs) (suc k) = element-map f xs k
-
 only_some : {A : Type 0} (o : Option A) (a : A) → option_map Some o ≡ Some (Some a) → o ≡ Some a
-only_some None a e = absurd (none_some (Some a) e)
-only_some (Some b) a e = same_some (Some b) (Some a) e
+only_some None a e = absurd (none-some (Some a) e)
+only_some (Some b) a e = same_Some (Some b) (Some a) e
 
 -- the type of a key's column
 key_type : (from : List ValueType) (key : List ℕ) (types : List ValueType) → map (slice_get from) key ≡ map Some types → (j p : ℕ) (t : ValueType) → slice_get key j ≡ Some p → slice_get from p ≡ Some t
     → slice_get types j ≡ Some t
 key_type from key types is j p t at there =
     only_some (slice_get types j) t
-    (sym (element-map Some types j) ∙ ap (λ l. slice_get l j) (sym is) ∙ element-map (slice_get from) key j ∙ ap (option_map (slice_get from)) at ∙ ap Some there)
+    (sym (slice_get-map Some types j) ∙ ap (λ l. slice_get l j) (sym is) ∙ slice_get-map (slice_get from) key j ∙ ap (option_map (slice_get from)) at ∙ ap Some there)
 
 -- ---- the place where a list passes a test
 
@@ -133,9 +115,9 @@ located-is column scope = located_from-is column scope 0
 -- ---- the row of a FROM
 
 pub row_at : (scope : Scope) (rows : Rows) → AreRowsOf scope rows → (k : ℕ) (frame : Frame) → slice_get scope k ≡ Some frame → (row : List ValueType) × (slice_get rows k ≡ Some row) × IsRowOf frame row
-row_at [] rows h k frame e = absurd (none_some frame e)
+row_at [] rows h k frame e = absurd (none-some frame e)
 row_at (f ∷ scope) [] h k frame e = absurd h
-row_at (f ∷ scope) (row ∷ rows) h zero frame e = (row, refl, subst (λ (g : Frame). IsRowOf g row) (same_some f frame e) h.0)
+row_at (f ∷ scope) (row ∷ rows) h zero frame e = (row, refl, subst (λ (g : Frame). IsRowOf g row) (same_Some f frame e) h.0)
 row_at (f ∷ scope) (row ∷ rows) h (suc k) frame e = row_at scope rows h.1 k frame e
 
 -- ---- columns of the SELECT's own FROM

@@ -2,6 +2,7 @@
 use Rattle.std.proofs.Common.{◌≡◌, refl, subst, zero, suc, Bool, true, false, List, [], ◌∷◌, map, Ok, Err, IfOk, Contains, arith}
 use Rattle.std.specs.Prelude.{flat_map, if◌then◌else◌}
 use Rattle.std.specs.List.{AllByRecursion}
+use Rattle.std.proofs.lemmas.List.Elements.{All-contains, All-from_recursion}
 use Rattle.typing.specs.Finding.{Finding, ◌>>=◌, also, before, each}
 use Rattle.type_laws.proofs.Parts.{appended}
 
@@ -16,9 +17,7 @@ weaker P Q good [] h = tt
 weaker P Q good (x ∷ xs) h = (good x h.0, weaker P Q good xs h.1)
 
 pub contained : {X : Type 0} (P : X → Type 0) (xs : List X) → AllByRecursion P xs → (x : X) → Contains xs x → P x
-contained P [] h x (k, less, same) = absurd (omega (arith, less))
-contained P (y ∷ ys) h x (zero, less, same) = subst P same h.0
-contained P (y ∷ ys) h x (suc k, less, same) = contained P ys h.1 x (k, omega (arith, less), same)
+contained P xs h x there = All-contains P xs x (All-from_recursion P xs h) there
 
 pub each_contained : {X : Type 0} (P : X → Type 0) (xs : List X) → ((x : X) → Contains xs x → P x) → AllByRecursion P xs
 each_contained P [] h = tt

@@ -2,6 +2,7 @@
 use Rattle.std.proofs.Common.{◌≡◌, refl, ap, ap₂, sym, ◌∙◌, subst, ℕ, suc, ◌+◌, List, [], ◌∷◌, ◌++◌, map, length, length-append, append_assoc, Ok, Err, Option, Some, None, IfOk, slice_get, arith}
 use Rattle.std.specs.Prelude.{Bool}
 use Rattle.std.specs.List.{AllByRecursion, zip}
+use Rattle.std.proofs.lemmas.Option.{none-some, same_Some}
 use Rattle.sqlval.specs.declared.value.ValueType.{ValueType}
 use Rattle.sqlval.specs.declared.value.ValueType.TheVariants.{Integer}
 use Rattle.ast.specs.declared.operator.Column.{Column}
@@ -22,7 +23,7 @@ use Rattle.typing.specs.Typing.{in_parentheses, with_sign}
 use Rattle.column_laws.specs.Scopes.{AreRowsOf}
 use Rattle.column_laws.specs.WellTyped.{FunctionHasType, FunctionsHaveTypes, HasResult, HasType, Rows}
 use Rattle.column_laws.specs.WellTyped as typed
-use Rattle.column_laws.proofs.Columns.{Gives, IsUngrouped, columns-typed, none_some, own-typed, same_some}
+use Rattle.column_laws.proofs.Columns.{Gives, IsUngrouped, columns-typed, own-typed}
 use Rattle.column_laws.proofs.Findings.{goes_on}
 use Rattle.column_laws.proofs.Fitting.{IsResult, must, sign-typed}
 
@@ -59,8 +60,8 @@ split Argument scope n xs ys rows is h = (h, h)
 split Checked scope n xs ys rows is h = (tt, tt)
 
 plain-frame : (scope : Scope) → IsUngrouped (ungrouped scope)
-plain-frame [] frame e = absurd (none_some frame e)
-plain-frame (f ∷ outer) frame e = ap (λ (g : Frame). g.key) (sym (same_some (record { tables = f.tables; columns = f.columns; key = None }) frame e))
+plain-frame [] frame e = absurd (none-some frame e)
+plain-frame (f ∷ outer) frame e = ap (λ (g : Frame). g.key) (sym (same_Some (record { tables = f.tables; columns = f.columns; key = None }) frame e))
 
 module _ (known : Known) where
   -- set functions have these types, each where it is found
@@ -213,8 +214,8 @@ module _ (known : Known) where
   IfWritten Is (Some x) = IsTyped Is x
 
   pub written-typed : {A : Type 0} (Is : Rows → A → Type 0) (x : Option (Part A)) → IfWritten Is x → IsTyped (IfThere Is) (if_written x)
-  written-typed Is None h = none (IfThere Is) (λ view. Ok None) (λ view rows k. λ a e. absurd (none_some a e))
-  written-typed Is (Some x) h = followed Is (IfThere Is) (λ a. Ok (Some a)) x (λ rows a k b e. subst (Is rows) (same_some a b e) k) h
+  written-typed Is None h = none (IfThere Is) (λ view. Ok None) (λ view rows k. λ a e. absurd (none-some a e))
+  written-typed Is (Some x) h = followed Is (IfThere Is) (λ a. Ok (Some a)) x (λ rows a k b e. subst (Is rows) (same_Some a b e) k) h
 
   pub with_its_sign : (sign : Option Sign) (x : Part TypedExpression) → IsTyped (Gives known) x → IsTyped (Gives known) (with_sign x sign)
   with_its_sign None x h = h

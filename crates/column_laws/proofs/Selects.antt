@@ -2,6 +2,8 @@
 use Rattle.std.proofs.Common.{◌≡◌, refl, ap, sym, ◌∙◌, subst, ℕ, zero, suc, ◌+◌, Bool, true, false, true≢false, List, [], ◌∷◌, ◌++◌, map, length, Ok, Err, Option, Some, None, IfOk, is_none, slice_get, rules, eqb-true, arith, append_assoc, length-append}
 use Rattle.std.specs.Prelude.{◌==◌, ◌&&◌, not}
 use Rattle.std.specs.List.{AllByRecursion}
+use Rattle.std.proofs.lemmas.List.{length-map}
+use Rattle.std.proofs.lemmas.Option.{same_Some}
 use Rattle.sqlval.specs.declared.value.ValueType.{ValueType}
 use Rattle.refusals.specs.declared.limit.Limit.TheVariants as limit
 use Rattle.ast.specs.declared.operator.Alias.{Alias}
@@ -32,7 +34,7 @@ use Rattle.typing.specs.Table.{at_most}
 use Rattle.column_laws.specs.Scopes.{AreRowsOf, BeginsWithKey, offered_types}
 use Rattle.column_laws.specs.WellTyped.{FunctionHasType, FunctionsHaveTypes, HasColumns, HasResult, HasType, HaveTypes, IsSeen, IsWellTyped, Rows, item_values, key_places}
 use Rattle.column_laws.specs.WellTyped as typed
-use Rattle.column_laws.proofs.Columns.{Gives, IsOwn, Shows, all-shown, own-is, same_some}
+use Rattle.column_laws.proofs.Columns.{Gives, IsOwn, Shows, all-shown, own-is}
 use Rattle.column_laws.proofs.Findings.{all, beside, goes_on, mapped_any, second}
 use Rattle.column_laws.proofs.Fitting.{IsResult}
 use Rattle.column_laws.proofs.Froms.{Asks, IfBoth, IsTypedFrom, Offers}
@@ -122,7 +124,7 @@ module _ (known : Known) where
   place_found : (column : Column) (frame : Frame) (outer : Scope) → IfOk (own_column column (frame ∷ outer) >>= (λ found. Ok found.place)) (λ place. (t : ValueType) × (slice_get (offered_types frame.columns) place ≡ Some t))
   place_found column frame outer =
       goes_on (IsOwn (frame ∷ outer)) (λ place. (t : ValueType) × (slice_get (offered_types frame.columns) place ≡ Some t)) (own_column column (frame ∷ outer)) (λ found. Ok found.place) (own-is column (frame ∷ outer))
-      (λ x k. (x.value_type, subst (λ (f : Frame). slice_get (offered_types f.columns) x.place ≡ Some x.value_type) (sym (same_some frame k.0 k.1)) k.2))
+      (λ x k. (x.value_type, subst (λ (f : Frame). slice_get (offered_types f.columns) x.place ≡ Some x.value_type) (sym (same_Some frame k.0 k.1)) k.2))
 
   abbrev HaveKeys : List ValueType → List ℕ → Type 0
   HaveKeys from places = (types : List ValueType) × AreKeys from places types
@@ -182,11 +184,7 @@ module _ (known : Known) where
   empty (x ∷ xs) e = absurd (omega (arith, e))
 
   same_length : (from : List ValueType) (places : List ℕ) (types : List ValueType) → AreKeys from places types → length places ≡ length types
-  same_length from places types e = sym (length-map (slice_get from) places) ∙ ap length e ∙ length-map Some types
-    where
-      length-map : {A B : Type 0} (f : A → B) (xs : List A) → length (map f xs) ≡ length xs
-      length-map f [] = refl
-      length-map f (x ∷ xs) = ap suc (length-map f xs)
+  same_length from places types e = sym (length-map places (slice_get from)) ∙ ap length e ∙ length-map types Some
 
   module _ (select : Clauses) (h : AreTyped select) (columns : List Offer) (outer : Scope) (rows : Rows) (are : AreRowsOf outer rows) where
     abbrev from_types : List ValueType

@@ -2,6 +2,7 @@
 use Rattle.std.proofs.Common.{◌≡◌, ◌<◌, refl, ap, sym, ◌∙◌, subst, ℕ, suc, ◌+◌, ◌-◌, Bool, true, false, List, [], ◌∷◌, map, length, Ok, Err, Option, Some, None, IfOk, slice_get, option_map, arith, eqb-true, nat_le, leb-true}
 use Rattle.std.specs.Prelude.{◌==◌, ◌&&◌, if◌then◌else◌}
 use Rattle.std.specs.List.{AllByRecursion, zip}
+use Rattle.std.proofs.lemmas.Option.{none-some, same_Some, slice_get-map}
 use Rattle.sqlval.specs.declared.schema.Column.{Column}
 use Rattle.sqlval.specs.declared.schema.Schema.{Schema}
 use Rattle.sqlval.specs.declared.value.ValueType.{ValueType}
@@ -55,7 +56,7 @@ use Rattle.column_laws.specs.Scopes.{AreRowsOf}
 use Rattle.column_laws.specs.Statements.{IsAssignmentWell, IsChangeWell, IsDeleteWell, IsFilter, IsInsertWell, IsOrderedWell, IsStatementWell, IsStoredAs, IsUpdateWell}
 use Rattle.column_laws.specs.WellTyped.{HasResult, HasType, HaveTypes, IsWellTyped, Rows, column_types}
 use Rattle.column_laws.specs.WellTyped as typed
-use Rattle.column_laws.proofs.Columns.{Gives, element-map, none_some, same_some}
+use Rattle.column_laws.proofs.Columns.{Gives}
 use Rattle.column_laws.proofs.Findings.{beside, contained, follows, goes_on, mapped_any, second}
 use Rattle.column_laws.proofs.Fitting.{IsResult, must}
 use Rattle.column_laws.proofs.Froms.{stored_types}
@@ -127,11 +128,11 @@ check-typed name columns tree = (trees-conditions nothing_known tree).found (rec
 
 module _ (k : Known) where
   filter-typed : (shown : List ℕ) (columns : List Column) (tree : Option ConditionTree) → IfOk (filter_found k (frame_of shown columns ∷ []) tree) (IsFilter k (column_types columns ∷ []))
-  filter-typed shown columns None = λ c e. absurd (none_some c e)
+  filter-typed shown columns None = λ c e. absurd (none-some c e)
   filter-typed shown columns (Some tree) =
       goes_on (IsWellTyped k (column_types columns ∷ [])) (IsFilter k (column_types columns ∷ [])) ((condition_part k tree).found (record { scope = frame_of shown columns ∷ []; clause = Plain })) (λ c. Ok (Some c))
       ((trees-conditions k tree).found (record { scope = frame_of shown columns ∷ []; clause = Plain }) (column_types columns ∷ []) (one_table shown columns) tt)
-      (λ c h d e. subst (IsWellTyped k (column_types columns ∷ [])) (same_some c d e) h)
+      (λ c h d e. subst (IsWellTyped k (column_types columns ∷ [])) (same_Some c d e) h)
 
   -- a source, where it is not NULL
   abbrev IsSource : Rows → Option TypedExpression → Type 0
@@ -158,7 +159,7 @@ module _ (k : Known) where
     where
       at : (o : Option Column) → slice_get columns place ≡ o → IfOk (as_found o >>= (λ column. Ok (place, type_in column.column_type))) (IsTarget columns)
       at None is = tt
-      at (Some column) is = element-map (λ (c : Column). type_in c.column_type) columns place ∙ ap (option_map (λ (c : Column). type_in c.column_type)) is
+      at (Some column) is = slice_get-map (λ (c : Column). type_in c.column_type) columns place ∙ ap (option_map (λ (c : Column). type_in c.column_type)) is
 
   target_named-is : (columns : List Column) (name : List ℕ) → IfOk (target_named columns name) (IsTarget columns)
   target_named-is columns name = follows (IsTarget columns) (as_found (place_in columns name)) (target_at columns) (target_at-is columns)

@@ -1,5 +1,5 @@
--- Typed trees whose columns are there and whose operands fit: rules, each of which is read from its premises to what they make well typed (ISO/IEC 9075:1992, 6.4, 6.5, 6.11 to 6.13,
--- 7.5 to 7.10, 8.2 to 8.8). Types are those of values: an integer or a text, whatever its length.
+-- Typed trees whose columns are there and whose operands fit: rules, each of which is read from its premises to what they make well typed
+-- (ISO/IEC 9075:1992, 6.4, 6.5, 6.11 to 6.13, 7.5 to 7.10, 8.2 to 8.8). Types are those of values: an integer or a text, whatever its length.
 use Rattle.std.specs.Prelude.{◌≡◌, ℕ, Bool, List, [], ◌∷◌, ◌++◌, map, length, slice_get, Contains, Option, Some, None}
 use Rattle.sqlval.specs.declared.comparison.CompOp.{CompOp}
 use Rattle.sqlval.specs.declared.schema.Column.{Column}
@@ -111,7 +111,8 @@ mutual
     one_function : {rows : Rows} {f : SetFunction} {type : ValueType} {others : List SetFunction} {types : List ValueType} → FunctionHasType known rows f type
         → FunctionsHaveTypes known rows others types → FunctionsHaveTypes known rows (f ∷ others) (type ∷ types)
 
-  -- The select list of a SELECT over rows of these types sees a row of those: the same one without groups, else a group's key and the values of its set functions, which HAVING sees too.
+  -- The select list of a SELECT over rows of these types sees a row of those: the same one without groups, else a group's key and then the values of its set
+  -- functions, which HAVING sees too.
   pub data IsSeen (known : Known) : Rows → List ValueType → Option Grouping → List ValueType → Type 0 where
     as_it_is : {rows : Rows} {from : List ValueType} → IsSeen known rows from None from
     grouped : {rows : Rows} {from : List ValueType} (g : Grouping) (key values : List ValueType) → map (slice_get from) (key_places (out-Grouping g).columns) ≡ map Some key

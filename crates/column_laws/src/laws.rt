@@ -47,7 +47,8 @@ pub fn typed_parts_are_well_typed()
         → (condition_part known tree).found (record { scope = scope; clause = Plain }) ≡ Ok found → IsWellTyped known rows found }
     ensures checks { (name : List ℕ) (columns : List Column) (tree : ConditionTree) (found : Condition) → check_found (frame_of name columns) tree ≡ Ok found
         → IsWellTyped nothing_known (column_types columns ∷ []) found }
-    ensures kept { (name : List ℕ) (columns : List Column) (text : List ℕ) (found : Condition) → ReadsCheck name columns text found → IsWellTyped nothing_known (column_types columns ∷ []) found }
+    ensures kept { (name : List ℕ) (columns : List Column) (text : List ℕ) (found : Condition) → ReadsCheck name columns text found
+        → IsWellTyped nothing_known (column_types columns ∷ []) found }
 {}
 
 /// A statement over a schema stands for queries and changes of rows that are well typed over it: what is stored in a
