@@ -22,6 +22,7 @@ abbrev pub IsRowBy : Option (List ℕ) → List ValueType → List ValueType →
 IsRowBy None from row = row ≡ from
 IsRowBy (Some key) from row = BeginsWithKey from key row
 
+-- a row of this FROM, as a place sees it
 abbrev pub IsRowOf : Frame → List ValueType → Type 0
 IsRowOf frame row = IsRowBy frame.key (offered_types frame.columns) row
 

@@ -47,17 +47,20 @@ pub record IsAssignmentWell (known : Known) (row : List ValueType) (assignment :
   pub column : slice_get row assignment.column ≡ Some column_type
   pub source : HasType known (row ∷ []) assignment.source column_type
 
+-- the columns that are set are the table's; sources and filter see a row of it
 pub record IsUpdateWell (known : Known) (update : Update) : Type 0 where
   pub table : KnownTable
   pub is_there : known.table update.table ≡ Some table
   pub assignments : (assignment : Assignment) → Contains update.assignments assignment → IsAssignmentWell known (column_types table.columns) assignment
   pub filter : IsFilter known (column_types table.columns ∷ []) update.filter
 
+-- the filter sees a row of the table
 pub record IsDeleteWell (known : Known) (delete : Delete) : Type 0 where
   pub table : KnownTable
   pub is_there : known.table delete.table ≡ Some table
   pub filter : IsFilter known (column_types table.columns ∷ []) delete.filter
 
+-- a change of rows; changes of tables and indexes hold no typed tree
 abbrev pub IsChangeWell : Known → Change → Type 0
 IsChangeWell known (change.Insert insert) = IsInsertWell known insert
 IsChangeWell known (change.Update update) = IsUpdateWell known update
