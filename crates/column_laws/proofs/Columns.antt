@@ -190,9 +190,10 @@ module _ (known : Known) where
   from_at key from row rows first is at [] h = tt
   from_at key from row rows first is at (offer ∷ offers) h =
       let here : at ≡ at + 0 = omega arith in
-      let x : Found = record { place = at; value_type = offer.value_type } in
-      (goes_on (Gives rows) (Shows rows) (seen_in key 0 x) (λ y. Ok (shown_item offer.name y)) (seen key from row rows 0 x first is (ap (slice_get from) here ∙ h 0 offer.value_type refl)) (λ y k. k),
-      from_at key from row rows first is (at + 1) offers (λ j t e. (let next : at + 1 + j ≡ at + suc j = omega arith in ap (slice_get from) next ∙ h (suc j) t e)))
+      let x : Found = record { place = at; value_type = offer.value_type } in (
+        goes_on (Gives rows) (Shows rows) (seen_in key 0 x) (λ y. Ok (shown_item offer.name y)) (seen key from row rows 0 x first is (ap (slice_get from) here ∙ h 0 offer.value_type refl)) (λ y k. k),
+        from_at key from row rows first is (at + 1) offers (λ j t e. (let next : at + 1 + j ≡ at + suc j = omega arith in ap (slice_get from) next ∙ h (suc j) t e)),
+      )
 
   pub all-shown : (scope : Scope) (rows : Rows) → AreRowsOf scope rows → AllByRecursion (λ x. IfOk x (Shows rows)) (all_columns scope)
   all-shown [] rows h = tt

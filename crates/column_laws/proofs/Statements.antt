@@ -168,9 +168,10 @@ module _ (k : Known) where
       → AllByRecursion (IsTarget whole) (targets_from at columns)
   targets_from-are whole at [] h = tt
   targets_from-are whole at (column ∷ columns) h =
-      let here : at ≡ at + 0 = omega arith in
-      (ap (slice_get (column_types whole)) here ∙ h 0 (type_in column.column_type) refl,
-      targets_from-are whole (at + 1) columns (λ j t e. (let next : at + 1 + j ≡ at + suc j = omega arith in ap (slice_get (column_types whole)) next ∙ h (suc j) t e)))
+      let here : at ≡ at + 0 = omega arith in (
+        ap (slice_get (column_types whole)) here ∙ h 0 (type_in column.column_type) refl,
+        targets_from-are whole (at + 1) columns (λ j t e. (let next : at + 1 + j ≡ at + suc j = omega arith in ap (slice_get (column_types whole)) next ∙ h (suc j) t e)),
+      )
 
   targets-are : (columns : List Column) (names : List (List ℕ)) → IfOk (targets_found columns names) (AllByRecursion (IsTarget columns))
   targets-are columns [] = targets_from-are columns 0 columns (λ j t e. (let same : 0 + j ≡ j = omega arith in ap (slice_get (column_types columns)) same ∙ e))
