@@ -1,0 +1,3 @@
+pub mod WellTyped
+pub mod Scopes
+pub mod Statements
