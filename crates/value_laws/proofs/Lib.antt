@@ -1,2 +1,4 @@
-mod Values
 mod Lists
+mod Values
+mod Rows
+mod Trees
