@@ -2,3 +2,6 @@ mod Lists
 mod Values
 mod Rows
 mod Trees
+mod Answers
+mod Databases
+mod Kept

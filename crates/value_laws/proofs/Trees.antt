@@ -69,8 +69,8 @@ module _ (known : Known) (tables : Tables) (holds : HoldsTypes known tables) whe
     value-typed {type = type} (typed.constant value is) env sees = at_value type _ _ (value_constant tables env value) (inr is)
     value-typed {rows = rows} {type = type} (typed.column depth place row there here) env sees =
         at_value type _ _ (value_column tables env depth place) (column-typed rows env depth place row type sees there here)
-    value-typed (typed.calculation {first = first} others h hs) env sees = at_value Integer _ _ (value_calculation tables env first others) (chained-typed _ _ env (value-typed h env sees))
-    value-typed (typed.concatenation {first = first} others h hs) env sees = at_value Text _ _ (value_concatenation tables env first others) (concatenation-typed _ _ env (value-typed h env sees))
+    value-typed (typed.calculation {first = first} others h hs) env sees = at_value Integer _ _ (value_calculation tables env first others) (chained-typed (value_of tables first env) (map (λ other. (other.0, value_of tables other.1)) others) env (value-typed h env sees))
+    value-typed (typed.concatenation {first = first} others h hs) env sees = at_value Text _ _ (value_concatenation tables env first others) (concatenation-typed (value_of tables first env) (map (value_of tables) others) env (value-typed h env sees))
     value-typed (typed.negation {operand = operand} h) env sees = at_value Integer _ _ (value_negation tables env operand) (negated-typed (value_of tables operand env))
     value-typed (typed.scalar {q = q} {type = type} h) env sees = at_value type _ _ (value_scalar tables env q) (scalar-typed type (query_outcome tables q env) (query-typed h env sees))
 
