@@ -61,22 +61,22 @@ first_passes {A} test at (x ∷ xs) p e = go (test x) refl (first_passes test (a
     go true passes rest f = let here : at ≡ p = same_Some at p f in (zero, omega (arith, here), x, refl, passes)
     go false fails rest f = later (rest f)
 
--- a table of a schema that is known by this name
-abbrev IsKnownAs : Schema → List ℕ → KnownTable → declared.Table → Type 0
-IsKnownAs schema name table d = Contains schema.tables d × (d.name ≡ name) × (d.columns ≡ table.columns)
+-- what is known by this name is a table of the schema
+abbrev IsDeclared : Schema → List ℕ → KnownTable → Type 0
+IsDeclared schema name table = (d : declared.Table) × Contains schema.tables d × (d.name ≡ name) × (d.columns ≡ table.columns)
 
-known_as : (schema : Schema) (name : List ℕ) (table : KnownTable) → table_of schema name ≡ Some table → (d : declared.Table) × IsKnownAs schema name table d
+known_as : (schema : Schema) (name : List ℕ) (table : KnownTable) → table_of schema name ≡ Some table → IsDeclared schema name table
 known_as schema name table e = go (table_place name schema) refl e
   where
     at : (p : ℕ) → Passes (λ (t : declared.Table). same_name t.name name) 0 schema.tables p → option_map known_table (slice_get schema.tables p) ≡ Some table
-        → (d : declared.Table) × IsKnownAs schema name table d
+        → IsDeclared schema name table
     at p (k, is, d, there, passes) f =
         let same : p ≡ k = omega (arith, is) in
         let here : slice_get schema.tables p ≡ Some d = ap (slice_get schema.tables) same ∙ there in
         (d, (p, slice_get_within schema.tables p d here, get_or_from_slice_get schema.tables p d d here), (bytes_decides d.name name).0 passes,
         ap (λ (t : KnownTable). t.columns) (same_Some (known_table d) table (sym (ap (option_map known_table) here) ∙ f)))
 
-    go : (place : Option ℕ) → table_place name schema ≡ place → option_map known_table (table_at schema place) ≡ Some table → (d : declared.Table) × IsKnownAs schema name table d
+    go : (place : Option ℕ) → table_place name schema ≡ place → option_map known_table (table_at schema place) ≡ Some table → IsDeclared schema name table
     go None is f = absurd (none-some table f)
     go (Some p) is f = at p (first_passes (λ (t : declared.Table). same_name t.name name) 0 schema.tables p is) f
 

@@ -131,10 +131,11 @@ module _ (known : Known) (tables : Tables) (holds : HoldsTypes known tables) whe
   assigned_at from row has (a ∷ assignments) all (suc k) place t x at here there =
       assigned_at from row has assignments (All-tail (IsAssignmentWell known from) a assignments all) k place t x at here there
 
-  pub updated-kept : (update : Update) (well : IsUpdateWell known update) (row : Row) → HasTypes (column_types well.table.columns) row
+  pub updated-kept : (update : Update) (well : IsUpdateWell known update) (row : Row) → Contains (tables update.table) row
       → (place : ℕ) (column : Column) (value : Evaluation Value) → slice_get well.table.columns place ≡ Some column
       → given_for place (map (λ a. a.column) update.assignments) (map (λ a. value_of tables a.source (row ∷ [])) update.assignments) ≡ Some value → IfOk value (IsKeptBy column)
-  updated-kept update well row has place column value there e =
+  updated-kept update well row among place column value there e =
+      let has = All-contains (HasTypes (column_types well.table.columns)) (tables update.table) row (holds update.table well.table well.is_there) among in
       let (k, at, here) = given-at place (map (λ (a : Assignment). a.column) update.assignments) (map (λ (a : Assignment). value_of tables a.source (row ∷ [])) update.assignments) value e in
       kept-by column value
       (assigned_at (column_types well.table.columns) row has update.assignments

@@ -1,6 +1,6 @@
 //! What a well typed query or expression gives has the types that it is told to have.
 
-ghost use Rattle.std.specs.Prelude.{◌≡◌, ℕ, List, [], ◌∷◌, map, slice_get, IfOk, Ok, Some};
+ghost use Rattle.std.specs.Prelude.{◌≡◌, ℕ, List, [], ◌∷◌, map, slice_get, Contains, IfOk, Ok, Some};
 ghost use Rattle.ast.specs.declared.statement.OrderedQuery.{OrderedQuery as OrderedTree};
 ghost use Rattle.sqlval.specs.declared.schema.Column.{Column};
 ghost use Rattle.sqlval.specs.declared.schema.Schema.{Schema};
@@ -28,9 +28,9 @@ ghost use Rattle.denote.specs.Query.{denotes};
 ghost use Rattle.denote.specs.SchemaOf.{IsSchemaOf};
 ghost use Rattle.denote.specs.StoredRow.{given_for};
 ghost use Rattle.column_laws.specs.Statements.{IsInsertWell, IsOrderedWell, IsUpdateWell};
-ghost use Rattle.column_laws.specs.WellTyped.{FunctionHasType, HasColumns, HasResult, HasType, Rows, column_types};
+ghost use Rattle.column_laws.specs.WellTyped.{FunctionHasType, HasColumns, HasResult, HasType, Rows};
 ghost use Rattle.value_laws.specs.Stored.{AreGiven, IsKeptBy};
-ghost use Rattle.value_laws.specs.Types.{AreRows, HasTypes, HoldsTypes, IsOfType, SeesRows};
+ghost use Rattle.value_laws.specs.Types.{AreRows, HoldsTypes, IsOfType, SeesRows};
 
 use column_laws::typed_queries_are_well_typed;
 
@@ -64,13 +64,13 @@ pub fn good_databases_hold_their_types()
 {}
 
 /// What a well typed INSERT or UPDATE gives for a column has the column's type, and the column keeps null of null alone: that a value of the other type would be stored as null does
-/// not happen. An UPDATE sees a row of the table, whose types are those of the columns.
+/// not happen. An UPDATE sees a row of the table.
 pub fn columns_keep_what_they_are_given()
     ensures inserted { (known : Known) (tables : Tables) (insert : Insert) (given : List (Evaluation Value)) (place : ℕ) (column : Column) (value : Evaluation Value) → HoldsTypes known tables
         → (well : IsInsertWell known insert) → AreGiven tables insert.source given → slice_get well.table.columns place ≡ Some column → given_for place insert.columns given ≡ Some value
         → IfOk value (IsKeptBy column) }
     ensures updated { (known : Known) (tables : Tables) (update : Update) (row : Row) (place : ℕ) (column : Column) (value : Evaluation Value) → HoldsTypes known tables
-        → (well : IsUpdateWell known update) → HasTypes (column_types well.table.columns) row → slice_get well.table.columns place ≡ Some column
+        → (well : IsUpdateWell known update) → Contains (tables update.table) row → slice_get well.table.columns place ≡ Some column
         → given_for place (map (λ (a : Assignment). a.column) update.assignments) (map (λ (a : Assignment). value_of tables a.source (row ∷ [])) update.assignments) ≡ Some value
         → IfOk value (IsKeptBy column) }
 {}
