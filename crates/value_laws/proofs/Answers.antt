@@ -1,5 +1,5 @@
 -- The types of the rows of an answer.
-use Rattle.std.proofs.Common.{◌≡◌, refl, sym, ap, ◌∙◌, subst, List, [], ◌∷◌, map, Ok, Err, Option, Some, None}
+use Rattle.std.proofs.Common.{◌≡◌, sym, ap, ◌∙◌, List, [], map, Ok, Err}
 use Rattle.ast.specs.declared.statement.OrderedQuery.{OrderedQuery as OrderedTree}
 use Rattle.sqlval.specs.declared.value.ValueType.{ValueType}
 use Rattle.sqlval.specs.Value.{Row}

@@ -1,5 +1,5 @@
 -- A good database holds the types of its columns.
-use Rattle.std.proofs.Common.{◌≡◌, refl, sym, ap, ◌∙◌, subst, ℕ, zero, suc, ◌+◌, ◌<◌, Bool, true, false, true≢false, cond, List, [], ◌∷◌, map, length, Option, Some, None, All, Contains, slice_get, option_map, inl, inr, arith}
+use Rattle.std.proofs.Common.{◌≡◌, refl, sym, ap, ◌∙◌, subst, ℕ, zero, suc, ◌+◌, Bool, true, false, true≢false, cond, List, [], ◌∷◌, Option, Some, None, Contains, slice_get, option_map, inl, inr, arith}
 use Rattle.std.specs.Cmp.Lexicographic.{bytes_decides}
 use Rattle.std.specs.FinMap.{get}
 use Rattle.std.specs.List.{list_all, position_from}
@@ -17,7 +17,7 @@ use Rattle.sqlval.specs.declared.value.Value.TheVariants.{Null, Int, Text}
 use Rattle.sqlval.specs.Schema.{same_name, table_place}
 use Rattle.sqlval.specs.Storing.{fits_column}
 use Rattle.sqlval.specs.Value.{Row}
-use Rattle.typing.specs.Known.{Known, KnownTable, known, known_table, table_at, table_of}
+use Rattle.typing.specs.Known.{KnownTable, known, known_table, table_at, table_of}
 use Rattle.typing.specs.Table.{type_in}
 use Rattle.denote.specs.Database.{CheckReading, Database, IsGood, Table, fits_columns, rows_in, rows_of}
 use Rattle.denote.specs.SchemaOf.{IsSchemaOf}
@@ -72,9 +72,12 @@ known_as schema name table e = go (table_place name schema) refl e
         → IsDeclared schema name table
     at p (k, is, d, there, passes) f =
         let same : p ≡ k = omega (arith, is) in
-        let here : slice_get schema.tables p ≡ Some d = ap (slice_get schema.tables) same ∙ there in
-        (d, (p, slice_get_within schema.tables p d here, get_or_from_slice_get schema.tables p d d here), (bytes_decides d.name name).0 passes,
-        ap (λ (t : KnownTable). t.columns) (same_Some (known_table d) table (sym (ap (option_map known_table) here) ∙ f)))
+        let here : slice_get schema.tables p ≡ Some d = ap (slice_get schema.tables) same ∙ there in (
+          d,
+          (p, slice_get_within schema.tables p d here, get_or_from_slice_get schema.tables p d d here),
+          (bytes_decides d.name name).0 passes,
+          ap (λ (t : KnownTable). t.columns) (same_Some (known_table d) table (sym (ap (option_map known_table) here) ∙ f)),
+        )
 
     go : (place : Option ℕ) → table_place name schema ≡ place → option_map known_table (table_at schema place) ≡ Some table → IsDeclared schema name table
     go None is f = absurd (none-some table f)

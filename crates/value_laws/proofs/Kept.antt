@@ -1,6 +1,6 @@
 -- What INSERT and UPDATE give for a column has its type.
-use Rattle.std.proofs.Common.{◌≡◌, refl, sym, ap, ◌∙◌, subst, ℕ, zero, suc, ◌<◌, Bool, true, false, true≢false, List, [], ◌∷◌, map, length, drop, Option, Some, None, Ok, Err, IfOk, All, Contains, slice_get, option_map, inl, inr, arith, eqb-true}
-use Rattle.std.specs.Prelude.{◌==◌, ◌⊎◌, position, option_and_then, if◌then◌else◌, take}
+use Rattle.std.proofs.Common.{◌≡◌, refl, sym, ap, ◌∙◌, subst, ℕ, zero, suc, Bool, true, false, true≢false, List, [], ◌∷◌, map, length, drop, Option, Some, None, Ok, Err, IfOk, All, Contains, slice_get, option_map, inl, inr, arith, eqb-true}
+use Rattle.std.specs.Prelude.{◌==◌, position, option_and_then, if◌then◌else◌, take}
 use Rattle.std.proofs.lemmas.List.Elements.{All-contains, All-contains_itself, All-head, All-tail, All-weaker}
 use Rattle.std.proofs.lemmas.List.Quantifiers.{position-Some}
 use Rattle.std.proofs.lemmas.Option.{none-some, same_Some, slice_get-get_or, slice_get-map}
@@ -34,11 +34,13 @@ use Rattle.value_laws.proofs.Trees.{query-typed, value-typed}
 
 -- ---- what a column keeps
 
+-- whether this is the type of integers
 abbrev is_integer : Option ValueType → Bool
 is_integer None = false
 is_integer (Some type.Integer) = true
 is_integer (Some type.Text) = false
 
+-- what a column of this type holds of a value is null where the value is null, and nowhere else
 abbrev Keeps : Value → ColumnType → Type 0
 Keeps value column = IfOk (stored value column) (λ held. is_null held ≡ is_null value)
 
@@ -62,6 +64,7 @@ kept-by column (Err faults) h = tt
 
 -- ---- what is given for the column at a place
 
+-- evaluations whose values, where they have some, are of these types, one each
 abbrev GivesTypes : List ValueType → List (Evaluation Value) → Type 0
 GivesTypes [] [] = Unit {0}
 GivesTypes (t ∷ types) (x ∷ given) = IfOk x (IsOfType t) × GivesTypes types given
@@ -73,6 +76,7 @@ given_at (u ∷ types) [] k t x h e f = absurd h
 given_at (u ∷ types) (y ∷ given) zero t x h e f = subst (λ z. IfOk z (IsOfType t)) (same_Some y x f) (subst (λ v. IfOk y (IsOfType v)) (same_Some u t e) h.0)
 given_at (u ∷ types) (y ∷ given) (suc k) t x h e f = given_at types given k t x h.1 e f
 
+-- the item that stands where a place stands among places
 abbrev IsGivenAt : {A : Type 0} → ℕ → List ℕ → List A → A → Type 0
 IsGivenAt place places items x = (k : ℕ) × (slice_get places k ≡ Some place) × (slice_get items k ≡ Some x)
 
@@ -85,6 +89,7 @@ given-at {A} place places items x e = go (position (λ p. p == place) places) re
         let found = position-Some (λ p. p == place) places k 0 is in
         (k, slice_get-get_or places k 0 found.0 ∙ ap Some (eqb-true _ place found.1), f)
 
+-- the type of the column at a place that stands among the places of an INSERT
 type_at : (from : List ValueType) (places : List ℕ) (types : List ValueType) → map (slice_get from) places ≡ map Some types → (k place : ℕ) (t : ValueType) → slice_get places k ≡ Some place → slice_get from place ≡ Some t
     → slice_get types k ≡ Some t
 type_at from [] types e k place t at there = absurd (none-some place at)

@@ -1,10 +1,9 @@
 -- What is true of each row of an outcome.
-use Rattle.std.proofs.Common.{◌≡◌, refl, sym, ap, subst, ℕ, zero, suc, ◌<◌, Bool, true, false, cond, not, List, [], ◌∷◌, ◌++◌, map, length, Ok, Err, IfOk, All, Contains, Option, Some, None, arith}
-use Rattle.std.specs.Prelude.{filter, flat_map, replicate}
-use Rattle.std.specs.Option.{option_map}
-use Rattle.std.proofs.lemmas.List.Elements.{All-nil, All-cons, All-head, All-tail, All-append, All-filter, All-replicate, All-from_recursion}
+use Rattle.std.proofs.Common.{Bool, not, List, [], ◌∷◌, map, Ok, Err, IfOk, All}
+use Rattle.std.specs.Prelude.{filter, flat_map}
+use Rattle.std.proofs.lemmas.List.Elements.{All-nil, All-cons, All-head, All-tail, All-append, All-filter}
 use Rattle.sqlval.specs.Value.{Row}
-use Rattle.denote.specs.Evaluation.{Env, Evaluation, ◌>>=◌, joined, together, unless, adding}
+use Rattle.denote.specs.Evaluation.{Evaluation, ◌>>=◌, joined, together, unless, adding}
 use Rattle.denote.specs.declared.fault.Fault.{Fault}
 use Rattle.denote.specs.Outcome.{Outcome, before, each, through}
 use Rattle.denote.specs.Bag.{distinct_by, Permutes, nothing, keeps, exchanges, goes_on}

@@ -1,23 +1,22 @@
 -- The types of the rows that FROM, groups, select lists and set operators make of rows.
-use Rattle.std.proofs.Common.{◌≡◌, refl, sym, ap, subst, ℕ, Bool, true, false, List, [], ◌∷◌, ◌++◌, map, length, Ok, Err, IfOk, All, Contains, Option, Some, None, slice_get, arith}
+use Rattle.std.proofs.Common.{◌≡◌, sym, ap, subst, ℕ, Bool, true, false, List, [], ◌∷◌, ◌++◌, map, length, Ok, IfOk, All, Option, Some, None, slice_get, arith}
 use Rattle.std.specs.Prelude.{flat_map, replicate, if◌then◌else◌}
 use Rattle.std.proofs.lemmas.List.Elements.{All-nil, All-cons, All-head, All-tail, All-append, All-filter, All-replicate}
 use Rattle.sqlval.specs.declared.truth.Truth.{Truth}
 use Rattle.sqlval.specs.declared.truth.Truth.TheVariants.{False, Unknown, True}
 use Rattle.sqlval.specs.declared.value.ValueType.{ValueType}
-use Rattle.sqlval.specs.declared.value.Value.TheVariants.{Null}
 use Rattle.sqlval.specs.Matching.{key_of}
 use Rattle.sqlval.specs.Value.{Row}
 use Rattle.typing.specs.declared.typed.SetOperation.{SetOperation}
 use Rattle.denote.specs.Bag.{are_alike, distinct, times}
 use Rattle.denote.specs.Condition.{ConditionMeaning}
-use Rattle.denote.specs.Evaluation.{Env, Evaluation, ◌>>=◌, together}
+use Rattle.denote.specs.Evaluation.{Env, together}
 use Rattle.denote.specs.Expression.{ExpressionMeaning}
 use Rattle.denote.specs.From.{beside, filtered, inner_join, is_unmatched, kept, kept_row, left_join, nulls, only_true, padded, product}
 use Rattle.denote.specs.Group.{SetFunctionMeaning, group_row, grouped, keys_of, members}
 use Rattle.denote.specs.Outcome.{Outcome, each, through}
 use Rattle.denote.specs.Select.{only, shown, shown_row, values_of}
-use Rattle.denote.specs.SetOperator.{combined, multiplicity, set_chain, set_operation}
+use Rattle.denote.specs.SetOperator.{multiplicity, set_chain, set_operation}
 use Rattle.column_laws.specs.WellTyped.{key_places}
 use Rattle.value_laws.specs.Types.{AreRows, HasTypes}
 use Rattle.value_laws.proofs.Lists.{All-distinct, All-flat_map, All-mapped, each-has, follows-has, next-has, through-has}

@@ -1,12 +1,11 @@
 -- What a well typed tree means has its types: by recursion over what makes it well typed.
-use Rattle.std.proofs.Common.{◌≡◌, refl, sym, ap, ◌∙◌, subst, ℕ, List, [], ◌∷◌, ◌++◌, map, Ok, IfOk, All, Contains, Option, Some, None, inl, inr, slice_get}
+use Rattle.std.proofs.Common.{◌≡◌, refl, sym, ap, ◌∙◌, subst, List, [], ◌∷◌, ◌++◌, map, IfOk, Contains, Option, inl, inr}
 use Rattle.std.specs.Option.{option_map}
 use Rattle.std.proofs.lemmas.List.Elements.{All-contains, All-contains_itself, All-weaker}
 use Rattle.sqlval.specs.declared.value.Value.{Value}
 use Rattle.sqlval.specs.declared.value.ValueType.{ValueType}
 use Rattle.sqlval.specs.declared.value.ValueType.TheVariants.{Integer, Text}
 use Rattle.sqlval.specs.Value.{Row}
-use Rattle.typing.specs.declared.typed.Condition.{Condition}
 use Rattle.typing.specs.declared.typed.Expression.{Expression}
 use Rattle.typing.specs.declared.typed.Grouping.{Grouping, out-Grouping}
 use Rattle.typing.specs.declared.typed.Item.{Item, out-Item}
@@ -16,12 +15,12 @@ use Rattle.typing.specs.declared.typed.Select.{Select, out-Select}
 use Rattle.typing.specs.declared.typed.SetFunction.{SetFunction}
 use Rattle.typing.specs.declared.typed.SetOperation.{SetOperation}
 use Rattle.typing.specs.declared.typed.Source.{Source}
-use Rattle.typing.specs.Known.{Known, KnownTable}
+use Rattle.typing.specs.Known.{Known}
 use Rattle.denote.specs.Evaluation.{Env, Evaluation, together}
 use Rattle.denote.specs.From.{filtered}
 use Rattle.denote.specs.Meaning.{Tables, as_grouped, function_value, groups_of, item_value, query_outcome, source_outcome, truth_at, value_of}
 use Rattle.denote.specs.Outcome.{Outcome, through}
-use Rattle.denote.specs.Select.{only, shown, values_of}
+use Rattle.denote.specs.Select.{shown}
 use Rattle.denote.proofs.Nodes.{value_constant, value_column, value_calculation, value_concatenation, value_negation, value_scalar, item_is, source_table, source_derived, source_product, source_inner, source_left, select_is, query_select, query_combined, function_rows, function_over, groups_is}
 use Rattle.column_laws.specs.WellTyped.{HasType, HaveTypes, HasColumns, FunctionHasType, FunctionsHaveTypes, IsSeen, HasResult, Rows, column_types, item_values}
 use Rattle.column_laws.specs.WellTyped as typed

@@ -1,8 +1,8 @@
 -- The types of what operations and set functions make of values, and of the values of a row.
-use Rattle.std.proofs.Common.{◌≡◌, refl, sym, ap, subst, ℕ, zero, suc, ℤ, pos, negsuc, Bool, true, false, cond, not, List, [], ◌∷◌, ◌++◌, map, length, drop, Ok, Err, IfOk, All, Contains, Option, Some, None, inl, inr, slice_get, slice_index_or, arith}
+use Rattle.std.proofs.Common.{◌≡◌, refl, ap, subst, ℕ, zero, suc, ℤ, pos, negsuc, Bool, true, false, not, List, [], ◌∷◌, ◌++◌, map, length, drop, Ok, Err, IfOk, All, Contains, Some, inl, inr, slice_get, slice_index_or, arith}
 use Rattle.std.specs.Prelude.{◌+ℤ◌, ◌-ℤ◌, ◌*ℤ◌, int_div, nat_le, fold, replicate, if◌then◌else◌}
 use Rattle.std.specs.Ordering.{is_lt}
-use Rattle.std.proofs.lemmas.List.Elements.{All-nil, All-cons, All-head, All-tail, All-filter, All-contains_itself}
+use Rattle.std.proofs.lemmas.List.Elements.{All-head, All-tail, All-filter, All-contains_itself}
 use Rattle.std.proofs.lemmas.Option.{none-some, same_Some}
 use Rattle.sqlval.specs.declared.code.Code.TheVariants.{OutOfRange, TextTooLong}
 use Rattle.sqlval.specs.declared.value.Value.{Value}
@@ -19,7 +19,7 @@ use Rattle.typing.specs.declared.typed.Arithmetic.{Arithmetic}
 use Rattle.typing.specs.declared.typed.Arithmetic.TheVariants.{Add, Subtract, Multiply, Divide}
 use Rattle.typing.specs.declared.typed.SetFunctionType.{SetFunctionType}
 use Rattle.typing.specs.declared.typed.SetFunctionType.TheVariants.{Count, Sum, Avg, Min, Max}
-use Rattle.denote.specs.Bag.{is_alike, distinct_by}
+use Rattle.denote.specs.Bag.{is_alike}
 use Rattle.denote.specs.Evaluation.{Env, Evaluation, ◌>>=◌, given, joined, together}
 use Rattle.denote.specs.Expression.{ExpressionMeaning, beyond_one, calculated, cell, chained, column, concatenation, negated, only_value, scalar}
 use Rattle.denote.specs.Group.{aggregated, beyond_count, count_of_rows, greater, lesser, set_function, taken, total}

@@ -1,5 +1,5 @@
 -- What INSERT and UPDATE give for the columns of a table, and what the columns keep of it.
-use Rattle.std.specs.Prelude.{◌≡◌, List, [], ◌∷◌, map, Contains, Ok, IfOk}
+use Rattle.std.specs.Prelude.{◌≡◌, List, [], map, Contains, Ok, IfOk}
 use Rattle.sqlval.specs.declared.schema.Column.{Column}
 use Rattle.sqlval.specs.declared.value.Value.{Value}
 use Rattle.sqlval.specs.Storing.{stored}
