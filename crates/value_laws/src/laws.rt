@@ -58,10 +58,16 @@ pub fn queries_have_rows_of_their_types()
     typed_queries_are_well_typed();
 }
 
-/// The tables of a good database have rows of the types that its schema tells of their columns.
+/// The tables of a good database have rows of the types that its schema tells of their columns. So an answer to a query that is found for a text over the schema has rows of the types
+/// of the columns that are found with it.
 pub fn good_databases_hold_their_types()
-    ensures { (reading : CheckReading) (schema : Schema) (db : Database) → IsSchemaOf schema db → IsGood reading db → HoldsTypes (known schema) (rows_in db) }
-{}
+    ensures tables { (reading : CheckReading) (schema : Schema) (db : Database) → IsSchemaOf schema db → IsGood reading db → HoldsTypes (known schema) (rows_in db) }
+    ensures answers { (reading : CheckReading) (schema : Schema) (db : Database) (tree : OrderedTree) (found : TypedQuery) (query : OrderedQuery) (answer : List Row)
+        → IsSchemaOf schema db → IsGood reading db → query_found (known schema) tree.query [] ≡ Ok found → ordered_found (known schema) tree ≡ Ok query
+        → Answers (Ok answer) (denotes db query) → AreRows (types_of found.columns) answer }
+{
+    queries_have_rows_of_their_types();
+}
 
 /// What a well typed INSERT or UPDATE gives for a column has the column's type, and the column keeps null of null alone: that a value of the other type would be stored as null does
 /// not happen. An UPDATE sees a row of the table.
