@@ -1,0 +1,7 @@
+mod Lists
+mod Values
+mod Rows
+mod Trees
+mod Answers
+mod Databases
+mod Kept
