@@ -41,7 +41,7 @@ pub(super) fn check_changes(
 
 #[test]
 fn keys_are_decided_on_the_whole_table(rt: HostRuntime) -> Result<(), Fail> {
-    let rows: [(&str, &str, u8); 19] = [
+    const ROWS: [(&str, &str, u8); 19] = [
         (
             "CREATE TABLE U (A INTEGER PRIMARY KEY); INSERT INTO U VALUES (1), (2); UPDATE U SET A = A + 1; SELECT A FROM U ORDER BY A;",
             "00000\n00000 2\n00000 2\n2\n3\n(2 rows)\n",
@@ -138,12 +138,12 @@ fn keys_are_decided_on_the_whole_table(rt: HostRuntime) -> Result<(), Fail> {
             1,
         ),
     ];
-    check_scripts(&rt, &rows)
+    check_scripts(&rt, &ROWS)
 }
 
 #[test]
 fn constraints_have_names(rt: HostRuntime) -> Result<(), Fail> {
-    let rows: [(&str, &str, u8); 7] = [
+    const ROWS: [(&str, &str, u8); 7] = [
         (
             "CREATE TABLE U (A INTEGER NOT NULL, B INTEGER NOT NULL); INSERT INTO U VALUES (1, NULL); INSERT INTO U VALUES (NULL, 1);",
             "00000\nERROR 23000 #2\nERROR 23000 #1\n",
@@ -180,12 +180,12 @@ fn constraints_have_names(rt: HostRuntime) -> Result<(), Fail> {
             1,
         ),
     ];
-    check_scripts(&rt, &rows)
+    check_scripts(&rt, &ROWS)
 }
 
 #[test]
 fn checks_are_false_to_be_violated(rt: HostRuntime) -> Result<(), Fail> {
-    let rows: [(&str, &str, u8); 15] = [
+    const ROWS: [(&str, &str, u8); 15] = [
         (
             "CREATE TABLE U (A INTEGER CHECK (A > 0)); INSERT INTO U VALUES (1), (NULL); INSERT INTO U VALUES (2), (0); SELECT A FROM U ORDER BY A;",
             "00000\n00000 2\nERROR 23000 #1\nNULL\n1\n(2 rows)\n",
@@ -262,12 +262,12 @@ fn checks_are_false_to_be_violated(rt: HostRuntime) -> Result<(), Fail> {
             1,
         ),
     ];
-    check_scripts(&rt, &rows)
+    check_scripts(&rt, &ROWS)
 }
 
 #[test]
 fn tables_and_indexes_are_dropped(rt: HostRuntime) -> Result<(), Fail> {
-    let rows: [(&str, &str, u8); 7] = [
+    const ROWS: [(&str, &str, u8); 7] = [
         (
             "DROP TABLE T; SELECT A FROM T; CREATE TABLE T (C INTEGER); SELECT C FROM T;",
             "00000\nERROR 42000 name\n00000\n(0 rows)\n",
@@ -304,22 +304,22 @@ fn tables_and_indexes_are_dropped(rt: HostRuntime) -> Result<(), Fail> {
             1,
         ),
     ];
-    check_changes(&rt, &rows)
+    check_changes(&rt, &ROWS)
 }
 
 #[test]
 fn tables_and_indexes_are_dropped_over_no_tables(rt: HostRuntime) -> Result<(), Fail> {
-    let rows: [(&str, &str, u8); 1] = [(
+    const ROWS: [(&str, &str, u8); 1] = [(
         "DROP TABLE T; DROP INDEX I;",
         "ERROR 42000 name\nERROR 42000 name\n",
         1,
     )];
-    check_scripts(&rt, &rows)
+    check_scripts(&rt, &ROWS)
 }
 
 #[test]
 fn faults_come_before_constraints(rt: HostRuntime) -> Result<(), Fail> {
-    let rows: [(&str, &str, u8); 4] = [
+    const ROWS: [(&str, &str, u8); 4] = [
         (
             "CREATE TABLE U (A INTEGER NOT NULL, B INTEGER); INSERT INTO U VALUES (NULL, 1), (1, 1 / 0);",
             "00000\nERROR 22012\n",
@@ -341,12 +341,12 @@ fn faults_come_before_constraints(rt: HostRuntime) -> Result<(), Fail> {
             1,
         ),
     ];
-    check_scripts(&rt, &rows)
+    check_scripts(&rt, &ROWS)
 }
 
 #[test]
 fn changes_belong_to_transactions(rt: HostRuntime) -> Result<(), Fail> {
-    let rows: [(&str, &str, u8); 2] = [
+    const ROWS: [(&str, &str, u8); 2] = [
         (
             "COMMIT; UPDATE T SET A = 0; ROLLBACK; SELECT A FROM T ORDER BY A; DELETE FROM T; ROLLBACK; SELECT COUNT(*) FROM T;",
             "00000\n00000 4\n00000\nNULL\n1\n2\n3\n(4 rows)\n00000 4\n00000\n4\n(1 rows)\n",
@@ -358,12 +358,12 @@ fn changes_belong_to_transactions(rt: HostRuntime) -> Result<(), Fail> {
             1,
         ),
     ];
-    check_changes(&rt, &rows)
+    check_changes(&rt, &ROWS)
 }
 
 #[test]
 fn changes_belong_to_transactions_over_no_tables(rt: HostRuntime) -> Result<(), Fail> {
-    let rows: [(&str, &str, u8); 2] = [
+    const ROWS: [(&str, &str, u8); 2] = [
         (
             "SET TRANSACTION READ ONLY; DELETE FROM T; CREATE TABLE T (A INTEGER); ROLLBACK; CREATE TABLE T (A INTEGER PRIMARY KEY);",
             "00000\nERROR 25000\nERROR 25000\n00000\nERROR 25000\n",
@@ -375,12 +375,12 @@ fn changes_belong_to_transactions_over_no_tables(rt: HostRuntime) -> Result<(), 
             1,
         ),
     ];
-    check_scripts(&rt, &rows)
+    check_scripts(&rt, &ROWS)
 }
 
 #[test]
 fn whole_scripts_print_what_they_must(rt: HostRuntime) -> Result<(), Fail> {
-    let rows: [(&str, &str, u8); 6] = [
+    const ROWS: [(&str, &str, u8); 6] = [
         (
             "CREATE TABLE T (A INTEGER PRIMARY KEY); INSERT INTO T VALUES (1), (2); COMMIT; UPDATE T SET A = A + 1; SELECT A FROM T ORDER BY A;",
             "00000\n00000 2\n00000\n00000 2\n2\n3\n(2 rows)\n",
@@ -412,5 +412,5 @@ fn whole_scripts_print_what_they_must(rt: HostRuntime) -> Result<(), Fail> {
             1,
         ),
     ];
-    check_scripts(&rt, &rows)
+    check_scripts(&rt, &ROWS)
 }

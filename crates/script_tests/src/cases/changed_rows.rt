@@ -6,7 +6,7 @@ use std::test::Fail;
 
 #[test]
 fn rows_are_updated(rt: HostRuntime) -> Result<(), Fail> {
-    let rows: [(&str, &str, u8); 22] = [
+    const ROWS: [(&str, &str, u8); 22] = [
         (
             "UPDATE T SET A = A * 2; SELECT A, B FROM T ORDER BY A;",
             "00000 4\nNULL|'x'\n2|'x'\n4|NULL\n6|'y'\n(4 rows)\n",
@@ -90,22 +90,22 @@ fn rows_are_updated(rt: HostRuntime) -> Result<(), Fail> {
         ),
         ("UPDATE T SET A = COUNT(*);", "ERROR 42000 grouping\n", 1),
     ];
-    check_changes(&rt, &rows)
+    check_changes(&rt, &ROWS)
 }
 
 #[test]
 fn rows_are_updated_over_no_tables(rt: HostRuntime) -> Result<(), Fail> {
-    let rows: [(&str, &str, u8); 1] = [(
+    const ROWS: [(&str, &str, u8); 1] = [(
         "CREATE TABLE U (A INTEGER NOT NULL); UPDATE U SET A = NULL; INSERT INTO U VALUES (1); UPDATE U SET A = NULL WHERE A = 2; UPDATE U SET A = NULL;",
         "00000\n02000 0\n00000 1\n02000 0\nERROR 23000 #1\n",
         1,
     )];
-    check_scripts(&rt, &rows)
+    check_scripts(&rt, &ROWS)
 }
 
 #[test]
 fn rows_are_deleted(rt: HostRuntime) -> Result<(), Fail> {
-    let rows: [(&str, &str, u8); 11] = [
+    const ROWS: [(&str, &str, u8); 11] = [
         (
             "DELETE FROM T WHERE A = 1; SELECT A, B FROM T ORDER BY A; DELETE FROM T; DELETE FROM T; SELECT A FROM T;",
             "00000 1\nNULL|'x'\n2|NULL\n3|'y'\n(3 rows)\n00000 3\n02000 0\n(0 rows)\n",
@@ -162,12 +162,12 @@ fn rows_are_deleted(rt: HostRuntime) -> Result<(), Fail> {
             0,
         ),
     ];
-    check_changes(&rt, &rows)
+    check_changes(&rt, &ROWS)
 }
 
 #[test]
 fn queries_are_inserted(rt: HostRuntime) -> Result<(), Fail> {
-    let rows: [(&str, &str, u8); 17] = [
+    const ROWS: [(&str, &str, u8); 17] = [
         (
             "INSERT INTO T SELECT A + 10, B FROM T; SELECT A, B FROM T ORDER BY A, B;",
             "00000 4\nNULL|'x'\nNULL|'x'\n1|'x'\n2|NULL\n3|'y'\n11|'x'\n12|NULL\n13|'y'\n(8 rows)\n",
@@ -246,15 +246,15 @@ fn queries_are_inserted(rt: HostRuntime) -> Result<(), Fail> {
             1,
         ),
     ];
-    check_changes(&rt, &rows)
+    check_changes(&rt, &ROWS)
 }
 
 #[test]
 fn queries_are_inserted_over_no_tables(rt: HostRuntime) -> Result<(), Fail> {
-    let rows: [(&str, &str, u8); 1] = [(
+    const ROWS: [(&str, &str, u8); 1] = [(
         "CREATE TABLE U (A INTEGER CHECK (A < 3)); CREATE TABLE V (A INTEGER); INSERT INTO V VALUES (1), (2); INSERT INTO U SELECT A FROM V; INSERT INTO U SELECT A + 1 FROM V; SELECT A FROM U ORDER BY A;",
         "00000\n00000\n00000 2\n00000 2\nERROR 23000 #1\n1\n2\n(2 rows)\n",
         1,
     )];
-    check_scripts(&rt, &rows)
+    check_scripts(&rt, &ROWS)
 }

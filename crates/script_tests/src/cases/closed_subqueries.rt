@@ -6,7 +6,7 @@ use std::test::Fail;
 
 #[test]
 fn closed_subqueries_give_the_same_at_every_row(rt: HostRuntime) -> Result<(), Fail> {
-    let rows: [(&str, &str, u8); 18] = [
+    const ROWS: [(&str, &str, u8); 18] = [
         (
             "SELECT A FROM T WHERE A = (SELECT MAX(A) FROM S)",
             "3\n(1 rows)\n",
@@ -98,5 +98,5 @@ fn closed_subqueries_give_the_same_at_every_row(rt: HostRuntime) -> Result<(), F
             0,
         ),
     ];
-    check_rows(&rt, &rows)
+    check_rows(&rt, &ROWS)
 }

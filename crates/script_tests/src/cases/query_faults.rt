@@ -7,7 +7,7 @@ use std::test::Fail;
 /// ON is tried at each pair of rows, and where a join has no pair it is not tried.
 #[test]
 fn faults_of_on(rt: HostRuntime) -> Result<(), Fail> {
-    let rows: [(&str, &str, u8); 12] = [
+    const ROWS: [(&str, &str, u8); 12] = [
         (
             "SELECT COUNT(*) FROM T JOIN S ON C / (T.A - 2) > 0",
             "ERROR 22012\n",
@@ -69,13 +69,13 @@ fn faults_of_on(rt: HostRuntime) -> Result<(), Fail> {
             0,
         ),
     ];
-    check_rows(&rt, &rows)
+    check_rows(&rt, &ROWS)
 }
 
 /// A left row of which a pair faults is not padded, and one without pairs is.
 #[test]
 fn faults_of_outer_joins(rt: HostRuntime) -> Result<(), Fail> {
-    let rows: [(&str, &str, u8); 8] = [
+    const ROWS: [(&str, &str, u8); 8] = [
         (
             "SELECT COUNT(*) FROM T LEFT JOIN S ON C / (T.A - 2) > 0",
             "ERROR 22012\n",
@@ -117,13 +117,13 @@ fn faults_of_outer_joins(rt: HostRuntime) -> Result<(), Fail> {
             1,
         ),
     ];
-    check_rows(&rt, &rows)
+    check_rows(&rt, &ROWS)
 }
 
 /// A fault counts also in a row that nothing above would show.
 #[test]
 fn faults_of_rows_that_are_dropped_later(rt: HostRuntime) -> Result<(), Fail> {
-    let rows: [(&str, &str, u8); 11] = [
+    const ROWS: [(&str, &str, u8); 11] = [
         (
             "SELECT A FROM (SELECT 10 / (A - 2) AS Q, A FROM T) X WHERE A = 1",
             "ERROR 22012\n",
@@ -172,13 +172,13 @@ fn faults_of_rows_that_are_dropped_later(rt: HostRuntime) -> Result<(), Fail> {
             1,
         ),
     ];
-    check_rows(&rt, &rows)
+    check_rows(&rt, &ROWS)
 }
 
 /// Both sides of a set operator are evaluated whole, also where one has no row.
 #[test]
 fn faults_of_set_operators(rt: HostRuntime) -> Result<(), Fail> {
-    let rows: [(&str, &str, u8); 9] = [
+    const ROWS: [(&str, &str, u8); 9] = [
         (
             "SELECT 1 / (A - 2) FROM T UNION SELECT C FROM S",
             "ERROR 22012\n",
@@ -225,13 +225,13 @@ fn faults_of_set_operators(rt: HostRuntime) -> Result<(), Fail> {
             0,
         ),
     ];
-    check_rows(&rt, &rows)
+    check_rows(&rt, &ROWS)
 }
 
 /// Arguments are evaluated at each row of a group, before what is made of them is looked at.
 #[test]
 fn faults_of_arguments_of_set_functions(rt: HostRuntime) -> Result<(), Fail> {
-    let rows: [(&str, &str, u8); 8] = [
+    const ROWS: [(&str, &str, u8); 8] = [
         ("SELECT MAX(1 / (A - 2)) FROM T", "ERROR 22012\n", 1),
         ("SELECT COUNT(1 / (A - 2)) FROM T", "ERROR 22012\n", 1),
         (
@@ -261,13 +261,13 @@ fn faults_of_arguments_of_set_functions(rt: HostRuntime) -> Result<(), Fail> {
             1,
         ),
     ];
-    check_rows(&rt, &rows)
+    check_rows(&rt, &ROWS)
 }
 
 /// A sum is out of range where the whole is, whatever its parts are.
 #[test]
 fn ranges_of_sums(rt: HostRuntime) -> Result<(), Fail> {
-    let rows: [(&str, &str, u8); 8] = [
+    const ROWS: [(&str, &str, u8); 8] = [
         (
             "SELECT SUM(X) FROM (SELECT 9223372036854775807 AS X FROM T) D",
             "ERROR 22003\n",
@@ -309,13 +309,13 @@ fn ranges_of_sums(rt: HostRuntime) -> Result<(), Fail> {
             0,
         ),
     ];
-    check_rows(&rt, &rows)
+    check_rows(&rt, &ROWS)
 }
 
 /// HAVING is asked of each group whose set functions have values; what it drops is not shown.
 #[test]
 fn faults_of_having(rt: HostRuntime) -> Result<(), Fail> {
-    let rows: [(&str, &str, u8); 7] = [
+    const ROWS: [(&str, &str, u8); 7] = [
         (
             "SELECT A FROM S GROUP BY A HAVING 1 / (A - 3) = 0",
             "ERROR 22012\n",
@@ -348,13 +348,13 @@ fn faults_of_having(rt: HostRuntime) -> Result<(), Fail> {
         ),
         ("SELECT 1 / (A - 3) FROM S GROUP BY A", "ERROR 22012\n", 1),
     ];
-    check_rows(&rt, &rows)
+    check_rows(&rt, &ROWS)
 }
 
 /// A subquery of two rows has no value, and its own faults are those of the row at which it is asked.
 #[test]
 fn faults_of_scalar_subqueries(rt: HostRuntime) -> Result<(), Fail> {
-    let rows: [(&str, &str, u8); 10] = [
+    const ROWS: [(&str, &str, u8); 10] = [
         ("SELECT (SELECT A FROM S) FROM T", "ERROR 21000\n", 1),
         ("SELECT (SELECT A FROM S) FROM E", "(0 rows)\n", 0),
         (
@@ -398,13 +398,13 @@ fn faults_of_scalar_subqueries(rt: HostRuntime) -> Result<(), Fail> {
             1,
         ),
     ];
-    check_rows(&rt, &rows)
+    check_rows(&rt, &ROWS)
 }
 
 /// IN and EXISTS take the whole subquery, its last row too; where they are not asked they have no fault.
 #[test]
 fn faults_of_in_and_exists(rt: HostRuntime) -> Result<(), Fail> {
-    let rows: [(&str, &str, u8); 18] = [
+    const ROWS: [(&str, &str, u8); 18] = [
         (
             "SELECT A FROM T WHERE A IN (SELECT 1 / (A - 2) FROM T)",
             "ERROR 22012\n",
@@ -496,5 +496,5 @@ fn faults_of_in_and_exists(rt: HostRuntime) -> Result<(), Fail> {
             1,
         ),
     ];
-    check_rows(&rt, &rows)
+    check_rows(&rt, &ROWS)
 }

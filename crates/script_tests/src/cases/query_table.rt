@@ -29,7 +29,7 @@ pub fn check_rows(rt: &(impl Abort + AllocGlobal), rows: &[(&str, &str, u8)]) ->
 
 #[test]
 fn joins_give_their_pairs(rt: HostRuntime) -> Result<(), Fail> {
-    let rows: [(&str, &str, u8); 16] = [
+    const ROWS: [(&str, &str, u8); 16] = [
         (
             "SELECT T.A, C FROM T, S WHERE T.A = S.A ORDER BY C",
             "1|10\n1|20\n3|30\n(3 rows)\n",
@@ -95,12 +95,12 @@ fn joins_give_their_pairs(rt: HostRuntime) -> Result<(), Fail> {
             0,
         ),
     ];
-    check_rows(&rt, &rows)
+    check_rows(&rt, &ROWS)
 }
 
 #[test]
 fn tables_may_be_queries(rt: HostRuntime) -> Result<(), Fail> {
-    let rows: [(&str, &str, u8); 7] = [
+    const ROWS: [(&str, &str, u8); 7] = [
         (
             "SELECT N FROM (SELECT A + 1 AS N FROM T) X WHERE N > 2 ORDER BY N",
             "3\n4\n(2 rows)\n",
@@ -137,12 +137,12 @@ fn tables_may_be_queries(rt: HostRuntime) -> Result<(), Fail> {
             1,
         ),
     ];
-    check_rows(&rt, &rows)
+    check_rows(&rt, &ROWS)
 }
 
 #[test]
 fn rows_come_once_and_in_order(rt: HostRuntime) -> Result<(), Fail> {
-    let rows: [(&str, &str, u8); 11] = [
+    const ROWS: [(&str, &str, u8); 11] = [
         (
             "SELECT DISTINCT B FROM T ORDER BY B",
             "NULL\n'x'\n'y'\n(3 rows)\n",
@@ -183,12 +183,12 @@ fn rows_come_once_and_in_order(rt: HostRuntime) -> Result<(), Fail> {
             0,
         ),
     ];
-    check_rows(&rt, &rows)
+    check_rows(&rt, &ROWS)
 }
 
 #[test]
 fn groups_have_their_functions(rt: HostRuntime) -> Result<(), Fail> {
-    let rows: [(&str, &str, u8); 22] = [
+    const ROWS: [(&str, &str, u8); 22] = [
         (
             "SELECT COUNT(*), COUNT(A), COUNT(B) FROM T",
             "4|3|3\n(1 rows)\n",
@@ -260,12 +260,12 @@ fn groups_have_their_functions(rt: HostRuntime) -> Result<(), Fail> {
             1,
         ),
     ];
-    check_rows(&rt, &rows)
+    check_rows(&rt, &ROWS)
 }
 
 #[test]
 fn subqueries_see_the_rows_around_them(rt: HostRuntime) -> Result<(), Fail> {
-    let rows: [(&str, &str, u8); 20] = [
+    const ROWS: [(&str, &str, u8); 20] = [
         (
             "SELECT A, (SELECT MAX(C) FROM S WHERE S.A = T.A) FROM T ORDER BY A",
             "NULL|NULL\n1|20\n2|NULL\n3|30\n(4 rows)\n",
@@ -367,12 +367,12 @@ fn subqueries_see_the_rows_around_them(rt: HostRuntime) -> Result<(), Fail> {
             1,
         ),
     ];
-    check_rows(&rt, &rows)
+    check_rows(&rt, &ROWS)
 }
 
 #[test]
 fn set_operators_count_rows(rt: HostRuntime) -> Result<(), Fail> {
-    let rows: [(&str, &str, u8); 13] = [
+    const ROWS: [(&str, &str, u8); 13] = [
         (
             "SELECT A FROM T UNION SELECT A FROM S ORDER BY A",
             "NULL\n1\n2\n3\n(4 rows)\n",
@@ -435,12 +435,12 @@ fn set_operators_count_rows(rt: HostRuntime) -> Result<(), Fail> {
             0,
         ),
     ];
-    check_rows(&rt, &rows)
+    check_rows(&rt, &ROWS)
 }
 
 #[test]
 fn values_may_be_subqueries(rt: HostRuntime) -> Result<(), Fail> {
-    let rows: [(&str, &str, u8); 9] = [
+    const ROWS: [(&str, &str, u8); 9] = [
         (
             "INSERT INTO E VALUES ((SELECT MAX(C) FROM S)); SELECT N FROM E",
             "00000 1\n40\n(1 rows)\n",
@@ -483,5 +483,5 @@ fn values_may_be_subqueries(rt: HostRuntime) -> Result<(), Fail> {
             1,
         ),
     ];
-    check_rows(&rt, &rows)
+    check_rows(&rt, &ROWS)
 }
