@@ -29,7 +29,7 @@ const SECOND: [(&str, &str); 2] = [
 ];
 
 /// Whether two callers over a device without tables are answered as they should be, and the core that is taken back from them has the row that was committed and no other.
-pub fn is_taken_back<S: Store, R: Wait>(rt: &R, alloc: Global, device: S::Device) -> bool {
+pub(super) fn is_taken_back<S: Store, R: Wait>(rt: &R, alloc: Global, device: S::Device) -> bool {
     match Core::<S>::open(alloc, Sql, device, 256) {
         Ok(core) => match new_cell(alloc) {
             Ok((cell, keeper)) => is_shared::<S, Brand, R>(rt, alloc, cell, keeper, core),

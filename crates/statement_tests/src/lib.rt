@@ -7,3 +7,5 @@ mod parsing;
 mod printing;
 #[cfg(test)]
 mod tokens;
+#[cfg(test)]
+mod trees;

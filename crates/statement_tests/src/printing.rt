@@ -1,14 +1,10 @@
 //! Trees are copied and printed, with ample memory.
 
-use ast::{Condition, Expression, OrderedQuery, Predicate, Primary, Statement};
+use crate::trees::{Tree, is_printed, read};
+use ast::{Condition, Expression, OrderedQuery, Predicate, Primary, Query, Statement};
 use items::{Boxed, Items};
-use lexer::tokens;
-use parser::{parse, parse_condition};
-use printer::{print, print_condition, print_condition_tokens, print_tokens};
-use refusals::Refusal;
 use std::alloc::{AllocError, Global};
-use std::test::Fail;
-use tree_copies::{copy_condition, copy_expression, copy_query, copy_statement};
+use tree_copies::{copy_expression, copy_query};
 
 const STATEMENTS: [&str; 9] = [
     "COMMIT WORK",
@@ -28,98 +24,85 @@ const CONDITIONS: [&str; 3] = [
     "EXISTS ( SELECT * FROM T ) AND A LIKE '%_'",
 ];
 
-/// The printed text of a copy of the statement that a text is.
-fn statement_again(alloc: Global, text: &[u8]) -> Result<Items<u8>, Refusal> {
-    let all = tokens(alloc, text)?;
-    let statement = parse(alloc, &all)?;
-    let copied = copy_statement(&statement, alloc)?;
-    Ok(print(alloc, &copied)?)
-}
-
-/// Of a condition.
-fn condition_again(alloc: Global, text: &[u8]) -> Result<Items<u8>, Refusal> {
-    let all = tokens(alloc, text)?;
-    let condition = parse_condition(alloc, &all)?;
-    let copied = copy_condition(&condition, alloc)?;
-    Ok(print_condition(alloc, &copied)?)
+/// Whether a copy of the tree that a text is, is printed as that text.
+fn is_printed_again<T: Tree>(alloc: Global, text: &[u8]) -> bool {
+    match read::<T>(alloc, text) {
+        Ok(tree) => is_printed(alloc, tree.copied(alloc), text),
+        Err(_) => false,
+    }
 }
 
 #[test]
-fn statements_are_copied_and_printed(rt: HostRuntime) -> Result<(), Fail> {
+fn statements_are_copied_and_printed(rt: HostRuntime) {
     for text in STATEMENTS {
-        let again = statement_again(rt.alloc(), text.as_bytes())?;
-        assert_eq!(rt; again.as_slice(), text.as_bytes());
+        assert!(rt;
+            is_printed_again::<Statement>(rt.alloc(), text.as_bytes()),
+            "{text}"
+        );
     }
-    Ok(())
 }
 
 #[test]
-fn conditions_are_copied_and_printed(rt: HostRuntime) -> Result<(), Fail> {
+fn conditions_are_copied_and_printed(rt: HostRuntime) {
     for text in CONDITIONS {
-        let again = condition_again(rt.alloc(), text.as_bytes())?;
-        assert_eq!(rt; again.as_slice(), text.as_bytes());
+        assert!(rt;
+            is_printed_again::<Condition>(rt.alloc(), text.as_bytes()),
+            "{text}"
+        );
     }
-    Ok(())
 }
 
-fn count_of_statement(alloc: Global, statement: &Statement) -> Result<usize, AllocError> {
-    let printed = print_tokens(alloc, statement)?;
-    Ok(printed.len())
+/// How many tokens the tree that a text is, is printed as.
+fn printed_tokens<T: Tree>(alloc: Global, text: &[u8]) -> Option<usize> {
+    match read::<T>(alloc, text) {
+        Ok(tree) => count_of(alloc, &tree),
+        Err(_) => None,
+    }
 }
 
-fn count_of_condition(alloc: Global, condition: &Condition) -> Result<usize, AllocError> {
-    let printed = print_condition_tokens(alloc, condition)?;
-    Ok(printed.len())
-}
-
-/// How many tokens a statement is printed as.
-fn tokens_of_statement(alloc: Global, text: &[u8]) -> Result<usize, Refusal> {
-    let all = tokens(alloc, text)?;
-    let statement = parse(alloc, &all)?;
-    Ok(count_of_statement(alloc, &statement)?)
-}
-
-/// And a condition.
-fn tokens_of_condition(alloc: Global, text: &[u8]) -> Result<usize, Refusal> {
-    let all = tokens(alloc, text)?;
-    match parse_condition(alloc, &all) {
-        Ok(condition) => Ok(count_of_condition(alloc, &condition).unwrap_or(0)),
-        Err(refusal) => Err(refusal),
+fn count_of<T: Tree>(alloc: Global, tree: &T) -> Option<usize> {
+    match tree.printed_tokens(alloc) {
+        Ok(kinds) => Some(kinds.len()),
+        Err(_) => None,
     }
 }
 
 #[test]
-fn tokens_are_counted(rt: HostRuntime) -> Result<(), Fail> {
-    assert_eq!(rt; tokens_of_statement(rt.alloc(), b"DROP TABLE T_1;")?, 3);
-    assert_eq!(rt;
-        tokens_of_condition(rt.alloc(), b"NOT A <> -7 || 'it''s'")?,
-        7
-    );
-    Ok(())
+fn tokens_are_counted(rt: HostRuntime) {
+    assert!(rt; printed_tokens::<Statement>(rt.alloc(), b"DROP TABLE T_1;") == Some(3));
+    assert!(rt; printed_tokens::<Condition>(rt.alloc(), b"NOT A <> -7 || 'it''s'") == Some(7));
 }
 
-/// The query of a statement, copied and printed behind EXPLAIN.
-fn query_again(alloc: Global, statement: &Statement) -> Result<Items<u8>, Refusal> {
-    let Statement::Query(asked) = statement else {
-        return Err(Refusal::NotSupported);
-    };
+/// EXPLAIN of a copy of a query.
+fn explained(alloc: Global, query: &Query) -> Result<Statement, AllocError> {
+    let query = copy_query(query, alloc)?;
     let ordered = OrderedQuery {
-        query: copy_query(&asked.get().query, alloc)?,
+        query,
         order: Items::new(alloc),
     };
-    let explain = Statement::Explain(Boxed::new(alloc, ordered)?);
-    Ok(print(alloc, &explain)?)
+    Ok(Statement::Explain(Boxed::new(alloc, ordered)?))
+}
+
+/// Whether a statement is a query, of which a copy is printed behind EXPLAIN as this text.
+fn is_explained(alloc: Global, statement: &Statement, text: &[u8]) -> bool {
+    match statement {
+        Statement::Query(asked) => is_printed(alloc, explained(alloc, &asked.get().query), text),
+        _ => false,
+    }
+}
+
+fn query_is_copied(alloc: Global, text: &str, printed: &str) -> bool {
+    match read::<Statement>(alloc, text.as_bytes()) {
+        Ok(statement) => is_explained(alloc, &statement, printed.as_bytes()),
+        Err(_) => false,
+    }
 }
 
 #[test]
-fn queries_are_copied(rt: HostRuntime) -> Result<(), Fail> {
-    let alloc = rt.alloc();
-    let all = tokens(alloc, b"SELECT * FROM T WHERE 'it''s' IS NOT NULL;")?;
-    let statement = parse(alloc, &all)?;
-    let again = query_again(alloc, &statement)?;
-    let expected = b"EXPLAIN SELECT * FROM T WHERE 'it''s' IS NOT NULL";
-    assert_eq!(rt; again.as_slice(), expected.as_slice());
-    Ok(())
+fn queries_are_copied(rt: HostRuntime) {
+    let text = "SELECT * FROM T WHERE 'it''s' IS NOT NULL;";
+    let printed = "EXPLAIN SELECT * FROM T WHERE 'it''s' IS NOT NULL";
+    assert!(rt; query_is_copied(rt.alloc(), text, printed));
 }
 
 /// What is asked to be NULL.
@@ -137,17 +120,30 @@ fn is_string(expression: &Expression, string: &[u8]) -> bool {
     }
 }
 
-fn copied_string(alloc: Global, condition: &[u8], string: &[u8]) -> Result<bool, Refusal> {
-    let all = tokens(alloc, condition)?;
-    let condition = parse_condition(alloc, &all)?;
-    match operand(&condition) {
-        Some(operand) => Ok(is_string(&copy_expression(operand, alloc)?, string)),
-        None => Ok(false),
+/// Whether a copy of an expression is this string.
+fn is_copied_string(alloc: Global, expression: &Expression, string: &[u8]) -> bool {
+    match copy_expression(expression, alloc) {
+        Ok(copied) => is_string(&copied, string),
+        Err(_) => false,
+    }
+}
+
+fn has_copied_string(alloc: Global, condition: &Condition, string: &[u8]) -> bool {
+    match operand(condition) {
+        Some(operand) => is_copied_string(alloc, operand, string),
+        None => false,
+    }
+}
+
+/// Whether a copy of what a condition asks to be NULL is this string.
+fn operand_is_copied(alloc: Global, text: &[u8], string: &[u8]) -> bool {
+    match read::<Condition>(alloc, text) {
+        Ok(condition) => has_copied_string(alloc, &condition, string),
+        Err(_) => false,
     }
 }
 
 #[test]
-fn expressions_are_copied(rt: HostRuntime) -> Result<(), Fail> {
-    assert!(rt; copied_string(rt.alloc(), b"'x' IS NULL", b"x")?);
-    Ok(())
+fn expressions_are_copied(rt: HostRuntime) {
+    assert!(rt; operand_is_copied(rt.alloc(), b"'x' IS NULL", b"x"));
 }

@@ -1,8 +1,8 @@
 use items::{Items, Text};
 use lexer::{Kind, Name, Number, Token, first_unsupported, print_kinds, tokens};
+use refusals::Refusal;
 use std::alloc::{AllocError, Global};
 use std::fmt::Write;
-use std::test::Fail;
 
 fn push_bytes(shown: &mut String, bytes: &[u8]) -> Result<(), AllocError> {
     for byte in bytes {
@@ -11,242 +11,336 @@ fn push_bytes(shown: &mut String, bytes: &[u8]) -> Result<(), AllocError> {
     Ok(())
 }
 
+fn push_named(shown: &mut String, name: &str, bytes: &[u8]) -> Result<(), AllocError> {
+    shown.push_str(name)?;
+    push_bytes(shown, bytes)
+}
+
 fn push_token(shown: &mut String, token: &Token) -> Result<(), AllocError> {
     let (start, end) = (token.start, token.end);
     write!(shown, "{start}-{end} ")?;
     match &token.kind {
-        Kind::Word(word) => {
-            shown.push_str("word ")?;
-            push_bytes(shown, word.text())
-        }
-        Kind::Name(name) => {
-            shown.push_str("name ")?;
-            push_bytes(shown, name.as_text().as_slice())
-        }
+        Kind::Word(word) => push_named(shown, "word ", word.text()),
+        Kind::Name(name) => push_named(shown, "name ", name.as_text().as_slice()),
         Kind::Number(number) => write!(shown, "number {}", number.value()),
-        Kind::Text(text) => {
-            shown.push_str("text ")?;
-            push_bytes(shown, text.as_slice())
-        }
-        Kind::Symbol(symbol) => {
-            shown.push_str("symbol ")?;
-            push_bytes(shown, symbol.text())
-        }
+        Kind::Text(text) => push_named(shown, "text ", text.as_slice()),
+        Kind::Symbol(symbol) => push_named(shown, "symbol ", symbol.text()),
     }
 }
 
-/// The tokens that are read, each with its place, or the refusal as it is printed.
-fn shown(alloc: Global, text: &[u8]) -> Result<String, AllocError> {
-    let mut shown = String::new(alloc);
-    match tokens(alloc, text) {
-        Ok(found) => {
-            for token in &found {
-                if !shown.is_empty() {
-                    shown.push_str(", ")?;
-                }
-                push_token(&mut shown, token)?;
-            }
+fn push_tokens(shown: &mut String, found: &[Token]) -> Result<(), AllocError> {
+    for token in found {
+        if !shown.is_empty() {
+            shown.push_str(", ")?;
         }
-        Err(refusal) => write!(shown, "ERROR {refusal}")?,
+        push_token(shown, token)?;
     }
-    Ok(shown)
+    Ok(())
+}
+
+/// Shows tokens, each with its place, or the refusal as it is printed.
+fn push_reply(shown: &mut String, reply: &Result<Vec<Token>, Refusal>) -> Result<(), AllocError> {
+    match reply {
+        Ok(found) => push_tokens(shown, found),
+        Err(refusal) => write!(shown, "ERROR {refusal}"),
+    }
+}
+
+/// Whether this is shown of the tokens of a text.
+fn is_shown(alloc: Global, text: &[u8], want: &str) -> bool {
+    let mut shown = String::new(alloc);
+    let reply = tokens(alloc, text);
+    push_reply(&mut shown, &reply).is_ok() && shown.as_str() == want
 }
 
 #[test]
-fn texts_have_these_tokens(rt: HostRuntime) -> Result<(), Fail> {
-    let rows: [(&[u8], &str); 41] = [
-        (b"", ""),
-        (b" \t\r\n", ""),
-        (b"SELECT A", "0-6 word SELECT, 7-8 name A"),
-        (b"sElEcT a_1", "0-6 word SELECT, 7-10 name A_1"),
-        (b" \t\r\nA", "4-5 name A"),
-        (b"ALL ALLX", "0-3 word ALL, 4-8 name ALLX"),
-        (b"A--B\nC", "0-1 name A, 5-6 name C"),
-        (b"A--B", "0-1 name A"),
-        (b"--\xff'@\n--\n A", "10-11 name A"),
+fn texts_have_these_tokens(rt: HostRuntime) {
+    const ROWS: [(&str, &str); 40] = [
+        ("", ""),
+        (" \t\r\n", ""),
+        ("SELECT A", "0-6 word SELECT, 7-8 name A"),
+        ("sElEcT a_1", "0-6 word SELECT, 7-10 name A_1"),
+        (" \t\r\nA", "4-5 name A"),
+        ("ALL ALLX", "0-3 word ALL, 4-8 name ALLX"),
+        ("A--B\nC", "0-1 name A, 5-6 name C"),
+        ("A--B", "0-1 name A"),
         (
-            b"A - -B",
+            "A - -B",
             "0-1 name A, 2-3 symbol -, 4-5 symbol -, 5-6 name B",
         ),
-        (b"A---B\nC", "0-1 name A, 6-7 name C"),
-        (b"-1", "0-1 symbol -, 1-2 number 1"),
-        (b"0 007", "0-1 number 0, 2-5 number 7"),
-        (b"9223372036854775807", "0-19 number 9223372036854775807"),
+        ("A---B\nC", "0-1 name A, 6-7 name C"),
+        ("-1", "0-1 symbol -, 1-2 number 1"),
+        ("0 007", "0-1 number 0, 2-5 number 7"),
+        ("9223372036854775807", "0-19 number 9223372036854775807"),
+        ("00009223372036854775807", "0-23 number 9223372036854775807"),
+        ("1.5", "0-1 number 1, 1-2 symbol ., 2-3 number 5"),
+        ("T.A", "0-1 name T, 1-2 symbol ., 2-3 name A"),
+        ("''", "0-2 text "),
+        ("''''", "0-4 text '"),
+        ("'it''s'", "0-7 text it's"),
+        ("'a' 'B'", "0-3 text a, 4-7 text B"),
+        ("'--'--'", "0-4 text --"),
+        ("'a'1", "0-3 text a, 3-4 number 1"),
         (
-            b"00009223372036854775807",
-            "0-23 number 9223372036854775807",
-        ),
-        (b"1.5", "0-1 number 1, 1-2 symbol ., 2-3 number 5"),
-        (b"T.A", "0-1 name T, 1-2 symbol ., 2-3 name A"),
-        (b"''", "0-2 text "),
-        (b"''''", "0-4 text '"),
-        (b"'it''s'", "0-7 text it's"),
-        (b"'a' 'B'", "0-3 text a, 4-7 text B"),
-        (b"'--'--'", "0-4 text --"),
-        (b"'a'1", "0-3 text a, 3-4 number 1"),
-        (
-            b"(),.;",
+            "(),.;",
             "0-1 symbol (, 1-2 symbol ), 2-3 symbol ,, 3-4 symbol ., 4-5 symbol ;",
         ),
         (
-            b"*+-/=",
+            "*+-/=",
             "0-1 symbol *, 1-2 symbol +, 2-3 symbol -, 3-4 symbol /, 4-5 symbol =",
         ),
-        (b"<=>=", "0-2 symbol <=, 2-4 symbol >="),
-        (b"<<>||", "0-1 symbol <, 1-3 symbol <>, 3-5 symbol ||"),
-        (b"<>=>", "0-2 symbol <>, 2-3 symbol =, 3-4 symbol >"),
-        (b"< =", "0-1 symbol <, 2-3 symbol ="),
-        (b"9223372036854775808", "ERROR 42000 number"),
-        (b"1A", "ERROR 42000 number"),
-        (b"1_", "ERROR 42000 number"),
-        (b"'a", "ERROR 42000 text"),
-        (b"'a''", "ERROR 42000 text"),
-        (b"'a\nb'", "ERROR 42000 character"),
-        (b"'a\x7f", "ERROR 42000 character"),
-        (b"|", "ERROR 42000 character"),
-        (b"|||", "ERROR 42000 character"),
-        (b"_A", "ERROR 42000 character"),
-        (b"1A @", "ERROR 42000 number"),
-        (b"A @ 'a", "ERROR 42000 character"),
+        ("<=>=", "0-2 symbol <=, 2-4 symbol >="),
+        ("<<>||", "0-1 symbol <, 1-3 symbol <>, 3-5 symbol ||"),
+        ("<>=>", "0-2 symbol <>, 2-3 symbol =, 3-4 symbol >"),
+        ("< =", "0-1 symbol <, 2-3 symbol ="),
+        ("9223372036854775808", "ERROR 42000 number"),
+        ("1A", "ERROR 42000 number"),
+        ("1_", "ERROR 42000 number"),
+        ("'a", "ERROR 42000 text"),
+        ("'a''", "ERROR 42000 text"),
+        ("'a\nb'", "ERROR 42000 character"),
+        ("'a\x7f", "ERROR 42000 character"),
+        ("|", "ERROR 42000 character"),
+        ("|||", "ERROR 42000 character"),
+        ("_A", "ERROR 42000 character"),
+        ("1A @", "ERROR 42000 number"),
+        ("A @ 'a", "ERROR 42000 character"),
     ];
-    for (text, want) in rows {
-        let found = shown(rt.alloc(), text)?;
-        assert_eq!(rt; found.as_str(), want);
+    for (text, want) in ROWS {
+        assert!(rt; is_shown(rt.alloc(), text.as_bytes(), want), "{text}");
     }
-    Ok(())
+    assert!(rt; is_shown(rt.alloc(), b"--\xff'@\n--\n A", "10-11 name A"));
 }
 
-/// `count` bytes `byte` between `before` and `after`.
-fn padded(
-    alloc: Global,
-    before: &[u8],
-    byte: u8,
-    count: usize,
-    after: &[u8],
-) -> Result<Vec<u8>, AllocError> {
-    let mut text = Vec::from_slice(alloc, before)?;
+/// What stands before a byte, that byte, how many times it stands, and what stands after it.
+type Parts = (&'static str, u8, usize, &'static str);
+
+fn push_padded(text: &mut Vec<u8>, parts: Parts) -> Result<(), AllocError> {
+    let (before, byte, count, after) = parts;
+    text.extend_from_slice(before.as_bytes())?;
     for _ in 0..count {
         text.push(byte)?;
     }
-    text.extend_from_slice(after)?;
+    text.extend_from_slice(after.as_bytes())
+}
+
+fn padded(alloc: Global, parts: Parts) -> Result<Vec<u8>, AllocError> {
+    let mut text = Vec::new(alloc);
+    push_padded(&mut text, parts)?;
     Ok(text)
 }
 
-#[test]
-fn limits_stand_at_their_byte(rt: HostRuntime) -> Result<(), Fail> {
-    let rows: [(&[u8], u8, usize, &[u8], &str); 9] = [
-        (b"", b'A', 65, b"", "ERROR X0003 name"),
-        (b"", b'A', 65, b" @", "ERROR X0003 name"),
-        (b"'", b'a', 1001, b"'", "ERROR X0003 text"),
-        (b"'", b'a', 1001, b"\x01", "ERROR X0003 text"),
-        (b"'", b'a', 1000, b"''", "ERROR X0003 text"),
-        (b"'", b'a', 1000, b"\x01", "ERROR 42000 character"),
-        (b"'", b'a', 1000, b"", "ERROR 42000 text"),
-        (b"'", b'\'', 2002, b"", "ERROR X0003 text"),
-        (b"", b'0', 70000, b"", "0-70000 number 0"),
-    ];
-    for (before, byte, count, after, want) in rows {
-        let text = padded(rt.alloc(), before, byte, count, after)?;
-        let found = shown(rt.alloc(), &text)?;
-        assert_eq!(rt; found.as_str(), want);
+fn is_padded_shown(alloc: Global, parts: Parts, want: &str) -> bool {
+    match padded(alloc, parts) {
+        Ok(text) => is_shown(alloc, &text, want),
+        Err(_) => false,
     }
-    let longest_name = padded(rt.alloc(), b"", b'a', 64, b"")?;
-    let found = tokens(rt.alloc(), &longest_name).ok().ok_or("a name")?;
-    assert_eq!(rt; found.len(), 1);
-    assert_eq!(rt; found[0].end, 64);
-    let longest_text = padded(rt.alloc(), b"'", b'a', 1000, b"'")?;
-    let found = tokens(rt.alloc(), &longest_text).ok().ok_or("a text")?;
-    assert_eq!(rt; found.len(), 1);
-    assert_eq!(rt; found[0].end, 1002);
-    Ok(())
 }
 
-const SUPPORTED: &[u8] =
-    b"ALL AND AS ASC AVG BETWEEN BY CHARACTER CHECK COMMIT CONSTRAINT COUNT CREATE CROSS DELETE DESC \
+/// Whether a text is one token, which ends before the byte `end`.
+fn is_one_token(alloc: Global, text: &[u8], end: usize) -> bool {
+    match tokens(alloc, text) {
+        Ok(found) => matches!(found.as_slice(), [only] if only.end == end),
+        Err(_) => false,
+    }
+}
+
+fn is_padded_token(alloc: Global, parts: Parts, end: usize) -> bool {
+    match padded(alloc, parts) {
+        Ok(text) => is_one_token(alloc, &text, end),
+        Err(_) => false,
+    }
+}
+
+#[test]
+fn limits_stand_at_their_byte(rt: HostRuntime) {
+    const ROWS: [(Parts, &str); 9] = [
+        (("", b'A', 65, ""), "ERROR X0003 name"),
+        (("", b'A', 65, " @"), "ERROR X0003 name"),
+        (("'", b'a', 1001, "'"), "ERROR X0003 text"),
+        (("'", b'a', 1001, "\x01"), "ERROR X0003 text"),
+        (("'", b'a', 1000, "''"), "ERROR X0003 text"),
+        (("'", b'a', 1000, "\x01"), "ERROR 42000 character"),
+        (("'", b'a', 1000, ""), "ERROR 42000 text"),
+        (("'", b'\'', 2002, ""), "ERROR X0003 text"),
+        (("", b'0', 70000, ""), "0-70000 number 0"),
+    ];
+    for (parts, want) in ROWS {
+        assert!(rt; is_padded_shown(rt.alloc(), parts, want), "{want}");
+    }
+    assert!(rt; is_padded_token(rt.alloc(), ("", b'a', 64, ""), 64));
+    assert!(rt; is_padded_token(rt.alloc(), ("'", b'a', 1000, "'"), 1002));
+}
+
+const SUPPORTED: &str =
+    "ALL AND AS ASC AVG BETWEEN BY CHARACTER CHECK COMMIT CONSTRAINT COUNT CREATE CROSS DELETE DESC \
     DISTINCT DROP EXCEPT EXISTS FALSE FROM GROUP HAVING IN INDEX INNER INSERT INT INTEGER INTERSECT \
     INTO IS JOIN KEY LEFT LIKE MAX MIN NOT NULL ON ONLY OR ORDER OUTER PRIMARY READ ROLLBACK SELECT \
     SET SUM TABLE TRANSACTION TRUE UNION UNIQUE UNKNOWN UPDATE VALUES VARCHAR VARYING WHERE WORK \
     WRITE";
 
-const NOT_YET: &[u8] =
-    b"CLOSE CURSOR DECLARE EXPLAIN FETCH FOR OPEN ALTER ANY ASSERTION CASCADE CASE CAST CHAR COALESCE COLLATE CORRESPONDING CURRENT \
+const NOT_YET: &str =
+    "CLOSE CURSOR DECLARE EXPLAIN FETCH FOR OPEN ALTER ANY ASSERTION CASCADE CASE CAST CHAR COALESCE COLLATE CORRESPONDING CURRENT \
     DATE DECIMAL DEFAULT DOMAIN ESCAPE FLOAT FOREIGN FULL GRANT INTERVAL ISOLATION NATURAL NULLIF \
     NUMERIC REAL REFERENCES RESTRICT REVOKE RIGHT SAVEPOINT SCHEMA SCROLL SMALLINT SOME TIME \
     TIMESTAMP USING VIEW";
 
-#[test]
-fn words_are_reserved(rt: HostRuntime) -> Result<(), Fail> {
-    let supported = tokens(rt.alloc(), SUPPORTED).ok().ok_or("words")?;
-    assert_eq!(rt; supported.len(), 65);
-    assert_eq!(rt; first_unsupported(&supported), None);
-    let not_yet = tokens(rt.alloc(), NOT_YET).ok().ok_or("words")?;
-    assert_eq!(rt; not_yet.len(), 46);
-    for token in &not_yet {
-        let Kind::Word(word) = &token.kind else {
-            return Err(Fail::from("a name"));
-        };
-        assert_eq!(rt; word.is_supported(), false);
-        assert_eq!(rt;
-            word.text(),
-            NOT_YET.get(token.start..token.end).ok_or("a place")?
-        );
+fn are_supported(alloc: Global, words: &[u8]) -> bool {
+    match tokens(alloc, words) {
+        Ok(found) => found.len() == 65 && first_unsupported(&found).is_none(),
+        Err(_) => false,
     }
-    let first = first_unsupported(&not_yet).ok_or("a word")?;
-    assert_eq!(rt; first.text(), b"CLOSE".as_slice());
-    Ok(())
+}
+
+/// Whether a token is a word that is not supported, and is spelled as in the text.
+fn is_not_yet(token: &Token, text: &[u8]) -> bool {
+    let Kind::Word(word) = &token.kind else {
+        return false;
+    };
+    let place = text.get(token.start..token.end);
+    !word.is_supported() && matches!(place, Some(spelled) if spelled == word.text())
+}
+
+fn all_are_not_yet(found: &[Token], text: &[u8]) -> bool {
+    for token in found {
+        if !is_not_yet(token, text) {
+            return false;
+        }
+    }
+    true
+}
+
+fn first_is_close(found: &[Token]) -> bool {
+    match first_unsupported(found) {
+        Some(word) => word.text() == "CLOSE".as_bytes(),
+        None => false,
+    }
+}
+
+fn are_not_yet(alloc: Global, words: &[u8]) -> bool {
+    match tokens(alloc, words) {
+        Ok(found) => found.len() == 46 && all_are_not_yet(&found, words) && first_is_close(&found),
+        Err(_) => false,
+    }
 }
 
 #[test]
-fn printed_tokens_are_read_again(rt: HostRuntime) -> Result<(), Fail> {
-    let rows: [(&[u8], &[u8]); 5] = [
-        (b"", b""),
-        (b"a", b"A"),
+fn words_are_reserved(rt: HostRuntime) {
+    assert!(rt; are_supported(rt.alloc(), SUPPORTED.as_bytes()));
+    assert!(rt; are_not_yet(rt.alloc(), NOT_YET.as_bytes()));
+}
+
+/// What the tokens are, without their places.
+fn kinds_of(alloc: Global, found: Vec<Token>) -> Result<Vec<Kind>, AllocError> {
+    let mut kinds = Vec::new(alloc);
+    for token in found {
+        kinds.push(token.kind)?;
+    }
+    Ok(kinds)
+}
+
+fn printed(alloc: Global, text: &[u8]) -> Result<Vec<u8>, Refusal> {
+    let kinds = kinds_of(alloc, tokens(alloc, text)?)?;
+    Ok(print_kinds(alloc, &kinds)?)
+}
+
+/// Whether the tokens of a text are printed so.
+fn is_printed(alloc: Global, text: &[u8], want: &[u8]) -> bool {
+    match printed(alloc, text) {
+        Ok(again) => again.as_slice() == want,
+        Err(_) => false,
+    }
+}
+
+/// Each text with its tokens as they are printed, and with these as they are read again.
+#[test]
+fn printed_tokens_are_read_again(rt: HostRuntime) {
+    const ROWS: [(&str, &str, &str); 5] = [
+        ("", "", ""),
+        ("a", "A", "0-1 name A"),
         (
-            b"check(a>=007 and b<>'it''s')",
-            b"CHECK ( A >= 7 AND B <> 'it''s' )",
+            "check(a>=007 and b<>'it''s')",
+            "CHECK ( A >= 7 AND B <> 'it''s' )",
+            "0-5 word CHECK, 6-7 symbol (, 8-9 name A, 10-12 symbol >=, 13-14 number 7, 15-18 word AND, \
+            19-20 name B, 21-23 symbol <>, 24-31 text it's, 32-33 symbol )",
         ),
-        (b"--\nt.a||''--x", b"T . A || ''"),
         (
-            b"- -1 - - 9223372036854775807",
-            b"- - 1 - - 9223372036854775807",
+            "--\nt.a||''--x",
+            "T . A || ''",
+            "0-1 name T, 2-3 symbol ., 4-5 name A, 6-8 symbol ||, 9-11 text ",
+        ),
+        (
+            "- -1 - - 9223372036854775807",
+            "- - 1 - - 9223372036854775807",
+            "0-1 symbol -, 2-3 symbol -, 4-5 number 1, 6-7 symbol -, 8-9 symbol -, \
+            10-29 number 9223372036854775807",
         ),
     ];
-    for (text, want) in rows {
-        let mut kinds = Vec::new(rt.alloc());
-        for token in tokens(rt.alloc(), text).ok().ok_or("tokens")? {
-            kinds.push(token.kind)?;
+    for (text, want, again) in ROWS {
+        assert!(rt;
+            is_printed(rt.alloc(), text.as_bytes(), want.as_bytes()),
+            "{text}"
+        );
+        assert!(rt; is_shown(rt.alloc(), want.as_bytes(), again), "{want}");
+    }
+}
+
+fn text_of(alloc: Global, codes: &str) -> Option<Text> {
+    match Items::from_slice(alloc, codes.as_bytes()) {
+        Ok(items) => Text::from_items(items),
+        Err(_) => None,
+    }
+}
+
+/// Whether this is a text, and no name.
+fn is_no_name(alloc: Global, codes: &str) -> bool {
+    match text_of(alloc, codes) {
+        Some(text) => Name::from_text(text).is_none(),
+        None => false,
+    }
+}
+
+fn name_of(alloc: Global, codes: &str) -> Option<Name> {
+    Name::from_text(text_of(alloc, codes)?)
+}
+
+fn is_copied(alloc: Global, name: &Name, codes: &[u8]) -> bool {
+    match name.copy(alloc) {
+        Ok(copy) => copy.as_text().as_slice() == codes,
+        Err(_) => false,
+    }
+}
+
+/// Whether this is a name, and so is its copy, and is its text.
+fn is_name(alloc: Global, codes: &str) -> bool {
+    match name_of(alloc, codes) {
+        Some(name) => {
+            let has_copy = is_copied(alloc, &name, codes.as_bytes());
+            let text = name.into_text();
+            has_copy && text.as_slice() == codes.as_bytes()
         }
-        let printed = print_kinds(rt.alloc(), &kinds)?;
-        assert_eq!(rt; printed.as_slice(), want);
-        let again = shown(rt.alloc(), &printed)?;
-        let wanted = shown(rt.alloc(), want)?;
-        assert_eq!(rt; again.as_str(), wanted.as_str());
+        None => false,
     }
-    Ok(())
-}
-
-fn text_of(alloc: Global, codes: &[u8]) -> Result<Text, Fail> {
-    let text = Text::from_items(Items::from_slice(alloc, codes)?).ok_or("a text")?;
-    Ok(text)
 }
 
 #[test]
-fn names_are_no_reserved_words(rt: HostRuntime) -> Result<(), Fail> {
-    let refused: [&[u8]; 7] = [b"", b"SELECT", b"VIEW", b"a", b"1A", b"_A", b"A B"];
-    for text in refused {
-        assert!(rt; Name::from_text(text_of(rt.alloc(), text)?).is_none());
+fn names_are_no_reserved_words(rt: HostRuntime) {
+    const REFUSED: [&str; 7] = ["", "SELECT", "VIEW", "a", "1A", "_A", "A B"];
+    for text in REFUSED {
+        assert!(rt; is_no_name(rt.alloc(), text), "{text}");
     }
-    let name = Name::from_text(text_of(rt.alloc(), b"A_1")?).ok_or("a name")?;
-    let copy = name.copy(rt.alloc())?;
-    assert_eq!(rt; copy.as_text().as_slice(), b"A_1".as_slice());
-    assert_eq!(rt; name.into_text().as_slice(), b"A_1".as_slice());
-    Ok(())
+    assert!(rt; is_name(rt.alloc(), "A_1"));
+}
+
+fn number_of(value: u64) -> Option<i64> {
+    match Number::from_value(value) {
+        Some(number) => Some(number.value()),
+        None => None,
+    }
 }
 
 #[test]
-fn numbers_end_at_their_limit(rt: HostRuntime) -> Result<(), Fail> {
-    let greatest = Number::from_value(9_223_372_036_854_775_807).ok_or("a number")?;
-    assert_eq!(rt; greatest.value(), i64::MAX);
-    assert!(rt; Number::from_value(9_223_372_036_854_775_808).is_none());
-    Ok(())
+fn numbers_end_at_their_limit(rt: HostRuntime) {
+    assert!(rt; number_of(9_223_372_036_854_775_807) == Some(i64::MAX));
+    assert!(rt; number_of(9_223_372_036_854_775_808).is_none());
 }

@@ -5,115 +5,170 @@ use sqlrecord::{
     row_number_of,
 };
 use sqlval::Value;
-use std::alloc::Global;
-use std::process::Abort;
-use std::test::Fail;
+use std::alloc::{AllocError, Global};
 
-fn text(alloc: Global, codes: &[u8]) -> Result<Value, Fail> {
-    match Text::from_items(Items::from_slice(alloc, codes)?) {
-        Some(text) => Ok(Value::Text(text)),
-        None => Ok(Value::Null),
+/// A text, or null where these are no characters.
+fn text(alloc: Global, codes: &[u8]) -> Result<Value, AllocError> {
+    let codes = Items::from_slice(alloc, codes)?;
+    Ok(match Text::from_items(codes) {
+        Some(text) => Value::Text(text),
+        None => Value::Null,
+    })
+}
+
+/// The text `xx..` of so many letters.
+fn letters(alloc: Global, count: usize) -> Result<Value, AllocError> {
+    let codes = vec![in alloc; b'x'; count]?;
+    text(alloc, codes.as_slice())
+}
+
+/// Whether this is what something was encoded as.
+fn is_code(code: &Result<Items<u8>, EncodeError>, bytes: &[u8]) -> bool {
+    matches!(code, Ok(code) if code.as_slice() == bytes)
+}
+
+/// Whether the key of one integer has this code.
+fn is_key_of_integer(alloc: Global, number: i64, bytes: &[u8]) -> bool {
+    is_code(&encode_key(alloc, &[Value::Int(number)]), bytes)
+}
+
+/// Whether the key of one text has this code.
+fn is_key_of_text(alloc: Global, codes: &[u8], bytes: &[u8]) -> bool {
+    match text(alloc, codes) {
+        Ok(text) => is_code(&encode_key(alloc, &[text]), bytes),
+        Err(_) => false,
     }
 }
 
 #[test]
-fn keys_have_their_bytes(rt: HostRuntime) -> Result<(), Fail> {
+fn keys_have_their_bytes(rt: HostRuntime) {
     let alloc = rt.alloc();
-    let five = [Value::Int(5)];
-    assert_eq!(rt;
-        encode_key(alloc, &five)?.as_slice(),
-        [1, 0x80, 0, 0, 0, 0, 0, 0, 5].as_slice()
-    );
-    let minus_one = [Value::Int(-1)];
-    assert_eq!(rt;
-        encode_key(alloc, &minus_one)?.as_slice(),
-        [1, 0x7f, 0xff, 0xff, 0xff, 0xff, 0xff, 0xff, 0xff].as_slice()
-    );
-    let least = [Value::Int(i64::MIN)];
-    assert_eq!(rt;
-        encode_key(alloc, &least)?.as_slice(),
-        [1, 0, 0, 0, 0, 0, 0, 0, 0].as_slice()
-    );
-    let ab = [text(alloc, b"ab")?];
-    assert_eq!(rt;
-        encode_key(alloc, &ab)?.as_slice(),
-        [2, 0x61, 0x62, 0].as_slice()
-    );
-    let pair = [Value::Null, Value::Int(5)];
-    assert_eq!(rt;
-        encode_index_key(alloc, &pair, 3)?.as_slice(),
-        [0, 1, 0x80, 0, 0, 0, 0, 0, 0, 5, 0, 0, 0, 0, 0, 0, 0, 3].as_slice()
-    );
-    Ok(())
-}
-
-#[test]
-fn rows_have_their_bytes(rt: HostRuntime) -> Result<(), Fail> {
-    let alloc = rt.alloc();
-    let row = [Value::Int(1), text(alloc, b"x")?, Value::Null];
-    let code = encode_row(alloc, &row)?;
-    assert_eq!(rt;
-        code.as_slice(),
-        [1, 0, 0, 0, 0, 0, 0, 0, 1, 2, 0, 1, 0x78, 0].as_slice()
-    );
-    let back = decode_row(alloc, code.as_slice())?;
-    assert_eq!(rt; back.len(), 3);
-    for (value, stored) in back.as_slice().iter().zip(row.as_slice()) {
-        assert!(rt; value.is_alike(stored));
-    }
-    assert_eq!(rt; encode_row(alloc, &[])?.len(), 0);
-    assert_eq!(rt; decode_row(alloc, &[])?.len(), 0);
-    Ok(())
-}
-
-#[test]
-fn rows_and_keys_have_limits(rt: HostRuntime) -> Result<(), Fail> {
-    let alloc = rt.alloc();
-    let row = [text(alloc, &[b'x'; 997])?];
-    assert_eq!(rt; encode_row(alloc, &row)?.len(), 1000);
-    let row = [text(alloc, &[b'x'; 998])?];
-    assert!(rt; matches!(encode_row(alloc, &row), Err(EncodeError::Record)));
-    let key = [text(alloc, &[b'x'; 590])?];
-    assert_eq!(rt; encode_index_key(alloc, &key, 1)?.len(), 600);
-    let key = [text(alloc, &[b'x'; 591])?];
-    assert!(rt; matches!(encode_index_key(alloc, &key, 1), Err(EncodeError::Key)));
-    let key = [text(alloc, &[b'x'; 598])?];
-    assert_eq!(rt; encode_key(alloc, &key)?.len(), 600);
-    let key = [text(alloc, &[b'x'; 599])?];
-    assert!(rt; matches!(encode_key(alloc, &key), Err(EncodeError::Key)));
-    Ok(())
-}
-
-#[test]
-fn other_bytes_are_no_row(rt: HostRuntime) -> Result<(), Fail> {
-    let cases: [(&str, &[u8]); 12] = [
-        ("another sort", b"\x03"),
-        ("the greatest sort", b"\xff"),
-        ("an integer of no bytes", b"\x01"),
-        ("an integer of 7 bytes", b"\x01\0\0\0\0\0\0\0"),
-        ("a text without a length", b"\x02"),
-        ("a text with half a length", b"\x02\0"),
-        ("a text cut short", b"\x02\0\x02x"),
-        ("a text with its length lowest byte first", b"\x02\x01\0x"),
-        ("a text with a byte 0", b"\x02\0\x01\0"),
-        ("a text with a delete", b"\x02\0\x01\x7f"),
-        ("a text that is no ASCII", b"\x02\0\x02\xc3\xa9"),
-        ("a null and then half an integer", b"\0\x01\0\0"),
-    ];
-    for (what, bytes) in cases {
-        assert!(rt;
-            matches!(decode_row(rt.alloc(), bytes), Err(DecodeError::Damaged)),
-            "{what}"
-        );
-    }
-    assert_eq!(rt; decode_row(rt.alloc(), &[0; 1000])?.len(), 1000);
+    assert!(rt; is_key_of_integer(alloc, 5, &[1, 0x80, 0, 0, 0, 0, 0, 0, 5]));
     assert!(rt;
-        matches!(
-            decode_row(rt.alloc(), &[0; 1001]),
-            Err(DecodeError::Damaged)
+        is_key_of_integer(
+            alloc,
+            -1,
+            &[1, 0x7f, 0xff, 0xff, 0xff, 0xff, 0xff, 0xff, 0xff]
         )
     );
-    Ok(())
+    assert!(rt; is_key_of_integer(alloc, i64::MIN, &[1, 0, 0, 0, 0, 0, 0, 0, 0]));
+    assert!(rt; is_key_of_text(alloc, b"ab", &[2, 0x61, 0x62, 0]));
+    assert!(rt;
+        is_code(
+            &encode_index_key(alloc, &[Value::Null, Value::Int(5)], 3),
+            &[0, 1, 0x80, 0, 0, 0, 0, 0, 0, 5, 0, 0, 0, 0, 0, 0, 0, 3]
+        )
+    );
+}
+
+/// Whether these are the same values, in this order.
+fn are_alike(values: &[Value], wanted: &[Value]) -> bool {
+    if values.len() != wanted.len() {
+        return false;
+    }
+    for (value, wanted) in values.iter().zip(wanted.iter()) {
+        if !value.is_alike(wanted) {
+            return false;
+        }
+    }
+    true
+}
+
+/// Whether these values were decoded.
+fn are_decoded(decoded: &Result<Items<Value>, DecodeError>, wanted: &[Value]) -> bool {
+    match decoded {
+        Ok(values) => are_alike(values.as_slice(), wanted),
+        Err(_) => false,
+    }
+}
+
+/// Whether a row has this code, of which it is decoded again.
+fn is_row(alloc: Global, row: &[Value], bytes: &[u8]) -> bool {
+    is_code(&encode_row(alloc, row), bytes) && are_decoded(&decode_row(alloc, bytes), row)
+}
+
+/// Whether the row of an integer, a text and null has this code.
+fn is_row_of_three(alloc: Global, bytes: &[u8]) -> bool {
+    match text(alloc, b"x") {
+        Ok(text) => is_row(alloc, &[Value::Int(1), text, Value::Null], bytes),
+        Err(_) => false,
+    }
+}
+
+#[test]
+fn rows_have_their_bytes(rt: HostRuntime) {
+    let alloc = rt.alloc();
+    assert!(rt; is_row_of_three(alloc, &[1, 0, 0, 0, 0, 0, 0, 0, 1, 2, 0, 1, 0x78, 0]));
+    assert!(rt; is_row(alloc, &[], &[]));
+}
+
+fn length_of(code: Result<Items<u8>, EncodeError>) -> Result<usize, EncodeError> {
+    Ok(code?.len())
+}
+
+/// How many bytes a row of one text has.
+fn row_length(alloc: Global, count: usize) -> Result<usize, EncodeError> {
+    let row = [letters(alloc, count)?];
+    length_of(encode_row(alloc, &row))
+}
+
+/// How many bytes a key of one text has.
+fn key_length(alloc: Global, count: usize) -> Result<usize, EncodeError> {
+    let key = [letters(alloc, count)?];
+    length_of(encode_key(alloc, &key))
+}
+
+/// How many bytes a key of one text has in an index.
+fn index_key_length(alloc: Global, count: usize) -> Result<usize, EncodeError> {
+    let key = [letters(alloc, count)?];
+    length_of(encode_index_key(alloc, &key, 1))
+}
+
+#[test]
+fn rows_and_keys_have_limits(rt: HostRuntime) {
+    let alloc = rt.alloc();
+    assert!(rt; matches!(row_length(alloc, 997), Ok(1000)));
+    assert!(rt; matches!(row_length(alloc, 998), Err(EncodeError::Record)));
+    assert!(rt; matches!(index_key_length(alloc, 590), Ok(600)));
+    assert!(rt; matches!(index_key_length(alloc, 591), Err(EncodeError::Key)));
+    assert!(rt; matches!(key_length(alloc, 598), Ok(600)));
+    assert!(rt; matches!(key_length(alloc, 599), Err(EncodeError::Key)));
+}
+
+/// Whether these bytes are no row.
+fn is_no_row(alloc: Global, bytes: &[u8]) -> bool {
+    matches!(decode_row(alloc, bytes), Err(DecodeError::Damaged))
+}
+
+/// How many values a row of nulls has.
+fn nulls(alloc: Global, bytes: &[u8]) -> Result<usize, DecodeError> {
+    Ok(decode_row(alloc, bytes)?.len())
+}
+
+#[test]
+fn other_bytes_are_no_row(rt: HostRuntime) {
+    const ROWS: [(&str, &str); 10] = [
+        ("another sort", "\x03"),
+        ("an integer of no bytes", "\x01"),
+        ("an integer of 7 bytes", "\x01\0\0\0\0\0\0\0"),
+        ("a text without a length", "\x02"),
+        ("a text with half a length", "\x02\0"),
+        ("a text cut short", "\x02\0\x02x"),
+        ("a text with its length lowest byte first", "\x02\x01\0x"),
+        ("a text with a byte 0", "\x02\0\x01\0"),
+        ("a text with a delete", "\x02\0\x01\x7f"),
+        ("a null and then half an integer", "\0\x01\0\0"),
+    ];
+    for (what, bytes) in ROWS {
+        assert!(rt; is_no_row(rt.alloc(), bytes.as_bytes()), "{what}");
+    }
+    assert!(rt; is_no_row(rt.alloc(), &[0xff]), "the greatest sort");
+    assert!(rt;
+        is_no_row(rt.alloc(), b"\x02\0\x02\xc3\xa9"),
+        "a text that is no ASCII"
+    );
+    assert!(rt; matches!(nulls(rt.alloc(), &[0; 1000]), Ok(1000)));
+    assert!(rt; is_no_row(rt.alloc(), &[0; 1001]));
 }
 
 /// A leaf with the entries a: x, b: y and c: z.
@@ -136,17 +191,20 @@ fn inner() -> [u8; PAGE_SIZE] {
     page
 }
 
-fn changed(rt: &impl Abort, mut page: [u8; PAGE_SIZE], changes: &[(usize, u8)]) -> [u8; PAGE_SIZE] {
+/// Whether the page is sound with these bytes at these places; `None` where one of these is behind the page.
+fn is_sound(mut page: [u8; PAGE_SIZE], changes: &[(usize, u8)]) -> Option<bool> {
     for (at, byte) in changes {
-        assert!(rt; *at < PAGE_SIZE);
+        if *at >= PAGE_SIZE {
+            return None;
+        }
         page[*at] = *byte;
     }
-    page
+    Some(SlotPage::read(&page).is_some())
 }
 
 #[test]
 fn malformed_leaves_are_damaged(rt: HostRuntime) {
-    let cases: [(&str, &[(usize, u8)]); 34] = [
+    const PAGES: [(&str, &[(usize, u8)]); 36] = [
         ("no kind", &[(0, 0)]),
         ("a free page", &[(0, 3)]),
         ("another kind", &[(0, 255)]),
@@ -184,28 +242,23 @@ fn malformed_leaves_are_damaged(rt: HostRuntime) {
         ("a key of 257 bytes", &[(4088, 1)]),
         ("equal keys", &[(4090, b'a')]),
         ("falling keys", &[(4090, b'A')]),
+        (
+            "a cell over one that lies behind it",
+            &[(17, 0xfc), (25, 0xf4), (4086, b'c'), (4094, b'a'), (27, 8)],
+        ),
+        (
+            "a beginning behind the longer key",
+            &[(4089, 2), (4094, b'b'), (4085, 1)],
+        ),
     ];
-    for (what, changes) in cases {
-        assert!(rt;
-            SlotPage::read(&changed(&rt, leaf(), changes)).is_none(),
-            "{what}"
-        );
+    for (what, changes) in PAGES {
+        assert!(rt; is_sound(leaf(), changes) == Some(false), "{what}");
     }
-    let reversed: [(usize, u8); 5] = [(17, 0xfc), (25, 0xf4), (4086, b'c'), (4094, b'a'), (27, 8)];
-    assert!(rt;
-        SlotPage::read(&changed(&rt, leaf(), &reversed)).is_none(),
-        "a cell over one that lies behind it"
-    );
-    let beginning: [(usize, u8); 3] = [(4089, 2), (4094, b'b'), (4085, 1)];
-    assert!(rt;
-        SlotPage::read(&changed(&rt, leaf(), &beginning)).is_none(),
-        "a beginning behind the longer key"
-    );
 }
 
 #[test]
 fn malformed_inner_pages_are_damaged(rt: HostRuntime) {
-    let cases: [(&str, &[(usize, u8)]); 6] = [
+    const PAGES: [(&str, &[(usize, u8)]); 6] = [
         ("a child of three bytes", &[(23, 6)]),
         ("no key", &[(4083, 0)]),
         ("a key that takes the child", &[(4083, 5)]),
@@ -213,14 +266,11 @@ fn malformed_inner_pages_are_damaged(rt: HostRuntime) {
         ("equal keys", &[(4091, b'b')]),
         ("falling keys", &[(4091, b'a')]),
     ];
-    for (what, changes) in cases {
-        assert!(rt;
-            SlotPage::read(&changed(&rt, inner(), changes)).is_none(),
-            "{what}"
-        );
+    for (what, changes) in PAGES {
+        assert!(rt; is_sound(inner(), changes) == Some(false), "{what}");
     }
     assert!(rt;
-        SlotPage::read(&changed(&rt, leaf(), &[(0, 2)])).is_none(),
+        is_sound(leaf(), &[(0, 2)]) == Some(false),
         "a leaf as an inner page"
     );
 }
@@ -231,11 +281,11 @@ fn sound_pages_read_as_their_cells(rt: HostRuntime) {
     match SlotPage::read(&bytes) {
         Some(page) => {
             assert!(rt; page.kind() == PageKind::Leaf);
-            assert_eq!(rt; page.link(), 0);
+            assert!(rt; page.link() == 0);
             assert!(rt; page.len() == 3);
-            assert_eq!(rt; page.cell(1), b"\0\x01by".as_slice());
-            assert_eq!(rt; page.key(2), b"c".as_slice());
-            assert_eq!(rt; page.value(0), b"x".as_slice());
+            assert!(rt; page.cell(1) == b"\0\x01by".as_slice());
+            assert!(rt; page.key(2) == b"c".as_slice());
+            assert!(rt; page.value(0) == b"x".as_slice());
         }
         None => assert!(rt; false, "damaged"),
     }
@@ -243,21 +293,21 @@ fn sound_pages_read_as_their_cells(rt: HostRuntime) {
     match SlotPage::read(&bytes) {
         Some(page) => {
             assert!(rt; page.kind() == PageKind::Inner);
-            assert_eq!(rt; page.link(), 5);
+            assert!(rt; page.link() == 5);
             assert!(rt; page.len() == 2);
-            assert_eq!(rt; page.key(0), b"b".as_slice());
-            assert_eq!(rt; page.child(1), 7);
+            assert!(rt; page.key(0) == b"b".as_slice());
+            assert!(rt; page.child(1) == 7);
         }
         None => assert!(rt; false, "damaged"),
     }
     // The cells in another order in the page, a gap between two of them, and no cells.
-    let sound: [&[(usize, u8)]; 3] = [
+    const SOUND: [&[(usize, u8)]; 3] = [
         &[(17, 0xfc), (25, 0xf4), (4086, b'c'), (4094, b'a')],
         &[(19, 3)],
         &[(3, 0), (4, 0x10), (5, 0)],
     ];
-    for changes in sound {
-        assert!(rt; SlotPage::read(&changed(&rt, leaf(), changes)).is_some());
+    for changes in SOUND {
+        assert!(rt; is_sound(leaf(), changes) == Some(true));
     }
 }
 
@@ -286,51 +336,81 @@ fn pages_are_built_of_their_cells(rt: HostRuntime) {
     assert!(rt; page == inner());
 }
 
-#[test]
-fn cells_have_their_bytes(rt: HostRuntime) -> Result<(), Fail> {
-    let alloc = rt.alloc();
-    let cell = leaf_cell(alloc, b"key", b"value")?;
-    assert_eq!(rt; cell.as_slice(), b"\0\x03keyvalue".as_slice());
-    let cell = inner_cell(alloc, b"key", 0x0102_0304)?;
-    assert_eq!(rt; cell.as_slice(), b"\0\x03key\x01\x02\x03\x04".as_slice());
-    Ok(())
+/// Whether a cell was made of these bytes.
+fn is_cell(cell: &Result<Items<u8>, AllocError>, bytes: &[u8]) -> bool {
+    matches!(cell, Ok(cell) if cell.as_slice() == bytes)
 }
 
 #[test]
-fn keys_decode(rt: HostRuntime) -> Result<(), Fail> {
+fn cells_have_their_bytes(rt: HostRuntime) {
     let alloc = rt.alloc();
-    let key = [
-        text(alloc, b"TABLE")?,
-        Value::Null,
-        Value::Int(-7),
-        Value::Int(i64::MAX),
-        text(alloc, b"")?,
-    ];
-    let code = encode_key(alloc, &key)?;
-    let back = decode_key(alloc, code.as_slice())?;
-    assert_eq!(rt; back.len(), 5);
-    for (value, stored) in back.as_slice().iter().zip(key.as_slice()) {
-        assert!(rt; value.is_alike(stored));
-    }
-    let index_key = encode_index_key(alloc, &key, 0x0102_0304_0506_0708)?;
-    assert_eq!(rt;
-        row_number_of(index_key.as_slice()),
-        Some(0x0102_0304_0506_0708)
+    assert!(rt; is_cell(&leaf_cell(alloc, b"key", b"value"), b"\0\x03keyvalue"));
+    assert!(rt;
+        is_cell(
+            &inner_cell(alloc, b"key", 0x0102_0304),
+            b"\0\x03key\x01\x02\x03\x04"
+        )
     );
-    assert_eq!(rt; row_number_of(b"1234567"), None);
-    let cases: [(&str, &[u8]); 6] = [
-        ("another sort", b"\x03"),
-        ("an integer of 7 bytes", b"\x01\0\0\0\0\0\0\0"),
-        ("a text without its end", b"\x02ab"),
-        ("a text of nothing", b"\x02"),
-        ("a text with a delete", b"\x02\x7f\0"),
-        ("a key and half an integer", b"\0\x01\x80"),
-    ];
-    for (what, bytes) in cases {
-        assert!(rt;
-            matches!(decode_key(alloc, bytes), Err(DecodeError::Damaged)),
-            "{what}"
-        );
+}
+
+/// Whether a key is decoded of its code.
+fn is_decoded(alloc: Global, key: &[Value]) -> bool {
+    match encode_key(alloc, key) {
+        Ok(code) => are_decoded(&decode_key(alloc, code.as_slice()), key),
+        Err(_) => false,
     }
-    Ok(())
+}
+
+/// Whether the number of a row is found in the code of a key of an index.
+fn has_number(alloc: Global, key: &[Value], number: u64) -> bool {
+    match encode_index_key(alloc, key, number) {
+        Ok(code) => row_number_of(code.as_slice()) == Some(number),
+        Err(_) => false,
+    }
+}
+
+fn key_is_decoded(alloc: Global, key: &[Value]) -> bool {
+    is_decoded(alloc, key) && has_number(alloc, key, 0x0102_0304_0506_0708)
+}
+
+/// The same of a key of two texts, null and two integers.
+fn key_of_five_is_decoded(alloc: Global) -> bool {
+    match (text(alloc, b"TABLE"), text(alloc, b"")) {
+        (Ok(first), Ok(last)) => key_is_decoded(
+            alloc,
+            &[
+                first,
+                Value::Null,
+                Value::Int(-7),
+                Value::Int(i64::MAX),
+                last,
+            ],
+        ),
+        _ => false,
+    }
+}
+
+/// Whether these bytes are no key.
+fn is_no_key(alloc: Global, bytes: &[u8]) -> bool {
+    matches!(decode_key(alloc, bytes), Err(DecodeError::Damaged))
+}
+
+#[test]
+fn keys_decode(rt: HostRuntime) {
+    const KEYS: [(&str, &str); 5] = [
+        ("another sort", "\x03"),
+        ("an integer of 7 bytes", "\x01\0\0\0\0\0\0\0"),
+        ("a text without its end", "\x02ab"),
+        ("a text of nothing", "\x02"),
+        ("a text with a delete", "\x02\x7f\0"),
+    ];
+    assert!(rt; key_of_five_is_decoded(rt.alloc()));
+    assert!(rt; row_number_of(b"1234567").is_none());
+    for (what, bytes) in KEYS {
+        assert!(rt; is_no_key(rt.alloc(), bytes.as_bytes()), "{what}");
+    }
+    assert!(rt;
+        is_no_key(rt.alloc(), b"\0\x01\x80"),
+        "a key and half an integer"
+    );
 }

@@ -6,99 +6,151 @@ use sqlval::{
     Value, ValueType, add, coded_index_key_length, coded_key_length, coded_row_length, compare,
     concat, div, like, mul, negate, row_matches, sort_order, store_as, sub,
 };
-use std::alloc::Global;
+use std::alloc::{AllocError, Global};
 use std::cmp::Ordering;
-use std::test::Fail;
 
-fn text(alloc: Global, codes: &str) -> Result<Text, Fail> {
-    let text = Text::from_items(Items::from_slice(alloc, codes.as_bytes())?);
-    Ok(text.ok_or("a text has printable characters")?)
+/// An operator over two integers.
+#[derive(Clone, Copy)]
+enum Operator {
+    Add,
+    Sub,
+    Mul,
+    Div,
 }
 
-fn value(alloc: Global, codes: &str) -> Result<Value, Fail> {
-    Ok(Value::Text(text(alloc, codes)?))
+fn calculated(operator: Operator, left: i64, right: i64) -> Result<Value, Code> {
+    let left = Value::Int(left);
+    let right = Value::Int(right);
+    match operator {
+        Operator::Add => add(&left, &right),
+        Operator::Sub => sub(&left, &right),
+        Operator::Mul => mul(&left, &right),
+        Operator::Div => div(&left, &right),
+    }
 }
 
-fn number(answer: Result<Value, Code>) -> Result<i64, Code> {
-    match answer? {
-        Value::Int(number) => Ok(number),
-        _ => Ok(-1),
+/// Whether the answer is this integer, or refused for this.
+fn is_answer(answer: &Result<Value, Code>, wanted: Result<i64, Code>) -> bool {
+    match (answer, wanted) {
+        (Ok(Value::Int(number)), Ok(wanted)) => *number == wanted,
+        (Err(code), Err(wanted)) => *code == wanted,
+        _ => false,
     }
 }
 
 #[test]
-fn quotients_are_cut_toward_zero(rt: HostRuntime) {
-    assert_eq!(rt; number(div(&Value::Int(-7), &Value::Int(2))), Ok(-3));
-    assert_eq!(rt; number(div(&Value::Int(7), &Value::Int(-2))), Ok(-3));
-    let least = Value::Int(i64::MIN);
-    assert_eq!(rt; number(div(&least, &Value::Int(-1))), Err(Code::OutOfRange));
-    assert_eq!(rt;
-        number(div(&Value::Int(1), &Value::Int(0))),
-        Err(Code::DivisionByZero)
-    );
-    assert_eq!(rt; div(&Value::Null, &Value::Int(0)).is_ok(), true);
+fn integers_have_64_bits_and_quotients_are_cut_toward_zero(rt: HostRuntime) {
+    const GREATEST: i64 = 9_223_372_036_854_775_807;
+    const ROWS: [(Operator, i64, i64, Result<i64, Code>); 9] = [
+        (Operator::Div, -7, 2, Ok(-3)),
+        (Operator::Div, 7, -2, Ok(-3)),
+        (Operator::Div, i64::MIN, -1, Err(Code::OutOfRange)),
+        (Operator::Div, 1, 0, Err(Code::DivisionByZero)),
+        (Operator::Sub, -GREATEST, 1, Ok(i64::MIN)),
+        (Operator::Add, GREATEST, 1, Err(Code::OutOfRange)),
+        (Operator::Add, GREATEST, -1, Ok(9_223_372_036_854_775_806)),
+        (Operator::Mul, GREATEST, -1, Ok(-GREATEST)),
+        (Operator::Mul, GREATEST, 2, Err(Code::OutOfRange)),
+    ];
+    for (operator, left, right, wanted) in ROWS {
+        let answer = calculated(operator, left, right);
+        assert!(rt; is_answer(&answer, wanted), "{left} and {right}");
+    }
+    assert!(rt; is_answer(&negate(&Value::Int(i64::MIN)), Err(Code::OutOfRange)));
+    assert!(rt; div(&Value::Null, &Value::Int(0)).is_ok());
+}
+
+fn text(alloc: Global, codes: &[u8]) -> Result<Text, AllocError> {
+    let codes = Items::from_slice(alloc, codes)?;
+    Text::from_items(codes).ok_or(AllocError)
+}
+
+fn value(alloc: Global, codes: &str) -> Result<Value, AllocError> {
+    Ok(Value::Text(text(alloc, codes.as_bytes())?))
+}
+
+/// A text of so many letters.
+fn letters(alloc: Global, letter: u8, count: usize) -> Result<Value, AllocError> {
+    let codes = vec![in alloc; letter; count]?;
+    Ok(Value::Text(text(alloc, codes.as_slice())?))
+}
+
+/// Whether a text comes before itself with a space at its end, and behind null.
+fn is_before(short: &Value, long: &Value) -> bool {
+    compare(CompOp::Less, short, long) == Truth::True
+        && compare(CompOp::Equal, short, long) == Truth::False
+        && compare(CompOp::Equal, short, &Value::Null) == Truth::Unknown
+        && sort_order(&Value::Null, short) == Ordering::Less
+        && sort_order(long, short) == Ordering::Greater
+        && short.value_type() == Some(ValueType::Text)
+}
+
+fn is_copied(alloc: Global, value: &Value) -> Result<bool, AllocError> {
+    Ok(value.copy(alloc)?.is_alike(value))
+}
+
+fn spaces_count(alloc: Global) -> Result<bool, AllocError> {
+    let short = value(alloc, "a")?;
+    let long = value(alloc, "a ")?;
+    let copied = is_copied(alloc, &short);
+    Ok(is_before(&short, &long) && copied == Ok(true))
 }
 
 #[test]
-fn integers_have_64_bits(rt: HostRuntime) {
-    let greatest = Value::Int(9_223_372_036_854_775_807);
-    let least = sub(&Value::Int(-9_223_372_036_854_775_807), &Value::Int(1));
-    assert_eq!(rt; number(least), Ok(i64::MIN));
-    assert_eq!(rt;
-        number(add(&greatest, &Value::Int(1))),
-        Err(Code::OutOfRange)
-    );
-    assert_eq!(rt;
-        number(add(&greatest, &Value::Int(-1))),
-        Ok(9_223_372_036_854_775_806)
-    );
-    assert_eq!(rt;
-        number(mul(&greatest, &Value::Int(-1))),
-        Ok(-9_223_372_036_854_775_807)
-    );
-    assert_eq!(rt;
-        number(mul(&greatest, &Value::Int(2))),
-        Err(Code::OutOfRange)
-    );
-    assert_eq!(rt;
-        number(negate(&Value::Int(i64::MIN))),
-        Err(Code::OutOfRange)
-    );
+fn texts_are_compared_without_padding(rt: HostRuntime) {
+    assert!(rt; matches!(spaces_count(rt.alloc()), Ok(true)));
+}
+
+/// Whether the answer is this text.
+fn is_text(answer: &Result<Value, Code>, wanted: &str) -> bool {
+    match answer {
+        Ok(Value::Text(text)) => text.as_slice() == wanted.as_bytes(),
+        _ => false,
+    }
+}
+
+fn is_joined(alloc: Global, left: &str, right: &str, wanted: &str) -> Result<bool, AllocError> {
+    let left = value(alloc, left)?;
+    let right = value(alloc, right)?;
+    Ok(is_text(&concat(alloc, &left, &right), wanted))
+}
+
+/// How many characters a text has that is joined of 999 and these.
+fn joined_length(alloc: Global, right: &str) -> Result<usize, Code> {
+    let left = letters(alloc, b'x', 999)?;
+    let right = value(alloc, right)?;
+    length(concat(alloc, &left, &right))
+}
+
+/// How many characters the text has; none where it is no text.
+fn length(answer: Result<Value, Code>) -> Result<usize, Code> {
+    match answer? {
+        Value::Text(text) => Ok(text.len()),
+        _ => Ok(0),
+    }
 }
 
 #[test]
-fn texts_are_compared_without_padding(rt: HostRuntime) -> Result<(), Fail> {
-    let short = value(rt.alloc(), "a")?;
-    let long = value(rt.alloc(), "a ")?;
-    assert_eq!(rt; compare(CompOp::Less, &short, &long), Truth::True);
-    assert_eq!(rt; compare(CompOp::Equal, &short, &long), Truth::False);
-    assert_eq!(rt;
-        compare(CompOp::Equal, &short, &Value::Null),
-        Truth::Unknown
-    );
-    assert_eq!(rt; sort_order(&Value::Null, &short), Ordering::Less);
-    assert_eq!(rt; sort_order(&long, &short), Ordering::Greater);
-    assert_eq!(rt; short.copy(rt.alloc())?.is_alike(&short), true);
-    assert_eq!(rt; short.value_type(), Some(ValueType::Text));
-    Ok(())
+fn texts_are_joined_up_to_a_thousand_characters(rt: HostRuntime) {
+    assert!(rt; matches!(is_joined(rt.alloc(), "ab", "c", "abc"), Ok(true)));
+    assert!(rt; matches!(joined_length(rt.alloc(), "y"), Ok(1000)));
+    assert!(rt; matches!(joined_length(rt.alloc(), "yz"), Err(Code::TextTooLong)));
+}
+
+fn is_like(alloc: Global, subject: &str, pattern: &str) -> Result<Truth, AllocError> {
+    let subject = value(alloc, subject)?;
+    let pattern = value(alloc, pattern)?;
+    Ok(like(&subject, &pattern))
+}
+
+/// Whether null is like any text.
+fn null_is_like(alloc: Global) -> Result<Truth, AllocError> {
+    Ok(like(&Value::Null, &value(alloc, "%")?))
 }
 
 #[test]
-fn texts_are_joined_up_to_a_thousand_characters(rt: HostRuntime) -> Result<(), Fail> {
-    let alloc = rt.alloc();
-    let joined = concat(alloc, &value(alloc, "ab")?, &value(alloc, "c")?)?;
-    assert_eq!(rt; joined.is_alike(&value(alloc, "abc")?), true);
-    let long = Text::from_items(Items::from_vec(vec![in alloc; b'x'; 999]?)).ok_or("short")?;
-    let long = Value::Text(long);
-    assert_eq!(rt; concat(alloc, &long, &value(alloc, "y")?).is_ok(), true);
-    let longer = concat(alloc, &long, &value(alloc, "yz")?);
-    assert_eq!(rt; longer.err(), Some(Code::TextTooLong));
-    Ok(())
-}
-
-#[test]
-fn patterns_fit_whole_texts(rt: HostRuntime) -> Result<(), Fail> {
-    let vectors = [
+fn patterns_fit_whole_texts(rt: HostRuntime) {
+    const ROWS: [(&str, &str, Truth); 12] = [
         ("it's", "i_'%", Truth::True),
         ("", "", Truth::True),
         ("", "%%", Truth::True),
@@ -112,114 +164,158 @@ fn patterns_fit_whole_texts(rt: HostRuntime) -> Result<(), Fail> {
         ("100%", "100\\%", Truth::False),
         ("ABC", "abc", Truth::False),
     ];
-    for (subject, pattern, wanted) in vectors {
-        let answer = like(&value(rt.alloc(), subject)?, &value(rt.alloc(), pattern)?);
-        assert_eq!(rt; answer, wanted, "{subject} LIKE {pattern}");
+    for (subject, pattern, wanted) in ROWS {
+        let answer = is_like(rt.alloc(), subject, pattern);
+        assert!(rt; answer == Ok(wanted), "{subject} LIKE {pattern}");
     }
-    assert_eq!(rt;
-        like(&Value::Null, &value(rt.alloc(), "%")?),
-        Truth::Unknown
-    );
-    Ok(())
+    assert!(rt; null_is_like(rt.alloc()) == Ok(Truth::Unknown));
 }
 
-#[test]
-fn many_runs_take_no_long_search(rt: HostRuntime) -> Result<(), Fail> {
-    let alloc = rt.alloc();
-    let mut pattern = vec![in alloc; b'%'; 999]?;
-    for at in 0..pattern.len() {
-        if at % 2 == 1 {
-            pattern[at] = b'a';
-        }
+/// The pattern `%a%a .. %a%b` of a thousand characters.
+fn runs(alloc: Global) -> Result<Value, AllocError> {
+    let mut codes = Vec::new(alloc);
+    for _ in 0..499 {
+        codes.extend_from_slice(b"%a")?;
     }
-    pattern.push(b'b')?;
-    let pattern = Text::from_items(Items::from_vec(pattern)).ok_or("short")?;
-    let subject = Text::from_items(Items::from_vec(vec![in alloc; b'a'; 1000]?)).ok_or("short")?;
-    assert_eq!(rt;
-        like(&Value::Text(subject), &Value::Text(pattern)),
-        Truth::False
-    );
-    Ok(())
+    codes.extend_from_slice(b"%b")?;
+    Ok(Value::Text(text(alloc, codes.as_slice())?))
+}
+
+/// Whether a thousand letters are like these runs.
+fn letters_are_like_runs(alloc: Global) -> Result<Truth, AllocError> {
+    let subject = letters(alloc, b'a', 1000)?;
+    let pattern = runs(alloc)?;
+    Ok(like(&subject, &pattern))
 }
 
 #[test]
-fn storing_cuts_spaces_alone(rt: HostRuntime) -> Result<(), Fail> {
-    let kept = store_as(value(rt.alloc(), "abc  ")?, ColumnType::Varchar(3))?;
-    assert_eq!(rt; kept.is_alike(&value(rt.alloc(), "abc")?), true);
-    let refused = store_as(value(rt.alloc(), "abcd")?, ColumnType::Varchar(3));
-    assert_eq!(rt; refused.err(), Some(Code::TextTooLong));
-    assert_eq!(rt; number(store_as(Value::Int(7), ColumnType::Integer)), Ok(7));
-    Ok(())
+fn many_runs_take_no_long_search(rt: HostRuntime) {
+    assert!(rt; letters_are_like_runs(rt.alloc()) == Ok(Truth::False));
+}
+
+/// What a text is stored as in three characters.
+fn stored(alloc: Global, codes: &str) -> Result<Value, Code> {
+    store_as(value(alloc, codes)?, ColumnType::Varchar(3))
 }
 
 #[test]
-fn codes_have_their_lengths(rt: HostRuntime) -> Result<(), Fail> {
-    let row = [Value::Int(1), value(rt.alloc(), "x")?, Value::Null];
-    assert_eq!(rt; coded_row_length(row.as_slice()), 14);
-    let key = [value(rt.alloc(), "ab")?];
-    assert_eq!(rt; coded_key_length(key.as_slice()), 4);
-    let key = [Value::Null, Value::Int(5)];
-    assert_eq!(rt; coded_index_key_length(key.as_slice()), 18);
-    Ok(())
+fn storing_cuts_spaces_alone(rt: HostRuntime) {
+    assert!(rt; is_text(&stored(rt.alloc(), "abc  "), "abc"));
+    assert!(rt; matches!(stored(rt.alloc(), "abcd"), Err(Code::TextTooLong)));
+    assert!(rt; is_answer(&store_as(Value::Int(7), ColumnType::Integer), Ok(7)));
+}
+
+/// How many bytes the code of a row takes: one, a text and null.
+fn row_length(alloc: Global) -> Result<usize, AllocError> {
+    Ok(coded_row_length(&[Value::Int(1), value(alloc, "x")?, Value::Null]))
+}
+
+/// How many bytes the code of a key takes: a text of two characters.
+fn key_length(alloc: Global) -> Result<usize, AllocError> {
+    Ok(coded_key_length(&[value(alloc, "ab")?]))
+}
+
+#[test]
+fn codes_have_their_lengths(rt: HostRuntime) {
+    assert!(rt; row_length(rt.alloc()) == Ok(14));
+    assert!(rt; key_length(rt.alloc()) == Ok(4));
+    assert!(rt; coded_index_key_length(&[Value::Null, Value::Int(5)]) == 18);
+}
+
+/// Whether the row 1, null, 3 has this key in these columns.
+fn matches_key(columns: &[usize], key: &[Value]) -> bool {
+    row_matches(columns, key, &[Value::Int(1), Value::Null, Value::Int(3)])
 }
 
 #[test]
 fn nulls_match_no_key(rt: HostRuntime) {
-    let row = [Value::Int(1), Value::Null, Value::Int(3)];
-    let matches = |columns: &[usize], key: &[Value]| row_matches(columns, key, row.as_slice());
-    assert_eq!(rt; matches(&[2, 0], &[Value::Int(3), Value::Int(1)]), true);
-    assert_eq!(rt; matches(&[2, 0], &[Value::Int(1), Value::Int(3)]), false);
-    assert_eq!(rt; matches(&[1], &[Value::Null]), false);
+    assert!(rt; matches_key(&[2, 0], &[Value::Int(3), Value::Int(1)]));
+    assert!(rt; !matches_key(&[2, 0], &[Value::Int(1), Value::Int(3)]));
+    assert!(rt; !matches_key(&[1], &[Value::Null]));
 }
 
-#[test]
-fn names_are_looked_up(rt: HostRuntime) -> Result<(), Fail> {
-    let alloc = rt.alloc();
-    let mut columns = Items::new(alloc);
-    let mut constraints = Items::new(alloc);
-    let mut indexes = Items::new(alloc);
-    let mut tables = Items::new(alloc);
-    columns.push(Column {
-        name: text(alloc, "A")?,
-        column_type: ColumnType::Integer,
-    })?;
-    columns.push(Column {
-        name: text(alloc, "B")?,
-        column_type: ColumnType::Varchar(9),
-    })?;
-    constraints.push(Constraint {
-        name: text(alloc, "#1")?,
-        rule: Rule::NotNull(0),
-    })?;
-    indexes.push(Index {
-        name: None,
-        columns: Items::new(alloc),
-        owner: Some(0),
-        root: 0,
-    })?;
-    let name = Some(text(alloc, "I")?);
-    indexes.push(Index {
+/// A list of these.
+fn list<T: Drop, const N: usize>(alloc: Global, these: [T; N]) -> Result<Items<T>, AllocError> {
+    Ok(Items::from_vec(Vec::from_array(alloc, these)?))
+}
+
+fn column(alloc: Global, name: &[u8], column_type: ColumnType) -> Result<Column, AllocError> {
+    Ok(Column {
+        name: text(alloc, name)?,
+        column_type,
+    })
+}
+
+fn columns(alloc: Global) -> Result<Items<Column>, AllocError> {
+    let first = column(alloc, b"A", ColumnType::Integer)?;
+    let second = column(alloc, b"B", ColumnType::Varchar(9))?;
+    list(alloc, [first, second])
+}
+
+fn constraints(alloc: Global) -> Result<Items<Constraint>, AllocError> {
+    let name = text(alloc, b"#1")?;
+    list(
+        alloc,
+        [Constraint {
+            name,
+            rule: Rule::NotNull(0),
+        }],
+    )
+}
+
+fn index(alloc: Global, name: Option<Text>, owner: Option<usize>) -> Index {
+    Index {
         name,
         columns: Items::new(alloc),
-        owner: None,
+        owner,
         root: 0,
-    })?;
-    tables.push(Table {
-        name: text(alloc, "T")?,
+    }
+}
+
+/// An index without a name and one with the name I.
+fn indexes(alloc: Global) -> Result<Items<Index>, AllocError> {
+    let name = text(alloc, b"I")?;
+    list(
+        alloc,
+        [index(alloc, None, Some(0)), index(alloc, Some(name), None)],
+    )
+}
+
+fn table(alloc: Global) -> Result<Table, AllocError> {
+    let columns = columns(alloc)?;
+    let constraints = constraints(alloc)?;
+    let indexes = indexes(alloc)?;
+    Ok(Table {
+        name: text(alloc, b"T")?,
         columns,
         constraints,
         indexes,
         root: 0,
-    })?;
+    })
+}
+
+/// Whether the table and its index are found by their names, and no others.
+fn has_tables(schema: &Schema) -> bool {
+    schema.find_table(b"T") == Some(0)
+        && schema.find_table(b"TT").is_none()
+        && schema.find_index(b"I") == Some(IndexPlace { table: 0, index: 1 })
+}
+
+/// Whether the second column of the first table is found, and no other.
+fn has_columns(schema: &Schema) -> bool {
+    match schema.tables.get(0) {
+        Some(table) => table.find_column(b"B") == Some(1) && table.find_column(b"C").is_none(),
+        None => false,
+    }
+}
+
+fn are_looked_up(alloc: Global) -> Result<bool, AllocError> {
+    let tables = list(alloc, [table(alloc)?])?;
     let schema = Schema { tables };
-    assert_eq!(rt; schema.find_table(b"T".as_slice()), Some(0));
-    assert_eq!(rt; schema.find_table(b"TT".as_slice()), None);
-    assert_eq!(rt;
-        schema.find_index(b"I".as_slice()),
-        Some(IndexPlace { table: 0, index: 1 })
-    );
-    let table = schema.tables.get(0).ok_or("there is a table")?;
-    assert_eq!(rt; table.find_column(b"B".as_slice()), Some(1));
-    assert_eq!(rt; table.find_column(b"C".as_slice()), None);
-    Ok(())
+    Ok(has_tables(&schema) && has_columns(&schema))
+}
+
+#[test]
+fn names_are_looked_up(rt: HostRuntime) {
+    assert!(rt; matches!(are_looked_up(rt.alloc()), Ok(true)));
 }

@@ -1,7 +1,6 @@
 //! The deepest texts that the limits allow: 64 parentheses, each at the first operand of a chain of 64 operands.
 
-use super::limits::repeated;
-use super::play;
+use super::{prints, repeated};
 use std::alloc::{AllocError, Global};
 use std::test::Fail;
 use std::thread;
@@ -35,7 +34,7 @@ const PRINTED: &str = "00000\n00000 1\n4096\n(1 rows)\n";
 fn the_deepest_texts_run_on_the_main_thread(rt: HostRuntime) -> Result<(), Fail> {
     let alloc = rt.alloc();
     let script = deepest(alloc)?;
-    assert!(rt; play(alloc, script.as_bytes(), PRINTED.as_bytes())?);
+    assert!(rt; prints(alloc, script.as_str(), PRINTED));
     Ok(())
 }
 
@@ -43,9 +42,7 @@ fn the_deepest_texts_run_on_the_main_thread(rt: HostRuntime) -> Result<(), Fail>
 fn the_deepest_texts_run_on_a_spawned_thread(rt: HostRuntime) -> Result<(), Fail> {
     let alloc = rt.alloc();
     let script = deepest(alloc)?;
-    let child = thread::spawn(&rt, move || {
-        matches!(play(alloc, script.as_bytes(), PRINTED.as_bytes()), Ok(true))
-    });
+    let child = thread::spawn(&rt, move || prints(alloc, script.as_str(), PRINTED));
     match child {
         Ok(child) => assert!(rt; child.join(&rt)),
         Err(_) => assert!(rt; false, "no thread could be made"),

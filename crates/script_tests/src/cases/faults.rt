@@ -1,6 +1,6 @@
 //! Readers and writers that fail.
 
-use super::{plain, run_over_lists};
+use super::status_over;
 use std::io;
 use std::io::{Read, Write};
 use std::test::Fail;
@@ -57,9 +57,7 @@ fn pieces_that_ended_before_a_fault_of_the_reader_are_carried_out(
         at: 0,
     };
     let mut writer = Vec::new(alloc);
-    let settings = plain(alloc)?;
-    let status = run_over_lists(alloc, &settings, &mut reader, &mut writer);
-    assert!(rt; status == 3);
+    assert!(rt; status_over(alloc, &mut reader, &mut writer) == Some(3));
     assert!(rt; writer.as_slice() == b"00000\nERROR X0002\n".as_slice());
     Ok(())
 }
@@ -72,9 +70,7 @@ fn a_beginning_is_printed_before_a_fault_of_the_writer(rt: HostRuntime) -> Resul
         taken: Vec::new(alloc),
         room: 9,
     };
-    let settings = plain(alloc)?;
-    let status = run_over_lists(alloc, &settings, &mut reader, &mut writer);
-    assert!(rt; status == 3);
+    assert!(rt; status_over(alloc, &mut reader, &mut writer) == Some(3));
     assert!(rt; writer.taken.as_slice() == b"00000\nERR".as_slice());
     Ok(())
 }

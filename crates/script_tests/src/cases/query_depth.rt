@@ -1,8 +1,7 @@
 //! Deep and wide queries, on the main thread and on a spawned one. The deepest chain of set operators that 65,536 bytes allow is run by
 //! `bench/command_line.sh`: the frames of a test that is not optimized are larger.
 
-use super::limits::repeated;
-use super::play;
+use super::{prints, repeated};
 use std::alloc::{AllocError, Global};
 use std::process::Abort;
 use std::test::Fail;
@@ -52,12 +51,10 @@ fn check_twice(
     let alloc = rt.alloc();
     let wanted = format!(in alloc; "00000\n00000 1\n{printed}")?;
     assert!(rt;
-        play(alloc, script.as_bytes(), wanted.as_bytes())?,
+        prints(alloc, script.as_str(), wanted.as_str()),
         "on the main thread"
     );
-    let child = thread::spawn(rt, move || {
-        matches!(play(alloc, script.as_bytes(), wanted.as_bytes()), Ok(true))
-    });
+    let child = thread::spawn(rt, move || prints(alloc, script.as_str(), wanted.as_str()));
     match child {
         Ok(child) => assert!(rt; child.join(rt), "on a spawned thread"),
         Err(_) => assert!(rt; false, "no thread could be made"),

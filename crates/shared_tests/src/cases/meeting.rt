@@ -3,7 +3,6 @@
 use super::side_by_side::answer;
 use shared::Gate;
 use std::sync::atomic::{AtomicBool, Ordering};
-use std::test::Fail;
 
 /// How often a script looks for the other's flag.
 const MOST_TURNS: u64 = 1_000_000_000;
@@ -57,7 +56,7 @@ impl Gate for Flags {
 }
 
 #[test]
-fn two_scripts_meet(rt: HostRuntime) -> Result<(), Fail> {
+fn two_scripts_meet(rt: HostRuntime) {
     let flags = Flags {
         first: Flag::new(),
         second: Flag::new(),
@@ -66,5 +65,4 @@ fn two_scripts_meet(rt: HostRuntime) -> Result<(), Fail> {
     let printed = ["00000\n", "00000\n"];
     assert!(rt; answer(&rt, rt.alloc(), scripts, &flags, printed));
     assert!(rt; flags.first.has_found() && flags.second.has_found());
-    Ok(())
 }

@@ -3,7 +3,6 @@
 //! With ample memory these tests compare replies. `rt try --test --fail-alloc N` has the Nth allocation fail.
 
 use super::turns::{Turn, go};
-use std::test::Fail;
 
 /// Queries of each kind.
 const QUERIES: [Turn; 14] = [
@@ -85,14 +84,27 @@ const TWO_SESSIONS: [Turn; 14] = [
     Turn::Says(1, "SELECT A FROM T", "5\n6\n(2 rows)\n"),
 ];
 
+/// Rows of which one does not fit.
+const INSERTS: [Turn; 6] = [
+    Turn::Begins(0),
+    Turn::Says(0, "CREATE TABLE T (V VARCHAR(3))", "00000\n"),
+    Turn::Says(0, "COMMIT", "00000\n"),
+    Turn::Says(0, "INSERT INTO T VALUES ('abc  ')", "00000 1\n"),
+    Turn::Says(0, "INSERT INTO T VALUES ('abcd')", "ERROR 22001\n"),
+    Turn::Says(0, "SELECT V FROM T", "'abc'\n(1 rows)\n"),
+];
+
 #[test]
-fn queries_can_be_given_again(rt: HostRuntime) -> Result<(), Fail> {
+fn queries_can_be_given_again(rt: HostRuntime) {
     assert!(rt; go(rt.alloc(), &QUERIES));
-    Ok(())
 }
 
 #[test]
-fn statements_of_two_sessions_can_be_given_again(rt: HostRuntime) -> Result<(), Fail> {
+fn inserts_can_be_given_again(rt: HostRuntime) {
+    assert!(rt; go(rt.alloc(), &INSERTS));
+}
+
+#[test]
+fn statements_of_two_sessions_can_be_given_again(rt: HostRuntime) {
     assert!(rt; go(rt.alloc(), &TWO_SESSIONS));
-    Ok(())
 }

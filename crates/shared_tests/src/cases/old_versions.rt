@@ -3,7 +3,6 @@
 use super::turns::Seats;
 use list_store::{ListStore, Lists};
 use std::alloc::Global;
-use std::test::Fail;
 use store::Store;
 
 /// Whether a store has room for 64 sessions and no more, and the others read what they found while the first commits a row a thousand times.
@@ -61,10 +60,7 @@ fn commits_a_row<S: Store>(seats: &mut Seats<S>) -> bool {
 }
 
 #[test]
-fn the_others_read_what_they_found_while_one_commits_a_thousand_times(
-    rt: HostRuntime,
-) -> Result<(), Fail> {
+fn the_others_read_what_they_found_while_one_commits_a_thousand_times(rt: HostRuntime) {
     let alloc = rt.alloc();
     assert!(rt; reads_on::<ListStore>(alloc, Lists::new(alloc)));
-    Ok(())
 }

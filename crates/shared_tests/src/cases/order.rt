@@ -3,7 +3,6 @@
 use super::side_by_side::answer;
 use shared::Gate;
 use std::sync::{Condvar, Mutex, Wait};
-use std::test::Fail;
 
 /// The texts of the first script; the last one only tells that the one before it has ended.
 const FIRST: [&str; 5] = [
@@ -74,7 +73,7 @@ fn place_of(script: usize, call: usize) -> usize {
 
 /// The second script may not store a row while the first has one that is not committed, and may once it is rolled back.
 #[test]
-fn one_script_writes_at_a_time(rt: HostRuntime) -> Result<(), Fail> {
+fn one_script_writes_at_a_time(rt: HostRuntime) {
     let scripts: [&[&str]; 2] = [&FIRST, &SECOND];
     let printed = [
         "00000\n00000\n00000 1\n00000\n00000\n",
@@ -82,5 +81,4 @@ fn one_script_writes_at_a_time(rt: HostRuntime) -> Result<(), Fail> {
     ];
     let gate = InOrder::new(&rt);
     assert!(rt; answer(&rt, rt.alloc(), scripts, &gate, printed));
-    Ok(())
 }

@@ -1,5 +1,6 @@
 //! Devices that refuse one call of a run, each in turn: what is printed, and what the next run finds.
 use super::sample::sample_device;
+use super::{Memory, steady};
 use disk::{FaultyDisk, MemDisk};
 use paged::Paged;
 use shell::{EndedRun, Settings, run_to_end, settings};
@@ -89,13 +90,7 @@ fn played(
         is_told: _is_told,
         device,
         unclosed: _core,
-    } = run_to_end::<Paged<FaultyDisk<MemDisk>>, _, _>(
-        alloc,
-        settings,
-        device,
-        &mut reader,
-        &mut printed,
-    );
+    } = run_to_end::<Paged<Memory>, _, _>(alloc, settings, device, &mut reader, &mut printed);
     match device {
         Some(device) => (
             printed,
@@ -109,7 +104,8 @@ fn played(
 fn rows_in(alloc: Global, settings: &Settings<'_>, device: MemDisk, query: &str) -> Vec<u8> {
     let mut reader = query.as_bytes();
     let mut printed = Vec::new(alloc);
-    let _ = run_to_end::<Paged<MemDisk>, _, _>(alloc, settings, device, &mut reader, &mut printed);
+    let device = steady(device);
+    let _ = run_to_end::<Paged<Memory>, _, _>(alloc, settings, device, &mut reader, &mut printed);
     printed
 }
 
@@ -117,8 +113,15 @@ fn rows_in(alloc: Global, settings: &Settings<'_>, device: MemDisk, query: &str)
 fn left_by(alloc: Global, settings: &Settings<'_>, script: &str) -> Option<MemDisk> {
     let mut reader = script.as_bytes();
     let mut printed = Vec::new(alloc);
-    let empty = MemDisk::new(alloc);
-    run_to_end::<Paged<MemDisk>, _, _>(alloc, settings, empty, &mut reader, &mut printed).device
+    let empty = steady(MemDisk::new(alloc));
+    let ended = run_to_end::<Paged<Memory>, _, _>(
+        alloc,
+        settings,
+        empty,
+        &mut reader,
+        &mut printed,
+    );
+    Some(ended.device?.into_inner())
 }
 
 /// Whether this was printed and these rows found; or, where the device is not handed back, this was printed and then that the device had refused.

@@ -1,5 +1,5 @@
 //! Scripts over one device in memory, one after another.
-use super::{FRAMES, check, status_of};
+use super::{FRAMES, check, status_of, steady};
 use crate::cases::worked::{CHANGED, WORKED, Worked};
 use disk::MemDisk;
 use lives::run_twice_over_pages;
@@ -29,7 +29,7 @@ fn is_kept(alloc: Global, settings: &Settings<'_>) -> bool {
     let ended = run_twice_over_pages(
         alloc,
         settings,
-        MemDisk::new(alloc),
+        steady(MemDisk::new(alloc)),
         &mut first,
         &mut second,
         &mut writer,
@@ -57,7 +57,7 @@ fn each_over_pages(rt: &(impl Abort + AllocGlobal), rows: &[Worked]) -> Result<(
     for words in &FRAMES {
         let settings = settings(rt.alloc(), words)?;
         for (script, printed, _asked, _left) in rows {
-            let device = Ok(MemDisk::new(rt.alloc()));
+            let device = Ok(steady(MemDisk::new(rt.alloc())));
             check(rt, &settings, device, script, printed, status_of(printed))?;
         }
     }

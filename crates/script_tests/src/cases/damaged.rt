@@ -1,5 +1,5 @@
 //! Devices that hold no database.
-use super::{FRAMES, check};
+use super::{FRAMES, check, steady};
 use disk::MemDisk;
 use shell::settings;
 use std::process::Abort;
@@ -16,7 +16,7 @@ fn zeros(rt: &(impl Abort + AllocGlobal), front: &[u8], length: usize) -> Result
 fn is_damaged(rt: &(impl Abort + AllocGlobal), front: &[u8], length: usize) -> Result<(), Fail> {
     for words in &FRAMES {
         let settings = settings(rt.alloc(), words)?;
-        let device = Ok(zeros(rt, front, length)?);
+        let device = Ok(steady(zeros(rt, front, length)?));
         check(rt, &settings, device, "COMMIT;", "ERROR X0004\n", 3)?;
     }
     Ok(())
@@ -46,7 +46,7 @@ fn a_page_without_the_magic_is_damaged(rt: HostRuntime) -> Result<(), Fail> {
 fn the_first_page_alone_has_no_tables(rt: HostRuntime) -> Result<(), Fail> {
     for words in &FRAMES {
         let settings = settings(rt.alloc(), words)?;
-        let device = Ok(zeros(&rt, b"RSQLPG01\0\0\0\x01", 4096)?);
+        let device = Ok(steady(zeros(&rt, b"RSQLPG01\0\0\0\x01", 4096)?));
         check(
             &rt,
             &settings,

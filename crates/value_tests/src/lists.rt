@@ -1,22 +1,23 @@
+//! Stores of tables in lists: each call once, where there is enough memory.
+
 use denote::{Row, Rows};
 use items::{Items, Text};
 use list_store::{ListStore, Lists};
 use sqlval::{Column, ColumnType, Index, Table, Value};
 use std::alloc::{AllocError, Global};
 use std::ops::Bound;
-use std::test::Fail;
 use store::{Numbered, Position, Reading, Seen, Store, StoreError, StoreLimit, View};
 
-fn text_of(codes: Vec<u8>) -> Result<Text, Fail> {
-    Ok(Text::from_items(Items::from_vec(codes)).ok_or("a text has printable characters")?)
+fn text_of(codes: Vec<u8>) -> Result<Text, AllocError> {
+    Text::from_items(Items::from_vec(codes)).ok_or(AllocError)
 }
 
-fn text(alloc: Global, codes: &str) -> Result<Text, Fail> {
+fn text(alloc: Global, codes: &str) -> Result<Text, AllocError> {
     text_of(codes.as_bytes().to_vec(alloc)?)
 }
 
 /// A table of one column of integers.
-fn table(alloc: Global, name: &Text) -> Result<Table, Fail> {
+fn table(alloc: Global, name: &Text) -> Result<Table, AllocError> {
     let mut columns = Items::new(alloc);
     columns.push(Column {
         name: text(alloc, "A")?,
@@ -87,12 +88,11 @@ fn add<S: Store>(
 }
 
 /// Makes a table, and puts 7 and 8 into it; then they are committed.
-fn fill<S: Store>(alloc: Global, store: &mut S, name: &Text) -> Result<(), Fail> {
+fn fill<S: Store>(alloc: Global, store: &mut S, name: &Text) -> Result<(), StoreError> {
     store.mark()?;
     store.create_table(table(alloc, name)?)?;
     store.append(name, rows(alloc, &[7, 8])?)?;
-    store.commit()?;
-    Ok(())
+    store.commit()
 }
 
 /// A store over no lists.
@@ -103,7 +103,7 @@ fn new_store(alloc: Global) -> Result<ListStore, StoreError> {
     }
 }
 
-fn reader_begins<S: Store>(alloc: Global, store: &mut S, name: &Text) -> Result<bool, Fail> {
+fn reader_begins<S: Store>(alloc: Global, store: &mut S, name: &Text) -> Result<bool, StoreError> {
     let before = store.number(3);
     store.begin(3)?;
     add(alloc, store, name, &[9])?;
@@ -112,7 +112,7 @@ fn reader_begins<S: Store>(alloc: Global, store: &mut S, name: &Text) -> Result<
     Ok(before.is_none() && store.number(3) == Some(1) && newest && found)
 }
 
-fn reader_keeps<S: Store>(alloc: Global, store: &mut S, name: &Text) -> Result<bool, Fail> {
+fn reader_keeps<S: Store>(alloc: Global, store: &mut S, name: &Text) -> Result<bool, StoreError> {
     store.commit()?;
     let left = store.flush()?;
     let kept = scanned(alloc, store, View::Found(3), name, (&[0, 1], &[7, 8]))?;
@@ -122,17 +122,13 @@ fn reader_keeps<S: Store>(alloc: Global, store: &mut S, name: &Text) -> Result<b
     Ok(left == 0 && store.commits() == 2 && kept && counted && store.number(3).is_none() && newest)
 }
 
-#[test]
-fn readers_keep_the_version_that_they_found(rt: HostRuntime) -> Result<(), Fail> {
-    let name = text(rt.alloc(), "T")?;
-    let mut store = new_store(rt.alloc())?;
-    fill(rt.alloc(), &mut store, &name)?;
-    assert!(rt; reader_begins(rt.alloc(), &mut store, &name)?);
-    assert!(rt; reader_keeps(rt.alloc(), &mut store, &name)?);
-    Ok(())
-}
-
-fn undone<S: Store>(alloc: Global, store: &mut S, name: &Text, other: &Text) -> Result<bool, Fail> {
+/// Whether a table of another name and rows that are not committed can be undone.
+fn undone<S: Store>(
+    alloc: Global,
+    store: &mut S,
+    name: &Text,
+    other: &Text,
+) -> Result<bool, StoreError> {
     add(alloc, store, name, &[9])?;
     store.mark()?;
     store.create_table(table(alloc, other)?)?;
@@ -148,14 +144,11 @@ fn undone<S: Store>(alloc: Global, store: &mut S, name: &Text, other: &Text) -> 
     Ok(there && gone && kept && dropped)
 }
 
-#[test]
-fn what_is_not_committed_can_be_undone(rt: HostRuntime) -> Result<(), Fail> {
-    let name = text(rt.alloc(), "T")?;
-    let other = text(rt.alloc(), "U")?;
-    let mut store = new_store(rt.alloc())?;
-    fill(rt.alloc(), &mut store, &name)?;
-    assert!(rt; undone(rt.alloc(), &mut store, &name, &other)?);
-    Ok(())
+/// Whether a reader keeps the version that it found.
+fn readers_keep<S: Store>(alloc: Global, store: &mut S, name: &Text) -> Result<bool, StoreError> {
+    let begun = reader_begins(alloc, store, name)?;
+    let kept = reader_keeps(alloc, store, name)?;
+    Ok(begun && kept)
 }
 
 /// The store, opened again.
@@ -167,26 +160,6 @@ fn reopened(alloc: Global, store: ListStore) -> Result<ListStore, StoreError> {
         },
         Err(refused) => Err(refused.error),
     }
-}
-
-#[test]
-fn committed_tables_are_there_when_it_is_opened_again(rt: HostRuntime) -> Result<(), Fail> {
-    let name = text(rt.alloc(), "T")?;
-    let mut store = new_store(rt.alloc())?;
-    fill(rt.alloc(), &mut store, &name)?;
-    add(rt.alloc(), &mut store, &name, &[9])?;
-    let mut again = reopened(rt.alloc(), store)?;
-    assert_eq!(rt; again.commits(), 0);
-    assert!(rt;
-        scanned(
-            rt.alloc(),
-            &mut again,
-            View::Working,
-            &name,
-            (&[0, 1], &[7, 8])
-        )?
-    );
-    Ok(())
 }
 
 /// The number of the first row above a number.
@@ -218,45 +191,23 @@ fn come_one_by_one<R: Reading>(
     )
 }
 
-#[test]
-fn rows_come_one_by_one(rt: HostRuntime) -> Result<(), Fail> {
-    let name = text(rt.alloc(), "T")?;
-    let mut store = new_store(rt.alloc())?;
-    fill(rt.alloc(), &mut store, &name)?;
-    let mut seen = Seen {
-        store: &mut store,
-        view: View::Working,
-    };
-    assert!(rt; come_one_by_one(rt.alloc(), &mut seen, &name)?);
-    Ok(())
-}
-
 /// Rows of which the last has a text of 998 characters.
-fn too_long(alloc: Global) -> Result<Rows, Fail> {
+fn too_long(alloc: Global) -> Result<Rows, AllocError> {
     let mut rows = rows(alloc, &[9])?;
     let long = text_of(vec![in alloc; b'x'; 998]?)?;
     rows.push(row(alloc, Value::Text(long))?)?;
     Ok(rows)
 }
 
-fn is_refused<S: Store>(alloc: Global, store: &mut S, name: &Text) -> Result<bool, Fail> {
+fn is_refused<S: Store>(alloc: Global, store: &mut S, name: &Text) -> Result<bool, StoreError> {
     store.mark()?;
     let refused = store.append(name, too_long(alloc)?);
     let kept = scanned(alloc, store, View::Working, name, (&[0, 1], &[7, 8]))?;
     Ok(refused == Err(StoreError::Exceeded(StoreLimit::Record)) && kept)
 }
 
-#[test]
-fn a_row_that_is_too_long_is_refused(rt: HostRuntime) -> Result<(), Fail> {
-    let name = text(rt.alloc(), "T")?;
-    let mut store = new_store(rt.alloc())?;
-    fill(rt.alloc(), &mut store, &name)?;
-    assert!(rt; is_refused(rt.alloc(), &mut store, &name)?);
-    Ok(())
-}
-
 /// Replaces the first row and deletes the second; what comes then has the next number.
-fn changed<S: Store>(alloc: Global, store: &mut S, name: &Text) -> Result<bool, Fail> {
+fn changed<S: Store>(alloc: Global, store: &mut S, name: &Text) -> Result<bool, StoreError> {
     store.mark()?;
     store.replace(name, 0, row(alloc, Value::Int(70))?)?;
     store.replace(name, 5, row(alloc, Value::Int(75))?)?;
@@ -270,16 +221,7 @@ fn changed<S: Store>(alloc: Global, store: &mut S, name: &Text) -> Result<bool, 
     Ok(left && more && undone)
 }
 
-#[test]
-fn rows_are_replaced_and_deleted(rt: HostRuntime) -> Result<(), Fail> {
-    let name = text(rt.alloc(), "T")?;
-    let mut store = new_store(rt.alloc())?;
-    fill(rt.alloc(), &mut store, &name)?;
-    assert!(rt; changed(rt.alloc(), &mut store, &name)?);
-    Ok(())
-}
-
-fn dropped<S: Store>(alloc: Global, store: &mut S, name: &Text) -> Result<bool, Fail> {
+fn dropped<S: Store>(alloc: Global, store: &mut S, name: &Text) -> Result<bool, StoreError> {
     store.mark()?;
     store.drop_table(name)?;
     store.prepare(View::Working)?;
@@ -290,15 +232,6 @@ fn dropped<S: Store>(alloc: Global, store: &mut S, name: &Text) -> Result<bool, 
     let anew = scanned(alloc, store, View::Working, name, (&[0], &[9]))?;
     let committed = scanned(alloc, store, View::Found(1), name, (&[0, 1], &[7, 8]))?;
     Ok(gone && empty && anew && committed)
-}
-
-#[test]
-fn a_table_that_was_dropped_can_be_made_again(rt: HostRuntime) -> Result<(), Fail> {
-    let name = text(rt.alloc(), "T")?;
-    let mut store = new_store(rt.alloc())?;
-    fill(rt.alloc(), &mut store, &name)?;
-    assert!(rt; dropped(rt.alloc(), &mut store, &name)?);
-    Ok(())
 }
 
 /// An index over the first column.
@@ -357,7 +290,12 @@ fn walks<R: Reading>(alloc: Global, reading: &mut R, name: &Text) -> Result<bool
 }
 
 /// Whether an index finds rows, and finds none once it is dropped.
-fn finds<S: Store>(alloc: Global, store: &mut S, name: &Text, index: &Text) -> Result<bool, Fail> {
+fn finds<S: Store>(
+    alloc: Global,
+    store: &mut S,
+    name: &Text,
+    index: &Text,
+) -> Result<bool, StoreError> {
     store.mark()?;
     store.append(name, rows(alloc, &[9, 6, 8])?)?;
     store.create_index(name, first_column(alloc, index)?)?;
@@ -373,12 +311,108 @@ fn finds<S: Store>(alloc: Global, store: &mut S, name: &Text, index: &Text) -> R
     Ok(sought && ranged && walked && dropped)
 }
 
+/// What is tried of a store that has a table with two rows.
+#[derive(Clone, Copy)]
+enum Trial {
+    Readers,
+    Undone,
+    OneByOne,
+    TooLong,
+    Changed,
+    Dropped,
+    Index,
+}
+
+/// Whether it goes as it should.
+fn goes<S: Store>(
+    alloc: Global,
+    store: &mut S,
+    name: &Text,
+    trial: Trial,
+) -> Result<bool, StoreError> {
+    fill(alloc, store, name)?;
+    match trial {
+        Trial::Readers => readers_keep(alloc, store, name),
+        Trial::Undone => undone(alloc, store, name, &text(alloc, "U")?),
+        Trial::OneByOne => {
+            let view = View::Working;
+            come_one_by_one(alloc, &mut Seen { store, view }, name)
+        }
+        Trial::TooLong => is_refused(alloc, store, name),
+        Trial::Changed => changed(alloc, store, name),
+        Trial::Dropped => dropped(alloc, store, name),
+        Trial::Index => finds(alloc, store, name, &text(alloc, "I")?),
+    }
+}
+
+fn tried(alloc: Global, trial: Trial) -> Result<bool, StoreError> {
+    let name = text(alloc, "T")?;
+    let mut store = new_store(alloc)?;
+    goes(alloc, &mut store, &name, trial)
+}
+
 #[test]
-fn an_index_finds_rows(rt: HostRuntime) -> Result<(), Fail> {
-    let name = text(rt.alloc(), "T")?;
-    let index = text(rt.alloc(), "I")?;
-    let mut store = new_store(rt.alloc())?;
-    fill(rt.alloc(), &mut store, &name)?;
-    assert!(rt; finds(rt.alloc(), &mut store, &name, &index)?);
-    Ok(())
+fn readers_keep_the_version_that_they_found(rt: HostRuntime) {
+    assert!(rt; tried(rt.alloc(), Trial::Readers) == Ok(true));
+}
+
+#[test]
+fn what_is_not_committed_can_be_undone(rt: HostRuntime) {
+    assert!(rt; tried(rt.alloc(), Trial::Undone) == Ok(true));
+}
+
+#[test]
+fn rows_come_one_by_one(rt: HostRuntime) {
+    assert!(rt; tried(rt.alloc(), Trial::OneByOne) == Ok(true));
+}
+
+#[test]
+fn a_row_that_is_too_long_is_refused(rt: HostRuntime) {
+    assert!(rt; tried(rt.alloc(), Trial::TooLong) == Ok(true));
+}
+
+#[test]
+fn rows_are_replaced_and_deleted(rt: HostRuntime) {
+    assert!(rt; tried(rt.alloc(), Trial::Changed) == Ok(true));
+}
+
+#[test]
+fn a_table_that_was_dropped_can_be_made_again(rt: HostRuntime) {
+    assert!(rt; tried(rt.alloc(), Trial::Dropped) == Ok(true));
+}
+
+#[test]
+fn an_index_finds_rows(rt: HostRuntime) {
+    assert!(rt; tried(rt.alloc(), Trial::Index) == Ok(true));
+}
+
+/// Whether a store that is opened again has what was committed, and no more.
+fn committed_is_there(alloc: Global, store: ListStore, name: &Text) -> Result<bool, StoreError> {
+    let mut again = reopened(alloc, store)?;
+    let found = scanned(alloc, &mut again, View::Working, name, (&[0, 1], &[7, 8]));
+    Ok(again.commits() == 0 && found == Ok(true))
+}
+
+/// A store with two rows, and a third one that is not committed.
+fn filled(alloc: Global, name: &Text) -> Result<ListStore, StoreError> {
+    let mut store = new_store(alloc)?;
+    match fill_and_add(alloc, &mut store, name) {
+        Ok(()) => Ok(store),
+        Err(error) => Err(error),
+    }
+}
+
+fn fill_and_add<S: Store>(alloc: Global, store: &mut S, name: &Text) -> Result<(), StoreError> {
+    fill(alloc, store, name)?;
+    add(alloc, store, name, &[9])
+}
+
+fn is_opened_again(alloc: Global) -> Result<bool, StoreError> {
+    let name = text(alloc, "T")?;
+    committed_is_there(alloc, filled(alloc, &name)?, &name)
+}
+
+#[test]
+fn committed_tables_are_there_when_it_is_opened_again(rt: HostRuntime) {
+    assert!(rt; is_opened_again(rt.alloc()) == Ok(true));
 }

@@ -3,6 +3,7 @@
 //! Its pages: 1 the catalogue; 2 and 3 the four rows of READERS and their key; 4 and 8 the leaves of BOOKS, of 44 rows, under page 9; 5, 6 and 7 the indexes of BOOKS, the last one LENT_TO;
 //! 11 and then 10 are free.
 use super::sample::sample_device;
+use super::{Memory, steady};
 use disk::MemDisk;
 use paged::Paged;
 use shell::{Settings, run_to_end, settings};
@@ -117,10 +118,10 @@ fn prints(
 ) -> bool {
     let mut reader = script.as_bytes();
     let mut writer = Vec::new(alloc);
-    let ended = run_to_end::<Paged<MemDisk>, _, _>(
+    let ended = run_to_end::<Paged<Memory>, _, _>(
         alloc,
         settings,
-        device,
+        steady(device),
         &mut reader,
         &mut writer,
     );

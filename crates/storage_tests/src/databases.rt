@@ -1,3 +1,4 @@
+//! Databases over pages in memory.
 ghost use Rattle.std.specs.Prelude.{◌≡◌, IfOk};
 ghost use Rattle.std.specs.List.{AllByRecursion};
 
@@ -10,9 +11,7 @@ use page_database::{
 use page_space::Fault;
 use page_tables::{read_schema, scan};
 use sqlval::{Column, ColumnType, Index, Table, Value};
-use std::alloc::Global;
-use std::process::Abort;
-use std::test::Fail;
+use std::alloc::{AllocError, Global};
 
 fn text(alloc: Global, codes: &[u8]) -> Result<Text, DatabaseError> {
     match Text::from_items(Items::from_slice(alloc, codes)?) {
@@ -71,7 +70,7 @@ fn table(alloc: Global) -> Result<Table, DatabaseError>
     })
 }
 
-fn row(alloc: Global, one: i64, other: i64) -> Result<Row, DatabaseError> {
+fn row(alloc: Global, one: i64, other: i64) -> Result<Row, AllocError> {
     let mut row = Items::new(alloc);
     row.push(Value::Int(one))?;
     row.push(Value::Int(other))?;
@@ -79,7 +78,7 @@ fn row(alloc: Global, one: i64, other: i64) -> Result<Row, DatabaseError> {
 }
 
 /// The rows (0, 0), (1, 1) up to (count - 1, count - 1).
-fn rows(alloc: Global, count: i64) -> Result<Rows, DatabaseError> {
+fn rows(alloc: Global, count: i64) -> Result<Rows, AllocError> {
     let mut rows = Items::new(alloc);
     for number in 0..count {
         rows.push(row(alloc, number, number)?)?;
@@ -87,29 +86,34 @@ fn rows(alloc: Global, count: i64) -> Result<Rows, DatabaseError> {
     Ok(rows)
 }
 
+/// A new table, its root.
+fn empty(space: &mut MemorySpace, alloc: Global) -> Result<u32, DatabaseError> {
+    let table = table(alloc)?;
+    create_table(space, alloc, 0, &table)
+}
+
 /// A table with 90 rows, its root.
 fn filled(space: &mut MemorySpace, alloc: Global, name: &Text) -> Result<u32, DatabaseError> {
-    let table = table(alloc)?;
-    let root = create_table(space, alloc, 0, &table)?;
+    let root = empty(space, alloc)?;
     append(space, alloc, root, name, rows(alloc, 90)?)
 }
 
-/// How many rows the table has.
-fn count(space: &mut MemorySpace, alloc: Global, root: u32, name: &Text) -> Option<usize> {
+/// Whether the table has so many rows.
+fn has_rows(space: &mut MemorySpace, alloc: Global, root: u32, name: &Text, count: usize) -> bool {
     match scan(space, alloc, root, name) {
-        Ok(found) => Some(found.rows.len()),
-        Err(_) => None,
+        Ok(found) => found.rows.len() == count,
+        Err(_) => false,
     }
 }
 
-/// How many indexes the first table has.
-fn indexes(space: &mut MemorySpace, alloc: Global, root: u32) -> Option<usize> {
+/// Whether the first table has so many indexes.
+fn has_indexes(space: &mut MemorySpace, alloc: Global, root: u32, count: usize) -> bool {
     match read_schema(space, alloc, root) {
         Ok(schema) => match schema.tables.get(0) {
-            Some(table) => Some(table.indexes.len()),
-            None => None,
+            Some(table) => table.indexes.len() == count,
+            None => false,
         },
-        Err(_) => None,
+        Err(_) => false,
     }
 }
 
@@ -128,41 +132,79 @@ fn changed(
     Ok(root)
 }
 
-#[test]
-fn rows_are_put_deleted_and_replaced(rt: HostRuntime) -> Result<(), Fail> {
-    let alloc = rt.alloc();
-    let mut space = MemorySpace::new(alloc);
+fn rows_change(space: &mut MemorySpace, alloc: Global, name: &Text) -> Result<bool, DatabaseError> {
+    let root = filled(space, alloc, name)?;
+    let begun = has_rows(space, alloc, root, name, 90);
+    let root = changed(space, alloc, root, name)?;
+    Ok(begun && has_rows(space, alloc, root, name, 45))
+}
+
+/// The second index comes.
+fn indexed(
+    space: &mut MemorySpace,
+    alloc: Global,
+    root: u32,
+    name: &Text,
+) -> Result<u32, DatabaseError> {
+    create_index(space, alloc, root, name, index(alloc, b"J")?)
+}
+
+/// The first index goes.
+fn unindexed(space: &mut MemorySpace, alloc: Global, root: u32) -> Result<u32, DatabaseError> {
+    let first = text(alloc, b"I")?;
+    drop_index(space, alloc, root, &first)
+}
+
+fn indexes_change(
+    space: &mut MemorySpace,
+    alloc: Global,
+    name: &Text,
+) -> Result<bool, DatabaseError> {
+    let root = filled(space, alloc, name)?;
+    let root = indexed(space, alloc, root, name)?;
+    let two = has_indexes(space, alloc, root, 2);
+    let root = unindexed(space, alloc, root)?;
+    let one = has_indexes(space, alloc, root, 1);
+    let root = changed(space, alloc, root, name)?;
+    Ok(two && one && has_rows(space, alloc, root, name, 45))
+}
+
+fn table_goes(space: &mut MemorySpace, alloc: Global, name: &Text) -> Result<bool, DatabaseError> {
+    let root = filled(space, alloc, name)?;
+    let root = drop_table(space, alloc, root, name)?;
+    Ok(root == 0)
+}
+
+/// What is tried of a new space of pages.
+#[derive(Clone, Copy)]
+enum Trial {
+    Rows,
+    Indexes,
+    Table,
+}
+
+/// Whether it goes as it should.
+fn goes(alloc: Global, trial: Trial) -> Result<bool, DatabaseError> {
     let name = text(alloc, b"T")?;
-    let root = filled(&mut space, alloc, &name)?;
-    assert_eq!(rt; count(&mut space, alloc, root, &name), Some(90));
-    let root = changed(&mut space, alloc, root, &name)?;
-    assert_eq!(rt; count(&mut space, alloc, root, &name), Some(45));
-    Ok(())
+    let mut space = MemorySpace::new(alloc);
+    match trial {
+        Trial::Rows => rows_change(&mut space, alloc, &name),
+        Trial::Indexes => indexes_change(&mut space, alloc, &name),
+        Trial::Table => table_goes(&mut space, alloc, &name),
+    }
 }
 
 #[test]
-fn indexes_come_and_go(rt: HostRuntime) -> Result<(), Fail> {
-    let alloc = rt.alloc();
-    let mut space = MemorySpace::new(alloc);
-    let name = text(alloc, b"T")?;
-    let root = filled(&mut space, alloc, &name)?;
-    let root = create_index(&mut space, alloc, root, &name, index(alloc, b"J")?)?;
-    assert_eq!(rt; indexes(&mut space, alloc, root), Some(2));
-    let other = text(alloc, b"I")?;
-    let root = drop_index(&mut space, alloc, root, &other)?;
-    assert_eq!(rt; indexes(&mut space, alloc, root), Some(1));
-    let root = changed(&mut space, alloc, root, &name)?;
-    assert_eq!(rt; count(&mut space, alloc, root, &name), Some(45));
-    Ok(())
+fn rows_are_put_deleted_and_replaced(rt: HostRuntime) {
+    assert!(rt; matches!(goes(rt.alloc(), Trial::Rows), Ok(true)));
 }
 
 #[test]
-fn a_table_goes(rt: HostRuntime) -> Result<(), Fail> {
-    let alloc = rt.alloc();
-    let mut space = MemorySpace::new(alloc);
-    let name = text(alloc, b"T")?;
-    let root = filled(&mut space, alloc, &name)?;
-    let root = drop_table(&mut space, alloc, root, &name)?;
-    assert_eq!(rt; root, 0);
-    Ok(())
+fn indexes_come_and_go(rt: HostRuntime) {
+    assert!(rt; matches!(goes(rt.alloc(), Trial::Indexes), Ok(true)));
+}
+
+#[test]
+fn a_table_goes(rt: HostRuntime) {
+    assert!(rt; matches!(goes(rt.alloc(), Trial::Table), Ok(true)));
 }

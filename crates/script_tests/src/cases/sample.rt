@@ -1,5 +1,6 @@
 //! The sample file of the folder `examples`: its script, and the digest of the file that the script has to leave, byte for byte. `./test` looks whether both files there have these
 //! digests. `tools/pages`, which is written by the page on the format alone, prints the file.
+use super::{Memory, steady};
 use disk::MemDisk;
 use hex::encode;
 use paged::Paged;
@@ -65,14 +66,14 @@ fn has_digest(alloc: Global, bytes: &[u8], digest: &str) -> bool {
 pub(super) fn sample_device(alloc: Global, settings: &Settings<'_>) -> Option<MemDisk> {
     let mut reader = SCRIPT.as_bytes();
     let mut writer = Vec::new(alloc);
-    let ended = run_to_end::<Paged<MemDisk>, _, _>(
+    let ended = run_to_end::<Paged<Memory>, _, _>(
         alloc,
         settings,
-        MemDisk::new(alloc),
+        steady(MemDisk::new(alloc)),
         &mut reader,
         &mut writer,
     );
-    ended.device
+    Some(ended.device?.into_inner())
 }
 
 /// Whether the sample's script leaves the sample's bytes.

@@ -3,8 +3,7 @@
 use denote::{Row, Rows};
 use items::Items;
 use sqlval::Value;
-use std::alloc::Global;
-use std::test::Fail;
+use std::alloc::{AllocError, Global};
 
 fn value(number: Option<i64>) -> Value {
     match number {
@@ -13,7 +12,7 @@ fn value(number: Option<i64>) -> Value {
     }
 }
 
-fn row(alloc: Global, numbers: &[Option<i64>]) -> Result<Row, Fail> {
+fn row(alloc: Global, numbers: &[Option<i64>]) -> Result<Row, AllocError> {
     let mut row = Items::new(alloc);
     for number in numbers {
         row.push(value(*number))?;
@@ -21,11 +20,19 @@ fn row(alloc: Global, numbers: &[Option<i64>]) -> Result<Row, Fail> {
     Ok(row)
 }
 
-/// Rows of so many columns, their values one after another.
-pub fn rows(alloc: Global, rows: &[&[Option<i64>]]) -> Result<Rows, Fail> {
+pub(super) fn rows(alloc: Global, rows: &[&[Option<i64>]]) -> Result<Rows, AllocError> {
     let mut made = Items::new(alloc);
     for numbers in rows {
         made.push(row(alloc, *numbers)?)?;
+    }
+    Ok(made)
+}
+
+/// Rows of one column.
+pub(super) fn column(alloc: Global, numbers: &[Option<i64>]) -> Result<Rows, AllocError> {
+    let mut made = Items::new(alloc);
+    for number in numbers {
+        made.push(row(alloc, &[*number])?)?;
     }
     Ok(made)
 }
@@ -51,12 +58,25 @@ fn is_row(row: &Row, wanted: &[Option<i64>]) -> bool {
 }
 
 /// Whether these are the rows, in this order.
-pub fn are(rows: &Rows, wanted: &[&[Option<i64>]]) -> bool {
+pub(super) fn are(rows: &Rows, wanted: &[&[Option<i64>]]) -> bool {
     if rows.len() != wanted.len() {
         return false;
     }
     for (row, wanted) in rows.as_slice().iter().zip(wanted.iter()) {
         if !is_row(row, *wanted) {
+            return false;
+        }
+    }
+    true
+}
+
+/// Whether these are the rows, of one column, in this order.
+pub(super) fn are_column(rows: &Rows, wanted: &[Option<i64>]) -> bool {
+    if rows.len() != wanted.len() {
+        return false;
+    }
+    for (row, wanted) in rows.as_slice().iter().zip(wanted.iter()) {
+        if !is_row(row, &[*wanted]) {
             return false;
         }
     }

@@ -1,4 +1,5 @@
 //! Devices that refuse a call.
+use super::Memory;
 use disk::{FaultyDisk, MemDisk};
 use paged::Paged;
 use shell::{EndedRun, Settings, run_to_end, settings};
@@ -18,11 +19,11 @@ fn played(
     alloc: Global,
     settings: &Settings<'_>,
     passed: u64,
-) -> (Vec<u8>, EndedRun<Paged<FaultyDisk<MemDisk>>>) {
+) -> (Vec<u8>, EndedRun<Paged<Memory>>) {
     let device = FaultyDisk::new(MemDisk::new(alloc), passed, true);
     let mut reader = SCRIPT.as_bytes();
     let mut writer = Vec::new(alloc);
-    let ended = run_to_end::<Paged<FaultyDisk<MemDisk>>, _, _>(
+    let ended = run_to_end::<Paged<Memory>, _, _>(
         alloc,
         settings,
         device,

@@ -1,5 +1,0 @@
-//! Tests of trees over pages in memory.
-#![tactic(auto)]
-
-#[cfg(test)]
-mod trees;
