@@ -53,12 +53,13 @@ def at_a_time():
     return max(1, min(len(os.sched_getaffinity(0)), free // MEMORY_OF_A_CHECK))
 
 
-def copy_crate(room, crate, without=(), with_library=False):
-    """Copies what the crate is made of into the room, and the library where it is proved already."""
+def copy_crate(room, crate, kept=()):
+    """Copies what the crate is made of into the room, and these folders of its out/, if they are all there and it is proved already."""
     whole, part = "%s/crates/%s" % (TOP, crate), "%s/crates/%s" % (room, crate)
-    shutil.copytree(whole, part, ignore=shutil.ignore_patterns("out", *without))
-    if with_library and os.path.isfile(whole + "/out/rlib/stamp"):
-        shutil.copytree(whole + "/out/rlib", part + "/out/rlib", symlinks=True)
+    shutil.copytree(whole, part, ignore=shutil.ignore_patterns("out"))
+    if os.path.isfile(whole + "/out/rlib/stamp") and all(os.path.isdir("%s/out/%s" % (whole, it)) for it in kept):
+        for it in kept:
+            shutil.copytree("%s/out/%s" % (whole, it), "%s/out/%s" % (part, it), symlinks=True)
 
 
 def list_crates(room, crates):
@@ -83,35 +84,38 @@ def prove(crate, log):
         return crate.build_rlib(["--jobs", "1"], False) == 0
 
 
-def prove_all(crates, room, tell):
-    """Proves these crates, each once those below it are proved. Returns those that are, and the one that was refused first."""
-    ways, proved, refused, running = ways_up(crates), set(), None, {}
+def prove_all(crates, room, tell, afterwards):
+    """Proves these crates, each once those below it are proved, and does for each what comes afterwards, where no other waits to be proved. Returns the one that was refused first, if any."""
+    ways, proved, refused, running, behind = ways_up(crates), set(), None, {}, []
     left = sorted(crates, key=lambda it: -ways[it.name])
     lanes = at_a_time()
     with ThreadPoolExecutor(lanes) as pool:
-        while running or left and refused is None:
+        while running or behind or left and refused is None:
             ready = [it for it in left if all(below.name in proved for below in it.below())] if refused is None else []
             for crate in ready[:lanes - len(running)]:
                 left.remove(crate)
                 running[pool.submit(prove, crate, "%s/%s.log" % (room, crate.name))] = crate
+            while behind and len(running) < lanes:
+                running[pool.submit(afterwards, behind.pop(0))] = None
             for done in wait(running, return_when=FIRST_COMPLETED).done:
-                crate = running.pop(done)
-                if done.result():
+                crate, is_proved = running.pop(done), done.result()
+                if crate and is_proved:
                     proved.add(crate.name)
                     tell(crate.name)
-                else:
+                    behind += [crate.name] if afterwards else []
+                elif crate:
                     refused = refused or crate
-    return proved, refused
+    return refused
 
 
-def build(room, wanted, tell=lambda name: None):
-    """Proves these libraries, whose copies stand in the room, where that is not done. Tells of each once it is proved. Returns whether all are."""
+def build(room, wanted, tell=lambda name: None, afterwards=None):
+    """Proves these libraries, whose copies stand in the room, where that is not done, and does for each what comes afterwards. Tells of each once it is proved. Returns whether all are."""
     shutil.copy(TOP + "/HANDLES", room)
     list_crates(room, wanted)
     toolchain = runpy.run_path(os.path.realpath(shutil.which("rt")), run_name="toolchain")["rtlib"]
     # It sets a signal's handler, which only the main thread may.
     toolchain.guarded()
-    _, refused = prove_all(toolchain.crates_below(room), room, tell)
+    refused = prove_all(toolchain.crates_below(room), room, tell, afterwards)
     if refused:
         with open("%s/%s.log" % (room, refused.name), encoding="utf-8") as log:
             print("".join(log.readlines()[-40:]), file=sys.stderr)

@@ -13,4 +13,3 @@ pub use options::Settings;
 pub use page_frames::{DEFAULT_FRAMES, Frames, GREATEST_FRAMES, LEAST_FRAMES};
 pub use program::{run_over_pages, sqlsh};
 pub use run::{EndedRun, run_to_end};
-pub use telling::tell;

@@ -1,14 +1,16 @@
 //! The program.
-ghost use Rattle.std.specs.Prelude.{◌≡◌, ◌≢◌, ◌⊎◌, [], IfOk, OnErr, IsTrue};
+ghost use Rattle.std.specs.Prelude.{◌≡◌, ◌≢◌, ◌⊎◌, ℕ, List, [], Option, None, map, IfOk, OnErr, IsTrue};
 ghost use Rattle.clap.specs.Words.{kind_of};
 ghost use Rattle.denote.specs.Database.{Database, IsGood};
 ghost use Rattle.session_definitions.specs.Rules.{Rules, AreRules};
 ghost use Rattle.session_definitions.specs.World.{new_world, opened};
 ghost use Rattle.scripts.specs.Played.{between};
 ghost use Rattle.scripts.specs.Settled.{store_of};
+ghost use Rattle.shell.specs.Alone.{EndsAlone, RunsAlone};
 ghost use Rattle.shell.specs.Runs.{Ends, HasRefused, IsNotOpened, Leaves, Runs};
 ghost use Rattle.shell.specs.Status.{IsStatus};
 ghost use Rattle.shell.specs.Tells.{Tells};
+ghost use Rattle.shell.specs.Words.{Asks, name_of};
 
 use crate::command_line::settings;
 use crate::options::Settings;
@@ -20,55 +22,90 @@ use paged::Paged;
 use refusals::Refusal;
 use session_laws::databases_stay_good;
 use std::alloc::Global;
+use std::convert::AsStr;
 use std::fs::{File, Files};
-use std::io::{BufWriter, Read, Write};
-use std::rt::Env;
-use std::{env, io};
+use std::io::{Read, Write};
 use store::Store;
 
 /// The exit status of a command line that asks for nothing that there is.
 const WRONG_WORDS: u8 = 2;
 
-/// Does what the command line of `sqlsh` asks for, and answers the exit status. What a run leaves of its device, `run_over_pages` says, which hands it back; the device ends here.
-pub fn sqlsh<R: Env + Files<File = File> + Input + Print + Eprint + AllocGlobal>(rt: &R) -> u8
-    ensures { (result ≡ 2) ⊎ IsStatus result }
+/// Does what the words of a command line of `sqlsh` ask for, of which the first is the program's name, from reader to writer, and answers the exit status. Words that ask for nothing that there
+/// is are told of on the runtime's own streams, with nothing read or written here: status 2, or 0 where they ask for help. Others run a script over the tables in FILE, where they name one,
+/// and else over new tables on a device in memory, and the status is that of the run. What a run leaves of its device, `run_over_pages` says, which hands it back; the device ends here.
+///
+/// That it is FILE that is opened is tested: what a file is, no contract of the runtime says.
+pub fn sqlsh<P: Files<File = File> + Print + Eprint + AllocGlobal, S: AsStr, R: Read, W: Write>(
+    rt: &P,
+    words: &[S],
+    reader: &mut R,
+    writer: &mut W,
+) -> u8
+    ensures asked { (count : ℕ) (file : Option (List ℕ)) → Asks (map S.text words.now) count file
+        → EndsAlone (between (R.remaining reader.old) (R.remaining reader.new) (W.contents writer.old) (W.contents writer.new)) result }
+    ensures in_memory { (count : ℕ) → Asks (map S.text words.now) count None → (rules : Rules) → AreRules rules
+        → RunsAlone rules new_world (between (R.remaining reader.old) (R.remaining reader.new) (W.contents writer.old) (W.contents writer.new)) result }
+    ensures others { ((count : ℕ) (file : Option (List ℕ)) → Asks (map S.text words.now) count file → ⊥)
+        → (R.remaining reader.new ≡ R.remaining reader.old) × (W.contents writer.new ≡ W.contents writer.old) × ((result ≡ 0) ⊎ (result ≡ 2)) }
 {
-    let alloc = rt.alloc();
-    let Ok(words) = words(rt, alloc) else {
-        return WRONG_WORDS;
-    };
-    let settings = match settings(alloc, words.as_slice()) {
-        Ok(settings) => settings,
-        Err(error) => return told(rt, &error),
-    };
-    match BufWriter::new(alloc, io::writer(rt)) {
-        Ok(mut writer) => run_asked(rt, alloc, &settings, &mut writer),
-        Err(_) => run_asked(rt, alloc, &settings, &mut io::writer(rt)),
+    match settings(rt.alloc(), words) {
+        Ok(settings) => run_asked(rt, &settings, reader, writer),
+        Err(error) => told(rt, &error),
     }
 }
 
 /// Does what `sqlsh run` does: over the tables in FILE, where it is asked for, and else over tables on a device in memory.
-fn run_asked<R: Files<File = File> + Input, W: Write>(
-    rt: &R,
-    alloc: Global,
+fn run_asked<P: Files<File = File> + AllocGlobal, R: Read, W: Write>(
+    rt: &P,
     settings: &Settings<'_>,
+    reader: &mut R,
     writer: &mut W,
 ) -> u8
-    ensures { IsStatus result }
+    ensures ends { EndsAlone (between (R.remaining reader.old) (R.remaining reader.new) (W.contents writer.old) (W.contents writer.new)) result }
+    ensures in_memory { name_of settings.now.file ≡ None → (rules : Rules) → AreRules rules
+        → RunsAlone rules new_world (between (R.remaining reader.old) (R.remaining reader.new) (W.contents writer.old) (W.contents writer.new)) result }
 {
-    let mut reader = rt.reader();
     match settings.file {
-        Some(path) => {
-            let device = FileDisk::open(rt, path);
-            let ended = run_over_pages(alloc, settings, device, &mut reader, writer);
-            ended.status
-        }
-        None => {
-            let device: Result<MemDisk, DiskError> = Ok(MemDisk::new(alloc));
-            let ended = run_over_pages(alloc, settings, device, &mut reader, writer);
-            ended.status
-        }
+        Some(path) => run_over_file(
+            rt.alloc(),
+            settings,
+            FileDisk::open(rt, path),
+            reader,
+            writer,
+        ),
+        None => run_in_memory(rt.alloc(), settings, reader, writer),
     }
+}
+
+/// Does what `sqlsh run` does over the tables in a file, or says that it could not be opened.
+fn run_over_file<R: Read, W: Write>(
+    alloc: Global,
+    settings: &Settings<'_>,
+    file: Result<FileDisk, DiskError>,
+    reader: &mut R,
+    writer: &mut W,
+) -> u8
+    requires { IfOk file (λ device. device.refused ≡ 0) }
+    ensures { EndsAlone (between (R.remaining reader.old) (R.remaining reader.new) (W.contents writer.old) (W.contents writer.new)) result }
+{
+    let ended = run_over_pages(alloc, settings, file, reader, writer);
+    ended.status
+}
+
+/// Does what `sqlsh run` does over new tables on a device in memory.
+fn run_in_memory<R: Read, W: Write>(
+    alloc: Global,
+    settings: &Settings<'_>,
+    reader: &mut R,
+    writer: &mut W,
+) -> u8
+    ensures ends { EndsAlone (between (R.remaining reader.old) (R.remaining reader.new) (W.contents writer.old) (W.contents writer.new)) result }
+    ensures runs { (rules : Rules) → AreRules rules
+        → RunsAlone rules new_world (between (R.remaining reader.old) (R.remaining reader.new) (W.contents writer.old) (W.contents writer.new)) result }
+{
+    let device: Result<MemDisk, DiskError> = Ok(MemDisk::new(alloc));
+    let ended = run_over_pages(alloc, settings, device, reader, writer);
+    ended.status
 }
 
 /// Does what `sqlsh run` does over the tables in the pages of a device, as `run_to_end` does over any store, or says that the device could not be opened.
@@ -104,12 +141,8 @@ pub fn run_over_pages<D: Disk + Drop, R: Read, W: Write>(
 fn told<R: Print + Eprint>(rt: &R, error: &Error) -> u8
     ensures help { (kind_of error.now ≡ ErrorKind.DisplayHelp) ⊎ (kind_of error.now ≡ ErrorKind.DisplayVersion) → result ≡ 0 }
     ensures fault { kind_of error.now ≢ ErrorKind.DisplayHelp → kind_of error.now ≢ ErrorKind.DisplayVersion → result ≡ 2 }
+    ensures status { (result ≡ 0) ⊎ (result ≡ 2) }
 {
     let _ = error.print(rt);
     if error.use_stderr() { WRONG_WORDS } else { 0 }
-}
-
-/// The words of the command line, the program's name first.
-fn words<R: Env + AllocGlobal>(rt: &R, alloc: Global) -> io::Result<Vec<String>> {
-    Ok(env::args(rt)?.collect(alloc)?)
 }

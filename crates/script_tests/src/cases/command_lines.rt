@@ -1,5 +1,6 @@
 use shell::{DEFAULT_FRAMES, settings, sqlsh};
 use std::alloc::Global;
+use std::fs::{File, Files};
 use std::test::Fail;
 
 /// Whether the words ask for so many frames and this file.
@@ -68,9 +69,23 @@ fn other_words_are_faults(rt: HostRuntime) -> Result<(), Fail> {
     Ok(())
 }
 
-/// The words of a test's own command line ask for nothing that there is.
+/// Whether a program of these words prints this of a script, and ends with this status.
+fn ends<R: Files<File = File> + Print + Eprint + AllocGlobal>(
+    rt: &R,
+    words: &[&str],
+    script: &str,
+    printed: &str,
+    status: u8,
+) -> bool {
+    let mut reader = script.as_bytes();
+    let mut writer = Vec::new(rt.alloc());
+    let found = sqlsh(rt, words, &mut reader, &mut writer);
+    found == status && writer.as_slice() == printed.as_bytes()
+}
+
 #[test]
-fn a_wrong_command_line_is_status_2(rt: HostRuntime) -> Result<(), Fail> {
-    assert!(rt; sqlsh(&rt) == 2);
+fn a_command_line_has_its_status(rt: HostRuntime) -> Result<(), Fail> {
+    assert!(rt; ends(&rt, &["sqlsh"], "COMMIT;", "", 2));
+    assert!(rt; ends(&rt, &["sqlsh", "run"], "COMMIT;", "00000\n", 0));
     Ok(())
 }

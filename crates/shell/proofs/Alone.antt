@@ -1,0 +1,40 @@
+-- A run whose device is not handed back.
+use Rattle.std.proofs.Common.{◌≡◌, ℕ, Bool, List, Option, Some, None, Result, Ok, Err, subst}
+use Rattle.std.specs.Prelude.{IfOk, IfSome, OnErr}
+use Rattle.std.specs.Borrow.{Bor}
+use Rattle.denote.specs.Database.{IsGood}
+use Rattle.refusals.specs.declared.refusal.Refusal.TheVariants.{Disk}
+use Rattle.session_definitions.specs.Rules.{Rules}
+use Rattle.session_definitions.specs.World.{World}
+use Rattle.scripts.specs.Played.{Streams, between}
+use Rattle.shell.specs.Alone.{EndsAlone, RunsAlone}
+use Rattle.shell.specs.Runs.{Ends, Left, Runs, ScriptEnds, database_in}
+use Rattle.shell.specs.Tells.{Tells}
+use Rattle.shell.specs.Words.{name_of}
+
+-- a file that is named has a name
+pub has_name : (file : Option (Bor (List ℕ))) (path : Bor (List ℕ)) → file ≡ Some path → name_of file ≡ None → ⊥
+has_name file path is none = let bad : Some path.now ≡ None = subst (λ (f : Option (Bor (List ℕ))). name_of f ≡ None) is none in cc
+
+module _ {D C : Type 0} (settled : D → Type 0) (calls : D → ℕ) (refused : C → ℕ) (streams : Streams) (status : ℕ) (is_told : Bool) (device : Option D) (core : Option C) where
+  pub ends_alone : (before : ℕ) → before ≡ 0 → Ends settled calls refused before streams status is_told device core → EndsAlone streams status
+  ends_alone before none (Ends.not_opened h) = EndsAlone.not_opened is_told h.refusal h.unread h.told h.failed
+  ends_alone before none (Ends.closed back there synced least script) =
+      EndsAlone.closed is_told (calls back) (subst (λ (n : ℕ). ScriptEnds streams n status is_told (calls back)) none script)
+  ends_alone before none (Ends.not_closed was after was_told mid script told is gone risen counted) =
+      EndsAlone.not_closed is_told was_told was after mid (subst (λ (n : ℕ). ScriptEnds (between streams.given streams.left streams.held mid) n was was_told after) none script) told is
+
+  -- over a device that was opened, or was not
+  pub ends_over : {E : Type 0} (opened : Result D E) → IfOk opened (λ found. calls found ≡ 0) → IfOk opened (λ found. Ends settled calls refused (calls found) streams status is_told device core)
+      → OnErr opened ((streams.left ≡ streams.given) × Tells Disk is_told streams.held streams.holds × (status ≡ 3)) → EndsAlone streams status
+  ends_over (Ok found) none ends failed = ends_alone (calls found) none ends
+  ends_over (Err error) none ends failed = EndsAlone.not_opened is_told Disk failed.0 failed.1 failed.2
+
+module _ (rules : Rules) (old : World) (streams : Streams) (status : ℕ) (is_told : Bool) where
+  runs_so : (P Q : Left → Type 0) → ((left : Left) → P left → Q left) → Runs rules old streams status is_told P → Runs rules old streams status is_told Q
+  runs_so P Q so (Runs.not_opened refusal stops unread told is left) = Runs.not_opened refusal stops unread told is (so _ left)
+  runs_so P Q so (Runs.closed end carried left) = Runs.closed end carried (so _ left)
+  runs_so P Q so (Runs.not_closed before was_told mid end carried told is left) = Runs.not_closed before was_told mid end carried told is (so _ left)
+
+  pub runs_alone : (P : Left → Type 0) → Runs rules old streams status is_told P → ((left : Left) → P left → IfSome (database_in left) (IsGood rules.check)) → RunsAlone rules old streams status
+  runs_alone P ran good = record { is_told = is_told; runs = runs_so _ _ good ran }
