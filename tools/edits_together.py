@@ -153,7 +153,8 @@ class Trial:
                 self.say(edit, True, goal)
 
     def try_alone(self, edit):
-        is_refused, said = self.toolchain["must_fail"](self.crate, edit.path, ["--jobs", "1"], self.kept)
+        kind, said = self.toolchain["must_fail"](self.crate, edit.path, ["--jobs", "1"], self.kept)
+        is_refused = kind in (self.toolchain["REFUSED"], self.toolchain["AT_LIMIT"])
         self.say(edit, is_refused and "only because a proof file names" not in said, said)
 
     def run(self, most):
