@@ -4,4 +4,3 @@ pub mod ScriptsShown
 pub mod Histories
 pub mod Endings
 pub mod AllCut
-pub mod Alone
