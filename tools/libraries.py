@@ -79,9 +79,10 @@ def ways_up(crates):
 
 
 def prove(crate, log):
-    """Proves a library and builds it. What the toolchain says stands in the log. Returns whether it is proved."""
+    """Proves a crate, and builds it where it is a library. What the toolchain says stands in the log. Returns whether it is proved."""
     with open(log, "w", encoding="utf-8") as crate.out:
-        return crate.build_rlib(["--jobs", "1"], False) == 0
+        status = crate.check(["--jobs", "1"]) if crate.is_program else crate.build_rlib(["--jobs", "1"], False)
+        return status == 0
 
 
 def prove_all(crates, room, tell, afterwards):
