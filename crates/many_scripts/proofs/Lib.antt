@@ -4,3 +4,4 @@ pub mod ScriptsShown
 pub mod Histories
 pub mod Endings
 pub mod AllCut
+pub mod Alone

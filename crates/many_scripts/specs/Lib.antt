@@ -4,3 +4,4 @@ pub mod Handed
 pub mod Shown
 pub mod Many
 pub mod Words
+pub mod Alone
