@@ -25,14 +25,15 @@ import time
 TOP = os.path.dirname(os.path.dirname(os.path.realpath(__file__)))
 FOLDERS = ("must-fail", "wrong-bodies")
 FUNCTION = re.compile(r"^(\s*)(?:pub(?:\([a-z]+\))? )?(?:const )?(?:unsafe )?fn (\w+)")
-# What the toolchain says where an edit took away what a proof file names.
+# What the toolchain says where an edit took away what a proof file names, and where it says only what that name is.
 TOOK_A_NAME = re.compile(r"(note: )?(\./)?proofs/.*(has no field|is not in scope|has no `|was not admitted)")
+ONLY_A_NAME = re.compile(r"refused, as it must be: \S*proofs/\S+ error: `[^`]*`: `goal\.[^`]*`?$")
 IN_CODE = re.compile(r"(?:note: )?(?:\./)?(src/\S+?):(\d+):\d+: (.*)")
 IN_PROOF = re.compile(r"(?:note: )?(?:\./)?proofs/(\S+?):\d+:\d+: (.*)")
 
 
 class Function:
-    """A function of a file, with the lines that it takes."""
+    """A function of a file, with the lines that it takes, its attributes and docs among them: a goal may stand at the first of these."""
 
     def __init__(self, name, first, last):
         self.name, self.first, self.last = name, first, last
@@ -45,7 +46,8 @@ def functions_of(text):
         head = FUNCTION.match(line)
         if head:
             ends = (it for it in range(at, len(lines)) if lines[it] in (head[1] + "}", head[1] + "{}") or it == at and line.endswith("{}"))
-            found.append(Function(head[2], at + 1, next(ends, at) + 1))
+            first = next(it for it in range(at, -1, -1) if it == 0 or not lines[it - 1].strip() or lines[it - 1].endswith(("{", "}", ";")))
+            found.append(Function(head[2], first + 1, next(ends, at) + 1))
     return found
 
 
@@ -97,9 +99,11 @@ class Edit:
     def told(self, output):
         """The lines of a check that say that something of this edit's function is not proved."""
         module = [it for it in self.file[len("src/"):-len(".rt")].split("/") if it not in ("lib", "main", "mod")]
-        found = []
-        for line in output.split("\n"):
+        found, lines = [], output.split("\n")
+        for line, after in zip(lines, [*lines[1:], ""]):
             code, proof = IN_CODE.match(line), IN_PROOF.match(line)
+            # what is wrong with a long name is said on the next line
+            line += after if line.endswith("`") and after.startswith("  ") else ""
             if code:
                 is_goal = line.startswith("note: ") or code[3].startswith("error")
                 if is_goal and code[1] == self.file and self.first <= int(code[2]) <= self.last:
@@ -107,8 +111,9 @@ class Edit:
             elif proof and proof[2].startswith("error"):  # a note there says of a term that it is large, and of no goal that it is open
                 parts = proof[1].split("/")
                 if any(it.startswith("+") for it in parts):
-                    # the proofs of a cycle stand in one file, each goal under the name of its function
-                    if re.search(r"`(?:[\w+-]*-)?%s-" % re.escape(self.function), proof[2]):
+                    # the proofs of a cycle stand in one file, each goal under the name of its function, with its module before it or without
+                    goal = re.search(r"`(?:[\w+-]*-)?((?:\w+::)*)%s-" % re.escape(self.function), proof[2])
+                    if goal and (not goal[1] or set(module) <= set(goal[1].split("::"))):
                         found.append(line)
                 elif self.function in parts and set(module) <= set(parts):
                     found.append(line)
@@ -154,8 +159,9 @@ class Trial:
 
     def try_alone(self, edit):
         kind, said = self.toolchain["must_fail"](self.crate, edit.path, ["--jobs", "1"], self.kept)
-        is_refused = kind in (self.toolchain["REFUSED"], self.toolchain["AT_LIMIT"])
-        self.say(edit, is_refused and "only because a proof file names" not in said, said)
+        # Some kits answer with whether it was refused, others with a word.
+        is_refused = kind in ([self.toolchain[it] for it in ("REFUSED", "AT_LIMIT") if it in self.toolchain] or [True])
+        self.say(edit, is_refused and "only because a proof file names" not in said and not ONLY_A_NAME.search(said), said)
 
     def run(self, most):
         """Tries all edits over a copy of the kept work, over which the crate itself has to be proved at the end."""

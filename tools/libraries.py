@@ -85,8 +85,8 @@ def prove(crate, log):
         return status == 0
 
 
-def prove_all(crates, room, tell, afterwards):
-    """Proves these crates, each once those below it are proved, and does for each what comes afterwards, where no other waits to be proved. Returns the one that was refused first, if any."""
+def prove_all(crates, room, tell, afterwards, takes):
+    """Proves these crates, each once those below it are proved, and does for each what comes afterwards, where no other waits to be proved: first where that takes longest. Returns the one that was refused first, if any."""
     ways, proved, refused, running, behind = ways_up(crates), set(), None, {}, []
     left = sorted(crates, key=lambda it: -ways[it.name])
     lanes = at_a_time()
@@ -96,8 +96,9 @@ def prove_all(crates, room, tell, afterwards):
             for crate in ready[:lanes - len(running)]:
                 left.remove(crate)
                 running[pool.submit(prove, crate, "%s/%s.log" % (room, crate.name))] = crate
+            behind.sort(key=takes)
             while behind and len(running) < lanes:
-                running[pool.submit(afterwards, behind.pop(0))] = None
+                running[pool.submit(afterwards, behind.pop())] = None
             for done in wait(running, return_when=FIRST_COMPLETED).done:
                 crate, is_proved = running.pop(done), done.result()
                 if crate and is_proved:
@@ -109,14 +110,14 @@ def prove_all(crates, room, tell, afterwards):
     return refused
 
 
-def build(room, wanted, tell=lambda name: None, afterwards=None):
-    """Proves these libraries, whose copies stand in the room, where that is not done, and does for each what comes afterwards. Tells of each once it is proved. Returns whether all are."""
+def build(room, wanted, tell=lambda name: None, afterwards=None, takes=lambda name: 0):
+    """Proves these libraries, whose copies stand in the room, where that is not done, and does for each what comes afterwards, which takes some seconds. Tells of each once it is proved. Returns whether all are."""
     shutil.copy(TOP + "/HANDLES", room)
     list_crates(room, wanted)
     toolchain = runpy.run_path(os.path.realpath(shutil.which("rt")), run_name="toolchain")["rtlib"]
     # It sets a signal's handler, which only the main thread may.
     toolchain.guarded()
-    refused = prove_all(toolchain.crates_below(room), room, tell, afterwards)
+    refused = prove_all(toolchain.crates_below(room), room, tell, afterwards, takes)
     if refused:
         with open("%s/%s.log" % (room, refused.name), encoding="utf-8") as log:
             print("".join(log.readlines()[-40:]), file=sys.stderr)
