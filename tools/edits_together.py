@@ -26,8 +26,8 @@ TOP = os.path.dirname(os.path.dirname(os.path.realpath(__file__)))
 FOLDERS = ("must-fail", "wrong-bodies")
 FUNCTION = re.compile(r"^(\s*)(?:pub(?:\([a-z]+\))? )?(?:const )?(?:unsafe )?fn (\w+)")
 # What the toolchain says where an edit took away what a proof file names, and where it says only what that name is.
-TOOK_A_NAME = re.compile(r"(note: )?(\./)?proofs/.*(has no field|is not in scope|has no `|was not admitted)")
-ONLY_A_NAME = re.compile(r"refused, as it must be: \S*proofs/\S+ error: `[^`]*`: `goal\.[^`]*`?$")
+TOOK_A_NAME = re.compile(r"(note: )?(\./)?proofs/.*(has no field|is not in scope|has no `|was not admitted|record `[^`]*` \(nearest: )")
+ONLY_A_NAME = re.compile(r"refused, as it must be: \S*proofs/\S+ error: `[^`]*`: (?:record )?`[^`]*(`( \(nearest: .*)?)?\s*$")
 IN_CODE = re.compile(r"(?:note: )?(?:what antt said of a `search` in the proof that rattle made: )?(?:\./)?(src/\S+?):(\d+):\d+: (.*)")
 IN_PROOF = re.compile(r"(?:note: )?(?:\./)?proofs/(\S+?):\d+:\d+: (.*)")
 
