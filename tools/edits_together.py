@@ -7,7 +7,7 @@
                                                   the last line is 'N refused, M not refused'. CRATE/NAME,NAME tries these
                                                   edits of the crate alone
 
-Much quicker than ./wrong-bodies, which tries one edit at a time, and as strict: an edit counts as refused where a goal of
+./wrong-bodies does this for each crate, once it has proved it. An edit counts as refused where a goal of
 its function stays open whose line does not only say that a proof file names what the edit took away. What is not told
 apart in a group (a function that calls another edited one, an edit of no function) is tried again with the rest, and at
 last by itself. All checks of a crate work over one copy of what was kept; nothing counts where the crate as it stands is
@@ -25,7 +25,8 @@ import time
 TOP = os.path.dirname(os.path.dirname(os.path.realpath(__file__)))
 FOLDERS = ("must-fail", "wrong-bodies")
 FUNCTION = re.compile(r"^(\s*)(?:pub(?:\([a-z]+\))? )?(?:const )?(?:unsafe )?fn (\w+)")
-# What the toolchain says where an edit took away what a proof file names, and where it says only what that name is.
+# What the toolchain says where an edit took away what a proof file names; and what it says of an edit that is tried by itself, which is
+# cut short: where no more than a name can be read, the edit counts as not refused, and somebody has to look.
 TOOK_A_NAME = re.compile(r"(note: )?(\./)?proofs/.*(has no field|is not in scope|has no `|was not admitted|record `[^`]*` \(nearest: )")
 ONLY_A_NAME = re.compile(r"refused, as it must be: \S*proofs/\S+ error: `[^`]*`: (?:record )?`[^`]*(`( \(nearest: .*)?)?\s*$")
 IN_CODE = re.compile(r"(?:note: )?(?:what antt said of a `search` in the proof that rattle made: )?(?:\./)?(src/\S+?):(\d+):\d+: (.*)")

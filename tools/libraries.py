@@ -111,7 +111,7 @@ def prove_all(crates, room, tell, afterwards, takes):
 
 
 def build(room, wanted, tell=lambda name: None, afterwards=None, takes=lambda name: 0):
-    """Proves these libraries, whose copies stand in the room, where that is not done, and does for each what comes afterwards, which takes some seconds. Tells of each once it is proved. Returns whether all are."""
+    """Proves these libraries, whose copies stand in the room, where that is not done, and does for each what comes afterwards; `takes` says how long that is. Tells of each once it is proved. Returns whether all are."""
     shutil.copy(TOP + "/HANDLES", room)
     list_crates(room, wanted)
     toolchain = runpy.run_path(os.path.realpath(shutil.which("rt")), run_name="toolchain")["rtlib"]
