@@ -28,7 +28,7 @@ FUNCTION = re.compile(r"^(\s*)(?:pub(?:\([a-z]+\))? )?(?:const )?(?:unsafe )?fn 
 # What the toolchain says where an edit took away what a proof file names, and of what rests on such a proof; and what it says of an edit that is tried by itself, which is
 # cut short: where no more than a name can be read, the edit counts as not refused, and somebody has to look.
 TOOK_A_NAME = re.compile(r"(note: )?(\./)?proofs/.*(has no field|is not in scope|has no `|was not admitted|record `[^`]*` \(nearest: |which was rejected, w(as|ere) not checked)")
-ONLY_A_NAME = re.compile(r"refused, as it must be: \S*proofs/\S+ error: `[^`]*`: (?:record )?`[^`]*(`( \(nearest: .*)?)?\s*$")
+ONLY_A_NAME = re.compile(r"refused, as it must be: \S*proofs/\S+ error: (`[^`]*`: (?:record )?`[^`]*(`( \(nearest: .*)?)?\s*$|\d+ declarations? that depends? on )")
 IN_CODE = re.compile(r"(?:note: )?(?:what antt said of a `search` in the proof that rattle made: )?(?:\./)?(src/\S+?):(\d+):\d+: (.*)")
 IN_PROOF = re.compile(r"(?:note: )?(?:\./)?proofs/(\S+?):\d+:\d+: (.*)")
 
