@@ -10,10 +10,11 @@
 ./wrong-bodies does this for each crate, once it has proved it. An edit counts as refused where a goal of
 its function stays open whose line does not only say that a proof file names what the edit took away. What is not told
 apart in a group (a function that calls another edited one, an edit of no function) is tried again with the rest, and at
-last by itself. All checks of a crate work over one copy of what was kept; nothing counts where the crate as it stands is
-not proved over that copy at the end. After each crate its line for docs/WRONG_BODIES.md is printed.
+last by itself. Each check works over a copy of its own of what was kept; nothing counts where the crate as it stands is
+not proved over such a copy at the end. After each crate its line for docs/WRONG_BODIES.md is printed.
 GROUP=N in the environment tries N edits at a time, 16 where it is not given.
 """
+import contextlib
 import os
 import re
 import runpy
@@ -126,7 +127,7 @@ class Trial:
 
     def __init__(self, toolchain, crate, folders, wanted):
         self.toolchain, self.crate, self.verdicts = toolchain, crate, {}
-        self.folder, self.kept = crate.folder, ""
+        self.folder = crate.folder
         paths = ("%s/%s" % (crate.folder, it) for it in folders)
         files = ("%s/%s" % (at, name) for at in paths if os.path.isdir(at) for name in sorted(os.listdir(at)) if name.endswith(".edit"))
         self.edits = [Edit(it, crate.folder) for it in files if not wanted or os.path.basename(it)[:-len(".edit")] in wanted]
@@ -145,9 +146,20 @@ class Trial:
                 chosen, texts, taken = [*chosen, edit], made, {*taken, key}
         return chosen, texts
 
+    @contextlib.contextmanager
+    def kept(self):
+        """A copy of what the crate's own check kept, for one check: this drops the proofs of what was edited, which the next one would have to make again."""
+        with tempfile.TemporaryDirectory(prefix="edits-") as room:
+            yield shutil.copytree(self.folder + "/out/incremental", room + "/kept")
+
+    def check(self, texts):
+        """Checks the crate with these texts in place of its own."""
+        with self.kept() as kept:
+            return self.toolchain["checked"](self.crate, texts, ["--jobs", "1"], kept)
+
     def try_group(self, edits, texts):
         """Judges those of the edits that one check tells apart."""
-        ran = self.toolchain["checked"](self.crate, texts, ["--jobs", "1"], self.kept)
+        ran = self.check(texts)
         if not ran.stdout.rstrip("\n").split("\n")[-1].startswith("logic="):
             for edit in edits:
                 for fault in edit.faults(ran.stdout)[:1]:
@@ -159,19 +171,18 @@ class Trial:
                 self.say(edit, True, goal)
 
     def try_alone(self, edit):
-        kind, said = self.toolchain["must_fail"](self.crate, edit.path, ["--jobs", "1"], self.kept)
+        with self.kept() as kept:
+            kind, said = self.toolchain["must_fail"](self.crate, edit.path, ["--jobs", "1"], kept)
         # Some kits answer with whether it was refused, others with a word.
         is_refused = kind in ([self.toolchain[it] for it in ("REFUSED", "AT_LIMIT") if it in self.toolchain] or [True])
         self.say(edit, is_refused and "only because a proof file names" not in said and not ONLY_A_NAME.search(said), said)
 
     def run(self, most):
-        """Tries all edits over a copy of the kept work, over which the crate itself has to be proved at the end."""
-        with tempfile.TemporaryDirectory(prefix="edits-") as room:
-            self.kept = shutil.copytree(self.folder + "/out/incremental", room + "/kept")
-            self.try_edits(most)
-            if self.toolchain["checked"](self.crate, {}, ["--jobs", "1"], self.kept).returncode:
-                print("%s: is not proved over that work as it stands, so nothing was tried" % self.crate.name, flush=True)
-                self.verdicts = {name: False for name in self.verdicts}
+        """Tries all edits over copies of the kept work, over which the crate itself has to be proved at the end."""
+        self.try_edits(most)
+        if self.check({}).returncode:
+            print("%s: is not proved over that work as it stands, so nothing was tried" % self.crate.name, flush=True)
+            self.verdicts = {name: False for name in self.verdicts}
 
     def line(self, seconds):
         """The crate's line in the table of wrong bodies."""
