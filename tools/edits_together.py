@@ -5,13 +5,14 @@
                                                   wrong-bodies/ alone, over the work that `rt check` kept in the crate's
                                                   out/; so each crate has to be proved first. Prints a line for each edit;
                                                   the last line is 'N refused, M not refused'. CRATE/NAME,NAME tries these
-                                                  edits of the crate alone
+                                                  edits of the crate alone. With --proved, whoever calls it has just proved
+                                                  these crates as they stand, and that is not done once more
 
 ./wrong-bodies does this for each crate, once it has proved it. An edit counts as refused where a goal of
 its function stays open whose line does not only say that a proof file names what the edit took away. What is not told
 apart in a group (a function that calls another edited one, an edit of no function) is tried again with the rest, and at
 last by itself. Each check works over a copy of its own of what was kept; nothing counts where the crate as it stands is
-not proved over such a copy at the end. After each crate its line for docs/WRONG_BODIES.md is printed.
+not proved over such a copy. After each crate its line for docs/WRONG_BODIES.md is printed.
 GROUP=N in the environment tries N edits at a time, 16 where it is not given.
 """
 import contextlib
@@ -177,10 +178,10 @@ class Trial:
         is_refused = kind in ([self.toolchain[it] for it in ("REFUSED", "AT_LIMIT") if it in self.toolchain] or [True])
         self.say(edit, is_refused and "only because a proof file names" not in said and not ONLY_A_NAME.search(said), said)
 
-    def run(self, most):
-        """Tries all edits over copies of the kept work, over which the crate itself has to be proved at the end."""
+    def run(self, most, is_proved):
+        """Tries all edits over copies of the kept work, over which the crate itself has to be proved, where that was not done just now."""
         self.try_edits(most)
-        if self.check({}).returncode:
+        if not is_proved and self.check({}).returncode:
             print("%s: is not proved over that work as it stands, so nothing was tried" % self.crate.name, flush=True)
             self.verdicts = {name: False for name in self.verdicts}
 
@@ -224,7 +225,7 @@ def main(words):
             print("%s: there is no such crate, or `rt check` has not proved it yet" % name, file=sys.stderr)
             return 2
         trial, begun = Trial(toolchain, crates[name], folders, some.split(",") if some else []), time.monotonic()
-        trial.run(int(os.environ.get("GROUP", "16")))
+        trial.run(int(os.environ.get("GROUP", "16")), "--proved" in words)
         if not some:
             print(trial.line(time.monotonic() - begun), flush=True)
         verdicts += trial.verdicts.values()
