@@ -8,7 +8,7 @@ use sqlval::{CompOp, Truth, Value};
 use typing::{Arithmetic, OrderKey, SetFunctionType, SetOperation};
 
 /// What a tree knows of a stored table. Columns are given by their places in the table, from 0.
-#[derive(Debug, Drop)]
+#[derive(Drop)]
 pub struct StoredTable {
     pub name: Text,
     /// How many columns it has.
@@ -20,7 +20,7 @@ pub struct StoredTable {
 }
 
 /// Where a range begins or ends.
-#[derive(Debug, Drop)]
+#[derive(Drop)]
 pub struct Bound {
     pub value: Value,
     /// Whether rows with this very value are in the range.

@@ -4,7 +4,7 @@ use items::Text;
 use lexer::{Name, Number};
 
 /// An operator between terms.
-#[derive(Clone, Copy, Debug, PartialEq, Eq)]
+#[derive(Clone, Copy, PartialEq, Eq)]
 pub enum AddOperator {
     Plus,
     Minus,
@@ -13,21 +13,21 @@ pub enum AddOperator {
 }
 
 /// An operator between factors.
-#[derive(Clone, Copy, Debug, PartialEq, Eq)]
+#[derive(Clone, Copy, PartialEq, Eq)]
 pub enum MultiplyOperator {
     Times,
     Divide,
 }
 
 /// A sign before a primary or a number.
-#[derive(Clone, Copy, Debug, PartialEq, Eq)]
+#[derive(Clone, Copy, PartialEq, Eq)]
 pub enum Sign {
     Plus,
     Minus,
 }
 
 /// How two values are compared.
-#[derive(Clone, Copy, Debug, PartialEq, Eq)]
+#[derive(Clone, Copy, PartialEq, Eq)]
 pub enum Comparison {
     Equal,
     NotEqual,
@@ -38,14 +38,14 @@ pub enum Comparison {
 }
 
 /// Whether repeated rows or values count, where that is written.
-#[derive(Clone, Copy, Debug, PartialEq, Eq)]
+#[derive(Clone, Copy, PartialEq, Eq)]
 pub enum Quantifier {
     All,
     Distinct,
 }
 
 /// A function of the values in a group.
-#[derive(Clone, Copy, Debug, PartialEq, Eq)]
+#[derive(Clone, Copy, PartialEq, Eq)]
 pub enum SetFunction {
     Count,
     Sum,
@@ -55,7 +55,7 @@ pub enum SetFunction {
 }
 
 /// An operator between the addends of a query. (INTERSECT, which binds tighter, is a level of its own.)
-#[derive(Clone, Copy, Debug, PartialEq, Eq)]
+#[derive(Clone, Copy, PartialEq, Eq)]
 pub enum SetOperator {
     Union,
     UnionAll,
@@ -64,7 +64,7 @@ pub enum SetOperator {
 }
 
 /// The truth value that a condition is tested for.
-#[derive(Clone, Copy, Debug, PartialEq, Eq)]
+#[derive(Clone, Copy, PartialEq, Eq)]
 pub enum TruthValue {
     True,
     False,
@@ -72,35 +72,35 @@ pub enum TruthValue {
 }
 
 /// `IS [NOT]` and a truth value.
-#[derive(Clone, Copy, Debug, PartialEq, Eq)]
+#[derive(Clone, Copy, PartialEq, Eq)]
 pub struct TruthTest {
     pub is_negated: bool,
     pub value: TruthValue,
 }
 
 /// The direction of a sort key, where it is written.
-#[derive(Clone, Copy, Debug, PartialEq, Eq)]
+#[derive(Clone, Copy, PartialEq, Eq)]
 pub enum Direction {
     Ascending,
     Descending,
 }
 
 /// A constant in a list after IN.
-#[derive(Debug, Drop)]
+#[derive(Drop)]
 pub enum Literal {
     Number(Option<Sign>, Number),
     Text(Text),
 }
 
 /// A column, with the table's name where that is written.
-#[derive(Debug, Drop)]
+#[derive(Drop)]
 pub struct Column {
     pub table: Option<Name>,
     pub name: Name,
 }
 
 /// A name given to a table or to a result column.
-#[derive(Debug, Drop)]
+#[derive(Drop)]
 pub struct Alias {
     /// Whether AS is written.
     pub has_as: bool,

@@ -37,14 +37,14 @@ pub struct OrderedQuery {
 }
 
 /// A key of ORDER BY, with its direction where that is written.
-#[derive(Debug, Drop)]
+#[derive(Drop)]
 pub struct SortKey {
     pub column: SortColumn,
     pub direction: Option<Direction>,
 }
 
 /// A result column, by its name or by its place, counted from 1.
-#[derive(Debug, Drop)]
+#[derive(Drop)]
 pub enum SortColumn {
     Named(Name),
     Position(Number),
@@ -74,7 +74,7 @@ pub struct ColumnDefinition {
 }
 
 /// A column's type, with the greatest length of a text.
-#[derive(Clone, Copy, Debug, PartialEq, Eq)]
+#[derive(Clone, Copy, PartialEq, Eq)]
 pub enum TypeName {
     Integer,
     /// `INT`
@@ -173,7 +173,7 @@ pub struct Delete {
 }
 
 /// What a transaction may do: read, or also write.
-#[derive(Clone, Copy, Debug, PartialEq, Eq)]
+#[derive(Clone, Copy, PartialEq, Eq)]
 pub enum AccessMode {
     ReadOnly,
     ReadWrite,

@@ -17,7 +17,7 @@ pub struct Branch {
 }
 
 /// Where a search starts.
-#[derive(Clone, Copy, Debug, PartialEq, Eq)]
+#[derive(Clone, Copy, PartialEq, Eq)]
 pub enum Start {
     /// At a key, or behind it where it is not there.
     At,

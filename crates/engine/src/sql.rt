@@ -12,7 +12,7 @@ use store::Store;
 use typing::{Change, Typed};
 
 /// SQL, as far as it is built.
-#[derive(Clone, Copy, Debug)]
+#[derive(Clone, Copy)]
 pub struct Sql;
 
 /// Sessions of SQL over a store.

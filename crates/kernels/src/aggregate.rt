@@ -16,7 +16,7 @@ use std::alloc::{AllocError, Global};
 use typing::SetFunctionType;
 
 /// A set function without its argument.
-#[derive(Clone, Copy, Debug, PartialEq, Eq)]
+#[derive(Clone, Copy, PartialEq, Eq)]
 pub enum Aggregate {
     /// COUNT(*)
     CountRows,

@@ -4,7 +4,7 @@ use crate::words::Word;
 use items::Text;
 
 /// A symbol.
-#[derive(Clone, Copy, Debug, PartialEq, Eq)]
+#[derive(Clone, Copy, PartialEq, Eq)]
 pub enum Symbol {
     /// `(`
     LeftParenthesis,
@@ -41,7 +41,7 @@ pub enum Symbol {
 }
 
 /// What a token is, whatever its spelling.
-#[derive(Debug, Drop)]
+#[derive(Drop)]
 pub enum Kind {
     Word(Word),
     Name(Name),
@@ -53,7 +53,7 @@ pub enum Kind {
 }
 
 /// A token, and where it stands in its text: from byte `start` up to byte `end`, which is not its own.
-#[derive(Debug, Drop)]
+#[derive(Drop)]
 pub struct Token {
     pub kind: Kind,
     pub start: usize,

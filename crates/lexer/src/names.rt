@@ -9,7 +9,7 @@ use std::marker::Model;
 
 /// An identifier, in upper case: a letter, then letters, digits and underscores, 1 to 64 characters
 /// in all, and no reserved word. Contracts see it as the list of its codes.
-#[derive(Debug, Drop)]
+#[derive(Drop)]
 pub struct Name {
     text: Text,
 }

@@ -14,7 +14,7 @@ use std::marker::Model;
 const GREATEST: u64 = 9_223_372_036_854_775_807;
 
 /// A number without a sign, from 0 to 2^63 - 1. Contracts see it as that number.
-#[derive(Clone, Copy, Debug, PartialEq, Eq)]
+#[derive(Clone, Copy, PartialEq, Eq)]
 pub struct Number {
     value: u64,
 }

@@ -6,7 +6,7 @@ ghost use Rattle.lexer.specs.Words.{Entry as Line, is_supported, reserved, suppo
 use std::fmt;
 
 /// Whether the forms that use a reserved word are built yet.
-#[derive(Clone, Copy, Debug, PartialEq, Eq)]
+#[derive(Clone, Copy, PartialEq, Eq)]
 pub enum Support {
     Now,
     /// Its forms come later. Of these words the language has no form: ALTER, ANY, ASSERTION, CASCADE,

@@ -1,7 +1,7 @@
 //! What the pieces of a script are.
 
 /// What a piece of a script is to `sqlmany`.
-#[derive(Clone, Copy, Debug, PartialEq, Eq)]
+#[derive(Clone, Copy, PartialEq, Eq)]
 pub(crate) enum Part {
     /// It is a call.
     Calls,

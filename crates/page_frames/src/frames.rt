@@ -11,7 +11,7 @@ pub const GREATEST_FRAMES: u32 = 4096;
 pub const DEFAULT_FRAMES: u32 = 256;
 
 /// How many pages the pool may keep in memory: from 16 to 4,096 frames.
-#[derive(Clone, Copy, Debug, PartialEq, Eq)]
+#[derive(Clone, Copy, PartialEq, Eq)]
 pub struct Frames {
     count: u32,
     ghost enough: { 16 ≤ count },

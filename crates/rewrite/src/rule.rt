@@ -3,7 +3,7 @@
 use items::Items;
 
 /// A rule that makes a tree another one with the same outcome.
-#[derive(Clone, Copy, Debug, PartialEq, Eq)]
+#[derive(Clone, Copy, PartialEq, Eq)]
 pub enum Rule {
     /// Q1: an AND of a filter becomes two filters.
     SplitFilter,
@@ -41,13 +41,13 @@ pub enum Rule {
 
 /// A way from the root of a tree to one of its nodes: at each node the place of the part in which it goes on, from 0. The
 /// parts of a node are its trees, in the order of their fields, and then the subqueries in its expressions and conditions, in the order of the text.
-#[derive(Debug, Drop)]
+#[derive(Drop)]
 pub struct Path {
     pub places: Items<usize>,
 }
 
 /// A rule, used at a node.
-#[derive(Debug, Drop)]
+#[derive(Drop)]
 pub struct Step {
     pub rule: Rule,
     pub path: Path,

@@ -28,7 +28,7 @@ pub enum Scope<'a> {
 }
 
 /// The clause in which a part stands.
-#[derive(Clone, Copy, Debug, PartialEq, Eq)]
+#[derive(Clone, Copy, PartialEq, Eq)]
 pub enum Clause {
     /// A select list or HAVING. The values of its set functions stand in the row that is seen, from this place on.
     Shown(usize),

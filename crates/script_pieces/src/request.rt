@@ -1,5 +1,5 @@
 /// What a piece asks for.
-#[derive(Clone, Copy, Debug, PartialEq, Eq)]
+#[derive(Clone, Copy, PartialEq, Eq)]
 pub enum Request {
     /// Nothing: white space, comments and a semicolon.
     Nothing,

@@ -8,7 +8,7 @@ use super::place::Place;
 use super::request::Request;
 
 /// How far a piece has been understood.
-#[derive(Clone, Copy, Debug, PartialEq, Eq)]
+#[derive(Clone, Copy, PartialEq, Eq)]
 pub(crate) enum Stage {
     /// White space and comments.
     Blank,

@@ -13,7 +13,7 @@ use store::{Returned, Store};
 use transactions::{drop_session, refusal_of};
 
 /// A session of a core, from `new_session` to `end_session`: the least number that no other had when it was made.
-#[derive(Clone, Copy, Debug, PartialEq, Eq)]
+#[derive(Clone, Copy, PartialEq, Eq)]
 pub struct SessionId {
     number: u64,
 }

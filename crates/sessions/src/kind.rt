@@ -4,7 +4,7 @@ ghost use Rattle.sessions.specs.Kinds.{IsOfKind};
 use ast::{AccessMode, Statement};
 
 /// What a statement asks of a session.
-#[derive(Clone, Copy, Debug, PartialEq, Eq)]
+#[derive(Clone, Copy, PartialEq, Eq)]
 pub(crate) enum Kind {
     Query,
     Change,

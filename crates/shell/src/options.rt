@@ -3,7 +3,7 @@
 use page_frames::Frames;
 
 /// What a command line of `sqlsh` asks for.
-#[derive(Clone, Copy, Debug)]
+#[derive(Clone, Copy)]
 pub struct Settings<'a> {
     /// The frames of the pool.
     pub frames: Frames,

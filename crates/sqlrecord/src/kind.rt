@@ -1,5 +1,5 @@
 /// What a page of a tree is.
-#[derive(Clone, Copy, Debug, PartialEq, Eq)]
+#[derive(Clone, Copy, PartialEq, Eq)]
 pub enum PageKind {
     /// It has the tree's entries.
     Leaf,

@@ -22,7 +22,7 @@ use typing::{Frame, Offer};
 const MAXIMUM_COLUMNS: usize = 32;
 
 /// A column that is defined: its name, and its type as it is written.
-#[derive(Debug, Drop)]
+#[derive(Drop)]
 pub struct Definition {
     pub name: Text,
     pub type_name: TypeName,

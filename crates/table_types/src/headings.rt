@@ -25,7 +25,7 @@ const MAXIMUM_INDEXES: usize = 8;
 
 /// What is known of a constraint before its rule is looked at: its name where one is written, whether it is a PRIMARY KEY, and
 /// whether it owns an index.
-#[derive(Debug, Drop)]
+#[derive(Drop)]
 pub struct Heading {
     pub name: Option<Text>,
     pub is_primary_key: bool,

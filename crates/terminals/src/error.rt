@@ -1,7 +1,7 @@
 use std::alloc::AllocError;
 
 /// Why a rule has no tree.
-#[derive(Debug, Drop)]
+#[derive(Drop)]
 pub enum ParseError {
     /// Memory ran out.
     Memory,

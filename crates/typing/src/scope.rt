@@ -5,7 +5,7 @@ use items::{Items, Text};
 use sqlval::ValueType;
 
 /// A column that a FROM offers: the name of its table there, its own name if it has one, and its type.
-#[derive(Debug, Drop)]
+#[derive(Drop)]
 pub struct Offer {
     pub table: Text,
     pub name: Option<Text>,
@@ -15,7 +15,7 @@ pub struct Offer {
 /// What a SELECT shows to a place inside it: the tables of its FROM, and their columns in order. Where the place stands in
 /// the select list or HAVING of a grouped SELECT, `key` has the grouping columns, by their places in FROM's row: only these
 /// may be named there, and the row that is seen begins with their values.
-#[derive(Debug, Drop)]
+#[derive(Drop)]
 pub struct Frame {
     pub tables: Items<Text>,
     pub columns: Items<Offer>,
@@ -23,14 +23,14 @@ pub struct Frame {
 }
 
 /// A column of a FROM, by its place from 0.
-#[derive(Clone, Copy, Debug, PartialEq, Eq)]
+#[derive(Clone, Copy, PartialEq, Eq)]
 pub struct Found {
     pub place: usize,
     pub value_type: ValueType,
 }
 
 /// The columns of a FROM that a name means.
-#[derive(Clone, Copy, Debug, PartialEq, Eq)]
+#[derive(Clone, Copy, PartialEq, Eq)]
 pub enum Matches {
     Nothing,
     One(Found),
@@ -45,7 +45,7 @@ pub struct TypedExpression {
 }
 
 /// A column of a query's result: its name if it has one, and its type.
-#[derive(Debug, Drop)]
+#[derive(Drop)]
 pub struct ResultColumn {
     pub name: Option<Text>,
     pub value_type: ValueType,

@@ -23,7 +23,7 @@ pub enum Typed {
 }
 
 /// What a transaction may do.
-#[derive(Clone, Copy, Debug, PartialEq, Eq)]
+#[derive(Clone, Copy, PartialEq, Eq)]
 pub enum AccessMode {
     ReadOnly,
     ReadWrite,
