@@ -71,9 +71,9 @@ IsQuantifier ts quantifier.Distinct rest = ts ≡ DISTINCT ∷ rest
 abbrev pub IsSetFunction : Rule SetFunction
 IsSetFunction ts function.Count rest = ts ≡ COUNT ∷ rest
 IsSetFunction ts function.Sum rest = ts ≡ SUM ∷ rest
-IsSetFunction ts function.Average rest = ts ≡ AVG ∷ rest
-IsSetFunction ts function.Minimum rest = ts ≡ MIN ∷ rest
-IsSetFunction ts function.Maximum rest = ts ≡ MAX ∷ rest
+IsSetFunction ts function.Avg rest = ts ≡ AVG ∷ rest
+IsSetFunction ts function.Min rest = ts ≡ MIN ∷ rest
+IsSetFunction ts function.Max rest = ts ≡ MAX ∷ rest
 
 -- (UNION | EXCEPT) [ALL]
 abbrev pub IsSetOperator : Rule SetOperator

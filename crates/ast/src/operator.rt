@@ -49,9 +49,9 @@ pub enum Quantifier {
 pub enum SetFunction {
     Count,
     Sum,
-    Average,
-    Minimum,
-    Maximum,
+    Avg,
+    Min,
+    Max,
 }
 
 /// An operator between the addends of a query. (INTERSECT, which binds tighter, is a level of its own.)

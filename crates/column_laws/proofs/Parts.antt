@@ -262,9 +262,9 @@ module _ (known : Known) where
   aggregate_of-typed : (rows : Rows) (function : Written) (is_distinct : Bool) (x : TypedExpression) → Gives known rows x → IfOk (aggregate_of function is_distinct x) (IsAggregate rows)
   aggregate_of-typed rows written.Count d x h = typed.count d h
   aggregate_of-typed rows written.Sum d x h = goes_on (λ a. HasType known rows a Integer) (IsAggregate rows) (must_be Integer x) _ (must known rows Integer x h) (λ a k. typed.sum d k)
-  aggregate_of-typed rows written.Average d x h = goes_on (λ a. HasType known rows a Integer) (IsAggregate rows) (must_be Integer x) _ (must known rows Integer x h) (λ a k. typed.average d k)
-  aggregate_of-typed rows written.Minimum d x h = typed.minimum d h
-  aggregate_of-typed rows written.Maximum d x h = typed.maximum d h
+  aggregate_of-typed rows written.Avg d x h = goes_on (λ a. HasType known rows a Integer) (IsAggregate rows) (must_be Integer x) _ (must known rows Integer x h) (λ a k. typed.average d k)
+  aggregate_of-typed rows written.Min d x h = typed.minimum d h
+  aggregate_of-typed rows written.Max d x h = typed.maximum d h
 
   abbrev aggregate_type : Finding Aggregate → ValueType
   aggregate_type (Ok a) = a.1

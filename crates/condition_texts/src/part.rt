@@ -56,9 +56,9 @@ pub fn set_function_word(function: SetFunction) -> Word
     match function {
         SetFunction::Count => Word::Count,
         SetFunction::Sum => Word::Sum,
-        SetFunction::Average => Word::Avg,
-        SetFunction::Minimum => Word::Min,
-        SetFunction::Maximum => Word::Max,
+        SetFunction::Avg => Word::Avg,
+        SetFunction::Min => Word::Min,
+        SetFunction::Max => Word::Max,
     }
 }
 

@@ -63,9 +63,9 @@ function_begins : (ts : Tokens) (f : SetFunction) (rest : Tokens) → IsSetFunct
     → (Stops no_primary ts) × (next_is (is_symbol s.LeftParenthesis) ts ≡ false)
 function_begins ts function.Count rest h = rw h (refl, refl)
 function_begins ts function.Sum rest h = rw h (refl, refl)
-function_begins ts function.Average rest h = rw h (refl, refl)
-function_begins ts function.Minimum rest h = rw h (refl, refl)
-function_begins ts function.Maximum rest h = rw h (refl, refl)
+function_begins ts function.Avg rest h = rw h (refl, refl)
+function_begins ts function.Min rest h = rw h (refl, refl)
+function_begins ts function.Max rest h = rw h (refl, refl)
 
 add_operates : (ts : Tokens) (o : AddOperator) (rest : Tokens) → IsAddOperator ts o rest → next_is is_operator ts ≡ true
 add_operates ts add.Plus rest h = rw h refl
@@ -122,9 +122,9 @@ no_count_rows : (ts : Tokens) (f : SetFunction) (after : Tokens) → IsSetFuncti
 unfolding count_rows word symbol
 no_count_rows ts function.Count after h a = rw (h, a) refl
 no_count_rows ts function.Sum after h a = rw h refl
-no_count_rows ts function.Average after h a = rw h refl
-no_count_rows ts function.Minimum after h a = rw h refl
-no_count_rows ts function.Maximum after h a = rw h refl
+no_count_rows ts function.Avg after h a = rw h refl
+no_count_rows ts function.Min after h a = rw h refl
+no_count_rows ts function.Max after h a = rw h refl
 
 quantifier_begins : (ts : Tokens) (x : Quantifier) (rest : Tokens) → IsQuantifier ts x rest → next_is (is_symbol s.Asterisk) ts ≡ false
 quantifier_begins ts quantifier_of.All rest h = rw h refl

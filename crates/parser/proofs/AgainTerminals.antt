@@ -194,17 +194,17 @@ no_quantifier p a0 a1 rest h = rw (no_word p w.All a0 rest h, no_word p w.Distin
 set_function_passes : (ts : Tokens) (x : SetFunction) (rest : Tokens) → IsSetFunction ts x rest → Passes ts rest
 set_function_passes ts function.Count rest h = one refl refl h
 set_function_passes ts function.Sum rest h = one refl refl h
-set_function_passes ts function.Average rest h = one refl refl h
-set_function_passes ts function.Minimum rest h = one refl refl h
-set_function_passes ts function.Maximum rest h = one refl refl h
+set_function_passes ts function.Avg rest h = one refl refl h
+set_function_passes ts function.Min rest h = one refl refl h
+set_function_passes ts function.Max rest h = one refl refl h
 
 set_function_at : (ts : Tokens) (x : SetFunction) (rest : Tokens) → IsSetFunction ts x rest → set_function ts ≡ Some (x, rest)
 unfolding set_function word
 set_function_at ts function.Count rest h = rw h refl
 set_function_at ts function.Sum rest h = rw h refl
-set_function_at ts function.Average rest h = rw h refl
-set_function_at ts function.Minimum rest h = rw h refl
-set_function_at ts function.Maximum rest h = rw h refl
+set_function_at ts function.Avg rest h = rw h refl
+set_function_at ts function.Min rest h = rw h refl
+set_function_at ts function.Max rest h = rw h refl
 
 pub set_function_again : {d : ℕ} → Again SetFunction d never set_function IsSetFunction
 set_function_again = record { passes = set_function_passes; at = λ ts x rest h shallow stops. set_function_at ts x rest h }
@@ -213,9 +213,9 @@ pub set_function_first : (p : Kind → Bool) → p COUNT ≡ false → p SUM ≡
     → (ts : Tokens) (x : SetFunction) (rest : Tokens) → IsSetFunction ts x rest → Stops p ts × (length rest < length ts)
 set_function_first p a0 a1 a2 a3 a4 ts function.Count rest h = first_is p a0 h
 set_function_first p a0 a1 a2 a3 a4 ts function.Sum rest h = first_is p a1 h
-set_function_first p a0 a1 a2 a3 a4 ts function.Average rest h = first_is p a2 h
-set_function_first p a0 a1 a2 a3 a4 ts function.Minimum rest h = first_is p a3 h
-set_function_first p a0 a1 a2 a3 a4 ts function.Maximum rest h = first_is p a4 h
+set_function_first p a0 a1 a2 a3 a4 ts function.Avg rest h = first_is p a2 h
+set_function_first p a0 a1 a2 a3 a4 ts function.Min rest h = first_is p a3 h
+set_function_first p a0 a1 a2 a3 a4 ts function.Max rest h = first_is p a4 h
 
 pub no_set_function : (p : Kind → Bool) → p COUNT ≡ true → p SUM ≡ true → p AVG ≡ true → p MIN ≡ true → p MAX ≡ true → (rest : Tokens) → Stops p rest
     → set_function rest ≡ None

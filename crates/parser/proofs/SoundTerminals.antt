@@ -94,14 +94,14 @@ quantifier_sound =
 
 extreme_sound : Sound SetFunction extreme IsSetFunction
 extreme_sound =
-    next_sound (word_is w.Min function.Minimum IsSetFunction (λ rest. refl))
-    (next_sound (word_is w.Max function.Maximum IsSetFunction (λ rest. refl)) (none_sound IsSetFunction))
+    next_sound (word_is w.Min function.Min IsSetFunction (λ rest. refl))
+    (next_sound (word_is w.Max function.Max IsSetFunction (λ rest. refl)) (none_sound IsSetFunction))
 
 count_or_sum_sound : Sound SetFunction count_or_sum IsSetFunction
 count_or_sum_sound =
     next_sound (word_is w.Count function.Count IsSetFunction (λ rest. refl))
     (next_sound (word_is w.Sum function.Sum IsSetFunction (λ rest. refl))
-    (next_sound (word_is w.Avg function.Average IsSetFunction (λ rest. refl)) (none_sound IsSetFunction)))
+    (next_sound (word_is w.Avg function.Avg IsSetFunction (λ rest. refl)) (none_sound IsSetFunction)))
 
 pub set_function_sound : Sound SetFunction set_function IsSetFunction
 unfolding set_function

@@ -77,14 +77,14 @@ quantifier ts = if_next (word w.All ts)
 -- MIN | MAX
 abbrev pub extreme : Reader SetFunction
 extreme ts = if_next (word w.Min ts)
-    (if_next (word w.Max ts) None (λ o. Some (function.Maximum, o.1)))
-    (λ o. Some (function.Minimum, o.1))
+    (if_next (word w.Max ts) None (λ o. Some (function.Max, o.1)))
+    (λ o. Some (function.Min, o.1))
 
 -- COUNT | SUM | AVG
 abbrev pub count_or_sum : Reader SetFunction
 count_or_sum ts = if_next (word w.Count ts)
     (if_next (word w.Sum ts)
-    (if_next (word w.Avg ts) None (λ o. Some (function.Average, o.1)))
+    (if_next (word w.Avg ts) None (λ o. Some (function.Avg, o.1)))
     (λ o. Some (function.Sum, o.1)))
     (λ o. Some (function.Count, o.1))
 

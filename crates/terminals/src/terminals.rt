@@ -127,10 +127,10 @@ fn extreme(tokens: &[Token]) -> Option<(SetFunction, &[Token])>
     ensures { Finds result (terminals.extreme (kinds tokens.now)) }
 {
     if let Some(rest) = after_word(Word::Min, tokens) {
-        Some((SetFunction::Minimum, rest))
+        Some((SetFunction::Min, rest))
     } else {
         let rest = after_word(Word::Max, tokens)?;
-        Some((SetFunction::Maximum, rest))
+        Some((SetFunction::Max, rest))
     }
 }
 
@@ -143,7 +143,7 @@ fn count_or_sum(tokens: &[Token]) -> Option<(SetFunction, &[Token])>
         Some((SetFunction::Sum, rest))
     } else {
         let rest = after_word(Word::Avg, tokens)?;
-        Some((SetFunction::Average, rest))
+        Some((SetFunction::Avg, rest))
     }
 }
 

@@ -153,9 +153,9 @@ query-safe made query good h = none (λ view. good (query_seen view.clause (quer
 aggregate_of-safe : (function : Written) (is_distinct : Bool) (x : TypedExpression) → IsReasoned (aggregate_of function is_distinct x)
 aggregate_of-safe written.Count is_distinct x = found
 aggregate_of-safe written.Sum is_distinct x = goes_on (must Integer x) (λ e. found)
-aggregate_of-safe written.Average is_distinct x = goes_on (must Integer x) (λ e. found)
-aggregate_of-safe written.Minimum is_distinct x = found
-aggregate_of-safe written.Maximum is_distinct x = found
+aggregate_of-safe written.Avg is_distinct x = goes_on (must Integer x) (λ e. found)
+aggregate_of-safe written.Min is_distinct x = found
+aggregate_of-safe written.Max is_distinct x = found
 
 pub aggregate_found-safe : (function : Written) (quantifier : Option Quantifier) (argument : Part TypedExpression) → IsSafe argument → (scope : Scope) → IsReasoned (aggregate_found function quantifier argument scope)
 aggregate_found-safe function quantifier argument h scope = goes_on (h.found (record { scope = ungrouped scope; clause = Argument })) (λ x. aggregate_of-safe function (is_distinct quantifier) x)

@@ -25,9 +25,9 @@ pub fn aggregate_of(
     match function {
         ast::SetFunction::Count => counted(is_distinct, argument),
         ast::SetFunction::Sum => over_integers(SetFunctionType::Sum, is_distinct, argument),
-        ast::SetFunction::Average => over_integers(SetFunctionType::Avg, is_distinct, argument),
-        ast::SetFunction::Minimum => over_either(SetFunctionType::Min, is_distinct, argument),
-        ast::SetFunction::Maximum => over_either(SetFunctionType::Max, is_distinct, argument),
+        ast::SetFunction::Avg => over_integers(SetFunctionType::Avg, is_distinct, argument),
+        ast::SetFunction::Min => over_either(SetFunctionType::Min, is_distinct, argument),
+        ast::SetFunction::Max => over_either(SetFunctionType::Max, is_distinct, argument),
     }
 }
 

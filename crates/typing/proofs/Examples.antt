@@ -244,7 +244,7 @@ by name = record { table = None; name = name } ∷ []
 -- MIN stands in a group of its own
 pub set_functions_are_numbered : found_there (select
     (plus (primary.Column (record { table = None; name = a })) primary.CountRows
-    ∷ of (primary.Subquery (select (of (primary.Aggregate function.Minimum None (column x)) ∷ []) (stored_table s' ∷ []) None [] None)) ∷ [])
+    ∷ of (primary.Subquery (select (of (primary.Aggregate function.Min None (column x)) ∷ []) (stored_table s' ∷ []) None [] None)) ∷ [])
     (stored_table n ∷ []) None (by a) (Some (test (predicate.Compare (sum_of (column b)) written.Greater (of primary.CountRows)))))
     ≡ Ok (record {
       query = typed

@@ -80,9 +80,9 @@ set_function = record { at = at }
     at : (ts : Tokens) (x : SetFunction) (rest : Tokens) → IsSetFunction ts x rest → Read IsSetFunction x (function_tokens x) ts rest
     at ts of_set_function.Count rest h = record { only = h; again = λ more. refl }
     at ts of_set_function.Sum rest h = record { only = h; again = λ more. refl }
-    at ts of_set_function.Average rest h = record { only = h; again = λ more. refl }
-    at ts of_set_function.Minimum rest h = record { only = h; again = λ more. refl }
-    at ts of_set_function.Maximum rest h = record { only = h; again = λ more. refl }
+    at ts of_set_function.Avg rest h = record { only = h; again = λ more. refl }
+    at ts of_set_function.Min rest h = record { only = h; again = λ more. refl }
+    at ts of_set_function.Max rest h = record { only = h; again = λ more. refl }
 
 pub set_operator : Reads IsSetOperator set_tokens
 set_operator = record { at = at }

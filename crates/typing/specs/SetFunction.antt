@@ -61,9 +61,9 @@ over function is_distinct value_type argument = (Over function is_distinct argum
 abbrev pub aggregate_of : Written → Bool → TypedExpression → Finding Aggregate
 aggregate_of written.Count is_distinct x = Ok (over Count is_distinct Integer x.expression)
 aggregate_of written.Sum is_distinct x = must_be Integer x >>= (λ e. Ok (over Sum is_distinct Integer e))
-aggregate_of written.Average is_distinct x = must_be Integer x >>= (λ e. Ok (over Avg is_distinct Integer e))
-aggregate_of written.Minimum is_distinct x = Ok (over Min is_distinct x.value_type x.expression)
-aggregate_of written.Maximum is_distinct x = Ok (over Max is_distinct x.value_type x.expression)
+aggregate_of written.Avg is_distinct x = must_be Integer x >>= (λ e. Ok (over Avg is_distinct Integer e))
+aggregate_of written.Min is_distinct x = Ok (over Min is_distinct x.value_type x.expression)
+aggregate_of written.Max is_distinct x = Ok (over Max is_distinct x.value_type x.expression)
 
 -- the argument sees the rows of FROM
 abbrev pub aggregate_found : Written → Option Quantifier → Part TypedExpression → Scope → Finding Aggregate

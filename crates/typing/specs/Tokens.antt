@@ -84,9 +84,9 @@ quantifier_tokens quantifier.Distinct = DISTINCT ∷ []
 abbrev pub function_tokens : SetFunction → Tokens
 function_tokens function.Count = COUNT ∷ []
 function_tokens function.Sum = SUM ∷ []
-function_tokens function.Average = AVG ∷ []
-function_tokens function.Minimum = MIN ∷ []
-function_tokens function.Maximum = MAX ∷ []
+function_tokens function.Avg = AVG ∷ []
+function_tokens function.Min = MIN ∷ []
+function_tokens function.Max = MAX ∷ []
 
 abbrev pub set_tokens : SetOperator → Tokens
 set_tokens set.Union = UNION ∷ []
