@@ -9,3 +9,8 @@ pub mod StepLemmas
 pub mod RootLemmas
 pub mod LawLemmas
 pub mod AppendLemmas
+pub mod AscendLemmas
+pub mod WalkLemmas
+pub mod ChangeLemmas
+pub mod OneLemmas
+pub mod PageLossLemmas

@@ -1,3 +1,4 @@
 pub mod Grow
 pub mod Written
 pub mod Overfull
+pub mod Kept

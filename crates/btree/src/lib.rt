@@ -3,6 +3,7 @@
 
 mod append;
 mod cells;
+mod entry_laws;
 mod inner;
 mod insertion;
 mod laws;
@@ -11,6 +12,7 @@ mod page;
 
 pub use append::insert_all;
 pub use cells::cells_with;
+pub use entry_laws::{entries_are_one, entries_ascend};
 pub use inner::write_inner;
 pub use insertion::insert;
 pub use laws::{insertions_lose_no_page, other_trees_stay};

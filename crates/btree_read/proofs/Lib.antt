@@ -7,3 +7,4 @@ pub mod PageLemmas
 pub mod PlaceLemmas
 pub mod SearchLemmas
 pub mod CountLemmas
+pub mod LeafLemmas

@@ -3,3 +3,4 @@ pub mod Nodes
 pub mod Sorted
 pub mod Tree
 pub mod Search
+pub mod Leaves

@@ -2,16 +2,19 @@
 #![tactic(auto)]
 
 mod entry;
+mod leaf;
 mod node;
 mod place;
 mod value;
 mod walk;
+mod whole;
 
 pub use entry::{Branch, Entry, Start};
 pub use node::read_node;
 pub use place::{child_at, first_place, is_before};
 pub use value::get;
 pub use walk::{next, seek};
+pub use whole::scan;
 
 /// The most levels of inner pages above the leaves of a tree.
 pub const MAXIMUM_LEVELS: u32 = 15;

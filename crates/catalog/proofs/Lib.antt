@@ -4,3 +4,5 @@ pub mod PutLemmas
 pub mod RefusalLemmas
 pub mod RootLemmas
 pub mod OneLemmas
+pub mod LeftLemmas
+pub mod AlterLemmas

@@ -3,13 +3,13 @@ use Rattle.std.proofs.Common.{◌≡◌, ℕ, List, [], ◌∷◌, IsSome, refl,
 use Rattle.sqlval.specs.declared.schema.Table.{Table}
 use Rattle.catalog_records.specs.declared.record.Record.{Record}
 use Rattle.catalog_records.specs.Records.{schema_records}
-use Rattle.catalog_read.proofs.ApartLemmas.{schema_same}
+use Rattle.catalog_records.proofs.ApartLemmas.{schema_same}
 use Rattle.sqlrecord.proofs.OrderLemmas.{keys_apart, rows_apart}
 use Rattle.page_space.specs.Space.{PageMap}
 use Rattle.btree_read.specs.declared.entry.Entry.{Entry}
 use Rattle.btree_read.specs.Lists.{Has}
 use Rattle.btree.proofs.LawLemmas.{tree_stays, tree_used}
-use Rattle.tree_entries.proofs.OneLemmas.{one_tree}
+use Rattle.btree.proofs.OneLemmas.{one_tree}
 use Rattle.catalog.specs.Held.{entry_of, entries_of, IsCoded, AreCoded, HoldsSchema}
 
 record_same : (r s : Record) → IsCoded r → IsCoded s → entry_of r ≡ entry_of s → r ≡ s

@@ -16,9 +16,9 @@ use Rattle.btree_read.specs.Nodes.{Key, precedes}
 use Rattle.page_space.specs.Space.{PageMap}
 use Rattle.btree_read.specs.Tree.{IsTree}
 use Rattle.btree_read.specs.Sorted.{put}
-use Rattle.tree_entries.proofs.ChangeLemmas.{put_past}
+use Rattle.btree.proofs.ChangeLemmas.{put_past}
 use Rattle.btree.specs.Written.{IsWritten}
-use Rattle.catalog_read.specs.Keepable.{IsTable}
+use Rattle.catalog_records.specs.Keepable.{IsTable}
 use Rattle.btree_read.proofs.ListLemmas.{each_append, each_left, each_right}
 use Rattle.btree_read.proofs.OrderLemmas.{not_both}
 use Rattle.catalog.specs.Held.{entry_of, entries_of, IsCoded, AreCoded, HoldsSchema}

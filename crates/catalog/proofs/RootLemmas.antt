@@ -5,7 +5,7 @@ use Rattle.std.specs.List.{AllByRecursion}
 use Rattle.sqlval.specs.declared.schema.Table.{Table}
 use Rattle.catalog_records.specs.declared.record.Record.{Record}
 use Rattle.catalog_records.specs.Records.{table_record, column_records, constraint_records, index_records, table_records, schema_records}
-use Rattle.catalog_read.specs.Keepable.{IsTable}
+use Rattle.catalog_records.specs.Keepable.{IsTable}
 use Rattle.sqlrecord.specs.Key.{key_code}
 use Rattle.sqlrecord.specs.Row.{row_code}
 use Rattle.page_space.specs.Space.{PageMap}
@@ -16,7 +16,7 @@ use Rattle.btree_read.specs.Tree.{IsTree}
 use Rattle.btree_read.proofs.ListLemmas.{each_right}
 use Rattle.btree_read.proofs.OrderLemmas.{not_self}
 use Rattle.btree.specs.Written.{IsWritten}
-use Rattle.tree_entries.proofs.AscendLemmas.{root_ascends}
+use Rattle.btree.proofs.AscendLemmas.{root_ascends}
 use Rattle.catalog.specs.Held.{entry_of, entries_of, IsCoded, AreCoded, HoldsSchema}
 use Rattle.catalog.specs.Changed.{with_root, SchemaWritten}
 use Rattle.catalog.proofs.PutLemmas.{entries_append}

@@ -4,7 +4,7 @@ use Rattle.std.specs.List.{AllByRecursion}
 use Rattle.sqlval.specs.declared.schema.Table.{Table}
 use Rattle.catalog_records.specs.declared.record.Record.{Record}
 use Rattle.catalog_records.specs.Records.{schema_records}
-use Rattle.catalog_read.specs.Keepable.{AreTables}
+use Rattle.catalog_records.specs.Keepable.{AreTables}
 use Rattle.sqlrecord.specs.Storable.{AllStorable}
 use Rattle.sqlrecord.specs.Key.{key_code}
 use Rattle.sqlrecord.specs.Row.{row_code}

@@ -9,9 +9,9 @@ ghost use Rattle.btree_read.specs.Sorted.{put};
 ghost use Rattle.btree_read.specs.Tree.{IsTree};
 ghost use Rattle.btree.specs.Overfull.{IsNoTreeIn};
 ghost use Rattle.btree.specs.Written.{IsWritten};
-ghost use Rattle.tree_entries.specs.Kept.{LosesNoPage};
+ghost use Rattle.btree.specs.Kept.{LosesNoPage};
 ghost use Rattle.catalog_records.specs.Records.{table_records, table_record as table_record_of};
-ghost use Rattle.catalog_read.specs.Keepable.{IsTable};
+ghost use Rattle.catalog_records.specs.Keepable.{IsTable};
 ghost use Rattle.catalog.specs.Held.{IsCoded, AreCoded, HoldsSchema};
 ghost use Rattle.catalog.specs.Changed.{with_table, with_root, IsFree, put_all, SchemaWritten, MayRefuse, HoldsNoSchemaIn, IsOfRecord};
 

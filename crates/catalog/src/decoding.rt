@@ -4,14 +4,14 @@ ghost use Rattle.sqlval.specs.declared.value.Value.{Value as AnyValue};
 ghost use Rattle.sqlval.specs.declared.schema.Table.{Table as AnyTable};
 ghost use Rattle.catalog_records.specs.declared.record.Record.{Record as AnyRecord};
 ghost use Rattle.catalog_records.specs.Records.{schema_records};
-ghost use Rattle.catalog_read.specs.Given.{Gives};
-ghost use Rattle.catalog_read.specs.Keepable.{AreTables};
+ghost use Rattle.catalog_records.specs.Given.{Gives};
+ghost use Rattle.catalog_records.specs.Keepable.{AreTables};
 ghost use Rattle.sqlrecord.specs.Key.{IsKeyOf};
 ghost use Rattle.sqlrecord.specs.Row.{IsCodeOf};
 ghost use Rattle.catalog.specs.Held.{entry_of, entries_of, IsCoded, AreCoded};
 
 use btree_read::Entry;
-use catalog_read::{ReadError, schema_of_records};
+use catalog_records::{ReadError, schema_of_records};
 use catalog_records::Record;
 use items::Items;
 use sqlrecord::{DecodeError, decode_key, decode_row};

@@ -2,12 +2,16 @@
 #![tactic(auto)]
 
 mod adding;
+mod altering;
 mod decoding;
 mod error;
 mod laws;
+mod removing;
 mod schema;
 
 pub use adding::{add_table, set_root};
+pub use altering::alter_table;
 pub use error::ChangeError;
 pub use laws::{schemas_stay, tables_are_one};
+pub use removing::drop_table;
 pub use schema::read_schema;

@@ -5,8 +5,8 @@ ghost use Rattle.page_space.specs.Space.{ReadRefused};
 ghost use Rattle.catalog.specs.Held.{HoldsSchema, HoldsNoSchema};
 
 use crate::decoding::schema_of_entries;
-use btree_scan::scan;
-use catalog_read::ReadError;
+use btree_read::scan;
+use catalog_records::ReadError;
 use page_space::{Fault, PageReader};
 use sqlval::Schema;
 use std::alloc::Global;

@@ -1,2 +1,6 @@
 pub mod Places
 pub mod Records
+pub mod Given
+pub mod Keepable
+pub mod Cuts
+pub mod Rows

@@ -13,7 +13,7 @@ use Rattle.typing.specs.Finds.{Finds}
 use Rattle.typing.specs.Known.{Known}
 use Rattle.typing.specs.Insert.{Target, row_stored, sources_found, values_stored}
 use Rattle.change_types.specs.Parts.{of_values, source_for}
-use Rattle.findings.proofs.FindsLemmas.{after, Finds-before_first, Finds-before_others, IsReasonOf-left}
+use Rattle.type_rules.proofs.FindsLemmas.{after, Finds-before_first, Finds-before_others, IsReasonOf-left}
 
 -- ---- a row
 

@@ -3,7 +3,7 @@ use Rattle.std.proofs.Common.{◌≡◌, Result, Ok, Err}
 use Rattle.refusals.specs.declared.refusal.Refusal.{Refusal}
 use Rattle.typing.specs.Finding.{Finding, reasons_in, ◌>>=◌}
 use Rattle.typing.specs.Finds.{Finds, IsReasonOf}
-use Rattle.findings.proofs.FindsLemmas.{Finds-then_err}
+use Rattle.type_rules.proofs.FindsLemmas.{Finds-then_err}
 
 -- a reason why it is not found
 pub table-refused : {A B : Type 0} (r : Refusal) (x : Finding A) (next : A → Finding B) → IsReasonOf (reasons_in x) r → Finds (Err r) (x >>= next)

@@ -11,7 +11,7 @@ ghost use Rattle.change_types.specs.Parts.{IndexParts, index_of, place_named, pl
 
 use crate::drops::has_index;
 use crate::names::distinct_names;
-use findings::both;
+use type_rules::both;
 use items::{Items, Text};
 use lexer::Name;
 use refusals::{Limit, Reason, Refusal};

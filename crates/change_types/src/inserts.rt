@@ -14,7 +14,7 @@ use crate::names::distinct_names;
 use crate::sources::{stored, typed_source};
 use crate::targets::targets_in;
 use ast::{InsertRows, StoredSource};
-use findings::both;
+use type_rules::both;
 use items::Items;
 use lexer::Name;
 use query_types::typed_query_expression;
@@ -111,7 +111,7 @@ fn values_stored(
     of_values(targets, rows)
 }
 
-#[tactic(auto, using(findings::proofs::FindsLemmas::part_steps))]
+#[tactic(auto, using(type_rules::proofs::FindsLemmas::part_steps))]
 fn of_values(
     targets: Items<(usize, ValueType)>,
     rows: Result<Items<Items<Expression>>, Refusal>,
@@ -183,7 +183,7 @@ fn of_query(
     agreed_on(targets, query, agreed)
 }
 
-#[tactic(auto, using(findings::proofs::FindsLemmas::part_steps))]
+#[tactic(auto, using(type_rules::proofs::FindsLemmas::part_steps))]
 fn agreed_on(
     targets: Items<(usize, ValueType)>,
     query: Query,

@@ -54,7 +54,7 @@ pub fn typed_filter(
     }
 }
 
-#[tactic(auto, using(findings::proofs::FindsLemmas::part_steps))]
+#[tactic(auto, using(type_rules::proofs::FindsLemmas::part_steps))]
 fn written<T: Drop>(part: Result<T, Refusal>) -> Result<Option<T>, Refusal>
     ensures { (x : Finding T) → Finds part x → Finds result (written x) }
 {

@@ -13,7 +13,7 @@ ghost use Rattle.change_types.specs.Parts.{assigned, assignment_of, changes_in, 
 use crate::names::distinct_texts;
 use crate::sources::{stored, typed_filter, typed_source};
 use crate::targets::target_named;
-use findings::{both, second};
+use type_rules::{both, second};
 use items::{Items, Text};
 use lexer::Name;
 use refusals::Refusal;
@@ -176,7 +176,7 @@ fn assignment_of(
     assigned(column, stored(wanted, Ok(source)))
 }
 
-#[tactic(auto, using(findings::proofs::FindsLemmas::part_steps))]
+#[tactic(auto, using(type_rules::proofs::FindsLemmas::part_steps))]
 fn assigned(column: usize, source: Result<Expression, Refusal>) -> Result<Assignment, Refusal>
     ensures { (x : Finding Expression) → Finds source x → Finds result (assigned column x) }
 {

@@ -5,7 +5,7 @@ ghost use Rattle.sqlval.specs.CodedLength.{key_length};
 ghost use Rattle.sqlval.specs.Matching.{key_of as key_of_row};
 ghost use Rattle.store.specs.Contents as stored;
 ghost use Rattle.sqlrecord.specs.Key.{index_key_code};
-ghost use Rattle.tree_entries.specs.Kept.{LosesNoPage};
+ghost use Rattle.btree.specs.Kept.{LosesNoPage};
 ghost use Rattle.index_trees.specs.Indexed.{HoldsIndex, AreWith, IndexWritten, HoldsNoIndexIn, HoldsNoRowIn, HasEntry, MayRefuse};
 ghost use Rattle.index_trees.specs.Refused.{IsOfKey};
 

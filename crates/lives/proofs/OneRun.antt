@@ -4,7 +4,7 @@ use Rattle.denote.specs.Database.{Database}
 use Rattle.session_definitions.specs.Rules.{Rules}
 use Rattle.session_definitions.specs.Run.{Moment, Run, without_sessions}
 use Rattle.session_definitions.specs.World.{World, opened}
-use Rattle.life_laws.specs.Reopening.{reopening}
+use Rattle.session_laws.specs.Reopening.{reopening}
 use Rattle.scripts.specs.declared.script.ScriptFault.TheVariants.{Memory, Reader, Writer}
 use Rattle.scripts.specs.Device.{disk_count}
 use Rattle.scripts.specs.Played.{Streams}

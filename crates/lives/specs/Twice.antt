@@ -7,7 +7,7 @@ use Rattle.session_definitions.specs.Rules.{Rules}
 use Rattle.session_definitions.specs.Run.{Event, Moment, Run}
 use Rattle.session_definitions.specs.Serial.{IsSerializable}
 use Rattle.session_definitions.specs.World.{World, opened}
-use Rattle.life_laws.specs.Reopening.{reopening}
+use Rattle.session_laws.specs.Reopening.{reopening}
 use Rattle.scripts.specs.declared.script.ScriptFault.TheVariants.{Memory, Reader, Writer}
 use Rattle.scripts.specs.Played.{Streams, between}
 use Rattle.shell.specs.Runs.{CarriesOut, Ends, Left, Runs}

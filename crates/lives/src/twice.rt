@@ -9,9 +9,9 @@ ghost use Rattle.shell.specs.Runs.{HandsBack, Leaves};
 ghost use Rattle.lives.specs.Twice.{EndTwice, RunsTwice, calls_from};
 
 use disk::Disk;
-use engine::Core;
-use life_laws::reopened_runs_are_runs;
-use paged::Paged;
+use sqlcore::Core;
+use session_laws::reopened_runs_are_runs;
+use paged_store::Paged;
 use session_laws::databases_stay_good;
 use shell::{EndedRun, Settings, run_to_end};
 use std::alloc::Global;

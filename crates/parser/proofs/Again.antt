@@ -12,7 +12,7 @@ use Rattle.lexer.specs.declared.words.Word.{Word}
 use Rattle.ast.specs.Notation.{Tokens, Rule, ◌⨾◌, ◌⊳◌, ◌⊲◌, Parenthesized, Maybe, Written, Many, Listed, MaybeListed}
 use Rattle.ast.specs.Words.{COMMA}
 use Rattle.ast.specs.Expressions.{Within, Chain}
-use Rattle.terminals.specs.Readers.{Reader, Outcome, ◌>>=◌, if_next, if_full, is_full, next_is, is_word, is_symbol, word, symbol, eat_word, both, after, before, parenthesized, made, optional, maybe, maybe_listed, written, many_from, many, listed}
+use Rattle.parse_terminals.specs.Readers.{Reader, Outcome, ◌>>=◌, if_next, if_full, is_full, next_is, is_word, is_symbol, word, symbol, eat_word, both, after, before, parenthesized, made, optional, maybe, maybe_listed, written, many_from, many, listed}
 use Rattle.parser.specs.Shallow.{is_shallow}
 use Rattle.parser.proofs.Steps.{word_again, symbol_again, no_word, no_symbol}
 use Rattle.parser.proofs.Passes.{Passes, here, past, around, onward, one, same, no_longer, shallow_after, shallow_inside}

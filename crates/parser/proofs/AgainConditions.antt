@@ -27,9 +27,9 @@ use Rattle.ast.specs.Notation.{Tokens, ◌⨾◌, ◌⊳◌, ◌⊲◌, Parenthe
 use Rattle.ast.specs.Terminals.{IsComparison, IsLiteral, IsTruthTest, IsTruthValue}
 use Rattle.ast.specs.Words.{AND, BETWEEN, IN, IS, LEFT_PARENTHESIS, LIKE, NOT, NULL}
 use Rattle.ast.specs.Expressions.{Nested, IsExpression, IsPredicate, IsPredicateLayer, IsTest, IsNegation, IsConjunction, IsCondition}
-use Rattle.terminals.specs.Readers.{next_is, is_symbol, is_word, rest_of, skip, word, symbol, eat_word, both, after, before, written, listed}
-use Rattle.terminals.specs.ReadTerminals.{comparison, literal, is_set_word, is_operator, is_predicate_word, begins_query, goes_on, opens_subquery, opens_condition}
-use Rattle.expressions.specs.ReadExpressions.{Inner, expression, compare, is_null, between, is_in, like, range_list_or_pattern, after_operand, exists, nested, predicate, test_, negation, conjunction, condition}
+use Rattle.parse_terminals.specs.Readers.{next_is, is_symbol, is_word, rest_of, skip, word, symbol, eat_word, both, after, before, written, listed}
+use Rattle.parse_terminals.specs.ReadTerminals.{comparison, literal, is_set_word, is_operator, is_predicate_word, begins_query, goes_on, opens_subquery, opens_condition}
+use Rattle.parse_expressions.specs.ReadExpressions.{Inner, expression, compare, is_null, between, is_in, like, range_list_or_pattern, after_operand, exists, nested, predicate, test_, negation, conjunction, condition}
 use Rattle.parser.specs.Shallow.{is_shallow}
 use Rattle.parser.proofs.Steps.{not_word, no_word, word_again}
 use Rattle.parser.proofs.Passes.{Passes, onward, one, shallow_after, skip_past}

@@ -28,9 +28,9 @@ use Rattle.ast.specs.Notation.{Tokens, Rule, ◌⨾◌, ◌⊲◌, Parenthesized
 use Rattle.ast.specs.Terminals.{IsName, IsAddOperator, IsMultiplyOperator, IsQuantifier, IsSetFunction, IsSign}
 use Rattle.ast.specs.Words.{LEFT_PARENTHESIS, RIGHT_PARENTHESIS}
 use Rattle.ast.specs.Expressions.{Nested, IsPrimary, IsPrimaryLayer, IsFactor, IsTerm, IsExpression}
-use Rattle.terminals.specs.Readers.{next_is, is_symbol, rest_of, skip, word, symbol, after, parenthesized, made, optional}
-use Rattle.terminals.specs.ReadTerminals.{quantifier, set_function, count_rows, column, is_set_word, is_operator, begins_query, opens_query}
-use Rattle.expressions.specs.ReadExpressions.{Inner, argument, aggregate, in_parentheses, constant_or_column, primary, factor, multiplied, term, added, expression}
+use Rattle.parse_terminals.specs.Readers.{next_is, is_symbol, rest_of, skip, word, symbol, after, parenthesized, made, optional}
+use Rattle.parse_terminals.specs.ReadTerminals.{quantifier, set_function, count_rows, column, is_set_word, is_operator, begins_query, opens_query}
+use Rattle.parse_expressions.specs.ReadExpressions.{Inner, argument, aggregate, in_parentheses, constant_or_column, primary, factor, multiplied, term, added, expression}
 use Rattle.parser.specs.Shallow.{is_shallow}
 use Rattle.parser.proofs.Steps.{not_word, not_symbol}
 use Rattle.parser.proofs.Passes.{Passes, here, past, around, onward, one, shallow_after, shallow_inside, skip_past}

@@ -28,12 +28,12 @@ use Rattle.ast.specs.Terminals.{IsAlias, IsColumn, IsName, IsQuantifier, IsSetOp
 use Rattle.ast.specs.Expressions.{Chain, Nested, IsCondition}
 use Rattle.ast.specs.Queries.{is_grouped_layer, is_lone, IsTableSource, IsTableSourceLayer, IsJoin, IsJoinLayer, IsTableReference, IsSelectItem, AreSelectItems, IsFilter, AreGroups, IsHaving, IsSelect, IsOperand, IsOperandLayer, IsAddend, IsQuery}
 use Rattle.ast.specs.Words.{ALL, BY, FROM, GROUP, HAVING, INNER, INTERSECT, JOIN, LEFT, ON, SELECT, WHERE}
-use Rattle.expressions.specs.declared.clauses.Clauses.{Clauses}
-use Rattle.terminals.specs.Readers.{next_is, is_symbol, is_word, word, symbol, name, both, after, parenthesized, many, listed, optional, written}
-use Rattle.terminals.specs.ReadTerminals.{quantifier, set_operator, column, alias, may_alias, is_name, is_set_word, begins_query}
-use Rattle.expressions.specs.ReadExpressions.{Inner}
-use Rattle.statements.specs.ReadStatements.{opens_names}
-use Rattle.expressions.specs.ReadQueries.{begins_join, join_ahead, table_source, on, joined, crossed, left, inner_join, join, table_reference, select_item, select_items, filter, groups, having, clauses, tables, selected, select, operand, intersected, addend, united, query}
+use Rattle.parse_expressions.specs.declared.clauses.Clauses.{Clauses}
+use Rattle.parse_terminals.specs.Readers.{next_is, is_symbol, is_word, word, symbol, name, both, after, parenthesized, many, listed, optional, written}
+use Rattle.parse_terminals.specs.ReadTerminals.{quantifier, set_operator, column, alias, may_alias, is_name, is_set_word, begins_query}
+use Rattle.parse_expressions.specs.ReadExpressions.{Inner}
+use Rattle.parse_statements.specs.ReadStatements.{opens_names}
+use Rattle.parse_expressions.specs.ReadQueries.{begins_join, join_ahead, table_source, on, joined, crossed, left, inner_join, join, table_reference, select_item, select_items, filter, groups, having, clauses, tables, selected, select, operand, intersected, addend, united, query}
 use Rattle.parser.specs.Shallow.{is_shallow}
 use Rattle.parser.proofs.Steps.{not_word, not_symbol, no_symbol, word_again, symbol_again}
 use Rattle.parser.proofs.Passes.{Passes, onward, one, no_longer, shallow_after, skip_past}

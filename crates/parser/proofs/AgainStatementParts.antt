@@ -33,10 +33,10 @@ use Rattle.ast.specs.Expressions.{Nested}
 use Rattle.ast.specs.Terminals.{IsName, IsNumber}
 use Rattle.ast.specs.Statements.{AreNames, IsSortColumn, IsDirection, IsSortKey, IsOrder, IsTypeName, IsConstraintName, IsOrderedQuery, IsFilter, IsColumnRule, IsColumnConstraint, IsColumnDefinition, IsTableRule, IsTableConstraint, IsTableElement, IsStoredSource, IsRow, AreInsertRows, IsAssignment}
 use Rattle.ast.specs.Words.{CHECK, CONSTRAINT, KEY, NOT, ORDER, PRIMARY, UNIQUE, WHERE}
-use Rattle.terminals.specs.Readers.{Reader, next_is, is_word, is_symbol, word, symbol, number, both, after, made, listed, parenthesized}
-use Rattle.terminals.specs.ReadTerminals.{is_name, sort_column, direction, sort_key}
-use Rattle.expressions.specs.ReadExpressions.{Inner}
-use Rattle.statements.specs.ReadStatements.{names, order, varying, text_type, type_name, constraint_name, constraint_ahead, begins_constraint, ordered_query, filter, check, column_rule, column_constraint, column_definition, table_rule, table_constraint, element, indexed_columns, stored_source, stored_sources, row_of_sources, insert_rows, opens_names, insert_columns, assignment}
+use Rattle.parse_terminals.specs.Readers.{Reader, next_is, is_word, is_symbol, word, symbol, number, both, after, made, listed, parenthesized}
+use Rattle.parse_terminals.specs.ReadTerminals.{is_name, sort_column, direction, sort_key}
+use Rattle.parse_expressions.specs.ReadExpressions.{Inner}
+use Rattle.parse_statements.specs.ReadStatements.{names, order, varying, text_type, type_name, constraint_name, constraint_ahead, begins_constraint, ordered_query, filter, check, column_rule, column_constraint, column_definition, table_rule, table_constraint, element, indexed_columns, stored_source, stored_sources, row_of_sources, insert_rows, opens_names, insert_columns, assignment}
 use Rattle.parser.specs.Shallow.{is_shallow}
 use Rattle.parser.proofs.Steps.{word_again, no_word}
 use Rattle.parser.proofs.Passes.{Passes, here, past, onward, one, same, no_longer, shallow_after}

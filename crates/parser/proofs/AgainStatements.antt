@@ -24,9 +24,9 @@ use Rattle.ast.specs.Expressions.{Nested}
 use Rattle.ast.specs.Terminals.{IsName}
 use Rattle.ast.specs.Statements.{AreNames, IsOrderedQuery, IsFilter, IsTableElement, IsCreateTable, IsCreateIndex, AreInsertRows, IsInsert, IsAssignment, IsUpdate, IsDelete, IsAccessMode, IsDeclareCursor, IsStatement}
 use Rattle.ast.specs.Words.{CLOSE, COMMIT, CREATE, CURSOR, DECLARE, DELETE, DROP, EXPLAIN, FETCH, FOR, FROM, INDEX, INSERT, INTO, ON, OPEN, ROLLBACK, SEMICOLON, SET, TABLE, TRANSACTION, UPDATE}
-use Rattle.terminals.specs.Readers.{Reader, Outcome, word, name, both, after, made, listed, written, parenthesized}
-use Rattle.expressions.specs.ReadExpressions.{Inner}
-use Rattle.statements.specs.ReadStatements.{ordered_query, filter, element, create_table, indexed, create_index, create, drop, insert_rows, insert_columns, insert, assigned, update, delete, access_mode, set_transaction, cursor_query, declare_cursor, data_change, schema_change, transaction_control, cursor_control, query_statement, statement}
+use Rattle.parse_terminals.specs.Readers.{Reader, Outcome, word, name, both, after, made, listed, written, parenthesized}
+use Rattle.parse_expressions.specs.ReadExpressions.{Inner}
+use Rattle.parse_statements.specs.ReadStatements.{ordered_query, filter, element, create_table, indexed, create_index, create, drop, insert_rows, insert_columns, insert, assigned, update, delete, access_mode, set_transaction, cursor_query, declare_cursor, data_change, schema_change, transaction_control, cursor_control, query_statement, statement}
 use Rattle.parser.specs.Shallow.{is_shallow}
 use Rattle.parser.proofs.Steps.{not_word, no_word}
 use Rattle.parser.proofs.Passes.{Passes, here, past, onward, one, shallow_after}

@@ -28,8 +28,8 @@ use Rattle.ast.specs.declared.operator.TruthValue.TheVariants as truth
 use Rattle.ast.specs.Notation.{Tokens, Rule, ◌⨾◌, ◌⊳◌, Maybe, Written}
 use Rattle.ast.specs.Terminals.{IsName, IsNumber, IsString, IsSign, IsAddOperator, IsMultiplyOperator, IsComparison, IsQuantifier, IsSetFunction, IsSetOperator, IsTruthValue, IsTruthTest, IsLiteral, IsColumn, IsAlias}
 use Rattle.ast.specs.Words.{ALL, AS, ASTERISK, AVG, CONCATENATION, COUNT, DISTINCT, EQUAL, EXCEPT, FALSE, GREATER, GREATER_OR_EQUAL, INTERSECT, LESS, LESS_OR_EQUAL, MAX, MIN, MINUS, NOT, NOT_EQUAL, PLUS, SOLIDUS, SUM, TRUE, UNION, UNKNOWN}
-use Rattle.terminals.specs.Readers.{Reader, is_word, is_symbol, word, symbol, eat_word, name, number, optional}
-use Rattle.terminals.specs.ReadTerminals.{add_operator, multiply_operator, sign, comparison, quantifier, set_function, set_operator, intersect, truth_value, truth_test, string, is_string, literal, column, alias, begins_alias, may_alias}
+use Rattle.parse_terminals.specs.Readers.{Reader, is_word, is_symbol, word, symbol, eat_word, name, number, optional}
+use Rattle.parse_terminals.specs.ReadTerminals.{add_operator, multiply_operator, sign, comparison, quantifier, set_function, set_operator, intersect, truth_value, truth_test, string, is_string, literal, column, alias, begins_alias, may_alias}
 use Rattle.parser.specs.Shallow.{is_shallow}
 use Rattle.parser.proofs.Steps.{word_again, no_word, no_symbol}
 use Rattle.parser.proofs.Passes.{Passes, here, past, onward, one, same, no_longer}

@@ -7,9 +7,9 @@ use Rattle.ast.specs.declared.tree.Condition.{Condition}
 use Rattle.ast.specs.Notation.{Tokens, Rule}
 use Rattle.ast.specs.Words.{RIGHT_PARENTHESIS, SEMICOLON}
 use Rattle.ast.specs.Grammar.{nested_at, IsText, IsConditionText}
-use Rattle.terminals.specs.Readers.{Reader}
-use Rattle.statements.specs.ReadStatements.{text, condition_text, is_end}
-use Rattle.expressions.specs.Levels.{inner_at}
+use Rattle.parse_terminals.specs.Readers.{Reader}
+use Rattle.parse_statements.specs.ReadStatements.{text, condition_text, is_end}
+use Rattle.parse_expressions.specs.Levels.{inner_at}
 use Rattle.parser.specs.Shallow.{is_shallow}
 use Rattle.parser.specs.Trees.{HasStatement, HasCondition}
 use Rattle.parser.proofs.Steps.{found}

@@ -12,10 +12,10 @@ use Rattle.ast.specs.declared.tree.Condition.{Condition}
 use Rattle.ast.specs.declared.tree.Expression.{Expression}
 use Rattle.ast.specs.declared.tree.Query.{Query}
 use Rattle.ast.specs.Expressions.{Nested}
-use Rattle.terminals.specs.Readers.{is_word, is_symbol}
-use Rattle.terminals.specs.ReadTerminals.{is_name, is_operator, is_predicate_word, is_set_word}
-use Rattle.expressions.specs.ReadExpressions.{Inner}
-use Rattle.statements.specs.ReadStatements.{opens_names}
+use Rattle.parse_terminals.specs.Readers.{is_word, is_symbol}
+use Rattle.parse_terminals.specs.ReadTerminals.{is_name, is_operator, is_predicate_word, is_set_word}
+use Rattle.parse_expressions.specs.ReadExpressions.{Inner}
+use Rattle.parse_statements.specs.ReadStatements.{opens_names}
 use Rattle.parser.proofs.Again.{Stops, Again}
 
 -- the tokens of one set and those of another

@@ -12,10 +12,10 @@ use Rattle.ast.specs.Notation.{Tokens}
 use Rattle.ast.specs.Words.{SEMICOLON}
 use Rattle.ast.specs.Expressions.{Within, Nested}
 use Rattle.ast.specs.Grammar.{nested_at, IsText, IsConditionText}
-use Rattle.terminals.specs.Readers.{is_symbol}
-use Rattle.expressions.specs.ReadExpressions.{Inner}
-use Rattle.statements.specs.ReadStatements.{statement, text, condition_text, is_end, is_nothing}
-use Rattle.expressions.specs.Levels.{inner_at}
+use Rattle.parse_terminals.specs.Readers.{is_symbol}
+use Rattle.parse_expressions.specs.ReadExpressions.{Inner}
+use Rattle.parse_statements.specs.ReadStatements.{statement, text, condition_text, is_end, is_nothing}
+use Rattle.parse_expressions.specs.Levels.{inner_at}
 use denote.Enum.Bare.{same_true}
 use Rattle.lexer.specs.contracts.kinds.Symbol.{the_type as symbol_type}
 use Rattle.parser.proofs.Steps.{bind_some, found}

@@ -5,7 +5,7 @@ use Rattle.lexer.specs.declared.kinds.Kind.TheVariants as kind
 use Rattle.lexer.specs.declared.kinds.Symbol.TheVariants as s
 use Rattle.ast.specs.Notation.{Tokens}
 use Rattle.ast.specs.Nesting.{left_of, right_of, lefts, rights, IsNestedWithin}
-use Rattle.terminals.specs.Readers.{is_symbol}
+use Rattle.parse_terminals.specs.Readers.{is_symbol}
 use Rattle.parser.specs.Shallow.{below, is_shallow}
 
 -- which parenthesis a token is

@@ -4,7 +4,7 @@ use Rattle.lexer.specs.declared.kinds.Kind.{Kind}
 use Rattle.lexer.specs.declared.kinds.Kind.TheVariants as kind
 use Rattle.lexer.specs.declared.kinds.Symbol.TheVariants as s
 use Rattle.ast.specs.Notation.{Tokens, Rule}
-use Rattle.terminals.specs.Readers.{is_symbol, skip}
+use Rattle.parse_terminals.specs.Readers.{is_symbol, skip}
 use Rattle.parser.specs.Shallow.{below, is_shallow}
 
 -- rest follows in ts after tokens in which parentheses are matched

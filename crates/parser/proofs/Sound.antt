@@ -9,7 +9,7 @@ use Rattle.lexer.specs.declared.words.Word.{Word}
 use Rattle.ast.specs.Notation.{Tokens, Rule, ◌⨾◌, ◌⊳◌, ◌⊲◌, Parenthesized, Maybe, Written, Many, Listed, MaybeListed}
 use Rattle.ast.specs.Words.{COMMA}
 use Rattle.ast.specs.Expressions.{Within, Chain}
-use Rattle.terminals.specs.Readers.{Reader, ◌>>=◌, if_next, if_full, is_full, is_word, word, symbol, eat_word, both, after, before, parenthesized, made, optional, maybe, maybe_listed, written, many_from, many, listed}
+use Rattle.parse_terminals.specs.Readers.{Reader, ◌>>=◌, if_next, if_full, is_full, is_word, word, symbol, eat_word, both, after, before, parenthesized, made, optional, maybe, maybe_listed, written, many_from, many, listed}
 use Rattle.parser.proofs.Steps.{bind_some, found, word_found, symbol_found}
 
 -- what r reads is in S

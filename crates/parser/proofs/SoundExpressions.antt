@@ -26,9 +26,9 @@ use Rattle.ast.specs.Notation.{Tokens, ◌⨾◌, ◌⊳◌, Maybe, Written}
 use Rattle.ast.specs.Terminals.{IsComparison, IsQuantifier, IsSetFunction}
 use Rattle.ast.specs.Words.{ASTERISK, BETWEEN, COUNT, IN, IS, LEFT_PARENTHESIS, NOT, RIGHT_PARENTHESIS}
 use Rattle.ast.specs.Expressions.{Within, Nested, IsPrimary, IsFactor, IsTerm, IsExpression, IsPredicate, IsTest, IsNegation, IsConjunction, IsCondition}
-use Rattle.terminals.specs.Readers.{◌>>=◌, next_is, is_symbol, word, symbol, eat_word}
-use Rattle.terminals.specs.ReadTerminals.{count_rows, is_number, is_string, opens_query, opens_subquery, opens_condition, set_function, comparison}
-use Rattle.expressions.specs.ReadExpressions.{Inner, argument, aggregate, in_parentheses, constant_or_column, primary, factor, multiplied, term, added, expression, compare, is_null, between, is_in, like, range_list_or_pattern, after_operand, exists, nested, predicate, test_, negation, conjunction, condition}
+use Rattle.parse_terminals.specs.Readers.{◌>>=◌, next_is, is_symbol, word, symbol, eat_word}
+use Rattle.parse_terminals.specs.ReadTerminals.{count_rows, is_number, is_string, opens_query, opens_subquery, opens_condition, set_function, comparison}
+use Rattle.parse_expressions.specs.ReadExpressions.{Inner, argument, aggregate, in_parentheses, constant_or_column, primary, factor, multiplied, term, added, expression, compare, is_null, between, is_in, like, range_list_or_pattern, after_operand, exists, nested, predicate, test_, negation, conjunction, condition}
 use Rattle.parser.proofs.Steps.{bind_some, found, symbol_found}
 use Rattle.parser.proofs.Sound.{Sound, Opening, both_sound, after_word_sound, after_symbol_sound, before_word_sound, parenthesized_sound, made_sound, eaten, written_sound, optional_sound, by_word, by_operator, chain_sound, listed_sound, either_sound, next_sound, word_then}
 use Rattle.parser.proofs.SoundTerminals.{number_sound, string_sound, add_operator_sound, multiply_operator_sound, sign_sound, comparison_sound, quantifier_sound, set_function_sound, truth_test_sound, literal_sound, column_sound}

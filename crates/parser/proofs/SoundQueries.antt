@@ -25,11 +25,11 @@ use Rattle.ast.specs.Expressions.{Within, Nested, Chain, IsCondition}
 use Rattle.ast.specs.Queries.{is_lone, IsTableSource, IsJoin, IsTableReference, IsSelectItem, AreSelectItems, IsFilter, AreGroups, IsHaving, IsSelect, IsOperand, IsAddend, IsQuery}
 use Rattle.ast.specs.Terminals.{IsSetOperator}
 use Rattle.ast.specs.Words.{CROSS, FROM, JOIN, LEFT, ON}
-use Rattle.expressions.specs.declared.clauses.Clauses.{Clauses}
-use Rattle.terminals.specs.Readers.{next_is, is_symbol, both, many}
-use Rattle.terminals.specs.ReadTerminals.{set_operator}
-use Rattle.expressions.specs.ReadExpressions.{Inner}
-use Rattle.expressions.specs.ReadQueries.{begins_join, join_ahead, table_source, on, joined, crossed, left, inner_join, join, table_reference, select_item, select_items, filter, groups, having, clauses, tables, selected, select, operand, intersected, addend, united, query}
+use Rattle.parse_expressions.specs.declared.clauses.Clauses.{Clauses}
+use Rattle.parse_terminals.specs.Readers.{next_is, is_symbol, both, many}
+use Rattle.parse_terminals.specs.ReadTerminals.{set_operator}
+use Rattle.parse_expressions.specs.ReadExpressions.{Inner}
+use Rattle.parse_expressions.specs.ReadQueries.{begins_join, join_ahead, table_source, on, joined, crossed, left, inner_join, join, table_reference, select_item, select_items, filter, groups, having, clauses, tables, selected, select, operand, intersected, addend, united, query}
 use Rattle.parser.proofs.Steps.{bind_some, found}
 use Rattle.parser.proofs.Sound.{Sound, both_sound, after_word_sound, parenthesized_sound, made_sound, written_sound, optional_sound, maybe_sound, maybe_listed_sound, by_word, by_operator, by_look, many_sound, chain_sound, listed_sound, either_sound, next_sound, word_then, symbol_is}
 use Rattle.parser.proofs.SoundTerminals.{name_sound, quantifier_sound, set_operator_sound, intersect_sound, column_sound, alias_sound, may_alias_sound}

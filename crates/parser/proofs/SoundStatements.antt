@@ -37,10 +37,10 @@ use Rattle.ast.specs.Expressions.{Nested}
 use Rattle.ast.specs.Terminals.{IsName}
 use Rattle.ast.specs.Statements.{AreNames, IsSortColumn, IsDirection, IsSortKey, IsOrder, IsTypeName, IsConstraintName, IsOrderedQuery, IsFilter, IsColumnRule, IsColumnConstraint, IsColumnDefinition, IsTableRule, IsTableConstraint, IsTableElement, IsStoredSource, IsRow, AreInsertRows, IsAssignment, IsAccessMode, IsStatement}
 use Rattle.ast.specs.Words.{CHARACTER, CHECK, CREATE, CURSOR, DECLARE, DELETE, DROP, FOR, INDEX, INSERT, NOT, ON, PRIMARY, READ, SET, TABLE, UNIQUE, UPDATE, VALUES}
-use Rattle.terminals.specs.Readers.{Reader, next_is, word, made}
-use Rattle.terminals.specs.ReadTerminals.{is_name, is_number, sort_column, direction, sort_key}
-use Rattle.expressions.specs.ReadExpressions.{Inner}
-use Rattle.statements.specs.ReadStatements.{names, order, varying, text_type, type_name, constraint_name, constraint_ahead, begins_constraint, ordered_query, filter, check, column_rule, column_constraint, column_definition, table_rule, table_constraint, element, create_table, indexed_columns, indexed, create_index, create, drop, stored_source, stored_sources, row_of_sources, insert_rows, opens_names, insert_columns, insert, assignment, assigned, update, delete, access_mode, set_transaction, cursor_query, declare_cursor, data_change, schema_change, transaction_control, cursor_control, begins_data_change, begins_schema_change, begins_transaction_control, begins_cursor_control, query_statement, statement}
+use Rattle.parse_terminals.specs.Readers.{Reader, next_is, word, made}
+use Rattle.parse_terminals.specs.ReadTerminals.{is_name, is_number, sort_column, direction, sort_key}
+use Rattle.parse_expressions.specs.ReadExpressions.{Inner}
+use Rattle.parse_statements.specs.ReadStatements.{names, order, varying, text_type, type_name, constraint_name, constraint_ahead, begins_constraint, ordered_query, filter, check, column_rule, column_constraint, column_definition, table_rule, table_constraint, element, create_table, indexed_columns, indexed, create_index, create, drop, stored_source, stored_sources, row_of_sources, insert_rows, opens_names, insert_columns, insert, assignment, assigned, update, delete, access_mode, set_transaction, cursor_query, declare_cursor, data_change, schema_change, transaction_control, cursor_control, begins_data_change, begins_schema_change, begins_transaction_control, begins_cursor_control, query_statement, statement}
 use Rattle.parser.proofs.Steps.{bind_some, found, word_found}
 use Rattle.parser.proofs.Sound.{Sound, both_sound, after_word_sound, after_symbol_sound, parenthesized_sound, made_sound, written_sound, optional_sound, maybe_sound, maybe_listed_sound, by_word, by_look, many_sound, listed_sound, either_sound, next_sound, none_sound, word_is, word_then, sound_to, filled_sound, empty_sound}
 use Rattle.parser.proofs.SoundTerminals.{name_sound, number_sound}

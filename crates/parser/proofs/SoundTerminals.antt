@@ -29,8 +29,8 @@ use Rattle.ast.specs.declared.operator.TruthValue.TheVariants as truth
 use Rattle.ast.specs.Notation.{Tokens, ◌⨾◌, ◌⊳◌, Maybe, Written}
 use Rattle.ast.specs.Terminals.{IsName, IsNumber, IsString, IsSign, IsAddOperator, IsMultiplyOperator, IsComparison, IsQuantifier, IsSetFunction, IsSetOperator, IsTruthValue, IsTruthTest, IsLiteral, IsColumn, IsAlias}
 use Rattle.ast.specs.Words.{ALL, EXCEPT, INTERSECT, NOT, UNION}
-use Rattle.terminals.specs.Readers.{if_next, next_is, symbol, eat_word, name, number, made}
-use Rattle.terminals.specs.ReadTerminals.{add_operator, multiply_operator, sign, less, not_less, comparison, quantifier, extreme, count_or_sum, set_function, set_operator, intersect, truth_value, truth_test, string, is_string, literal, column, alias, begins_alias, may_alias}
+use Rattle.parse_terminals.specs.Readers.{if_next, next_is, symbol, eat_word, name, number, made}
+use Rattle.parse_terminals.specs.ReadTerminals.{add_operator, multiply_operator, sign, less, not_less, comparison, quantifier, extreme, count_or_sum, set_function, set_operator, intersect, truth_value, truth_test, string, is_string, literal, column, alias, begins_alias, may_alias}
 use Rattle.parser.proofs.Steps.{bind_some, found, symbol_found}
 use Rattle.parser.proofs.Sound.{Sound, both_sound, made_sound, eaten, written_sound, optional_sound, maybe_sound, by_word, either_sound, next_sound, none_sound, word_is, symbol_is, word_then, itself, nothing_sound, opening_to}
 

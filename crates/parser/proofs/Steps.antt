@@ -8,7 +8,7 @@ use Rattle.lexer.specs.declared.kinds.Kind.TheVariants as kind
 use Rattle.lexer.specs.declared.kinds.Symbol.{Symbol}
 use Rattle.lexer.specs.declared.words.Word.{Word}
 use Rattle.ast.specs.Notation.{Tokens}
-use Rattle.terminals.specs.Readers.{Outcome, ◌>>=◌, word, symbol, same_word, same_symbol, is_word, is_symbol, next_is}
+use Rattle.parse_terminals.specs.Readers.{Outcome, ◌>>=◌, word, symbol, same_word, same_symbol, is_word, is_symbol, next_is}
 
 pub bind_some : {A B : Type 0} (r : Outcome A) (f : A × Tokens → Outcome B) (y : B × Tokens) → (r >>= f) ≡ Some y → (x : A × Tokens) × (r ≡ Some x) × (f x ≡ Some y)
 bind_some (Some x) f y e = (x, refl, e)

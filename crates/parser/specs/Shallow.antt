@@ -2,7 +2,7 @@
 use Rattle.std.specs.Prelude.{ℕ, zero, suc, Bool, true, false, if◌then◌else◌, [], ◌∷◌}
 use Rattle.lexer.specs.declared.kinds.Symbol.TheVariants as s
 use Rattle.ast.specs.Notation.{Tokens}
-use Rattle.terminals.specs.Readers.{is_symbol}
+use Rattle.parse_terminals.specs.Readers.{is_symbol}
 
 -- what is one more level down, if one is left
 abbrev pub below : ℕ → (ℕ → Bool) → Bool

@@ -8,18 +8,18 @@ ghost use Rattle.ast.specs.declared.tree.Condition.{Condition};
 ghost use Rattle.refusals.specs.declared.reason.Reason.TheVariants.{Syntax};
 ghost use Rattle.refusals.specs.declared.refusal.Refusal.TheVariants.{Exceeded, Invalid, Memory};
 ghost use Rattle.refusals.specs.declared.limit.Limit.TheVariants.{Chain, Nesting};
-ghost use Rattle.terminals.specs.Readers.{kinds, GivesAll};
-ghost use Rattle.statements.specs.ReadStatements as statements;
+ghost use Rattle.parse_terminals.specs.Readers.{kinds, GivesAll};
+ghost use Rattle.parse_statements.specs.ReadStatements as statements;
 ghost use Rattle.parser.specs.Shallow.{is_shallow};
 ghost use Rattle.parser.specs.Trees.{HasStatement, HasCondition};
-ghost use Rattle.expressions.specs.Levels.{inner_at};
+ghost use Rattle.parse_expressions.specs.Levels.{inner_at};
 
 use ast::{Condition, Statement};
 use lexer::{Symbol, Token};
 use refusals::{Limit, Reason, Refusal};
-use statements::Statements;
+use parse_statements::Statements;
 use std::alloc::Global;
-use terminals::{ParseError, is_symbol};
+use parse_terminals::{ParseError, is_symbol};
 
 /// How many parentheses may be open at once.
 pub const MAXIMUM_NESTING: usize = 64;

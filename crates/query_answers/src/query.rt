@@ -24,7 +24,7 @@ use algebra::Tree;
 use algebra_laws::listings_answer_queries;
 use denote::{Rows, Stop};
 use executor::Listed;
-use kept_subqueries::listed_once;
+use uncorrelated_subqueries::listed_once;
 use refusals::Refusal;
 use sqlval::Schema;
 use std::alloc::{AllocError, Global};

@@ -22,8 +22,8 @@ use Rattle.typing.specs.SetFunction.{query_seen}
 use Rattle.typing.specs.SetOperator.{exists, in_query, of_one_column}
 use Rattle.typing.specs.Typing.{condition_part, conjunction_part, expression_part, negation_part, predicate_part, query_found}
 use Rattle.typing.proofs.Nodes as node
-use Rattle.findings.proofs.Covers.{then-only}
-use Rattle.findings.proofs.FindsLemmas.{Finds-then_err, Finds-before_first}
+use Rattle.type_rules.proofs.Covers.{then-only}
+use Rattle.type_rules.proofs.FindsLemmas.{Finds-then_err, Finds-before_first}
 use Rattle.query_types.specs.Parts.{as_found, in_order, negation_of, not_of}
 
 pub turned : {X A : Type 0} (f : X → Part A) (xs : List X) (v : View) → in_turn (map f xs) v ≡ in_order f as_found xs v

@@ -12,8 +12,8 @@ use Rattle.typing.specs.Finds.{Finds}
 use Rattle.typing.specs.From.{From, all_crossed, crossed, frame_over, from_found, joined_by, joined_on}
 use Rattle.typing.specs.Part.{Part, Plain}
 use Rattle.typing.specs.Scope.{Scope}
-use Rattle.findings.proofs.Covers.{also-either, then-only}
-use Rattle.findings.proofs.FindsLemmas.{Finds-then_err, Finds-also_first, Finds-also_second}
+use Rattle.type_rules.proofs.Covers.{also-either, then-only}
+use Rattle.type_rules.proofs.FindsLemmas.{Finds-then_err, Finds-also_first, Finds-also_second}
 use Rattle.type_rules.specs.Tables.{join_sides}
 use Rattle.type_rules.specs.declared.tables.Joined.{Joined}
 use Rattle.query_types.specs.Selects.{join_of, with_key}

@@ -25,8 +25,8 @@ use Rattle.typing.specs.Select.{Clauses, functions_found, is_grouped, key_found,
 use Rattle.typing.specs.SetOperator.{combinable, intersection, operation, set_chain}
 use Rattle.typing.specs.Typing.{addend_found, operand_found, query_found, select_found}
 use Rattle.typing.proofs.Nodes as node
-use Rattle.findings.proofs.Covers.{also-either, then-only}
-use Rattle.findings.proofs.FindsLemmas.{Finds-then_err, Finds-also_first, Finds-also_second}
+use Rattle.type_rules.proofs.Covers.{also-either, then-only}
+use Rattle.type_rules.proofs.FindsLemmas.{Finds-then_err, Finds-also_first, Finds-also_second}
 use Rattle.type_rules.specs.Parts.{combined_of}
 use Rattle.type_rules.specs.Selects.{settled}
 use Rattle.query_types.specs.Selects.{addend_after, clauses_of, from_in, groups_of, operand_after, select_from, keyed, select_over, settled_in, with_key}

@@ -6,7 +6,7 @@ use Rattle.typing.specs.Finding.{Finding, before, each}
 use Rattle.typing.specs.Finds.{Finds}
 use Rattle.typing.specs.Part.{Part, View, past}
 use Rattle.query_types.specs.Parts.{in_order}
-use Rattle.findings.proofs.FindsLemmas.{Finds-before_first, after, after-before, after-refused}
+use Rattle.type_rules.proofs.FindsLemmas.{Finds-before_first, after, after-before, after-refused}
 
 module _ {X A B : Type 0} (f : X → Part A) (g : X → Finding A → Finding B) (items : List X) (i : ℕ) (item : X) where
   split : i < length items → item ≡ get_or items i item → drop i items ≡ item ∷ drop (suc i) items

@@ -44,7 +44,7 @@ fn ordered_by(
     with_keys(query, keys_found(alloc, columns.as_slice(), order))
 }
 
-#[tactic(auto, using(findings::proofs::FindsLemmas::part_steps))]
+#[tactic(auto, using(type_rules::proofs::FindsLemmas::part_steps))]
 fn with_keys(query: Query, keys: Result<Items<OrderKey>, Refusal>) -> Result<OrderedQuery, Refusal>
     ensures { (x : Finding (List OrderKey)) → Finds keys x → Finds result (keys_with query x) }
 {
@@ -72,7 +72,7 @@ fn key_found(columns: &[ResultColumn], key: &SortKey) -> Result<OrderKey, Refusa
     key_at(key.direction, sort_place(columns, &key.column))
 }
 
-#[tactic(auto, using(findings::proofs::FindsLemmas::part_steps))]
+#[tactic(auto, using(type_rules::proofs::FindsLemmas::part_steps))]
 fn key_at(direction: Option<Direction>, place: Result<usize, Refusal>) -> Result<OrderKey, Refusal>
     ensures { (x : Finding ℕ) → Finds place x → Finds result (key_at direction x) }
 {

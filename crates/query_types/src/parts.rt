@@ -18,7 +18,7 @@ ghost use Rattle.query_types.specs.Parts.{appended, function_of, functions_in, n
 ghost use Rattle.query_types.specs.Selects.{clauses_of, groups_of, join_of, keyed, select_from, select_over, with_key};
 
 use ast::{Column, Quantifier, SelectItem, TruthTest};
-use findings::both;
+use type_rules::both;
 use items::{Items, Text};
 use refusals::{Limit, Reason, Refusal};
 use scopes::{Clause, Scope, are_distinct, count_in_items};
@@ -42,7 +42,7 @@ pub fn joined(
     appended(both(first, others))
 }
 
-#[tactic(auto, using(findings::proofs::FindsLemmas::part_steps))]
+#[tactic(auto, using(type_rules::proofs::FindsLemmas::part_steps))]
 fn appended<T: Drop>(lists: Result<(Items<T>, Items<T>), Refusal>) -> Result<Items<T>, Refusal>
     ensures { (x : Finding (List T × List T)) → Finds lists x → Finds result (appended x) }
 {
@@ -88,7 +88,7 @@ pub fn tested_negation(
     negation(alloc, is_negated, test_of(alloc, test, predicate))
 }
 
-#[tactic(auto, using(findings::proofs::FindsLemmas::part_steps))]
+#[tactic(auto, using(type_rules::proofs::FindsLemmas::part_steps))]
 fn test_of(
     alloc: Global,
     test: Option<TruthTest>,
@@ -99,7 +99,7 @@ fn test_of(
     tested(alloc, test, predicate?)
 }
 
-#[tactic(auto, using(findings::proofs::FindsLemmas::part_steps))]
+#[tactic(auto, using(type_rules::proofs::FindsLemmas::part_steps))]
 fn negation(
     alloc: Global,
     is_negated: bool,
@@ -111,7 +111,7 @@ fn negation(
 }
 
 /// A condition that is written.
-#[tactic(auto, using(findings::proofs::FindsLemmas::part_steps))]
+#[tactic(auto, using(type_rules::proofs::FindsLemmas::part_steps))]
 pub fn written(condition: Result<Condition, Refusal>) -> Result<Option<Condition>, Refusal>
     ensures { (x : Finding Condition) → Finds condition x → Finds result (written x) }
 {
@@ -138,7 +138,7 @@ pub fn grouped<'a>(rows: &'a Scope<'a>, key: Option<&'a Items<usize>>) -> Scope<
 // ---- joins
 
 /// INNER JOIN, over sides that are found.
-#[tactic(auto, using(findings::proofs::FindsLemmas::part_steps))]
+#[tactic(auto, using(type_rules::proofs::FindsLemmas::part_steps))]
 pub fn inner_join(
     alloc: Global,
     sides: Joined,
@@ -164,7 +164,7 @@ pub fn inner_join(
 }
 
 /// LEFT JOIN, over sides that are found.
-#[tactic(auto, using(findings::proofs::FindsLemmas::part_steps))]
+#[tactic(auto, using(type_rules::proofs::FindsLemmas::part_steps))]
 pub fn left_join(
     alloc: Global,
     sides: Joined,
@@ -240,7 +240,7 @@ fn distinct_tables(names: &[Text]) -> Result<(), Refusal>
 }
 
 /// The groups, from what they show.
-#[tactic(auto, using(findings::proofs::FindsLemmas::part_steps))]
+#[tactic(auto, using(type_rules::proofs::FindsLemmas::part_steps))]
 pub fn groups_of(
     key: Option<Items<usize>>,
     shown: Result<(Items<ShownItem>, Option<Condition>), Refusal>,
@@ -266,7 +266,7 @@ pub fn select_over(
     select_from(alloc, quantifier, groups, source, settled)
 }
 
-#[tactic(auto, using(findings::proofs::FindsLemmas::part_steps))]
+#[tactic(auto, using(type_rules::proofs::FindsLemmas::part_steps))]
 fn select_from(
     alloc: Global,
     quantifier: Option<Quantifier>,

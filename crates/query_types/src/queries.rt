@@ -15,7 +15,7 @@ use crate::functions::shown_functions;
 use crate::parts::{grouped, groups_of, inside, is_grouped, item_name, select_over, width_of};
 use crate::tables::typed_from;
 use ast::{Addend, Operand, SelectItem, SetOperator};
-use findings::both;
+use type_rules::both;
 use items::{Boxed, Items};
 use refusals::{Limit, Refusal};
 use scopes::{Clause, Scope, View, after_expression, after_items};

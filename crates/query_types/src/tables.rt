@@ -11,7 +11,7 @@ use crate::conditions::typed_condition;
 use crate::parts::{inner_join, inside, left_join};
 use crate::queries::typed_query_expression;
 use ast::{Join, TableReference, TableSource};
-use findings::both;
+use type_rules::both;
 use refusals::{Reason, Refusal};
 use scopes::{Clause, Scope, View};
 use sqlval::Schema;

@@ -13,7 +13,7 @@ use Rattle.ast.specs.Grammar.{IsText, IsConditionText}
 use Rattle.ast.specs.Nesting.{IsNestedWithin}
 use Rattle.ast.specs.Notation.{Tokens}
 use Rattle.ast.specs.Words.{SEMICOLON}
-use Rattle.terminals.specs.Readers.{kinds}
+use Rattle.parse_terminals.specs.Readers.{kinds}
 use Rattle.printer.specs.Printed.{IsTextOf, IsConditionTextOf, BeginsWithCondition}
 use Rattle.round_trip.specs.ReadAs.{IsReadAs, IsReadAsCondition}
 

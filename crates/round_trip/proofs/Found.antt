@@ -12,7 +12,7 @@ use Rattle.ast.specs.Notation.{Tokens, Rule, ◌⨾◌, ◌⊳◌, ◌⊲◌, Pa
 use Rattle.ast.specs.Queries.{IsAddend, IsJoin, IsOperand, IsQuery, IsSelect, IsSelectItem, IsTableReference, IsTableSource}
 use Rattle.ast.specs.Statements.{IsStatement}
 use Rattle.ast.specs.Words.{COMMA}
-use Rattle.terminals.specs.Readers.{is_symbol}
+use Rattle.parse_terminals.specs.Readers.{is_symbol}
 use Rattle.parser.proofs.Passes.{Passes, Passing, here, past, around, onward, one, same}
 use Rattle.ast.specs.Parts.{Node, statement, query, addend, operand, select, select_item, table_reference, join, table_source, condition, conjunction, negation, test, predicate, expression, term, factor, primary, written}
 use Rattle.round_trip.proofs.Leads.{Leads, at_once, into, behind, led_on}

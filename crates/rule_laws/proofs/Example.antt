@@ -16,11 +16,11 @@ use Rattle.ast.specs.declared.tree.Term.{roll-Term}
 use Rattle.ast.specs.declared.tree.Test.{roll-Test}
 use Rattle.ast.specs.Notation.{Tokens}
 use Rattle.ast.specs.Words.{IS, NULL}
-use Rattle.terminals.specs.Readers.{word, symbol, eat_word}
-use Rattle.terminals.specs.ReadTerminals.{comparison, count_rows, opens_condition, set_function, truth_test}
-use Rattle.expressions.specs.ReadExpressions.{after_operand, condition, conjunction as conjunction_read, constant_or_column, expression, factor, is_null, negation, predicate, primary, term, test_}
-use Rattle.expressions.specs.Levels.{inner_at}
-use Rattle.statements.specs.ReadStatements.{condition_text}
+use Rattle.parse_terminals.specs.Readers.{word, symbol, eat_word}
+use Rattle.parse_terminals.specs.ReadTerminals.{comparison, count_rows, opens_condition, set_function, truth_test}
+use Rattle.parse_expressions.specs.ReadExpressions.{after_operand, condition, conjunction as conjunction_read, constant_or_column, expression, factor, is_null, negation, predicate, primary, term, test_}
+use Rattle.parse_expressions.specs.Levels.{inner_at}
+use Rattle.parse_statements.specs.ReadStatements.{condition_text}
 use Rattle.parser.proofs.Found.{condition_found}
 use Rattle.typing.specs.declared.typed.Condition.{Condition, Condition-F, out-Condition, the_lemmas}
 use Rattle.typing.specs.declared.typed.Condition.TheVariants as c

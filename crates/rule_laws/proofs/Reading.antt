@@ -10,10 +10,10 @@ use Rattle.lexer.proofs.Unique.{AreTokens-unique, no_fault}
 use Rattle.ast.specs.declared.tree.Condition.{Condition as Tree}
 use Rattle.ast.specs.Nesting.{lefts}
 use Rattle.ast.specs.Notation.{Tokens}
-use Rattle.token_laws.specs.Outcome.{HasOne, has_tokens, has_fault}
-use Rattle.token_laws.proofs.Reached.{text_has_one}
-use Rattle.expressions.specs.Levels.{inner_at}
-use Rattle.statements.specs.ReadStatements.{condition_text}
+use Rattle.syntax_laws.specs.Outcome.{HasOne, has_tokens, has_fault}
+use Rattle.syntax_laws.proofs.Reached.{text_has_one}
+use Rattle.parse_expressions.specs.Levels.{inner_at}
+use Rattle.parse_statements.specs.ReadStatements.{condition_text}
 use Rattle.parser.specs.Shallow.{is_shallow}
 use Rattle.parser.proofs.AgainText.{condition_text_again}
 use Rattle.typing.specs.declared.typed.Condition.{Condition}

@@ -9,8 +9,8 @@ use Rattle.lexer.specs.Token.{Bytes}
 use Rattle.ast.specs.declared.statement.Statement.{Statement}
 use Rattle.ast.specs.declared.statement.Statement.TheVariants as asks
 use Rattle.denote.specs.Database.{Name}
-use Rattle.statement_reading.specs.Reading.{IsRead, IsUnread}
-use Rattle.statement_reading.specs.Rollback.{IsRollback}
+use Rattle.statement_definitions.specs.Reading.{IsRead, IsUnread}
+use Rattle.statement_definitions.specs.Rollback.{IsRollback}
 use Rattle.replies.specs.declared.reply.Reply.{Reply}
 use Rattle.replies.specs.declared.reply.Reply.TheVariants as says
 use Rattle.session_definitions.specs.Effect.{Effect, after}

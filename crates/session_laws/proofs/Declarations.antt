@@ -12,7 +12,7 @@ use Rattle.ast.specs.declared.statement.Statement.TheVariants as asks
 use Rattle.ast.specs.Grammar.{IsText}
 use Rattle.ast.specs.Nesting.{IsNestedWithin}
 use Rattle.ast.specs.Notation.{Tokens}
-use Rattle.statement_reading.specs.Reading.{IsRead}
+use Rattle.statement_definitions.specs.Reading.{IsRead}
 use Rattle.typing.specs.declared.statement.Change.{Change}
 use Rattle.typing.specs.declared.statement.Change.TheVariants as change_of
 use Rattle.typing.specs.declared.statement.CreateIndex.{CreateIndex}
@@ -29,7 +29,7 @@ use Rattle.typing.specs.Statement.{answered_found}
 use Rattle.typing.specs.Update.{update_found, delete_found}
 use Rattle.denote.specs.Database.{Database, Table, AreReadable, are_places, constraint_columns}
 use Rattle.denote.specs.SchemaOf.{IsSchemaOf}
-use Rattle.laws.specs.Changed.{DeclaresRightly}
+use Rattle.denote_laws.specs.Changed.{DeclaresRightly}
 use Rattle.session_definitions.specs.Rules.{Rules, AreRules, Means}
 
 -- what a CREATE TABLE within the limits keeps of its CHECKs can be read

@@ -7,10 +7,10 @@ use Rattle.sqlval.specs.declared.schema.Constraint.{Constraint}
 use Rattle.typing.specs.declared.statement.Change.{Change}
 use Rattle.denote.specs.Change.{Changed, Makes, Raises, Violates, changed, IsAccepted}
 use Rattle.denote.specs.Database.{Name, Table, Database, CheckReading, fits_columns, IndexDeclaration, AreReadable, are_places, constraint_columns, index_columns, IsGoodTable, IsGood, IsSameTable, AreSame, IsSameDatabase}
-use Rattle.laws.proofs.Good.{changed-good}
+use Rattle.denote_laws.proofs.Good.{changed-good}
 use Rattle.operator_laws.proofs.Orders.{list_all-permutes}
-use Rattle.laws.proofs.Tables.{violated_by-same}
-use Rattle.laws.specs.Changed.{DeclaresRightly}
+use Rattle.denote_laws.proofs.Tables.{violated_by-same}
+use Rattle.denote_laws.specs.Changed.{DeclaresRightly}
 
 module _ (reading : CheckReading) where
   same_table : (name : Name) (t u : Table) → IsSameTable t u → IsGoodTable reading name t → IsGoodTable reading name u

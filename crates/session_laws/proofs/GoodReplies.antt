@@ -10,8 +10,8 @@ use Rattle.ast.specs.declared.statement.Statement.TheVariants as asks
 use Rattle.typing.specs.declared.statement.Change.{Change}
 use Rattle.typing.specs.declared.statement.Typed.TheVariants as does
 use Rattle.denote.specs.Database.{Name, IsGood}
-use Rattle.laws.specs.Changed.{DeclaresRightly}
-use Rattle.statement_reading.specs.Reading.{IsRead}
+use Rattle.denote_laws.specs.Changed.{DeclaresRightly}
+use Rattle.statement_definitions.specs.Reading.{IsRead}
 use Rattle.replies.specs.declared.reply.Reply.{Reply}
 use Rattle.session_definitions.specs.Effect.{Effect}
 use Rattle.session_definitions.specs.Rules.{Rules, Means}

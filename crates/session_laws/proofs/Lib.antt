@@ -14,3 +14,6 @@ pub mod Declarations
 pub mod GoodDatabases
 pub mod GoodReplies
 pub mod GoodSteps
+pub mod Refusals
+pub mod Undamaged
+pub mod Lives

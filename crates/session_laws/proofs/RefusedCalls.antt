@@ -12,7 +12,7 @@ use Rattle.denote.specs.Database.{Name}
 use Rattle.replies.specs.declared.reply.Reply.TheVariants as says
 use Rattle.session_definitions.specs.Effect.{Effect, after}
 use Rattle.session_laws.specs.Left.{IsFetch, LeavesAlmostAll}
-use Rattle.statement_reading.specs.Reading.{IsRead}
+use Rattle.statement_definitions.specs.Reading.{IsRead}
 use Rattle.session_definitions.specs.Rules.{Rules}
 use Rattle.session_definitions.specs.Statements.{Queries, Explains, Changes, Ends, Undoes, SetsMode, Declares, Opens, FetchesIn, Fetches, ClosesIn, Closes, CarriesOut, counted}
 use Rattle.session_definitions.specs.Step.{Withholds, Replies, Step}

@@ -7,7 +7,7 @@ use Rattle.lexer.specs.Token.{Bytes}
 use Rattle.ast.specs.declared.statement.Statement.TheVariants as asks
 use Rattle.denote.specs.Database.{Name}
 use Rattle.session_definitions.specs.Effect.{rolled_back}
-use Rattle.statement_reading.specs.Reading.{IsRead}
+use Rattle.statement_definitions.specs.Reading.{IsRead}
 use Rattle.session_definitions.specs.Transactions.{active, is_open, without_cursor}
 use Rattle.session_definitions.specs.World.{Transaction, Session, World, with_session}
 

@@ -18,8 +18,8 @@ use Rattle.denote.specs.Database.{Database, IsGood}
 use Rattle.denote.specs.SchemaOf.{IsSchemaOf}
 use Rattle.replies.specs.declared.reply.Reply.{Reply}
 use Rattle.replies.specs.declared.reply.Reply.TheVariants as says
-use Rattle.statement_reading.specs.Reading.{IsRead}
-use Rattle.statement_reading.specs.Rollback.{IsRollback}
+use Rattle.statement_definitions.specs.Reading.{IsRead}
+use Rattle.statement_definitions.specs.Rollback.{IsRollback}
 use Rattle.session_definitions.specs.Effect.{Effect}
 use Rattle.session_definitions.specs.Refusals.{IsReserved}
 use Rattle.session_definitions.specs.Rules.{Rules, AreRules, Means}

@@ -12,13 +12,13 @@ use Rattle.lexer.specs.Token.{Bytes, IsFault}
 use Rattle.lexer.specs.Tokens.{IsFirstFault}
 use Rattle.ast.specs.declared.statement.Statement.{Statement}
 use Rattle.ast.specs.declared.statement.Statement.TheVariants as asks
-use Rattle.statement_reading.specs.Reading.{IsUnread}
+use Rattle.statement_definitions.specs.Reading.{IsUnread}
 use Rattle.typing.specs.declared.statement.Typed.{Typed}
 use Rattle.typing.specs.Built.{is_built}
 use Rattle.typing.specs.Finding.{Finding, reasons_in}
 use Rattle.typing.specs.Finds.{IsReasonOf}
 use Rattle.typing.specs.Statement.{answered_found, statement_found}
-use Rattle.type_laws.specs.Reasons.{is_reason, IsReasoned}
+use Rattle.typing_laws.specs.Reasons.{is_reason, IsReasoned}
 use Rattle.store.specs.declared.error.StoreLimit.{StoreLimit}
 use Rattle.store.specs.Errors.{Never}
 use Rattle.replies.specs.declared.reply.Reply.{Reply}

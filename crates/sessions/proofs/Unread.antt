@@ -5,8 +5,8 @@ use Rattle.refusals.specs.declared.refusal.Refusal.TheVariants as refused
 use Rattle.lexer.specs.Token.{Bytes}
 use Rattle.ast.specs.declared.statement.AccessMode.{AccessMode}
 use Rattle.replies.specs.declared.reply.Reply.TheVariants as says
-use Rattle.statement_reading.specs.Reading.{IsUnread}
-use Rattle.statement_reading.specs.Rollback.{IsRollback}
+use Rattle.statement_definitions.specs.Reading.{IsUnread}
+use Rattle.statement_definitions.specs.Rollback.{IsRollback}
 use Rattle.session_definitions.specs.Effect.{Effect}
 use Rattle.session_definitions.specs.Refusals.{IsReserved}
 use Rattle.session_definitions.specs.Rules.{Rules}

@@ -11,7 +11,7 @@ use Rattle.lexer.specs.Tokens.{kinds_of}
 use Rattle.lexer.specs.Words.{is_supported}
 use Rattle.ast.specs.declared.statement.Statement.{Statement}
 use Rattle.ast.specs.declared.statement.Statement.TheVariants as asks
-use Rattle.statement_reading.specs.Reading.{IsRead}
+use Rattle.statement_definitions.specs.Reading.{IsRead}
 use Rattle.sessions.specs.Kinds.{is_later}
 
 not_first : (tokens : List Token) (w : Word) (others : List Kind) → kinds_of tokens ≡ kind.Word w ∷ others → is_supported w ≡ false → first_unsupported tokens ≡ None → ⊥

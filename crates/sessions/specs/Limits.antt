@@ -3,7 +3,7 @@ use Rattle.std.specs.Prelude.{◌≡◌, ℕ, true}
 use Rattle.lexer.specs.Token.{Bytes}
 use Rattle.ast.specs.declared.statement.Statement.{Statement}
 use Rattle.ast.specs.declared.statement.Statement.TheVariants as asks
-use Rattle.statement_reading.specs.Reading.{IsRead}
+use Rattle.statement_definitions.specs.Reading.{IsRead}
 use Rattle.store.specs.Errors.{CommittingReaches}
 use Rattle.store.specs.declared.error.StoreLimit.{StoreLimit}
 use Rattle.sessions.specs.Kinds.{is_change}

@@ -49,7 +49,7 @@ impl<S: Store, L: Language + Changes<S>> Core<S, L> {
     ghost use Rattle.store.specs.Errors.{HasRisen};
     ghost use Rattle.transactions.specs.Refused.{Counts, IfRefused, TellsReached};
     ghost use Rattle.refusals.specs.declared.limit.Limit.TheVariants as limit;
-    ghost use Rattle.statement_reading.specs.Rollback.{IsRollback};
+    ghost use Rattle.statement_definitions.specs.Rollback.{IsRollback};
     ghost use Rattle.refusals.specs.declared.reason.Reason.TheVariants as reason;
     ghost use Rattle.refusals.specs.declared.refusal.Refusal.TheVariants.{Disk, Exceeded, Invalid};
     ghost use Rattle.sessions.specs.Limits.{CallReaches};

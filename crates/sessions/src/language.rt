@@ -1,8 +1,8 @@
 //! How the texts of statements are read and typed, which sessions take as it is.
 ghost use Rattle.std.specs.Prelude.{◌≡◌, ◌≢◌, ◌↔◌, IsTrue, IfOk, IfErr};
 ghost use Rattle.refusals.specs.declared.refusal.Refusal.TheVariants.{Disk, Memory};
-ghost use Rattle.statement_reading.specs.Reading.{IsRead, IsUnread};
-ghost use Rattle.statement_reading.specs.Rollback.{IsRollback};
+ghost use Rattle.statement_definitions.specs.Reading.{IsRead, IsUnread};
+ghost use Rattle.statement_definitions.specs.Rollback.{IsRollback};
 ghost use Rattle.transactions.specs.Refused.{TellsNoLimit};
 ghost use Rattle.typing.specs.Finds.{Finds};
 ghost use Rattle.typing.specs.Statement.{answered_found};
@@ -11,7 +11,7 @@ use ast::Statement;
 use refusals::Refusal;
 use sqlval::Schema;
 use std::alloc::Global;
-use type_laws::refusals_have_reasons;
+use typing_laws::refusals_have_reasons;
 use typing::Typed;
 
 /// What reads and types statements.

@@ -10,7 +10,7 @@ use Rattle.replies.specs.declared.reply.Reply.TheVariants.{Done}
 use Rattle.transactions.specs.Refused.{IfRefused, TellsReached}
 use Rattle.refusals.specs.declared.refusal.Refusal.{Refusal}
 use Rattle.session_definitions.specs.World.{World, is_live}
-use Rattle.statement_reading.specs.Rollback.{IsRollback}
+use Rattle.statement_definitions.specs.Rollback.{IsRollback}
 use Rattle.shared.specs.declared.event.Event.{Event}
 use Rattle.shared.specs.declared.event.Act.{Act}
 use Rattle.shared.specs.declared.event.Act.TheVariants.{Connects, Refused, Says, Ends}

@@ -6,7 +6,7 @@ ghost use Rattle.sessions.specs.OfCore.{IsSound, world_of};
 ghost use Rattle.shared.specs.Scripts.{store_of};
 ghost use Rattle.shared.specs.Views.{keeper as keeper_of};
 
-use engine::{Core, Sql};
+use sqlcore::{Core, Sql};
 use replies::{Reply, print_reply};
 use shared::{Cell, Client, Room, Shared, Token, new_cell};
 use std::alloc::Global;

@@ -8,7 +8,7 @@ use Rattle.session_definitions.specs.Rules.{Rules}
 use Rattle.session_definitions.specs.Script.{Scene, ArePlayed}
 use Rattle.session_definitions.specs.World.{World, opened}
 use Rattle.session_laws.specs.Sound.{IsGoodWorld}
-use Rattle.life_laws.specs.Damage.{has_damage}
+use Rattle.session_laws.specs.Damage.{has_damage}
 use Rattle.store.specs.Errors.{HasRisen}
 use Rattle.store.specs.Stored.{Stored}
 use Rattle.sessions.specs.declared.core_of.Core.{Core}

@@ -7,7 +7,7 @@ use Rattle.replies.specs.declared.reply.Reply.{Reply}
 use Rattle.session_definitions.specs.Refusals.{StopsFlush}
 use Rattle.session_definitions.specs.Rules.{Rules}
 use Rattle.session_definitions.specs.World.{World}
-use Rattle.life_laws.specs.Damage.{has_damage}
+use Rattle.session_laws.specs.Damage.{has_damage}
 use Rattle.store.specs.Errors.{HasRisen}
 use Rattle.scripts.specs.declared.script.ScriptFault.{ScriptFault}
 use Rattle.scripts.specs.Device.{TellDevice, disk_count}

@@ -2,7 +2,7 @@
 use Rattle.std.specs.Prelude.{◌≡◌, ◌⊎◌, ◌++◌, ◌==◌, ℕ, Bool, false, List, [], ◌∷◌, codes, Option, Some, None}
 use Rattle.std.specs.Borrow.{Bor}
 use Rattle.std.specs.Option.{option_map}
-use Rattle.page_frames.specs.Written.{WritesFrames}
+use Rattle.frame_count.specs.Written.{WritesFrames}
 
 -- an option begins with `-`, whose code is 45
 abbrev pub is_option : List ℕ → Bool

@@ -7,7 +7,7 @@ use crate::options::Settings;
 use crate::words::settings_asked;
 use clap::error::ErrorKind;
 use clap::{Arg, Command, Error, value_parser};
-use page_frames::{GREATEST_FRAMES, LEAST_FRAMES};
+use frame_count::{GREATEST_FRAMES, LEAST_FRAMES};
 use std::alloc::Global;
 use std::convert::AsStr;
 

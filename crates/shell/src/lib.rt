@@ -10,6 +10,6 @@ mod words;
 
 pub use command_line::settings;
 pub use options::Settings;
-pub use page_frames::{DEFAULT_FRAMES, Frames, GREATEST_FRAMES, LEAST_FRAMES};
+pub use frame_count::{DEFAULT_FRAMES, Frames, GREATEST_FRAMES, LEAST_FRAMES};
 pub use program::{run_over_pages, sqlsh};
 pub use run::{EndedRun, run_to_end};

@@ -1,6 +1,6 @@
 //! What a command line asks for.
 
-use page_frames::Frames;
+use frame_count::Frames;
 
 /// What a command line of `sqlsh` asks for.
 #[derive(Clone, Copy)]

@@ -18,7 +18,7 @@ use crate::run::{EndedRun, failed, run_to_end};
 use clap::Error;
 use clap::error::ErrorKind;
 use disk::{Disk, DiskError, FileDisk, MemDisk};
-use paged::Paged;
+use paged_store::Paged;
 use refusals::Refusal;
 use session_laws::databases_stay_good;
 use std::alloc::Global;

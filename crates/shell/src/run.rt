@@ -14,8 +14,8 @@ ghost use Rattle.shell.specs.Runs.{CarriesOutOver, Ends, HasRefused, IsNotOpened
 
 use crate::options::Settings;
 use crate::telling::tell;
-use engine::{Core, Sql};
-use life_laws::no_reply_is_damaged;
+use sqlcore::{Core, Sql};
+use session_laws::no_reply_is_damaged;
 use refusals::Refusal;
 use scripts::{ScriptFault, run};
 use session_laws::databases_stay_good;

@@ -1,11 +1,11 @@
 //! The words of a command line of `sqlsh`.
 
 ghost use Rattle.std.specs.Prelude.{◌≡◌, ℕ, false, List, Option, Some, codes, map, IfSome, IsSomeAnd};
-ghost use Rattle.page_frames.specs.Written.{WritesFrames};
+ghost use Rattle.frame_count.specs.Written.{WritesFrames};
 ghost use Rattle.shell.specs.Words.{Asks, AsksBehind, AsksFile, AsksForNone, is_option, name_of};
 
 use crate::options::Settings;
-use page_frames::{DEFAULT_FRAMES, Frames};
+use frame_count::{DEFAULT_FRAMES, Frames};
 use std::convert::AsStr;
 
 /// The settings that the words ask for, of which the first is the program's name; or none, where they ask for nothing that there is.

@@ -1,7 +1,7 @@
 //! Scripts of SQL side by side.
 #![tactic(auto)]
 
-use many_scripts::sqlmany;
+use parallel_scripts::sqlmany;
 use std::io::BufWriter;
 use std::process::ExitCode;
 use std::rt::Env;

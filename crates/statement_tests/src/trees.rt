@@ -7,7 +7,7 @@ use parser::{parse, parse_condition};
 use printer::{print, print_condition, print_condition_tokens, print_tokens};
 use refusals::Refusal;
 use std::alloc::{AllocError, Global};
-use tree_copies::{copy_condition, copy_statement};
+use ast_copies::{copy_condition, copy_statement};
 
 /// A tree that has a text of its own.
 pub(crate) trait Tree: Drop {

@@ -5,11 +5,11 @@ ghost use Rattle.std.specs.List.{AllByRecursion};
 use denote::{Row, Rows};
 use items::{Items, Text};
 use memory_space::MemorySpace;
-use page_database::{
+use database_trees::{
     DatabaseError, append, create_index, create_table, delete, drop_index, drop_table, replace,
 };
 use page_space::Fault;
-use page_tables::{read_schema, scan};
+use stored_tables::{read_schema, scan};
 use sqlval::{Column, ColumnType, Index, Table, Value};
 use std::alloc::{AllocError, Global};
 

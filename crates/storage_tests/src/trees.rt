@@ -3,7 +3,7 @@
 use btree::{insert, insert_all};
 use btree_read::{Entry, get, next, seek};
 use btree_remove::drop_tree;
-use btree_scan::scan;
+use btree_read::scan;
 use items::Items;
 use memory_space::MemorySpace;
 use page_space::Fault;

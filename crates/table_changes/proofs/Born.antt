@@ -14,9 +14,9 @@ use Rattle.denote.specs.SchemaOf.{IsSchemaOf, index_of}
 use Rattle.replies.specs.declared.reply.Reply.TheVariants as says
 use Rattle.store.specs.Contents.{database_of, with_table}
 use Rattle.store.specs.Stored.{Stored, marked_now, working_on}
-use Rattle.constraint_checks.specs.Changed.{HasChanged}
-use Rattle.constraint_checks.proofs.Declared.{no_table}
-use Rattle.constraint_checks.proofs.Held.{none_held}
+use Rattle.constraints.specs.Changed.{HasChanged}
+use Rattle.constraints.proofs.Declared.{no_table}
+use Rattle.constraints.proofs.Held.{none_held}
 use Rattle.table_changes.proofs.Made.{created-database}
 
 pub table_made : (reading : CheckReading) (old mid new : Stored) (t : declared.Table) (x : CreateTable) → mid ≡ marked_now old → new ≡ working_on mid (with_table mid.working t)

@@ -14,7 +14,7 @@ use Rattle.store.specs.Contents.{StoredTable, Contents, table_of, database_of, w
 use Rattle.store.specs.Contents.{without_index as left_without}
 use Rattle.store.specs.Stored.{Stored, marked_now, working_on}
 use Rattle.store.proofs.Databases.{same_tables, database-get, database-remove}
-use Rattle.constraint_checks.specs.Changed.{HasChanged}
+use Rattle.constraints.specs.Changed.{HasChanged}
 
 option_map-cond : {X Y : Type 0} (f : X → Y) (b : Bool) (x y : Option X) → option_map f (cond b x y) ≡ cond b (option_map f x) (option_map f y)
 option_map-cond f true x y = refl

@@ -35,13 +35,13 @@ use Rattle.transactions.specs.Refused.{refused_by}
 use Rattle.transactions.proofs.Tests.{reserved}
 use Rattle.operator_laws.proofs.Orders.{length-permutes}
 use Rattle.operator_laws.proofs.Permuting.{Permutes-refl, Permutes-append, HasSame-permutes}
-use Rattle.laws.proofs.Maps.{is_name, found-insert}
-use Rattle.laws.proofs.Tables.{violated_by-same}
-use Rattle.constraint_checks.specs.Changed.{RefusesChange}
-use Rattle.constraint_checks.specs.Settled.{Decided, Holds, Breaks}
-use Rattle.constraint_checks.proofs.Held.{held_as}
-use Rattle.constraint_checks.proofs.Violations.{same_some}
-use Rattle.constraint_checks.proofs.Short.{Fits, given_each, admitted_fits, no_long_row, no_long_key}
+use Rattle.denote_laws.proofs.Maps.{is_name, found-insert}
+use Rattle.denote_laws.proofs.Tables.{violated_by-same}
+use Rattle.constraints.specs.Changed.{RefusesChange}
+use Rattle.constraints.specs.Settled.{Decided, Holds, Breaks}
+use Rattle.constraints.proofs.Held.{held_as}
+use Rattle.constraints.proofs.Violations.{same_some}
+use Rattle.constraints.proofs.Short.{Fits, given_each, admitted_fits, no_long_row, no_long_key}
 use Rattle.table_changes.specs.Given.{AreGiven, HasMore, HasAccepted}
 use Rattle.table_changes.proofs.Made.{appended-database, decided_still}
 

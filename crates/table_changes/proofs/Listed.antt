@@ -31,12 +31,12 @@ use Rattle.store.specs.Errors.{HasLongKey, ChangingReaches, IndexingReaches}
 use Rattle.store.specs.Indexes.{entries_of}
 use Rattle.store.specs.Stored.{Stored, marked_now, working_on}
 use Rattle.transactions.specs.Refused.{TellsReached}
-use Rattle.constraint_checks.specs.Changed.{HasChanged, RefusesChange}
-use Rattle.constraint_checks.specs.Stopped.{refused_by}
-use Rattle.constraint_checks.proofs.Declared.{no_table}
-use Rattle.constraint_checks.proofs.Held.{held_as, none_held}
-use Rattle.constraint_checks.proofs.Limits.{tells_wider}
-use Rattle.constraint_checks.proofs.Short.{short_key, none_in}
+use Rattle.constraints.specs.Changed.{HasChanged, RefusesChange}
+use Rattle.constraints.specs.Stopped.{refused_by}
+use Rattle.constraints.proofs.Declared.{no_table}
+use Rattle.constraints.proofs.Held.{held_as, none_held}
+use Rattle.constraints.proofs.Limits.{tells_wider}
+use Rattle.constraints.proofs.Short.{short_key, none_in}
 use Rattle.table_changes.proofs.Made.{indexed-database}
 
 -- no table has the name

@@ -16,9 +16,9 @@ use Rattle.denote.specs.Database.{Name, Table, Database}
 use Rattle.denote.specs.SchemaOf.{index_of}
 use Rattle.store.specs.Contents.{Entry, StoredTable, Contents, table_of, rows_of, database_of, next_number, with_rows, with_index, new_table, with_table, appended, indexed}
 use Rattle.store.proofs.Databases.{database-insert}
-use Rattle.constraint_checks.specs.Settled.{Decided}
-use Rattle.constraint_checks.proofs.Held.{held_as, changed-database}
-use Rattle.constraint_checks.proofs.Violations.{same_some}
+use Rattle.constraints.specs.Settled.{Decided}
+use Rattle.constraints.proofs.Held.{held_as, changed-database}
+use Rattle.constraints.proofs.Violations.{same_some}
 
 rows_numbered : (k : ℕ) (rows : List Row) → rows_of (enumerate_from k rows) ≡ rows
 rows_numbered k [] = refl

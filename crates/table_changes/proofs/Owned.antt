@@ -5,7 +5,7 @@ use Rattle.std.specs.Option.{option_map}
 use Rattle.sqlval.specs.declared.schema.Rule.{Rule}
 use Rattle.sqlval.specs.declared.schema.Rule.TheVariants.{NotNull, PrimaryKey, Unique, Check}
 use Rattle.denote.specs.Change.{owned_index}
-use Rattle.constraint_checks.specs.Foreseen.{columns_of_key}
+use Rattle.constraints.specs.Foreseen.{columns_of_key}
 use Rattle.table_changes.specs.Indexes.{key_index}
 
 owned-columns : (r : Rule) → owned_index r ≡ option_map key_index (columns_of_key r)

@@ -11,7 +11,7 @@ use Rattle.replies.specs.declared.reply.Reply.{Reply}
 use Rattle.session_definitions.specs.Statements.{counted}
 use Rattle.store.specs.Contents.{Contents, database_of}
 use Rattle.store.specs.Stored.{Stored}
-use Rattle.constraint_checks.specs.Foreseen.{with_more}
+use Rattle.constraints.specs.Foreseen.{with_more}
 
 -- its table is there, and these are the rows that it stores, in any order, none of which faults
 pub record AreGiven (reading : CheckReading) (db : Database) (i : Insert) (rows : List Row) : Type 0 where

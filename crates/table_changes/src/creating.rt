@@ -12,10 +12,10 @@ ghost use Rattle.store.specs.Contents.{database_of};
 ghost use Rattle.store.specs.Errors.{ChangingReaches, HasRisen};
 ghost use Rattle.store.specs.Stored.{SameButMark};
 ghost use Rattle.transactions.specs.Refused.{IfRefused, TellsReached};
-ghost use Rattle.constraint_checks.specs.Changed.{HasChanged};
+ghost use Rattle.constraints.specs.Changed.{HasChanged};
 ghost use Rattle.table_changes.specs.Indexes.{key_index};
 
-use constraint_checks::{begin, key_columns, table_named};
+use constraints::{begin, key_columns, table_named};
 use items::Items;
 use refusals::Refusal;
 use replies::Reply;

@@ -5,10 +5,10 @@ ghost use Rattle.denote.specs.Database.{CheckReading, Database};
 ghost use Rattle.store.specs.Contents.{database_of};
 ghost use Rattle.store.specs.Errors.{HasRisen};
 ghost use Rattle.transactions.specs.Refused.{TellsNoLimit};
-ghost use Rattle.constraint_checks.specs.Settled.{Decided, Holds, Breaks};
+ghost use Rattle.constraints.specs.Settled.{Decided, Holds, Breaks};
 ghost use Rattle.table_changes.specs.Given.{HasMore};
 
-use constraint_checks::{Checks, Foreseen, foresee};
+use constraints::{Checks, Foreseen, foresee};
 use denote::Row;
 use items::Text;
 use refusals::Refusal;

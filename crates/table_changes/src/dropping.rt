@@ -7,9 +7,9 @@ ghost use Rattle.denote.specs.Database.{CheckReading};
 ghost use Rattle.store.specs.Errors.{ChangingReaches, HasRisen};
 ghost use Rattle.store.specs.Stored.{SameButMark};
 ghost use Rattle.transactions.specs.Refused.{IfRefused, TellsReached};
-ghost use Rattle.constraint_checks.specs.Changed.{HasChanged};
+ghost use Rattle.constraints.specs.Changed.{HasChanged};
 
-use constraint_checks::begin;
+use constraints::begin;
 use items::Text;
 use refusals::Refusal;
 use replies::Reply;

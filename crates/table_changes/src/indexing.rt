@@ -8,9 +8,9 @@ ghost use Rattle.store.specs.Contents.{database_of};
 ghost use Rattle.store.specs.Errors.{ChangingReaches, HasRisen};
 ghost use Rattle.store.specs.Stored.{SameButMark};
 ghost use Rattle.transactions.specs.Refused.{IfRefused, TellsReached};
-ghost use Rattle.constraint_checks.specs.Changed.{HasChanged, RefusesChange};
+ghost use Rattle.constraints.specs.Changed.{HasChanged, RefusesChange};
 
-use constraint_checks::{begin, refusal_of_stop, rows_fit_key, table_named};
+use constraints::{begin, refusal_of_stop, rows_fit_key, table_named};
 use refusals::Refusal;
 use replies::Reply;
 use sqlval::Index;

@@ -8,13 +8,13 @@ ghost use Rattle.store.specs.Contents.{database_of};
 ghost use Rattle.store.specs.Errors.{HasRisen, StoringReaches};
 ghost use Rattle.store.specs.Stored.{SameButMark};
 ghost use Rattle.transactions.specs.Refused.{IfRefused, TellsReached};
-ghost use Rattle.constraint_checks.specs.Changed.{RefusesChange};
-ghost use Rattle.constraint_checks.specs.Settled.{Decided, Holds};
+ghost use Rattle.constraints.specs.Changed.{RefusesChange};
+ghost use Rattle.constraints.specs.Settled.{Decided, Holds};
 ghost use Rattle.table_changes.specs.Given.{AreGiven, HasAccepted};
 
 use crate::deciding::known_to_hold;
 use crate::reply::reply_for;
-use constraint_checks::{Checks, begin, settle_unless};
+use constraints::{Checks, begin, settle_unless};
 use denote::Rows;
 use refusals::Refusal;
 use replies::Reply;

@@ -11,7 +11,7 @@ use Rattle.refusals.specs.declared.refusal.Refusal.TheVariants.{Exceeded}
 use Rattle.typing.specs.Finding.{Finding, ◌>>=◌, also}
 use Rattle.typing.specs.Finds.{Finds}
 use Rattle.typing.specs.Table.{at_most}
-use Rattle.findings.proofs.FindsLemmas.{Finds-also_first, Finds-exceeded, Finds-then_err}
+use Rattle.type_rules.proofs.FindsLemmas.{Finds-also_first, Finds-exceeded, Finds-then_err}
 use Rattle.table_types.specs.declared.headings.Heading.{Heading}
 use Rattle.table_types.specs.Tables.{counts_found, names_allowed, names_found, names_of}
 

@@ -4,7 +4,7 @@ use Rattle.std.proofs.lemmas.List.{append-nil}
 use Rattle.refusals.specs.declared.refusal.Refusal.{Refusal}
 use Rattle.typing.specs.Finding.{Finding, reasons_in, ◌>>=◌, before, each}
 use Rattle.typing.specs.Finds.{Finds, IsReasonOf}
-use Rattle.findings.proofs.FindsLemmas.{after, after-before, Finds-then_err, IsReasonOf-left}
+use Rattle.type_rules.proofs.FindsLemmas.{after, after-before, Finds-then_err, IsReasonOf-left}
 
 reasons-before : {A : Type 0} (x : Finding A) (xs : Finding (List A)) → reasons_in (before x xs) ≡ reasons_in x ++ reasons_in xs
 reasons-before (Ok v) (Ok vs) = refl

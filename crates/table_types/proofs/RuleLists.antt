@@ -8,7 +8,7 @@ use Rattle.ast.specs.declared.statement.TableElement.TheVariants as element
 use Rattle.typing.specs.declared.scope.Frame.{Frame}
 use Rattle.typing.specs.Finding.{Finding, each}
 use Rattle.typing.specs.Finds.{Finds}
-use Rattle.findings.proofs.FindsLemmas.{after, after-refused}
+use Rattle.type_rules.proofs.FindsLemmas.{after, after-refused}
 use Rattle.table_types.specs.declared.columns.Definition.{Definition}
 use Rattle.table_types.specs.Tables.{alone_of, element_rules, next_place, rules_from}
 use Rattle.table_types.proofs.Lists.{each-front, each-refused}

@@ -27,7 +27,7 @@ use Rattle.typing.specs.CreateTable.{type_found, written_type}
 use Rattle.typing.specs.Finding.{Finding, ◌>>=◌, also, each, invalid}
 use Rattle.typing.specs.Known.{Known}
 use Rattle.typing.specs.Table.{as_found, at_most, distinct_found}
-use Rattle.findings.specs.Parts.{second_of}
+use Rattle.type_rules.specs.Findings.{second_of}
 use Rattle.table_types.specs.declared.columns.Definition.{Definition}
 use Rattle.table_types.specs.declared.headings.Heading.{Heading}
 

@@ -10,7 +10,7 @@ ghost use Rattle.table_types.specs.Tables.{column_of, columns_of, defined, eleme
 
 use crate::names::distinct_texts;
 use ast::{TableElement, TypeName};
-use findings::{both, second};
+use type_rules::{both, second};
 use items::{Items, Text};
 use lexer::Number;
 use refusals::{Limit, Reason, Refusal};

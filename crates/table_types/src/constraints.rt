@@ -9,7 +9,7 @@ ghost use Rattle.table_types.specs.Tables.{constraints_in, constraints_of, defin
 use crate::columns::{Definition, defined_frame};
 use crate::headings::names_in;
 use crate::rules::rules_in;
-use findings::both;
+use type_rules::both;
 use items::{Items, Text};
 use refusals::Refusal;
 use sqlval::{Constraint, Rule};

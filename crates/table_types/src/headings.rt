@@ -11,7 +11,7 @@ ghost use Rattle.table_types.specs.Tables.{Counts, column_heading, element_headi
 
 use crate::names::distinct_texts;
 use ast::{ColumnConstraint, ColumnRule, TableElement, TableRule};
-use findings::both;
+use type_rules::both;
 use items::{Items, Text};
 use lexer::Name;
 use refusals::{Limit, Reason, Refusal};
@@ -142,7 +142,7 @@ fn names_found(alloc: Global, headings: &[Heading]) -> Result<Items<Text>, Refus
     names_allowed(names, allowed)
 }
 
-#[tactic(auto, using(findings::proofs::FindsLemmas::part_steps))]
+#[tactic(auto, using(type_rules::proofs::FindsLemmas::part_steps))]
 fn names_allowed(
     names: Items<Text>,
     allowed: Result<((), ((), ())), Refusal>,

@@ -14,8 +14,8 @@ use crate::checks::typed_check;
 use crate::columns::Definition;
 use crate::names::distinct_names;
 use ast::{ColumnConstraint, ColumnRule, TableElement, TableRule};
-use condition_texts::text_of_condition;
-use findings::{both, second};
+use condition_printer::text_of_condition;
+use type_rules::{both, second};
 use items::{Items, Text};
 use lexer::Name;
 use refusals::{Limit, Reason, Refusal};
@@ -80,7 +80,7 @@ fn element_rules(
     }
 }
 
-#[tactic(auto, using(findings::proofs::FindsLemmas::part_steps))]
+#[tactic(auto, using(type_rules::proofs::FindsLemmas::part_steps))]
 fn alone(alloc: Global, rule: Result<Rule, Refusal>) -> Result<Items<Rule>, Refusal>
     ensures { (x : Finding Rule) → Finds rule x → Finds result (alone_of x) }
 {
@@ -142,14 +142,14 @@ fn table_rule(
     }
 }
 
-#[tactic(auto, using(findings::proofs::FindsLemmas::part_steps))]
+#[tactic(auto, using(type_rules::proofs::FindsLemmas::part_steps))]
 fn primary_key(key: Result<Items<usize>, Refusal>) -> Result<Rule, Refusal>
     ensures { (x : Finding (List ℕ)) → Finds key x → Finds result (primary_key_of x) }
 {
     Ok(Rule::PrimaryKey(key?))
 }
 
-#[tactic(auto, using(findings::proofs::FindsLemmas::part_steps))]
+#[tactic(auto, using(type_rules::proofs::FindsLemmas::part_steps))]
 fn unique(key: Result<Items<usize>, Refusal>) -> Result<Rule, Refusal>
     ensures { (x : Finding (List ℕ)) → Finds key x → Finds result (unique_of x) }
 {

@@ -12,7 +12,7 @@ ghost use Rattle.table_types.specs.Tables.{has_table, made_table};
 
 use crate::columns::{definitions_of, typed_columns};
 use crate::constraints::typed_constraints;
-use findings::both;
+use type_rules::both;
 use items::{Items, Text};
 use lexer::Name;
 use refusals::{Reason, Refusal};

@@ -13,7 +13,7 @@ use Rattle.btree_read.specs.Sorted.{put}
 use Rattle.btree_read.specs.Tree.{IsTree}
 use Rattle.btree_read.proofs.ListLemmas.{each_append}
 use Rattle.btree.specs.Written.{IsWritten}
-use Rattle.tree_entries.proofs.ChangeLemmas.{put_past, written_on}
+use Rattle.btree.proofs.ChangeLemmas.{put_past, written_on}
 use Rattle.tablestore.specs.Held.{row_entry, entries_of, IsKept, AreKept}
 use Rattle.tablestore.specs.Appended.{RowsWritten}
 use Rattle.tablestore.proofs.NumberLemmas.{number_order}

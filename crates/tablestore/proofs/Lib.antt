@@ -4,3 +4,4 @@ pub mod NumberLemmas
 pub mod AppendLemmas
 pub mod OneLemmas
 pub mod RefusalLemmas
+pub mod RowLemmas

@@ -14,7 +14,7 @@ use Rattle.btree_read.specs.declared.entry.Entry.{Entry}
 use Rattle.btree_read.specs.declared.entry.Start.TheVariants.{At, Behind}
 use Rattle.btree_read.specs.Nodes.{precedes}
 use Rattle.btree_read.specs.Sorted.{first_from}
-use Rattle.tree_entries.proofs.WalkLemmas.{first_of, from_least}
+use Rattle.btree.proofs.WalkLemmas.{first_of, from_least}
 use Rattle.tablestore.specs.Held.{row_entry, entries_of, IsKept, AreKept}
 
 less_is : (m n : ℕ) (b : Bool) → b ≡ nat_lt m n → is_lt (nat_cmp m n) ≡ b

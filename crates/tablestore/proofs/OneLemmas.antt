@@ -6,7 +6,7 @@ use Rattle.page_space.specs.Space.{PageMap}
 use Rattle.btree_read.specs.declared.entry.Entry.{Entry}
 use Rattle.btree_read.specs.Lists.{Has}
 use Rattle.btree.proofs.LawLemmas.{tree_stays, tree_used}
-use Rattle.tree_entries.proofs.OneLemmas.{one_tree}
+use Rattle.btree.proofs.OneLemmas.{one_tree}
 use Rattle.tablestore.specs.Held.{row_entry, entries_of, IsKept, AreKept, HoldsRows}
 
 row_same : (e f : stored.Entry) → IsKept e → IsKept f → row_entry e ≡ row_entry f → e ≡ f

@@ -10,7 +10,7 @@ ghost use Rattle.btree_read.specs.Sorted.{put};
 ghost use Rattle.btree_read.specs.Tree.{IsTree};
 ghost use Rattle.btree.specs.Overfull.{IsNoTreeIn};
 ghost use Rattle.btree.specs.Written.{IsWritten};
-ghost use Rattle.tree_entries.specs.Kept.{LosesNoPage};
+ghost use Rattle.btree.specs.Kept.{LosesNoPage};
 ghost use Rattle.tablestore.specs.Held.{HoldsRows};
 ghost use Rattle.tablestore.specs.Appended.{RowsWritten, HoldsNoRowsIn, MayRefuse, MayRefuseRow, NumbersEnd, IsOfRow};
 

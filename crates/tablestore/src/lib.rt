@@ -2,6 +2,7 @@
 #![tactic(auto)]
 
 mod appending;
+mod changing;
 mod decoding;
 mod error;
 mod laws;
@@ -9,6 +10,7 @@ mod number;
 mod reading;
 
 pub use appending::append;
+pub use changing::{delete, replace};
 pub use error::AppendError;
 pub use laws::{rows_are_one, rows_stay};
 pub use number::next_number;

@@ -25,7 +25,7 @@ pub fn scan<R: PageReader>(space: &mut R, alloc: Global, root: u32) -> Result<Nu
     ensures rising { R.refused space.old ≤ R.refused space.new }
     ensures follows { R.follows space.old space.new }
 {
-    let entries = btree_scan::scan(space, alloc, root)?;
+    let entries = btree_read::scan(space, alloc, root)?;
     match rows_of_entries(alloc, entries.as_slice()) {
         Ok(found) => Ok(found),
         Err(DecodeError::OutOfMemory) => Err(Fault::Memory),

@@ -12,7 +12,7 @@ use Rattle.typing.specs.Finding.{Finding, ◌>>=◌, also, each}
 use Rattle.typing.specs.Finds.{Finds}
 use Rattle.typing.specs.Condition.{alike, and_of, between, compared, conjuncts, disjuncts, in_list, literal_of, negated, operator_of, or_of}
 use Rattle.typing.specs.Expression.{must_be}
-use Rattle.findings.proofs.FindsLemmas.{Finds-then_err, Finds-also_first}
+use Rattle.type_rules.proofs.FindsLemmas.{Finds-then_err, Finds-also_first}
 use Rattle.type_rules.specs.Parts.{between_of, compare_of, list_of, of_type}
 
 -- ---- what an OR and an AND are made of

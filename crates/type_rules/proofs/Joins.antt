@@ -10,8 +10,8 @@ use Rattle.typing.specs.Finding.{Finding, ◌>>=◌, also}
 use Rattle.typing.specs.Finds.{Finds}
 use Rattle.typing.specs.From.{From, crossed, frame_over, from_found}
 use Rattle.typing.specs.Scope.{Scope}
-use Rattle.findings.proofs.Covers.{Covers, also-either, then-only}
-use Rattle.findings.proofs.FindsLemmas.{Finds-then_err, Finds-also_first, Finds-also_second}
+use Rattle.type_rules.proofs.Covers.{Covers, also-either, then-only}
+use Rattle.type_rules.proofs.FindsLemmas.{Finds-then_err, Finds-also_first, Finds-also_second}
 use Rattle.type_rules.specs.Tables.{product}
 
 abbrev made : List (List ℕ) → Finding (List Offer) → Finding Source → Finding TypedFrom

@@ -13,7 +13,7 @@ use Rattle.typing.specs.Finding.{Finding, ◌>>=◌, also, before, each}
 use Rattle.typing.specs.Finds.{Finds}
 use Rattle.typing.specs.Select.{columns_from, limited}
 use Rattle.typing.specs.Table.{at_most}
-use Rattle.findings.proofs.FindsLemmas.{after, after-before, after-refused, Finds-then_err, Finds-also_first, Finds-before_first, Finds-exceeded}
+use Rattle.type_rules.proofs.FindsLemmas.{after, after-before, after-refused, Finds-then_err, Finds-also_first, Finds-before_first, Finds-exceeded}
 use Rattle.type_rules.specs.Selects.{shown_column}
 
 -- a limit that is passed

@@ -9,7 +9,7 @@ ghost use Rattle.type_rules.specs.Parts.{between_of, compare_of, like_of, list_o
 
 use crate::expressions::{of_type, with_sign};
 use ast::{Comparison, Literal, TruthTest, TruthValue};
-use findings::{both, boxed};
+use crate::findings::{both, boxed};
 use items::{Boxed, Items};
 use refusals::{Reason, Refusal};
 use sqlval::{CompOp, Truth, Value, ValueType};
@@ -30,7 +30,7 @@ pub fn compared(
     compare_of(operator, both(boxed(alloc, Ok(x.expression)), y))
 }
 
-#[tactic(auto, using(findings::proofs::FindsLemmas::part_steps))]
+#[tactic(auto, using(crate::proofs::FindsLemmas::part_steps))]
 fn compare_of(
     operator: Comparison,
     operands: Result<(Boxed<Expression>, Boxed<Expression>), Refusal>,
@@ -61,7 +61,7 @@ pub fn between(
     )
 }
 
-#[tactic(auto, using(findings::proofs::FindsLemmas::part_steps))]
+#[tactic(auto, using(crate::proofs::FindsLemmas::part_steps))]
 fn between_of(
     alloc: Global,
     is_negated: bool,
@@ -91,7 +91,7 @@ pub fn in_list(
     )
 }
 
-#[tactic(auto, using(findings::proofs::FindsLemmas::part_steps))]
+#[tactic(auto, using(crate::proofs::FindsLemmas::part_steps))]
 fn list_of(
     alloc: Global,
     is_negated: bool,
@@ -126,7 +126,7 @@ fn query_of(
     queried(alloc, is_negated, of_type(Ok(x), value_type), query)
 }
 
-#[tactic(auto, using(findings::proofs::FindsLemmas::part_steps))]
+#[tactic(auto, using(crate::proofs::FindsLemmas::part_steps))]
 fn queried(
     alloc: Global,
     is_negated: bool,
@@ -154,7 +154,7 @@ pub fn like(
     like_of(alloc, is_negated, both(x, pattern))
 }
 
-#[tactic(auto, using(findings::proofs::FindsLemmas::part_steps))]
+#[tactic(auto, using(crate::proofs::FindsLemmas::part_steps))]
 fn like_of(
     alloc: Global,
     is_negated: bool,

@@ -7,7 +7,7 @@ ghost use Rattle.typing.specs.Finds.{Finds};
 ghost use Rattle.type_rules.specs.Parts.{after_sign, calculation_of, concatenation_of, number_of, of_type};
 
 use ast::{AddOperator, MultiplyOperator, Sign, Term};
-use findings::{both, boxed, second};
+use crate::findings::{both, boxed, second};
 use items::{Boxed, Items, Text};
 use lexer::Number;
 use refusals::{Reason, Refusal};
@@ -66,7 +66,7 @@ pub fn joined_text(
 }
 
 /// An operand of `*` or `/` after the first.
-#[tactic(auto, using(findings::proofs::FindsLemmas::part_steps))]
+#[tactic(auto, using(crate::proofs::FindsLemmas::part_steps))]
 pub fn multiplier(
     operator: MultiplyOperator,
     operand: Result<TypedExpression, Refusal>,
@@ -78,7 +78,7 @@ pub fn multiplier(
 }
 
 /// The expression, if its type is the one asked for.
-#[tactic(auto, using(findings::proofs::FindsLemmas::part_steps))]
+#[tactic(auto, using(crate::proofs::FindsLemmas::part_steps))]
 pub fn of_type(
     typed: Result<TypedExpression, Refusal>,
     wanted: ValueType,
@@ -92,7 +92,7 @@ pub fn of_type(
     Ok(typed.expression)
 }
 
-#[tactic(auto, using(findings::proofs::FindsLemmas::part_steps))]
+#[tactic(auto, using(crate::proofs::FindsLemmas::part_steps))]
 pub fn number_constant(number: Result<Value, Refusal>) -> Result<TypedExpression, Refusal>
     ensures { (x : Finding Value) → Finds number x → Finds result (number_of x) }
 {
@@ -124,7 +124,7 @@ pub fn with_sign(sign: Option<Sign>, number: Number) -> Result<Value, Refusal>
     }
 }
 
-#[tactic(auto, using(findings::proofs::FindsLemmas::part_steps))]
+#[tactic(auto, using(crate::proofs::FindsLemmas::part_steps))]
 pub fn after_sign(
     alloc: Global,
     sign: Option<Sign>,
@@ -148,7 +148,7 @@ pub fn after_sign(
     }
 }
 
-#[tactic(auto, using(findings::proofs::FindsLemmas::part_steps))]
+#[tactic(auto, using(crate::proofs::FindsLemmas::part_steps))]
 fn calculated(
     parts: Result<(Boxed<Expression>, Items<(Arithmetic, Expression)>), Refusal>,
 ) -> Result<TypedExpression, Refusal>
@@ -161,7 +161,7 @@ fn calculated(
     })
 }
 
-#[tactic(auto, using(findings::proofs::FindsLemmas::part_steps))]
+#[tactic(auto, using(crate::proofs::FindsLemmas::part_steps))]
 fn concatenated(
     parts: Result<(Boxed<Expression>, Items<Expression>), Refusal>,
 ) -> Result<TypedExpression, Refusal>

@@ -31,7 +31,7 @@ pub fn aggregate_of(
     }
 }
 
-#[tactic(auto, using(findings::proofs::FindsLemmas::part_steps))]
+#[tactic(auto, using(crate::proofs::FindsLemmas::part_steps))]
 fn counted(
     is_distinct: bool,
     argument: Result<TypedExpression, Refusal>,
@@ -57,7 +57,7 @@ fn over_integers(
     over_integer(function, is_distinct, of_type(argument, ValueType::Integer))
 }
 
-#[tactic(auto, using(findings::proofs::FindsLemmas::part_steps))]
+#[tactic(auto, using(crate::proofs::FindsLemmas::part_steps))]
 fn over_integer(
     function: SetFunctionType,
     is_distinct: bool,
@@ -73,7 +73,7 @@ fn over_integer(
     Ok((function, ValueType::Integer))
 }
 
-#[tactic(auto, using(findings::proofs::FindsLemmas::part_steps))]
+#[tactic(auto, using(crate::proofs::FindsLemmas::part_steps))]
 fn over_either(
     function: SetFunctionType,
     is_distinct: bool,
@@ -117,7 +117,7 @@ pub fn value_seen(
     }
 }
 
-#[tactic(auto, using(findings::proofs::FindsLemmas::part_steps))]
+#[tactic(auto, using(crate::proofs::FindsLemmas::part_steps))]
 fn value_at(
     place: usize,
     aggregate: Result<(SetFunction, ValueType), Refusal>,

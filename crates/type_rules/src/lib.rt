@@ -4,6 +4,7 @@
 
 mod conditions;
 mod expressions;
+mod findings;
 mod functions;
 mod queries;
 mod selects;
@@ -17,6 +18,7 @@ pub use expressions::{
     after_sign, calculation, concatenation, first_operator, joined_text, multiplier,
     number_constant, of_type, summand, text_constant, with_sign,
 };
+pub use findings::{both, boxed, second};
 pub use functions::{aggregate_of, is_distinct, value_seen};
 pub use queries::{column_of_query, combinable, combined, intersection, operation, scalar};
 pub use selects::{

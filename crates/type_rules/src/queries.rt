@@ -95,7 +95,7 @@ fn have_same_types(first: &[ResultColumn], other: &[ResultColumn]) -> bool
 }
 
 /// A chain of set operators, over at least one operand beside the first.
-#[tactic(auto, using(findings::proofs::FindsLemmas::part_steps))]
+#[tactic(auto, using(crate::proofs::FindsLemmas::part_steps))]
 pub fn combined(
     alloc: Global,
     first: TypedQuery,
@@ -130,7 +130,7 @@ pub fn scalar(alloc: Global, query: Result<TypedQuery, Refusal>) -> Result<Typed
     scalar_of(alloc, column_of_query(query))
 }
 
-#[tactic(auto, using(findings::proofs::FindsLemmas::part_steps))]
+#[tactic(auto, using(crate::proofs::FindsLemmas::part_steps))]
 fn scalar_of(
     alloc: Global,
     column: Result<(Query, ValueType), Refusal>,

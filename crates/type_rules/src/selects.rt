@@ -26,7 +26,7 @@ use typing::{
 pub const MAXIMUM_RESULT_COLUMNS: usize = 256;
 
 /// An item of a select list, with the name after AS, else that of the column that it is.
-#[tactic(auto, using(findings::proofs::FindsLemmas::part_steps))]
+#[tactic(auto, using(crate::proofs::FindsLemmas::part_steps))]
 pub fn named(
     name: Option<Text>,
     value: Result<TypedExpression, Refusal>,
@@ -173,7 +173,7 @@ fn own_place(column: &Column, scope: &Scope) -> Result<usize, Refusal>
 }
 
 /// WHERE, the set functions and the rest put together.
-#[tactic(auto, using(findings::proofs::FindsLemmas::part_steps))]
+#[tactic(auto, using(crate::proofs::FindsLemmas::part_steps))]
 pub fn settled(
     parts: Result<(Option<Condition>, (Items<SetFunction>, Groups)), Refusal>,
 ) -> Result<Settled, Refusal>

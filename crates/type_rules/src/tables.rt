@@ -10,7 +10,7 @@ ghost use Rattle.typing.specs.Table.{frame_of, offer_of, table_found, type_in};
 ghost use Rattle.type_rules.specs.Tables.{CrossedFinds, DerivedFinds, join_sides, product, side_by_side, stored_columns};
 
 use ast::Alias;
-use findings::both;
+use crate::findings::both;
 use items::{Boxed, Items, Text};
 use lexer::Name;
 use refusals::{Reason, Refusal};
@@ -169,7 +169,7 @@ pub fn crossed(
     product(alloc, both(left, right))
 }
 
-#[tactic(auto, using(findings::proofs::FindsLemmas::part_steps))]
+#[tactic(auto, using(crate::proofs::FindsLemmas::part_steps))]
 fn product(
     alloc: Global,
     sides: Result<(TypedFrom, TypedFrom), Refusal>,
@@ -213,7 +213,7 @@ pub struct Joined {
 }
 
 /// The sides of a join put together.
-#[tactic(auto, using(findings::proofs::FindsLemmas::part_steps))]
+#[tactic(auto, using(crate::proofs::FindsLemmas::part_steps))]
 pub fn join_sides(sides: Result<(TypedFrom, TypedFrom), Refusal>) -> Result<Joined, Refusal>
     ensures { (p : Finding (TypedFrom × TypedFrom)) → Finds sides p → Finds result (join_sides p) }
 {

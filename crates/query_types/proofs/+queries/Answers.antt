@@ -12,7 +12,7 @@ use Rattle.typing.specs.Known.{known}
 use Rattle.typing.specs.Typing.{condition_part, conjunction_part, expression_part, item_part, join_part, negation_part, query_found, reference_part, source_part}
 use Rattle.typing.proofs.Nodes as node
 use Rattle.scopes.specs.Seen.{frames, scope_of, seen}
-use Rattle.findings.proofs.FindsLemmas.{Finds-each_item, each-finds, each-next}
+use Rattle.type_rules.proofs.FindsLemmas.{Finds-each_item, each-finds, each-next}
 use Rattle.query_types.specs.Parts.{as_found, continued, factor_after, in_order, multiplied, summed, term_after}
 use Rattle.query_types.specs.Selects.{addend_after, clauses_of, operand_after}
 use Rattle.query_types.proofs.Conjuncts.{condition_at, conjunction_at, negation_at, predicate_nested, predicate_compare, predicate_between, predicate_in_list, predicate_in_query, predicate_like, predicate_is_null, predicate_exists, flattened-start, flattened-next, flattened-refused, flattened-done, first_refused}

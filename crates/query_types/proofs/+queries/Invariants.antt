@@ -8,7 +8,7 @@ use Rattle.typing.specs.Part.{Shown}
 use Rattle.typing.specs.Typing.{conjunction_part, item_part, join_part, negation_part, reference_part, source_part}
 use Rattle.ast.specs.declared.tree.TableReference.{TableReference, out-TableReference}
 use Rattle.scopes.specs.Seen.{frames, seen}
-use Rattle.findings.proofs.FindsLemmas.{after}
+use Rattle.type_rules.proofs.FindsLemmas.{after}
 use Rattle.query_types.specs.Parts.{as_found, continued, factor_after, in_order, multiplied, summed, term_after}
 use Rattle.query_types.specs.Selects.{addend_after, operand_after}
 use Rattle.query_types.proofs.Conjuncts.{flattened}

@@ -1,7 +1,7 @@
 //! Devices that refuse a call.
 use super::Memory;
 use disk::{FaultyDisk, MemDisk};
-use paged::Paged;
+use paged_store::Paged;
 use shell::{EndedRun, Settings, run_to_end, settings};
 use std::alloc::Global;
 use std::test::Fail;

@@ -2,7 +2,7 @@
 use super::sample::sample_device;
 use super::{Memory, steady};
 use disk::{FaultyDisk, MemDisk};
-use paged::Paged;
+use paged_store::Paged;
 use shell::{EndedRun, Settings, run_to_end, settings};
 use std::alloc::Global;
 use std::test::Fail;

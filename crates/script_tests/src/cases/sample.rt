@@ -3,7 +3,7 @@
 use super::{Memory, steady};
 use disk::MemDisk;
 use hex::encode;
-use paged::Paged;
+use paged_store::Paged;
 use sha2::{Digest, Sha256};
 use shell::{Settings, run_to_end, settings};
 use std::alloc::Global;

@@ -1,6 +1,6 @@
 //! Scripts side by side over no tables.
 
-use engine::{Core, Sql};
+use sqlcore::{Core, Sql};
 use list_store::{ListStore, Lists};
 use replies::print_reply;
 use shared::{Answers, Gate, run_scripts};

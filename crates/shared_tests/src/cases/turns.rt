@@ -1,6 +1,6 @@
 //! Turns of several sessions over no tables.
 
-use engine::{Core, Sql};
+use sqlcore::{Core, Sql};
 use list_store::{ListStore, Lists};
 use refusals::{Limit, Refusal};
 use replies::{Reply, print_reply};

@@ -1,5 +1,5 @@
 use Rattle.btree.specs.Overfull.{IsNoTreeIn}
-use Rattle.tree_entries.proofs.KeptLemmas.{no_page_lost_by_insertion}
+use Rattle.btree.proofs.PageLossLemmas.{no_page_lost_by_insertion}
 use Rattle.catalog.proofs.RefusalLemmas.{record_refused}
 use Rattle.catalog.proofs.adding.put_record.Goals as goal
 

@@ -3,8 +3,8 @@ use Rattle.btree_read.specs.declared.entry.Entry.{Entry}
 use Rattle.btree.specs.Written.{IsWritten}
 use Rattle.catalog.specs.Changed.{put_all}
 use Rattle.catalog.proofs.PutLemmas.{put_all_more, coded_more}
-use Rattle.tree_entries.proofs.ChangeLemmas.{written_none, written_on}
-use Rattle.tree_entries.proofs.KeptLemmas.{no_page_lost, no_page_lost_on}
+use Rattle.btree.proofs.ChangeLemmas.{written_none, written_on}
+use Rattle.btree.proofs.PageLossLemmas.{no_page_lost, no_page_lost_on}
 use Rattle.btree.specs.Overfull.{IsNoTreeIn}
 use Rattle.catalog.proofs.RefusalLemmas.{refused_later}
 use Rattle.catalog.proofs.adding.put_records.Goals as goal

@@ -2,7 +2,7 @@ use Rattle.std.proofs.Common.{ℕ, ◌≤◌, List, take}
 use Rattle.btree_read.specs.declared.entry.Entry.{Entry}
 use Rattle.btree_read.specs.Tree.{IsTree}
 use Rattle.btree.specs.Written.{IsWritten}
-use Rattle.tree_entries.specs.Kept.{LosesNoPage}
+use Rattle.btree.specs.Kept.{LosesNoPage}
 use Rattle.catalog.specs.Held.{AreCoded}
 use Rattle.catalog.specs.Changed.{put_all}
 use Rattle.catalog.proofs.adding.put_records.Given as goal

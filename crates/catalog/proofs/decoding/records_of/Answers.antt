@@ -1,4 +1,4 @@
-use Rattle.catalog_read.proofs.Exits.{refused}
+use Rattle.catalog_records.proofs.Exits.{refused}
 use Rattle.catalog.proofs.DecodeLemmas.{record_read}
 use Rattle.catalog.proofs.decoding.records_of.Goals as goal
 

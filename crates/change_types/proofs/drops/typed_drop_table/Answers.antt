@@ -2,7 +2,7 @@ use Rattle.std.proofs.Common.{Ok}
 use Rattle.std.proofs.lemmas.Result.{err_from_is_err_and}
 use Rattle.typing.specs.Known.{known, known_table}
 use Rattle.typing.specs.Table.{table_found}
-use Rattle.findings.proofs.FindsLemmas.{Finds-ok}
+use Rattle.type_rules.proofs.FindsLemmas.{Finds-ok}
 use Rattle.change_types.proofs.Tables.{table-found, table-refused}
 use Rattle.change_types.proofs.drops.typed_drop_table.Goals as goal
 

@@ -1,7 +1,7 @@
 use Rattle.std.proofs.Common.{◌∙◌}
 use Rattle.std.proofs.lemmas.Result.{err_from_is_err_and}
 use Rattle.change_types.specs.Parts.{place_named}
-use Rattle.findings.proofs.FindsLemmas.{Finds-each_item, each-finds, each-next}
+use Rattle.type_rules.proofs.FindsLemmas.{Finds-each_item, each-finds, each-next}
 use Rattle.change_types.proofs.indexes.places_named.Goals as goal
 
 pub returns-in_err-place_named : goal.returns-in_err-place_named

@@ -1,7 +1,7 @@
 use Rattle.std.proofs.Common.{◌≡◌, drop, map}
 use Rattle.typing.specs.Finding.{each}
 use Rattle.change_types.specs.Parts.{place_named}
-use Rattle.findings.proofs.FindsLemmas.{after}
+use Rattle.type_rules.proofs.FindsLemmas.{after}
 use Rattle.change_types.proofs.indexes.places_named.Given as goal
 
 -- the places so far, and then those of the names that are left, are all

@@ -1,4 +1,4 @@
-use Rattle.findings.proofs.FindsLemmas.{Finds-ok}
+use Rattle.type_rules.proofs.FindsLemmas.{Finds-ok}
 use Rattle.change_types.proofs.inserts.inserted.Goals as goal
 
 pub returns : goal.returns

@@ -1,5 +1,5 @@
 use Rattle.std.proofs.lemmas.Result.{err_from_is_err_and}
-use Rattle.findings.proofs.FindsLemmas.{then-err, then-ok}
+use Rattle.type_rules.proofs.FindsLemmas.{then-err, then-ok}
 use Rattle.change_types.proofs.inserts.of_query.Goals as goal
 
 pub returns-in_err-targets : goal.returns-in_err-targets

@@ -2,7 +2,7 @@ use Rattle.std.proofs.Common.{◌∙◌}
 use Rattle.std.proofs.lemmas.Result.{err_from_is_err_and}
 use Rattle.typing.specs.Insert.{row_stored}
 use Rattle.typing.specs.Known.{known}
-use Rattle.findings.proofs.FindsLemmas.{Finds-each_item, each-finds, each-next}
+use Rattle.type_rules.proofs.FindsLemmas.{Finds-each_item, each-finds, each-next}
 use Rattle.change_types.proofs.inserts.typed_rows.Goals as goal
 
 pub returns-in_err-typed_row : goal.returns-in_err-typed_row

@@ -2,7 +2,7 @@ use Rattle.std.proofs.Common.{◌≡◌, drop, map}
 use Rattle.typing.specs.Finding.{each}
 use Rattle.typing.specs.Insert.{row_stored}
 use Rattle.typing.specs.Known.{known}
-use Rattle.findings.proofs.FindsLemmas.{after}
+use Rattle.type_rules.proofs.FindsLemmas.{after}
 use Rattle.change_types.proofs.inserts.typed_rows.Given as goal
 
 -- the rows so far, and then those that are left, are all

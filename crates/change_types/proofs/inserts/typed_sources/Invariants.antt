@@ -3,7 +3,7 @@ use Rattle.std.specs.List.{zip}
 use Rattle.typing.specs.Finding.{each}
 use Rattle.typing.specs.Known.{known}
 use Rattle.change_types.specs.Parts.{source_for}
-use Rattle.findings.proofs.FindsLemmas.{after}
+use Rattle.type_rules.proofs.FindsLemmas.{after}
 use Rattle.change_types.proofs.inserts.typed_sources.Given as goal
 
 -- the sources so far, and then those that are left, are all

@@ -1,5 +1,5 @@
 use Rattle.typing.specs.Insert.{stored_as}
-use Rattle.findings.proofs.FindsLemmas.{Finds-ok, then-ok}
+use Rattle.type_rules.proofs.FindsLemmas.{Finds-ok, then-ok}
 use Rattle.change_types.proofs.sources.stored.Goals as goal
 
 pub returns-in-Some : goal.returns-in-Some

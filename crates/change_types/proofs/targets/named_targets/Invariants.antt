@@ -1,7 +1,7 @@
 use Rattle.std.proofs.Common.{◌≡◌, drop, map}
 use Rattle.typing.specs.Finding.{each}
 use Rattle.typing.specs.Insert.{target_named}
-use Rattle.findings.proofs.FindsLemmas.{after}
+use Rattle.type_rules.proofs.FindsLemmas.{after}
 use Rattle.change_types.proofs.targets.named_targets.Given as goal
 
 -- the targets so far, and then those of the names that are left, are all

@@ -3,7 +3,7 @@ use Rattle.std.proofs.lemmas.Result.{err_from_is_err_and}
 use Rattle.typing.specs.Known.{known}
 use Rattle.typing.specs.Update.{assignment_found}
 use Rattle.scopes.specs.Seen.{frames}
-use Rattle.findings.proofs.FindsLemmas.{Finds-each_item, each-finds, each-next}
+use Rattle.type_rules.proofs.FindsLemmas.{Finds-each_item, each-finds, each-next}
 use Rattle.change_types.proofs.updates.typed_assignments.Goals as goal
 
 pub returns-in_err-typed_assignment : goal.returns-in_err-typed_assignment

@@ -3,7 +3,7 @@ use Rattle.typing.specs.Finding.{each}
 use Rattle.typing.specs.Known.{known}
 use Rattle.typing.specs.Update.{assignment_found}
 use Rattle.scopes.specs.Seen.{frames}
-use Rattle.findings.proofs.FindsLemmas.{after}
+use Rattle.type_rules.proofs.FindsLemmas.{after}
 use Rattle.change_types.proofs.updates.typed_assignments.Given as goal
 
 -- the assignments so far, and then those that are left, are all

@@ -1,5 +1,5 @@
 use Rattle.std.proofs.Common.{◌∙◌}
-use Rattle.tree_entries.proofs.KeptLemmas.{no_page_lost_by_insertion}
+use Rattle.btree.proofs.PageLossLemmas.{no_page_lost_by_insertion}
 use Rattle.index_trees.specs.Indexed.{HoldsNoIndexIn}
 use Rattle.index_trees.proofs.EntryLemmas.{index_added}
 use Rattle.index_trees.proofs.RefusalLemmas.{key_refused}

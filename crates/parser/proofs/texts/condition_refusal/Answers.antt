@@ -1,8 +1,8 @@
 use Rattle.std.proofs.Common.{◌≡◌, None}
-use Rattle.terminals.specs.Readers.{kinds}
-use Rattle.statements.specs.ReadStatements.{condition_text}
-use Rattle.expressions.specs.Levels.{inner_at}
-use Rattle.terminals.specs.declared.error.ParseError.TheVariants as error
+use Rattle.parse_terminals.specs.Readers.{kinds}
+use Rattle.parse_statements.specs.ReadStatements.{condition_text}
+use Rattle.parse_expressions.specs.Levels.{inner_at}
+use Rattle.parse_terminals.specs.declared.error.ParseError.TheVariants as error
 use Rattle.parser.proofs.Found.{condition_found}
 use Rattle.parser.proofs.AgainText.{condition_text_none}
 use Rattle.parser.proofs.texts.condition_refusal.Goals as goal

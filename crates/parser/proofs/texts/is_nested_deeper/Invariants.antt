@@ -1,5 +1,5 @@
 use Rattle.std.proofs.Common.{◌≡◌, ◌+◌, ◌≤◌, length}
-use Rattle.terminals.specs.Readers.{kinds}
+use Rattle.parse_terminals.specs.Readers.{kinds}
 use Rattle.parser.specs.Shallow.{is_shallow}
 use Rattle.parser.proofs.texts.is_nested_deeper.Given as goal
 

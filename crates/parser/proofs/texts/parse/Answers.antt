@@ -2,9 +2,9 @@ use Rattle.std.proofs.Common.{rules, arith, ◌≡◌, true, false, Some, None, 
 use Rattle.refusals.specs.declared.reason.Reason.TheVariants.{Syntax}
 use Rattle.refusals.specs.declared.refusal.Refusal.TheVariants.{Exceeded, Invalid}
 use Rattle.refusals.specs.declared.limit.Limit.TheVariants.{Chain, Nesting}
-use Rattle.terminals.specs.Readers.{kinds}
-use Rattle.statements.specs.ReadStatements.{text}
-use Rattle.expressions.specs.Levels.{inner_at}
+use Rattle.parse_terminals.specs.Readers.{kinds}
+use Rattle.parse_statements.specs.ReadStatements.{text}
+use Rattle.parse_expressions.specs.Levels.{inner_at}
 use Rattle.parser.specs.Shallow.{is_shallow}
 use Rattle.parser.proofs.Nested.{shallow_nested, nested_shallow}
 use Rattle.parser.proofs.Found.{text_found}

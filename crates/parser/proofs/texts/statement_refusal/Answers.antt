@@ -1,8 +1,8 @@
 use Rattle.std.proofs.Common.{◌≡◌, None}
-use Rattle.terminals.specs.Readers.{kinds}
-use Rattle.statements.specs.ReadStatements.{text}
-use Rattle.expressions.specs.Levels.{inner_at}
-use Rattle.terminals.specs.declared.error.ParseError.TheVariants as error
+use Rattle.parse_terminals.specs.Readers.{kinds}
+use Rattle.parse_statements.specs.ReadStatements.{text}
+use Rattle.parse_expressions.specs.Levels.{inner_at}
+use Rattle.parse_terminals.specs.declared.error.ParseError.TheVariants as error
 use Rattle.parser.proofs.Found.{text_found}
 use Rattle.parser.proofs.AgainText.{text_none}
 use Rattle.parser.proofs.texts.statement_refusal.Goals as goal

@@ -2,7 +2,7 @@ use Rattle.std.proofs.Common.{◌≡◌, drop}
 use Rattle.typing.specs.Finding.{each}
 use Rattle.typing.specs.Known.{Known}
 use Rattle.scopes.specs.Seen.{frames}
-use Rattle.findings.proofs.FindsLemmas.{after}
+use Rattle.type_rules.proofs.FindsLemmas.{after}
 use Rattle.query_types.specs.Parts.{argument_view, continued, factor_after, in_order, multiplied, summed, term_after}
 use Rattle.query_types.proofs.arguments.+arguments.Given as goal
 

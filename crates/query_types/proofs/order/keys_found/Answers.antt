@@ -1,7 +1,7 @@
 use Rattle.std.proofs.Common.{◌∙◌}
 use Rattle.std.proofs.lemmas.Result.{err_from_is_err_and}
 use Rattle.typing.specs.Order.{key_found}
-use Rattle.findings.proofs.FindsLemmas.{Finds-each_item, each-finds, each-next}
+use Rattle.type_rules.proofs.FindsLemmas.{Finds-each_item, each-finds, each-next}
 use Rattle.query_types.proofs.order.keys_found.Goals as goal
 
 pub returns-in_err-key_found : goal.returns-in_err-key_found

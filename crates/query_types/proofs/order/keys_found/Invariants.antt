@@ -1,7 +1,7 @@
 use Rattle.std.proofs.Common.{◌≡◌, drop, map}
 use Rattle.typing.specs.Finding.{each}
 use Rattle.typing.specs.Order.{key_found}
-use Rattle.findings.proofs.FindsLemmas.{after}
+use Rattle.type_rules.proofs.FindsLemmas.{after}
 use Rattle.query_types.proofs.order.keys_found.Given as goal
 
 -- the keys so far, and then those that are left, are all

@@ -4,7 +4,7 @@ use Rattle.ast.specs.declared.statement.Statement.TheVariants as asks
 use Rattle.store.specs.Errors.{CommittingReaches}
 use Rattle.transactions.specs.Refused.{IfRefused, TellsReached}
 use Rattle.sessions.specs.Limits.{StatementReaches}
-use Rattle.statement_reading.specs.Reading.{IsRead}
+use Rattle.statement_definitions.specs.Reading.{IsRead}
 use Rattle.sessions.proofs.Devices.{counts_state}
 use Rattle.sessions.proofs.Limits.{none_told, state_told, told_of_change, told_wider}
 use Rattle.sessions.proofs.Words.{later_unread}

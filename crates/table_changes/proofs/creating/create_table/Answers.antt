@@ -5,7 +5,7 @@ use Rattle.store.specs.Contents.{database_of}
 use Rattle.table_changes.proofs.Born.{table_made, free}
 use Rattle.store.specs.Errors.{ChangingReaches}
 use Rattle.transactions.proofs.Tests.{tells_reached}
-use Rattle.constraint_checks.proofs.Limits.{tells_none}
+use Rattle.constraints.proofs.Limits.{tells_none}
 use Rattle.table_changes.proofs.creating.create_table.Goals as goal
 
 pub returns-in-Ok-clause-changes : goal.returns-in-Ok-clause-changes

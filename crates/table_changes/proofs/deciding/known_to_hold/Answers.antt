@@ -1,8 +1,8 @@
 use Rattle.std.proofs.Common.{◌≡◌, ◌∙◌, refl, sym, subst, []}
 use Rattle.denote.specs.Database.{Table, violated_by}
-use Rattle.constraint_checks.specs.Settled.{Breaks}
-use Rattle.constraint_checks.specs.Foreseen.{with_more}
-use Rattle.constraint_checks.proofs.Violations.{same_some}
+use Rattle.constraints.specs.Settled.{Breaks}
+use Rattle.constraints.specs.Foreseen.{with_more}
+use Rattle.constraints.proofs.Violations.{same_some}
 use Rattle.table_changes.proofs.deciding.known_to_hold.Goals as goal
 
 pub returns-in-Ok-Fits-clause-known : goal.returns-in-Ok-Fits-clause-known

@@ -1,7 +1,7 @@
 use Rattle.table_changes.proofs.Dropped.{index_dropped}
 use Rattle.store.specs.Errors.{ChangingReaches}
 use Rattle.transactions.proofs.Tests.{tells_reached}
-use Rattle.constraint_checks.proofs.Limits.{tells_none}
+use Rattle.constraints.proofs.Limits.{tells_none}
 use Rattle.table_changes.proofs.dropping.drop_index.Goals as goal
 
 pub returns-in-Ok-clause-changes : goal.returns-in-Ok-clause-changes

@@ -15,10 +15,10 @@ use Rattle.store.specs.Errors.{ChangingReaches, IndexingReaches, Never}
 use Rattle.store.specs.Indexes.{entries_of}
 use Rattle.store.specs.Stored.{Stored}
 use Rattle.transactions.proofs.Tests.{reserved, tells_reached}
-use Rattle.constraint_checks.specs.Changed.{RefusesChange}
-use Rattle.constraint_checks.proofs.Declared.{table_there}
+use Rattle.constraints.specs.Changed.{RefusesChange}
+use Rattle.constraints.proofs.Declared.{table_there}
 use Rattle.table_changes.proofs.Listed.{unchanged, there_or_unchanged, index_made, no_long_key, faults_of}
-use Rattle.constraint_checks.proofs.Limits.{tells_none, stop_tells}
+use Rattle.constraints.proofs.Limits.{tells_none, stop_tells}
 use Rattle.table_changes.proofs.Listed.{indexing_reaches}
 use Rattle.table_changes.proofs.indexing.create_index.Goals as goal
 

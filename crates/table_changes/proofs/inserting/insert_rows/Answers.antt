@@ -3,8 +3,8 @@ use Rattle.sqlval.specs.Value.{Row}
 use Rattle.session_definitions.specs.Refusals.{IsReserved}
 use Rattle.store.specs.Contents.{StoredTable, database_of, appended}
 use Rattle.store.specs.Stored.{Stored, working_on}
-use Rattle.constraint_checks.specs.Changed.{RefusesChange}
-use Rattle.constraint_checks.specs.Settled.{Decided, Holds}
+use Rattle.constraints.specs.Changed.{RefusesChange}
+use Rattle.constraints.specs.Settled.{Decided, Holds}
 use Rattle.table_changes.specs.Given.{HasMore}
 use Rattle.table_changes.proofs.Replied.{no_refusal}
 use Rattle.table_changes.proofs.Inserted.{marked_same, withheld, inserted, broken, decided_made, more_there}
@@ -12,7 +12,7 @@ use Rattle.std.specs.FinMap.{get}
 use Rattle.store.specs.Errors.{StoringReaches}
 use Rattle.transactions.specs.Refused.{TellsReached}
 use Rattle.transactions.proofs.Tests.{tells_reached}
-use Rattle.constraint_checks.proofs.Limits.{tells_none}
+use Rattle.constraints.proofs.Limits.{tells_none}
 use Rattle.table_changes.proofs.inserting.insert_rows.Goals as goal
 
 pub returns-in-Err-known_to_hold-clause-refused : goal.returns-in-Err-known_to_hold-clause-refused

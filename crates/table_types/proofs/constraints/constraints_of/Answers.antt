@@ -1,5 +1,5 @@
 use Rattle.std.proofs.lemmas.Result.{err_from_is_err_and}
-use Rattle.findings.proofs.FindsLemmas.{Finds-ok, then-err, then-ok}
+use Rattle.type_rules.proofs.FindsLemmas.{Finds-ok, then-err, then-ok}
 use Rattle.table_types.proofs.constraints.constraints_of.Goals as goal
 
 pub returns-in_err-names : goal.returns-in_err-names

@@ -1,6 +1,6 @@
 use Rattle.std.proofs.Common.{◌≡◌, drop, map}
 use Rattle.typing.specs.Finding.{each}
-use Rattle.findings.proofs.FindsLemmas.{after}
+use Rattle.type_rules.proofs.FindsLemmas.{after}
 use Rattle.table_types.specs.Checks.{without_key}
 use Rattle.table_types.specs.Tables.{column_rule_of}
 use Rattle.table_types.proofs.rules.column_rules.Given as goal

@@ -1,4 +1,4 @@
-use Rattle.findings.proofs.FindsLemmas.{Finds-ok, then-ok}
+use Rattle.type_rules.proofs.FindsLemmas.{Finds-ok, then-ok}
 use Rattle.table_types.proofs.Texts.{text-is}
 use Rattle.table_types.proofs.rules.kept.Goals as goal
 

@@ -1,6 +1,6 @@
 use Rattle.std.proofs.Common.{◌≡◌, drop, map}
 use Rattle.typing.specs.Finding.{each}
-use Rattle.findings.proofs.FindsLemmas.{after}
+use Rattle.type_rules.proofs.FindsLemmas.{after}
 use Rattle.typing.specs.Table.{as_found}
 use Rattle.table_types.specs.Tables.{place_of}
 use Rattle.table_types.proofs.rules.places_of.Given as goal

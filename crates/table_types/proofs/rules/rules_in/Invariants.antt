@@ -1,6 +1,6 @@
 use Rattle.std.proofs.Common.{◌≡◌, ◌≤◌, drop}
 use Rattle.typing.specs.Finding.{each}
-use Rattle.findings.proofs.FindsLemmas.{after}
+use Rattle.type_rules.proofs.FindsLemmas.{after}
 use Rattle.table_types.specs.Checks.{without_key}
 use Rattle.table_types.specs.Tables.{rules_from}
 use Rattle.table_types.proofs.rules.rules_in.Given as goal

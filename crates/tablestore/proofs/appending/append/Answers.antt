@@ -2,7 +2,7 @@ use Rattle.std.proofs.Common.{rules, ◌^◌, ◌<◌, ◌++◌, take, arith, su
 use Rattle.std.specs.List.{enumerate_from}
 use Rattle.store.specs.Contents as stored
 use Rattle.tablestore.specs.Held.{entries_of}
-use Rattle.tree_entries.proofs.KeptLemmas.{no_page_lost_same, no_page_lost_on}
+use Rattle.btree.proofs.PageLossLemmas.{no_page_lost_same, no_page_lost_on}
 use Rattle.tablestore.proofs.AppendLemmas.{appends_next}
 use Rattle.std.proofs.lemmas.List.Elements.{Contains-get_or}
 use Rattle.std.specs.Prelude.{Contains}

@@ -1,6 +1,6 @@
 use Rattle.std.proofs.Common.{ℕ, ◌≤◌, List, take}
 use Rattle.store.specs.Contents as stored
-use Rattle.tree_entries.specs.Kept.{LosesNoPage}
+use Rattle.btree.specs.Kept.{LosesNoPage}
 use Rattle.tablestore.specs.Held.{HoldsRows}
 use Rattle.tablestore.proofs.AppendLemmas.{Appends}
 use Rattle.tablestore.proofs.appending.append.Given as goal

@@ -1,6 +1,6 @@
 use Rattle.std.proofs.Common.{◌≡◌, Ok}
 use Rattle.std.proofs.lemmas.Result.{err_from_is_err_and}
-use Rattle.findings.proofs.FindsLemmas.{Finds-ok}
+use Rattle.type_rules.proofs.FindsLemmas.{Finds-ok}
 use Rattle.type_rules.proofs.ConditionParts.{between_first, between-parts}
 use Rattle.type_rules.proofs.conditions.between.Goals as goal
 

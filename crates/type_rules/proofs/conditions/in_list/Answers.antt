@@ -1,6 +1,6 @@
 use Rattle.std.proofs.Common.{◌≡◌, Ok}
 use Rattle.std.proofs.lemmas.Result.{err_from_is_err_and}
-use Rattle.findings.proofs.FindsLemmas.{Finds-ok, Finds-then_err}
+use Rattle.type_rules.proofs.FindsLemmas.{Finds-ok, Finds-then_err}
 use Rattle.type_rules.proofs.ConditionParts.{in_list-parts}
 use Rattle.type_rules.proofs.conditions.in_list.Goals as goal
 

@@ -1,7 +1,7 @@
 use Rattle.std.proofs.Common.{◌∙◌}
 use Rattle.std.proofs.lemmas.Result.{err_from_is_err_and}
 use Rattle.typing.specs.Condition.{literal_of}
-use Rattle.findings.proofs.FindsLemmas.{Finds-each_item, each-finds, each-next}
+use Rattle.type_rules.proofs.FindsLemmas.{Finds-each_item, each-finds, each-next}
 use Rattle.type_rules.proofs.conditions.literals_of.Goals as goal
 
 pub returns-in_err-literal_of : goal.returns-in_err-literal_of

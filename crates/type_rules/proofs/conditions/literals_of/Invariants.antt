@@ -1,7 +1,7 @@
 use Rattle.std.proofs.Common.{◌≡◌, drop, map}
 use Rattle.typing.specs.Condition.{literal_of}
 use Rattle.typing.specs.Finding.{each}
-use Rattle.findings.proofs.FindsLemmas.{after}
+use Rattle.type_rules.proofs.FindsLemmas.{after}
 use Rattle.type_rules.proofs.conditions.literals_of.Given as goal
 
 -- the literals so far, and then those that are left, are all

@@ -1,4 +1,4 @@
-use Rattle.findings.proofs.FindsLemmas.{Finds-ok, then-ok}
+use Rattle.type_rules.proofs.FindsLemmas.{Finds-ok, then-ok}
 use Rattle.type_rules.proofs.conditions.query_of.Goals as goal
 
 pub returns : goal.returns

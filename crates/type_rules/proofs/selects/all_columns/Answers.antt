@@ -1,7 +1,7 @@
 use Rattle.std.proofs.Common.{arith}
 use Rattle.std.specs.Option.{option_copied}
 use Rattle.typing.specs.Select.{columns_from}
-use Rattle.findings.proofs.FindsLemmas.{Finds-ok}
+use Rattle.type_rules.proofs.FindsLemmas.{Finds-ok}
 use Rattle.scopes.proofs.Scopes.{frames-inside, frames-outermost}
 use Rattle.type_rules.proofs.Stars.{limited-is, limited-refused, star-length}
 use Rattle.type_rules.proofs.selects.all_columns.Goals as goal

@@ -2,7 +2,7 @@ use Rattle.std.proofs.Common.{◌≡◌, drop}
 use Rattle.std.specs.Option.{option_copied}
 use Rattle.typing.specs.Finding.{each}
 use Rattle.typing.specs.Select.{columns_from}
-use Rattle.findings.proofs.FindsLemmas.{after}
+use Rattle.type_rules.proofs.FindsLemmas.{after}
 use Rattle.type_rules.proofs.selects.columns_of.Given as goal
 
 -- the items so far, and those of the columns that are left

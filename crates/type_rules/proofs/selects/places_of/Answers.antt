@@ -1,6 +1,6 @@
 use Rattle.std.proofs.Common.{◌∙◌}
 use Rattle.std.proofs.lemmas.Result.{err_from_is_err_and}
-use Rattle.findings.proofs.FindsLemmas.{Finds-each_item, each-finds, each-next}
+use Rattle.type_rules.proofs.FindsLemmas.{Finds-each_item, each-finds, each-next}
 use Rattle.scopes.specs.Seen.{frames}
 use Rattle.type_rules.specs.Selects.{own_place}
 use Rattle.type_rules.proofs.selects.places_of.Goals as goal

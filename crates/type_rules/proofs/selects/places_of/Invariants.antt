@@ -1,6 +1,6 @@
 use Rattle.std.proofs.Common.{◌≡◌, drop, map}
 use Rattle.typing.specs.Finding.{each}
-use Rattle.findings.proofs.FindsLemmas.{after}
+use Rattle.type_rules.proofs.FindsLemmas.{after}
 use Rattle.scopes.specs.Seen.{frames}
 use Rattle.type_rules.specs.Selects.{own_place}
 use Rattle.type_rules.proofs.selects.places_of.Given as goal

@@ -1,6 +1,6 @@
 use Rattle.typing.specs.Finding.{also}
 use Rattle.typing.specs.From.{from_found}
-use Rattle.findings.proofs.Covers.{finds-covers}
+use Rattle.type_rules.proofs.Covers.{finds-covers}
 use Rattle.type_rules.proofs.Joins.{crossed-covers}
 use Rattle.type_rules.proofs.tables.crossed.Goals as goal
 

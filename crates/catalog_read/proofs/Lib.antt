@@ -1,7 +1,0 @@
-pub mod Repeats
-pub mod PlaceLemmas
-pub mod Exits
-pub mod RuleLemmas
-pub mod NumberedLemmas
-pub mod TableLemmas
-pub mod ApartLemmas

@@ -1,4 +1,0 @@
-pub mod Given
-pub mod Keepable
-pub mod Cuts
-pub mod Rows

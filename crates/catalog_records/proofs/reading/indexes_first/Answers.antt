@@ -1,0 +1,50 @@
+use Rattle.std.proofs.Common.{◌≡◌, ℕ, ◌+◌, ◌∷◌, [], refl, sym, ap, ◌∙◌, arith}
+use Rattle.std.proofs.lemmas.List.{drop_all}
+use Rattle.sqlval.specs.declared.schema.Index.{Index}
+use Rattle.catalog_records.specs.declared.record.Record.{Record}
+use Rattle.catalog_records.specs.Records.{key_of, index_record}
+use Rattle.catalog_records.specs.Keepable.{IsIndex}
+use Rattle.catalog_records.specs.Rows.{index_row}
+use Rattle.catalog_records.proofs.Exits.{refused_front}
+use Rattle.catalog_records.proofs.NumberedLemmas.{numbered_one, numbered_next, numbered_end, numbered_more, first_left, other_key, record_is, count_more, all_more}
+use Rattle.catalog_records.proofs.reading.indexes_first.Goals as goal
+
+pub returns-then-not-is_key-clause-again : goal.returns-then-not-is_key-clause-again
+returns-then-not-is_key-clause-again c = λ all more good ends e.
+    let first = first_left c.args.records.now _ _ c.loop-place-test.true c.index-records-place.is in
+    let none = other_key _ _ _ _ _ first c.as_slice.ensures (c.is_key.ensures.no c.if-not-is_key.true) in
+    let known = c.loop-place.invariant.again all more good ends e in
+    let p = numbered_end (λ (x : ℕ × Index). index_record c.args.name.now x.0 x.1) IsIndex (key_of c.args.name.now 3) all _ (c.loop-place.place + 1) _ more (λ m y. refl) known none in
+    (p.0, c.split_at.ensures.back ∙ p.1)
+
+pub returns-in_err-index-clause-again : goal.returns-in_err-index-clause-again
+returns-in_err-index-clause-again c = λ all more good ends e.
+    let first = first_left c.args.records.now _ _ c.loop-place-test.true c.index-records-place.is in
+    let own = sym c.as_slice.ensures ∙ c.is_key.ensures.yes c.if-not-is_key.false in
+    let known = c.loop-place.invariant.again all more good ends e in
+    numbered_one (λ (x : ℕ × Index). index_record c.args.name.now x.0 x.1) IsIndex (key_of c.args.name.now 3) all _ (c.loop-place.place + 1) _ more _ _ _ known first own ends
+    (λ y ys keep others is left whole. refused_front _ c.in_err-index.field-0.0 all more c.from_residual.ensures.1
+    (c.in_err-index.ensures.again y keep (ap (λ (r : Record). r.row) is ∙ sym c.as_slice-in-loop-place.ensures)))
+
+pub loop-place-preserved : goal.loop-place-preserved
+loop-place-preserved c =
+    let first = first_left c.args.records.now _ _ c.loop-place-test.true c.index-records-place.is in
+    let own = sym c.as_slice.ensures ∙ c.is_key.ensures.yes c.if-not-is_key.false in
+    let f = λ (x : ℕ × Index). index_record c.args.name.now x.0 x.1 in
+    let put = c.in_ok-push.ensures.ok in
+    let is = record_is c.index-records-place.result (key_of c.args.name.now 3 (c.loop-place.place + 1)) (index_row c.in_ok-index.index) own (c.in_ok-index.ensures.sound ∙ c.as_slice-in-loop-place.ensures) in
+    record {
+      sound = rw put (numbered_more f 1 _ _ _ _ _ c.in_ok-index.index c.loop-place.place (c.loop-place.place + 1) c.loop-place.invariant.sound c.loop-place.invariant.count (omega arith) first is);
+      count = rw put (count_more _ c.in_ok-index.index _ c.loop-place.invariant.count);
+      kept = rw put (all_more IsIndex _ c.in_ok-index.index c.loop-place.invariant.kept c.in_ok-index.ensures.kept);
+      again = λ all more good ends e.
+          rw put (numbered_next f IsIndex (key_of c.args.name.now 3) all _ (c.loop-place.place + 1) _ more _ _ c.in_ok-index.index (c.loop-place.invariant.again all more good ends e) first own ends
+          (λ y keep same. c.in_ok-index.ensures.again y keep (ap (λ (r : Record). r.row) same ∙ sym c.as_slice-in-loop-place.ensures)));
+    }
+
+pub returns-clause-again : goal.returns-clause-again
+returns-clause-again c = λ all more good ends e.
+    let gone = drop_all c.loop-place.place c.args.records.now c.loop-place-test.false in
+    let known = c.loop-place.invariant.again all more good ends e in
+    let p = numbered_end (λ (x : ℕ × Index). index_record c.args.name.now x.0 x.1) IsIndex (key_of c.args.name.now 3) all _ (c.loop-place.place + 1) _ more (λ m y. refl) known (λ r rs is. absurd (let none : [] ≡ r ∷ rs = sym gone ∙ is in cc)) in
+    (p.0, sym gone ∙ p.1)

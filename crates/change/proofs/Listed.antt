@@ -1,0 +1,194 @@
+-- The rows that a query lists, as sources of VALUES.
+use Rattle.std.proofs.Common.{◌≡◌, ◌∙◌, refl, sym, ap, subst, append-nil, ℕ, List, [], ◌∷◌, ◌++◌, map, Option, Some, None, Result, Ok, Err, inl, inr, ◌⊎◌, Contains, arith}
+use Rattle.std.proofs.lemmas.List.Elements.{Contains-append_left}
+use Rattle.std.specs.Prelude.{IfOk, IfErr}
+use Rattle.std.specs.FinMap.{get}
+use Rattle.refusals.specs.declared.refusal.Refusal.{Refusal}
+use Rattle.refusals.specs.declared.refusal.Refusal.TheVariants.{Memory}
+use Rattle.sqlval.specs.declared.schema.Schema.{Schema}
+use Rattle.sqlval.specs.declared.schema.Table as stored
+use Rattle.sqlval.specs.declared.value.Value.{Value}
+use Rattle.sqlval.specs.Schema.{table_place}
+use Rattle.sqlval.specs.Value.{Row}
+use Rattle.typing.specs.declared.statement.Change.TheVariants as does
+use Rattle.typing.specs.declared.statement.Insert.{Insert}
+use Rattle.typing.specs.declared.statement.InsertSource.TheVariants as from
+use Rattle.typing.specs.declared.typed.Condition.{Condition}
+use Rattle.typing.specs.declared.typed.Expression as typed_expression
+use Rattle.typing.specs.declared.typed.Expression.TheVariants as typed
+use Rattle.typing.specs.declared.typed.Query.{Query}
+use Rattle.algebra.specs.declared.tree.Expression.{Expression}
+use Rattle.algebra.specs.declared.tree.Expression.TheVariants.{Constant}
+use Rattle.algebra.specs.declared.tree.StoredTable.{StoredTable}
+use Rattle.algebra.specs.Described.{described_in, known_of, table_at}
+use Rattle.algebra.specs.Translated.{tree_of_expression}
+use Rattle.algebra_laws.specs.Shown.{Lists}
+use Rattle.denote.specs.declared.fault.Fault.{Fault}
+use Rattle.denote.specs.Bag.{Permutes}
+use Rattle.denote.specs.Change.{inserted_rows}
+use Rattle.denote.specs.Database.{Table, Database, CheckReading, checks_of, rows_in}
+use Rattle.denote.specs.Evaluation.{Evaluation, adding, faults_in, together}
+use Rattle.denote.specs.Meaning.{Tables, query_outcome, value_of}
+use Rattle.denote.specs.Outcome.{Outcome}
+use Rattle.denote.specs.StoredRow.{inserted_row}
+use Rattle.denote.proofs.Nodes.{value_constant}
+use Rattle.executor.specs.declared.listed.Listed.{Listed}
+use Rattle.executor.specs.Reply.{as_list, outcome_of}
+use Rattle.operator_laws.specs.Same.{IsSameBag}
+use Rattle.operator_laws.proofs.Same.{IsSameValue-refl, together-rows}
+use Rattle.session_definitions.specs.Refusals.{IsReserved, refusal_of}
+use Rattle.translation.proofs.TreeNodes.{expression_constant}
+use Rattle.tree_tables.specs.TablesRead.{Agree, tables_in_expression}
+use Rattle.tree_tables.proofs.Nodes.{expression_constant as names_of_constant}
+use Rattle.query_answers.specs.Refused.{GivesFaults, MayRefuse}
+use Rattle.query_answers.specs.Sources.{AreTreesOf, tables_in_row, tables_in_rows}
+use Rattle.constraints.specs.Changed.{RefusesChange}
+use Rattle.table_changes.specs.Given.{AreGiven}
+use Rattle.change.specs.Listed.{constants, constants_of}
+use Rattle.change.specs.Sources.{stored_of}
+use Rattle.change.proofs.Given.{raised_in, refuses_as}
+
+-- ---- rows as sources
+
+abbrev pub typed_row : Row → List typed_expression.Expression
+typed_row row = map (λ value. typed.Constant value) row
+
+abbrev pub typed_rows : List Row → List (List typed_expression.Expression)
+typed_rows rows = map typed_row rows
+
+-- what a schema knows of a table has the table's name
+pub described_named : (schema : Schema) (name : List ℕ) → (described_in schema name).name ≡ name
+described_named schema name = by (table_at schema (table_place name schema))
+  where
+    by : (table : Option stored.Table) → (known_of name table).name ≡ name
+    by None = refl
+    by (Some table) = refl
+
+module _ (described : List ℕ → StoredTable) where
+  row_trees : (row : Row) → constants_of row ≡ map (tree_of_expression described) (typed_row row)
+  row_trees [] = refl
+  row_trees (value ∷ row) = λ i. sym (expression_constant described value) i ∷ row_trees row i
+
+  rows_trees : (rows : List Row) → constants rows ≡ map (map (tree_of_expression described)) (typed_rows rows)
+  rows_trees [] = refl
+  rows_trees (row ∷ rows) = λ i. row_trees row i ∷ rows_trees rows i
+
+-- constants are the trees of constants
+pub are_trees : (schema : Schema) (rows : List Row) → AreTreesOf (typed_rows rows) (constants rows)
+are_trees schema rows = record { described = described_in schema; names = described_named schema; are = rows_trees (described_in schema) rows }
+
+-- constants name no tables
+row_names : (row : Row) → tables_in_row (constants_of row) ≡ []
+row_names [] = refl
+row_names (value ∷ row) = λ i. names_of_constant value i ++ row_names row i
+
+rows_names : (rows : List Row) → tables_in_rows (constants rows) ≡ []
+rows_names [] = refl
+rows_names (row ∷ rows) = λ i. row_names row i ++ rows_names rows i
+
+pub all_agree : (tables others : Tables) (rows : List Row) → Agree tables others (tables_in_rows (constants rows))
+all_agree tables others rows = λ name among. none name (subst (λ (names : List (List ℕ)). Contains names name) (rows_names rows) among)
+  where
+    none : (name : List ℕ) → Contains [] name → tables name ≡ others name
+    none name among = absurd (let below = among.1 in omega (arith, below))
+
+module _ (checks : List Condition) (tables : Tables) (table : Table) (places : List ℕ) where
+  row_values : (row : Row) → map (λ source. value_of tables source []) (typed_row row) ≡ map {B = Evaluation Value} (λ value. Ok value) row
+  row_values [] = refl
+  row_values (value ∷ row) = λ i. value_constant tables [] value i ∷ row_values row i
+
+  rows_values : (rows : List Row) → map (λ sources. inserted_row checks table places (map (λ source. value_of tables source []) sources)) (typed_rows rows)
+      ≡ map (λ row. inserted_row checks table places (map Ok row)) rows
+  rows_values [] = refl
+  rows_values (row ∷ rows) = λ i. inserted_row checks table places (row_values row i) ∷ rows_values rows i
+
+  -- VALUES of constants store what the rows do
+  pub constants_stored : (rows : List Row) → inserted_rows checks tables table places (from.Values (typed_rows rows)) ≡ together (map (λ row. inserted_row checks table places (map Ok row)) rows)
+  constants_stored rows = ap together (rows_values rows)
+
+-- ---- the rows of a query
+
+-- whole lists
+pub listed_as : (T : Type 0) (result : Result (List (List Expression)) Refusal) (listed : Listed) (listing : Outcome) → (T → outcome_of listed ≡ listing) → IfOk result (λ _. listed.fault ≡ None)
+    → IfOk result (λ sources. sources ≡ constants listed.rows) → IfOk result (λ sources. (rows : List Row) × (sources ≡ constants rows) × (T → listing ≡ record { rows = rows; faults = [] }))
+listed_as T (Ok sources) listed listing is none e =
+    let ended : outcome_of listed ≡ record { rows = listed.rows; faults = [] } = ap (λ (fault : Option Fault). let o : Outcome = record { rows = listed.rows; faults = as_list fault } in o) none in
+    (listed.rows, e, λ sound. sym (is sound) ∙ ended)
+listed_as T (Err refusal) listed listing is none e = tt
+
+-- and those that end with a fault
+pub ended_as : (result : Result (List (List Expression)) Refusal) (listed : Listed) (listing : Outcome) → outcome_of listed ≡ listing
+    → IfErr result (λ refusal. (refusal ≡ Memory) ⊎ ((fault : Fault) × (refusal ≡ refusal_of fault) × (listed.fault ≡ Some fault))) → IfErr result (MayRefuse listing.faults)
+ended_as (Ok sources) listed listing is h = tt
+ended_as (Err refusal) listed listing is (inl e) = inl (subst IsReserved (sym e) tt)
+ended_as (Err refusal) listed listing is (inr h) =
+    let faults : as_list listed.fault ≡ listing.faults = ap (λ (o : Outcome). o.faults) is in
+    let ends : h.0 ∷ [] ≡ listing.faults = sym (ap as_list h.2) ∙ faults in
+    inr (h.0, h.1, subst (λ (fs : List Fault). Contains fs h.0) ends (0, omega arith, refl))
+
+adding_has : {A : Type 0} (faults : List Fault) (x : Evaluation A) (fault : Fault) → Contains faults fault → Contains (faults_in (adding faults x)) fault
+adding_has [] x fault one = absurd (let below = one.1 in omega (arith, below))
+adding_has (f ∷ faults) x fault one = Contains-append_left (f ∷ faults) (faults_in x) fault one
+
+module _ (reading : CheckReading) (db : Database) (i : Insert) (table : Table) (there : get db i.table ≡ Some table) (query : Query) (source : i.source ≡ from.Query query) where
+  stores : Row → Evaluation Row
+  stores row = inserted_row (checks_of reading i.table table) table i.columns (map Ok row)
+
+  -- a list of the query's rows without a fault
+  pub permuted : (listing : Outcome) (rows : List Row) → Lists listing (query_outcome (rows_in db) query []) → listing ≡ record { rows = rows; faults = [] }
+      → ((query_outcome (rows_in db) query []).faults ≡ []) × Permutes (query_outcome (rows_in db) query []).rows rows
+  permuted listing rows l e =
+      let here = subst (λ (o : Outcome). Lists o (query_outcome (rows_in db) query [])) e l in
+      let whole = here.complete refl in
+      let all : rows ++ here.missing ≡ rows = ap (λ (missing : List Row). rows ++ missing) whole.1 ∙ append-nil rows in
+      (whole.0, subst (λ (given : List Row). Permutes (query_outcome (rows_in db) query []).rows given) all here.rows)
+
+  stored_is : (query_outcome (rows_in db) query []).faults ≡ [] → stored_of reading db i table i.source ≡ together (map stores (query_outcome (rows_in db) query []).rows)
+  unfolding stores
+  stored_is none =
+      ap (stored_of reading db i table) source ∙ ap (λ (faults : List Fault). adding faults (together (map stores (query_outcome (rows_in db) query []).rows))) none
+
+  pub given_query : (listing : Outcome) (rows given : List Row) → Lists listing (query_outcome (rows_in db) query []) → listing ≡ record { rows = rows; faults = [] }
+      → stored_of reading db i table (from.Values (typed_rows rows)) ≡ Ok given → AreGiven reading db i given
+  unfolding stores
+  given_query listing rows given l e is =
+      let whole = permuted listing rows l e in
+      let o = query_outcome (rows_in db) query [] in
+      let same : together (map stores rows) ≡ Ok given = sym (constants_stored (checks_of reading i.table table) (rows_in db) table i.columns rows) ∙ is in
+      by (together (map stores o.rows)) refl
+      (subst (λ (x : Evaluation (List Row)). IsSameBag (together (map stores o.rows)) x) same (together-rows stores stores o.rows rows (λ z. IsSameValue-refl (stores z)) whole.1))
+      (stored_is whole.0)
+    where
+      by : (x : Evaluation (List Row)) → together (map stores (query_outcome (rows_in db) query []).rows) ≡ x → IsSameBag x (Ok given)
+          → stored_of reading db i table i.source ≡ together (map stores (query_outcome (rows_in db) query []).rows) → AreGiven reading db i given
+      by (Ok meant) found order stored_so = record { table = table; there = there; meant = meant; given = stored_so ∙ found; order = order }
+      by (Err faults) found order stored_so = absurd order
+
+  pub refuses_query : (listing : Outcome) (rows : List Row) (refusal : Refusal) → Lists listing (query_outcome (rows_in db) query []) → listing ≡ record { rows = rows; faults = [] }
+      → GivesFaults (faults_in (stored_of reading db i table (from.Values (typed_rows rows)))) refusal → RefusesChange reading db (does.Insert i) refusal
+  unfolding stores
+  refuses_query listing rows refusal l e (inl memory) = refuses_as reading db i table there refusal (inl memory)
+  refuses_query listing rows refusal l e (inr h) =
+      let whole = permuted listing rows l e in
+      let o = query_outcome (rows_in db) query [] in
+      let among = subst (λ (x : Evaluation (List Row)). Contains (faults_in x) h.0) (constants_stored (checks_of reading i.table table) (rows_in db) table i.columns rows) h.2 in
+      refuses_as reading db i table there refusal (inr (
+        h.0,
+        h.1,
+        subst (λ (x : Evaluation (List Row)). Contains (faults_in x) h.0) (sym (stored_is whole.0))
+            (by h.0 (together (map stores o.rows)) (together (map stores rows)) (together-rows stores stores o.rows rows (λ z. IsSameValue-refl (stores z)) whole.1) among),
+      ))
+    where
+      by : (fault : Fault) (x y : Evaluation (List Row)) → IsSameBag x y → Contains (faults_in y) fault → Contains (faults_in x) fault
+      by fault (Ok meant) (Ok rows) same one = one
+      by fault (Ok meant) (Err faults) same one = absurd same
+      by fault (Err faults) (Ok rows) same one = absurd same
+      by fault (Err faults) (Err others) same one = (same fault).1 one
+
+  pub refuses_listing : (listing : Outcome) (refusal : Refusal) → Lists listing (query_outcome (rows_in db) query []) → MayRefuse listing.faults refusal → RefusesChange reading db (does.Insert i) refusal
+  refuses_listing listing refusal l (inl reserved) = RefusesChange.withheld reserved
+  refuses_listing listing refusal l (inr h) =
+      let o = query_outcome (rows_in db) query [] in
+      let one = adding_has o.faults (together (map (λ row. inserted_row (checks_of reading i.table table) table i.columns (map Ok row)) o.rows)) h.0 (l.within h.0 h.2) in
+      RefusesChange.raises h.0 h.1 (raised_in reading db i table there h.0
+      (subst (λ (x : Evaluation (List Row)). Contains (faults_in x) h.0) (sym (ap (stored_of reading db i table) source)) one))

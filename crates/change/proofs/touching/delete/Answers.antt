@@ -1,0 +1,39 @@
+use Rattle.std.proofs.Common.{◌≡◌, sym, subst}
+use Rattle.std.proofs.lemmas.Result.{IfOk-weaker, IfErr-weaker}
+use Rattle.sqlval.specs.declared.schema.Schema.{Schema}
+use Rattle.denote.specs.SchemaOf.{IsSchemaOf}
+use Rattle.store.specs.Contents.{database_of}
+use Rattle.session_definitions.specs.Refusals.{IsReserved}
+use Rattle.constraints.specs.Changed.{RefusesChange}
+use Rattle.change.proofs.Named.{no_device}
+use Rattle.store.specs.Errors.{ChangingReaches}
+use Rattle.constraints.proofs.Limits.{tells_none}
+use Rattle.change.proofs.touching.delete.Goals as goal
+
+pub returns-in-Ok-clause-changes : goal.returns-in-Ok-clause-changes
+returns-in-Ok-clause-changes g c = IfOk-weaker c.delete_rows.result _ _
+    (λ reply h reading is_reading sound of good.
+    let db = database_of (g.S.Store.shows c.args.store.now).working in
+    let schema : IsSchemaOf c.schema.result.now db = subst (λ (s : Schema). IsSchemaOf s db) (sym c.schema.ensures) of in
+    h reading sound of (c.in-Ok.ensures.decides reading db is_reading schema) (λ table is. (good c.args.delete.now.table table is).unviolated))
+    c.delete_rows.ensures.changes
+
+pub returns-in-Ok-clause-refused : goal.returns-in-Ok-clause-refused
+returns-in-Ok-clause-refused g c = IfErr-weaker c.delete_rows.result _ _
+    (λ refusal h reading is_reading sound of good.
+    let db = database_of (g.S.Store.shows c.args.store.now).working in
+    let schema : IsSchemaOf c.schema.result.now db = subst (λ (s : Schema). IsSchemaOf s db) (sym c.schema.ensures) of in
+    h reading sound of (c.in-Ok.ensures.decides reading db is_reading schema))
+    c.delete_rows.ensures.refused
+
+pub returns-in-Err-clause-refused : goal.returns-in-Err-clause-refused
+returns-in-Err-clause-refused g c = λ reading is_reading sound of good.
+    let db = database_of (g.S.Store.shows c.args.store.now).working in
+    let schema : IsSchemaOf c.schema.result.now db = subst (λ (s : Schema). IsSchemaOf s db) (sym c.schema.ensures) of in
+    RefusesChange.withheld (subst IsReserved (sym (c.in-Err.ensures.good reading db schema good)) tt)
+
+pub returns-in-Err-clause-device : goal.returns-in-Err-clause-device
+returns-in-Err-clause-device g c = λ is. absurd (no_device c.in-Err.refusal c.in-Err.ensures.refused is)
+
+pub returns-in-Err-clause-limits : goal.returns-in-Err-clause-limits
+returns-in-Err-clause-limits g c = tells_none (ChangingReaches (g.S.Store.counted c.args.store.now)) c.in-Err.refusal c.in-Err.ensures.limits

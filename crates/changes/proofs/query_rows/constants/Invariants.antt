@@ -1,6 +1,0 @@
-use Rattle.std.proofs.Common.{◌≡◌, ◌++◌}
-use Rattle.changes.specs.Listed.{constants}
-use Rattle.changes.proofs.query_rows.constants.Given as goal
-
-abbrev pub invariant-loop-row : goal.invariant-loop-row
-invariant-loop-row l = l.sources ++ constants l.row-iterator.rest.items ≡ constants l.fn.rows

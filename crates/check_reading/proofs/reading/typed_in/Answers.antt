@@ -1,4 +1,0 @@
-use Rattle.check_reading.proofs.reading.typed_in.Goals as goal
-
-pub returns : goal.returns
-returns c = rw c.in_ok-frame.ensures at c.typed_check.ensures

@@ -1,9 +1,0 @@
-use Rattle.column_laws.specs.Statements.{IsStatementWell}
-use Rattle.typing.specs.Known.{known}
-use Rattle.typing.specs.Statement.{statement_found}
-use Rattle.column_laws.proofs.Findings.{holds}
-use Rattle.column_laws.proofs.Statements.{statements-typed}
-use Rattle.column_laws.proofs.laws.typed_statements_are_well_typed.Goals as goal
-
-pub returns : goal.returns
-returns c tree schema found is = holds (IsStatementWell (known schema)) (statement_found tree schema) found (statements-typed tree schema) is

@@ -1,3 +1,0 @@
-pub mod WellTyped
-pub mod Scopes
-pub mod Statements

@@ -1,5 +1,0 @@
-use Rattle.condition_texts.proofs.Parts.{done, written}
-use Rattle.condition_texts.proofs.part.SignPart.write.Goals as goal
-
-pub returns : goal.returns
-returns c = done c.symbol.result (written c.sign_symbol.ensures) c.symbol.ensures

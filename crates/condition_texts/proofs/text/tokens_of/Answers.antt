@@ -1,4 +1,0 @@
-use Rattle.condition_texts.proofs.text.tokens_of.Goals as goal
-
-pub returns : goal.returns
-returns c = rw c.into_kinds.ensures ((rw c.new-writer.ensures at c.in_ok-condition.ensures).is)

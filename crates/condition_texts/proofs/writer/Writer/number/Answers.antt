@@ -1,4 +1,0 @@
-use Rattle.condition_texts.proofs.writer.Writer.number.Goals as goal
-
-pub returns : goal.returns
-returns c = c.push.ensures

@@ -1,4 +1,0 @@
-use Rattle.condition_texts.proofs.writer.Writer.text.Goals as goal
-
-pub returns : goal.returns
-returns c = rw c.in_ok-text.ensures.copied at c.push.ensures

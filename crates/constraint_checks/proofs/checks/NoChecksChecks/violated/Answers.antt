@@ -1,9 +1,0 @@
-use Rattle.std.proofs.Common.{◌∙◌, sym, ap}
-use Rattle.denote.specs.Database.{table_of}
-use Rattle.constraint_checks.specs.Rules.{has_checks}
-use Rattle.constraint_checks.proofs.Broken.{no_checks_broken}
-use Rattle.constraint_checks.proofs.checks.NoChecksChecks.violated.Goals as goal
-
-pub returns-clause-found : goal.returns-clause-found
-returns-clause-found c = λ reading name decided.
-    no_checks_broken reading name (table_of c.args.table.now c.args._rows.now) (ap has_checks (sym c.as_slice.ensures) ∙ sym c.if-has_check.ensures)

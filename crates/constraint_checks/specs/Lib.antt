@@ -1,6 +1,0 @@
-pub mod Rules
-pub mod Changed
-pub mod Settled
-pub mod Stopped
-pub mod Foreseen
-pub mod Alone

@@ -1,0 +1,6 @@
+use Rattle.std.proofs.Common.{◌≡◌, take}
+use Rattle.database_trees.specs.Exchanged.{with_roots}
+use Rattle.database_trees.proofs.settling.indexes_with.Given as goal
+
+abbrev pub invariant-loop-at : goal.invariant-loop-at
+invariant-loop-at l = l.changed ≡ with_roots (take l.at l.roots) l.fn.indexes

@@ -1,0 +1,86 @@
+//! The numbers of rows.
+ghost use Rattle.std.specs.Prelude.{◌≡◌, ◌≤◌, ◌<◌, ◌+◌, ◌^◌, ℕ, List, length, map, IfOk, IfErr};
+ghost use Rattle.std.specs.List.{enumerate_from};
+ghost use Rattle.std.specs.Option.{option_map};
+ghost use Rattle.store.specs.Contents as stored;
+ghost use Rattle.store.specs.View.{entry_of, IsEntry};
+ghost use Rattle.page_space.specs.Space.{ReadRefused};
+ghost use Rattle.tablestore.specs.Held.{HoldsRows, HoldsNoRows};
+ghost use Rattle.database_trees.specs.Changed.{Reaches, IsOfMemory};
+ghost use Rattle.database_trees.specs.Named.{row_numbered, one_before, if_numbered};
+
+use crate::DatabaseError;
+use denote::Row;
+use items::Items;
+use page_space::{Fault, PageReader};
+use std::alloc::Global;
+use store::NumberedRow;
+use tablestore::next;
+
+/// The least number that no row may have.
+const NUMBERS: u64 = 1 << 63;
+
+/// As many numbers as there are rows, one after another.
+pub(crate) fn numbers_on(
+    alloc: Global,
+    first: u64,
+    rows: &[Row],
+) -> Result<Items<u64>, DatabaseError>
+    ensures numbers { IfOk result (λ numbers. numbers ≡ map (λ (e : stored.Entry). e.0) (enumerate_from first rows.now)) }
+    ensures limits { IfErr result (Reaches ⊥ ⊥ (2 ^ 63 < first + length rows.now)) }
+    ensures memory { IfErr result IsOfMemory }
+{
+    let mut numbers = Items::new(alloc);
+    let mut number = first;
+    for _row in rows {
+        if number >= NUMBERS {
+            return Err(DatabaseError::Number);
+        }
+        numbers.push(number)?;
+        number += 1;
+    }
+    Ok(numbers)
+}
+
+/// The number before this one.
+fn one_before(number: u64) -> Option<u64>
+    ensures { result ≡ one_before number }
+{
+    if number == 0 { None } else { Some(number - 1) }
+}
+
+/// What was found, where it has this number.
+fn if_numbered(number: u64, found: Option<NumberedRow>) -> Option<NumberedRow>
+    ensures { option_map entry_of result ≡ if_numbered number (option_map entry_of found) }
+{
+    match found {
+        Some(row) => {
+            if row.number == number {
+                Some(row)
+            } else {
+                None
+            }
+        }
+        None => None,
+    }
+}
+
+/// The row of a number in the tree at a root.
+pub fn row_of<R: PageReader>(
+    space: &mut R,
+    alloc: Global,
+    root: u32,
+    number: u64,
+) -> Result<Option<NumberedRow>, Fault>
+    ensures found { (owned : List ℕ) (rows : List stored.Entry) → HoldsRows (R.pages space.old) root owned rows → IfOk result (λ found. IsEntry found (row_numbered number rows)) }
+    ensures same { R.pages space.new ≡ R.pages space.old }
+    ensures whole { R.is_whole space.old → R.is_whole space.new }
+    ensures refusal { IfErr result (ReadRefused (HoldsNoRows (R.pages space.old) root) (R.refused space.old) (R.refused space.new)) }
+    ensures rising { R.refused space.old ≤ R.refused space.new }
+    ensures follows { R.follows space.old space.new }
+{
+    match next(space, alloc, root, one_before(number)) {
+        Ok(found) => Ok(if_numbered(number, found)),
+        Err(fault) => Err(fault),
+    }
+}

@@ -1,2 +1,0 @@
-pub mod Covers
-pub mod FindsLemmas

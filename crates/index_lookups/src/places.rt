@@ -1,0 +1,66 @@
+//! The index at a place of a table.
+ghost use Rattle.std.specs.Prelude.{◌≡◌, ◌≤◌, List, slice_get, IfOk, IfErr};
+ghost use Rattle.std.specs.FinMap.{get};
+ghost use Rattle.std.specs.Option.{option_map};
+ghost use Rattle.page_space.specs.Space.{ReadRefused};
+ghost use Rattle.database_trees.specs.Held.{TableAt, HoldsDatabase, HoldsNoDatabase, contents_of};
+ghost use Rattle.index_lookups.specs.Walked.{place_of, IsPlaceOf};
+
+use items::{Items, Text};
+use database_trees::find_table;
+use page_space::{Fault, PageReader};
+use sqlval::{Index, Table};
+use std::alloc::Global;
+
+/// An index of a table: its columns, the root of its tree, and the root of the table's rows.
+#[derive(Drop)]
+pub(crate) struct Place {
+    pub(crate) columns: Items<usize>,
+    pub(crate) root: u32,
+    pub(crate) rows_root: u32,
+}
+
+fn of_index(index: Index, rows_root: u32) -> Place
+    ensures { result ≡ place_of rows_root index }
+{
+    Place {
+        columns: index.columns,
+        root: index.root,
+        rows_root,
+    }
+}
+
+/// The index at a place of a table; `None` behind the last.
+fn place_in(table: Table, at: usize) -> Option<Place>
+    ensures { result ≡ option_map (place_of table.root) (slice_get table.indexes at) }
+{
+    let rows_root = table.root;
+    let mut indexes = table.indexes;
+    if at < indexes.len() {
+        Some(of_index(indexes.remove(at), rows_root))
+    } else {
+        None
+    }
+}
+
+/// The index at a place of the table of a name; `None` where no table has the name, or no index stands there.
+pub(crate) fn index_at<R: PageReader>(
+    space: &mut R,
+    alloc: Global,
+    root: u32,
+    name: &Text,
+    at: usize,
+) -> Result<Option<Place>, Fault>
+    ensures found { (tables : List TableAt) → HoldsDatabase (R.pages space.old) root tables → IfOk result (IsPlaceOf (R.pages space.old) (get (contents_of tables) name.now) at) }
+    ensures same { R.pages space.new ≡ R.pages space.old }
+    ensures whole { R.is_whole space.old → R.is_whole space.new }
+    ensures refusal { IfErr result (ReadRefused (HoldsNoDatabase (R.pages space.old) root) (R.refused space.old) (R.refused space.new)) }
+    ensures rising { R.refused space.old ≤ R.refused space.new }
+    ensures follows { R.follows space.old space.new }
+{
+    match find_table(space, alloc, root, name) {
+        Ok(Some(table)) => Ok(place_in(table, at)),
+        Ok(None) => Ok(None),
+        Err(fault) => Err(fault),
+    }
+}

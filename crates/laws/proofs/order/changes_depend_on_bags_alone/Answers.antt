@@ -1,5 +1,0 @@
-use Rattle.laws.proofs.ChangedLemmas.{changed-same}
-use Rattle.laws.proofs.order.changes_depend_on_bags_alone.Goals as goal
-
-pub returns : goal.returns
-returns c = λ reading db new change same. changed-same reading db new same change

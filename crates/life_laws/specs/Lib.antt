@@ -1,2 +1,0 @@
-pub mod Damage
-pub mod Reopening

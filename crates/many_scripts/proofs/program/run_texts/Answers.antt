@@ -1,7 +1,0 @@
-use Rattle.std.proofs.Common.{refl}
-use Rattle.many_scripts.specs.Alone.{EndsAlone}
-use Rattle.many_scripts.proofs.Alone.{ends_alone}
-use Rattle.many_scripts.proofs.program.run_texts.Goals as goal
-
-pub returns : goal.returns
-returns g c = EndsAlone.carried_out _ _ refl (ends_alone _ _ _ _ _ _ _ _ c.many_in_memory-done.ensures.runs)

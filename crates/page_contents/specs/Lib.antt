@@ -1,5 +1,0 @@
-pub mod Values
-pub mod Trees
-pub mod Places
-pub mod Schemas
-pub mod Contents

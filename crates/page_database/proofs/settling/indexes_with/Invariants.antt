@@ -1,6 +1,0 @@
-use Rattle.std.proofs.Common.{◌≡◌, take}
-use Rattle.page_database.specs.Exchanged.{with_roots}
-use Rattle.page_database.proofs.settling.indexes_with.Given as goal
-
-abbrev pub invariant-loop-at : goal.invariant-loop-at
-invariant-loop-at l = l.changed ≡ with_roots (take l.at l.roots) l.fn.indexes

@@ -1,6 +1,0 @@
-use Rattle.std.proofs.Common.{◌≡◌, ◌++◌}
-use Rattle.page_database.specs.Unindexed.{without_named}
-use Rattle.page_database.proofs.unindexing.without_named.Given as goal
-
-abbrev pub invariant-loop-index : goal.invariant-loop-index
-invariant-loop-index l = l.left ++ without_named l.name l.index-iterator.rest.items ≡ without_named l.name l.fn.indexes

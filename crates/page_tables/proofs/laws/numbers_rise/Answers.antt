@@ -1,5 +1,0 @@
-use Rattle.page_tables.proofs.RiseLemmas.{numbers_rise}
-use Rattle.page_tables.proofs.laws.numbers_rise.Goals as goal
-
-pub returns : goal.returns
-returns c = numbers_rise

@@ -1,5 +1,0 @@
-use Rattle.page_tables.proofs.HeldLemmas.{stays}
-use Rattle.page_tables.proofs.laws.tables_stay.Goals as goal
-
-pub returns : goal.returns
-returns c = stays

@@ -1,7 +1,0 @@
-use Rattle.std.proofs.Common.{ℕ, ◌<◌, ◌^◌, drop}
-use Rattle.std.specs.List.{AllByRecursion}
-use Rattle.catalog_read.specs.Keepable.{IsColumn}
-use Rattle.paged.proofs.keeping.are_columns.Given as goal
-
-abbrev pub invariant-loop-column : goal.invariant-loop-column
-invariant-loop-column l = AllByRecursion IsColumn (drop l.column-index l.columns) → AllByRecursion IsColumn l.columns

@@ -1,7 +1,0 @@
-use Rattle.std.proofs.Common.{ℕ, ◌<◌, ◌^◌, drop}
-use Rattle.std.specs.List.{AllByRecursion}
-use Rattle.catalog_read.specs.Keepable.{IsConstraint}
-use Rattle.paged.proofs.keeping.are_constraints.Given as goal
-
-abbrev pub invariant-loop-constraint : goal.invariant-loop-constraint
-invariant-loop-constraint l = AllByRecursion IsConstraint (drop l.constraint-index l.constraints) → AllByRecursion IsConstraint l.constraints

@@ -1,7 +1,0 @@
-use Rattle.std.proofs.Common.{ℕ, ◌<◌, ◌^◌, drop}
-use Rattle.std.specs.List.{AllByRecursion}
-use Rattle.catalog_read.specs.Keepable.{IsIndex}
-use Rattle.paged.proofs.keeping.are_indexes.Given as goal
-
-abbrev pub invariant-loop-index : goal.invariant-loop-index
-invariant-loop-index l = AllByRecursion IsIndex (drop l.index-index l.indexes) → AllByRecursion IsIndex l.indexes

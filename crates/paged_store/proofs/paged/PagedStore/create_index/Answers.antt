@@ -1,0 +1,49 @@
+use Rattle.std.specs.FinMap.{get}
+use Rattle.denote.specs.SchemaOf.{index_of}
+use Rattle.store.specs.Indexes.{entries_of}
+use Rattle.paged_store.specs.Store.{shown_of}
+use Rattle.store.specs.Contents.{Contents, indexed, rows_of}
+use Rattle.pool.specs.Versions.{versions_of, device_of}
+use Rattle.overlay.specs.Changes.{settled_of, private_of, undone_of}
+use Rattle.snapshot_pins.specs.Pinned.{numbers_of}
+use Rattle.paged_store.proofs.DoneLemmas.{done_shows, done_undone, done_sound, done_steady, index_fails}
+use Rattle.paged_store.proofs.OrderlyLemmas.{orderly_same}
+use Rattle.paged_store.proofs.paged.PagedStore.create_index.Goals as goal
+
+pub returns-clause-shows : goal.returns-clause-shows
+returns-clause-shows g c =
+    let s = c.args.self.now in
+    λ sound. done_shows g.D.Disk.is_honest (versions_of s.pool) (versions_of c.create_index-done.new.pool) (numbers_of s.readers) (private_of s.changes) (settled_of s.changes) (private_of c.create_index-done.new.changes) (settled_of c.create_index-done.new.changes) (private_of c.undo_refused.new.changes) (settled_of c.undo_refused.new.changes)
+    s.commits s.ordered.counted c.create_index-done.ensures.versions c.create_index-done.ensures.settled c.undo_refused.ensures.settled (λ (x : Contents). indexed x c.args.name.now c.args.index)
+    c.undo_refused.result c.create_index-done.result c.undo_refused.ensures.same c.undo_refused.ensures.made c.create_index-done.ensures.indexed sound
+
+pub returns-clause-undone : goal.returns-clause-undone
+returns-clause-undone g c =
+    let s = c.args.self.now in
+    done_undone g.D.Disk.is_honest (versions_of s.pool) (versions_of c.create_index-done.new.pool) (numbers_of s.readers) (private_of s.changes) (settled_of s.changes) (private_of c.create_index-done.new.changes) (settled_of c.create_index-done.new.changes) (private_of c.undo_refused.new.changes) (settled_of c.undo_refused.new.changes)
+    s.commits s.ordered.counted c.create_index-done.ensures.versions c.create_index-done.ensures.settled c.undo_refused.ensures.settled (λ (x : Contents). indexed x c.args.name.now c.args.index)
+    c.undo_refused.result c.create_index-done.result c.undo_refused.ensures.same c.undo_refused.ensures.left
+
+pub returns-clause-sound : goal.returns-clause-sound
+returns-clause-sound g c =
+    let s = c.args.self.now in
+    done_sound g.D.Disk.is_honest (versions_of s.pool) (versions_of c.create_index-done.new.pool) (numbers_of s.readers) (private_of s.changes) (settled_of s.changes) (private_of c.create_index-done.new.changes) (settled_of c.create_index-done.new.changes) (private_of c.undo_refused.new.changes) (settled_of c.undo_refused.new.changes)
+    s.commits s.ordered.counted c.create_index-done.ensures.versions c.create_index-done.ensures.settled c.undo_refused.ensures.settled (λ (x : Contents). indexed x c.args.name.now c.args.index)
+    c.create_index-done.result c.undo_refused.ensures.made c.undo_refused.ensures.left c.create_index-done.ensures.owned
+
+pub returns-clause-refused : goal.returns-clause-refused
+returns-clause-refused g c =
+    let s = c.args.self.now in
+    index_fails g.D.Disk.is_honest (versions_of s.pool) (versions_of c.create_index-done.new.pool) (numbers_of s.readers) (private_of s.changes) (settled_of s.changes) (private_of c.create_index-done.new.changes) (settled_of c.create_index-done.new.changes) (settled_of c.undo_refused.new.changes)
+    s.commits s.ordered.counted c.create_index-done.ensures.versions c.create_index-done.ensures.settled c.undo_refused.ensures.settled (g.D.Disk.refused (device_of s.pool)) (g.D.Disk.refused (device_of c.create_index-done.new.pool))
+    (undone_of c.undo_refused.new.changes) (rows_of (entries_of (get (shown_of s).working c.args.name.now))) (index_of c.args.index) c.undo_refused.result c.create_index-done.result c.undo_refused.ensures.same c.undo_refused.ensures.undone c.create_index-done.ensures.refused
+
+pub invariant_of-self : goal.invariant_of-self
+invariant_of-self g c =
+    let s = c.args.self.now in
+    record {
+      ordered = orderly_same g.D.Disk.is_honest (versions_of s.pool) (versions_of c.create_index-done.new.pool) s.readers s.commits c.create_index-done.ensures.versions s.ordered;
+      steady = done_steady g.D.Disk.is_honest (versions_of s.pool) (versions_of c.create_index-done.new.pool) (numbers_of s.readers) (private_of s.changes) (settled_of s.changes) (private_of c.create_index-done.new.changes) (settled_of c.create_index-done.new.changes) (private_of c.undo_refused.new.changes) (settled_of c.undo_refused.new.changes)
+          s.commits s.ordered.counted c.create_index-done.ensures.versions c.create_index-done.ensures.settled c.undo_refused.ensures.settled (λ (x : Contents). indexed x c.args.name.now c.args.index)
+          c.create_index-done.result c.undo_refused.ensures.made c.undo_refused.ensures.left c.create_index-done.ensures.indexed s.steady;
+    }

@@ -1,0 +1,45 @@
+use Rattle.store.specs.Contents.{Contents, deleted}
+use Rattle.pool.specs.Versions.{versions_of, device_of}
+use Rattle.overlay.specs.Changes.{settled_of, private_of, undone_of}
+use Rattle.snapshot_pins.specs.Pinned.{numbers_of}
+use Rattle.paged_store.proofs.DoneLemmas.{done_shows, done_undone, done_sound, done_steady, change_fails}
+use Rattle.paged_store.proofs.OrderlyLemmas.{orderly_same}
+use Rattle.paged_store.proofs.paged.PagedStore.delete.Goals as goal
+
+pub returns-clause-shows : goal.returns-clause-shows
+returns-clause-shows g c =
+    let s = c.args.self.now in
+    λ sound. done_shows g.D.Disk.is_honest (versions_of s.pool) (versions_of c.delete_row-done.new.pool) (numbers_of s.readers) (private_of s.changes) (settled_of s.changes) (private_of c.delete_row-done.new.changes) (settled_of c.delete_row-done.new.changes) (private_of c.undo_refused.new.changes) (settled_of c.undo_refused.new.changes)
+    s.commits s.ordered.counted c.delete_row-done.ensures.versions c.delete_row-done.ensures.settled c.undo_refused.ensures.settled (λ (x : Contents). deleted x c.args.name.now c.args.number)
+    c.undo_refused.result c.delete_row-done.result c.undo_refused.ensures.same c.undo_refused.ensures.made c.delete_row-done.ensures.deleted sound
+
+pub returns-clause-undone : goal.returns-clause-undone
+returns-clause-undone g c =
+    let s = c.args.self.now in
+    done_undone g.D.Disk.is_honest (versions_of s.pool) (versions_of c.delete_row-done.new.pool) (numbers_of s.readers) (private_of s.changes) (settled_of s.changes) (private_of c.delete_row-done.new.changes) (settled_of c.delete_row-done.new.changes) (private_of c.undo_refused.new.changes) (settled_of c.undo_refused.new.changes)
+    s.commits s.ordered.counted c.delete_row-done.ensures.versions c.delete_row-done.ensures.settled c.undo_refused.ensures.settled (λ (x : Contents). deleted x c.args.name.now c.args.number)
+    c.undo_refused.result c.delete_row-done.result c.undo_refused.ensures.same c.undo_refused.ensures.left
+
+pub returns-clause-sound : goal.returns-clause-sound
+returns-clause-sound g c =
+    let s = c.args.self.now in
+    done_sound g.D.Disk.is_honest (versions_of s.pool) (versions_of c.delete_row-done.new.pool) (numbers_of s.readers) (private_of s.changes) (settled_of s.changes) (private_of c.delete_row-done.new.changes) (settled_of c.delete_row-done.new.changes) (private_of c.undo_refused.new.changes) (settled_of c.undo_refused.new.changes)
+    s.commits s.ordered.counted c.delete_row-done.ensures.versions c.delete_row-done.ensures.settled c.undo_refused.ensures.settled (λ (x : Contents). deleted x c.args.name.now c.args.number)
+    c.delete_row-done.result c.undo_refused.ensures.made c.undo_refused.ensures.left c.delete_row-done.ensures.owned
+
+pub returns-clause-refused : goal.returns-clause-refused
+returns-clause-refused g c =
+    let s = c.args.self.now in
+    change_fails g.D.Disk.is_honest (versions_of s.pool) (versions_of c.delete_row-done.new.pool) (numbers_of s.readers) (private_of s.changes) (settled_of s.changes) (private_of c.delete_row-done.new.changes) (settled_of c.delete_row-done.new.changes) (settled_of c.undo_refused.new.changes)
+    s.commits s.ordered.counted c.delete_row-done.ensures.versions c.delete_row-done.ensures.settled c.undo_refused.ensures.settled (g.D.Disk.refused (device_of s.pool)) (g.D.Disk.refused (device_of c.delete_row-done.new.pool))
+    (undone_of c.undo_refused.new.changes) c.undo_refused.result c.delete_row-done.result c.undo_refused.ensures.same c.undo_refused.ensures.undone c.delete_row-done.ensures.refused
+
+pub invariant_of-self : goal.invariant_of-self
+invariant_of-self g c =
+    let s = c.args.self.now in
+    record {
+      ordered = orderly_same g.D.Disk.is_honest (versions_of s.pool) (versions_of c.delete_row-done.new.pool) s.readers s.commits c.delete_row-done.ensures.versions s.ordered;
+      steady = done_steady g.D.Disk.is_honest (versions_of s.pool) (versions_of c.delete_row-done.new.pool) (numbers_of s.readers) (private_of s.changes) (settled_of s.changes) (private_of c.delete_row-done.new.changes) (settled_of c.delete_row-done.new.changes) (private_of c.undo_refused.new.changes) (settled_of c.undo_refused.new.changes)
+          s.commits s.ordered.counted c.delete_row-done.ensures.versions c.delete_row-done.ensures.settled c.undo_refused.ensures.settled (λ (x : Contents). deleted x c.args.name.now c.args.number)
+          c.delete_row-done.result c.undo_refused.ensures.made c.undo_refused.ensures.left c.delete_row-done.ensures.deleted s.steady;
+    }

@@ -1,0 +1,10 @@
+use Rattle.std.proofs.Common.{◌≡◌, Result, OnErr, sym, subst}
+use Rattle.store.specs.declared.error.StoreError.{StoreError}
+use Rattle.overlay.specs.Changes.{fresh_of, private_of, settled_of}
+use Rattle.paged_store.proofs.PageLemmas.{none_fresh}
+use Rattle.paged_store.proofs.undoing.undo_refused.Goals as goal
+
+pub returns-in-Err-clause-left : goal.returns-in-Err-clause-left
+returns-in-Err-clause-left c =
+    subst (λ (done : Result (Unit {0}) StoreError). OnErr done (private_of c.undo.new.self ≡ settled_of c.args.changes.now)) (sym c.in-Err.is)
+    (none_fresh (fresh_of c.undo.new.self) (settled_of c.undo.new.self) (settled_of c.args.changes.now) c.undo.ensures.fresh c.undo.ensures.settled)

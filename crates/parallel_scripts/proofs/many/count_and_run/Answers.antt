@@ -1,0 +1,26 @@
+use Rattle.std.proofs.Common.{rules, arith}
+use Rattle.parallel_scripts.specs.Many.{ComesTo}
+use Rattle.parallel_scripts.proofs.Endings.{puts_by}
+use Rattle.parallel_scripts.proofs.Histories.{hands_any, hands_device, sessions_are_none}
+use Rattle.parallel_scripts.proofs.many.count_and_run.Goals as goal
+
+pub returns-then-scripts-gt-MOST_SESSIONS-clause-runs : goal.returns-then-scripts-gt-MOST_SESSIONS-clause-runs
+returns-then-scripts-gt-MOST_SESSIONS-clause-runs g c = λ db saved.
+    puts_by _ _ _ _ _
+    (λ text status told.
+    ComesTo.too_many (search rules) told
+    (hands_device g.S.Store.saved g.S.Store.settled g.S.Store.calls_refused g.S.Store.refused _ _ c.unopened.result.back c.args.device _ c.unopened.ensures.back saved sessions_are_none))
+    c.unopened.ensures.puts
+
+pub returns-clause-many : goal.returns-clause-many
+returns-clause-many g c = λ more. absurd (omega arith)
+
+pub returns-clause-back : goal.returns-clause-back
+returns-clause-back g c = λ more. absurd (omega arith)
+
+pub returns-clause-runs : goal.returns-clause-runs
+returns-clause-runs g c = λ db saved. puts_by _ _ _ _ _ (λ text status cuts. ComesTo.within (search rules) cuts) (c.cut_and_run.ensures.cuts db saved)
+
+pub returns-then-scripts-gt-MOST_SESSIONS-clause-any_device : goal.returns-then-scripts-gt-MOST_SESSIONS-clause-any_device
+returns-then-scripts-gt-MOST_SESSIONS-clause-any_device g c =
+    hands_any g.S.Store.saved g.S.Store.settled g.S.Store.calls_refused g.S.Store.refused _ _ c.unopened.result.back c.args.device c.unopened.ensures.back

@@ -1,5 +1,0 @@
-use Rattle.query_answers.proofs.Faults.{first_given}
-use Rattle.row_changes.proofs.assigned.source_value.Goals as goal
-
-pub returns : goal.returns
-returns c = first_given c.expression_value.result _ c.expression_value.ensures.gives

@@ -1,4 +1,0 @@
-use Rattle.row_changes.proofs.held.may_hold.Goals as goal
-
-pub returns : goal.returns
-returns c = rw c.in_ok-evaluate_checks.ensures.ok c.admit.ensures.passes

@@ -1,0 +1,44 @@
+//! The language of sessions.
+use ast::Statement;
+use change::make;
+use refusals::Refusal;
+use replies::Reply;
+use sessions::{Changes, Language};
+use sqlval::Schema;
+use statement_reader::{is_rollback, read_statement};
+use resolve::typed_statement;
+use std::alloc::Global;
+use store::Store;
+use typing::{Change, Typed};
+
+/// SQL, as far as it is built.
+#[derive(Clone, Copy)]
+pub struct Sql;
+
+/// Sessions of SQL over a store.
+pub type Core<S> = sessions::Core<S, Sql>;
+
+impl Language for Sql {
+    fn is_rollback(&self, text: &[u8]) -> bool {
+        is_rollback(text)
+    }
+
+    fn read(&self, alloc: Global, text: &[u8]) -> Result<Statement, Refusal> {
+        read_statement(alloc, text)
+    }
+
+    fn typed(
+        &self,
+        alloc: Global,
+        statement: &Statement,
+        schema: &Schema,
+    ) -> Result<Typed, Refusal> {
+        typed_statement(alloc, statement, schema)
+    }
+}
+
+impl<S: Store> Changes<S> for Sql {
+    fn make(&self, alloc: Global, store: &mut S, change: Change) -> Result<Reply, Refusal> {
+        make(alloc, store, change)
+    }
+}

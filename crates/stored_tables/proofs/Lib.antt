@@ -1,0 +1,11 @@
+pub mod HeldLemmas
+pub mod NameLemmas
+pub mod RiseLemmas
+pub mod SchemaLemmas
+pub mod ChangeLemmas
+pub mod RefusalLemmas
+pub mod ValueLemmas
+pub mod TreeLemmas
+pub mod PlaceLemmas
+pub mod DeclaredLemmas
+pub mod ContentsLemmas

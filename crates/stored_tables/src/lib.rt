@@ -1,0 +1,13 @@
+//! The tables of a database in a space of pages: a schema, and of each table its rows.
+#![tactic(auto)]
+
+mod changing;
+mod content_laws;
+mod laws;
+mod naming;
+mod reading;
+
+pub use changing::{append, create_table};
+pub use content_laws::contents_are_read;
+pub use laws::{no_tables_at_first, numbers_rise, tables_stay};
+pub use reading::{next, read_schema, scan};

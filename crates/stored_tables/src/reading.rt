@@ -1,0 +1,78 @@
+//! The tables that pages hold.
+ghost use Rattle.std.specs.Prelude.{◌≡◌, ◌≤◌, ℕ, List, IfOk, IfErr};
+ghost use Rattle.std.specs.FinMap.{get};
+ghost use Rattle.denote.specs.SchemaOf.{IsSchemaOf};
+ghost use Rattle.store.specs.Contents.{database_of};
+ghost use Rattle.store.specs.Indexes.{entries_of, entry_after};
+ghost use Rattle.store.specs.View.{AreEntries, IsEntry};
+ghost use Rattle.page_space.specs.Space.{ReadRefused};
+ghost use Rattle.stored_tables.specs.Held.{TableAt, HoldsTables, HoldsNoTables, contents_of};
+
+use crate::naming::{or_none, table_root};
+use items::Text;
+use page_space::{Fault, PageReader};
+use sqlval::Schema;
+use std::alloc::Global;
+use store::{Numbered, NumberedRow};
+
+/// The schema of the tables that lie at a root; root 0 is the schema without tables.
+///
+/// Refused for want of memory, where the device refuses a call, and as damaged only where no tables are held there.
+pub fn read_schema<R: PageReader>(space: &mut R, alloc: Global, root: u32) -> Result<Schema, Fault>
+    ensures found { (tables : List TableAt) → HoldsTables (R.pages space.old) root tables → IfOk result (λ schema. IsSchemaOf schema (database_of (contents_of tables))) }
+    ensures same { R.pages space.new ≡ R.pages space.old }
+    ensures whole { R.is_whole space.old → R.is_whole space.new }
+    ensures refusal { IfErr result (ReadRefused (HoldsNoTables (R.pages space.old) root) (R.refused space.old) (R.refused space.new)) }
+    ensures rising { R.refused space.old ≤ R.refused space.new }
+    ensures follows { R.follows space.old space.new }
+{
+    match catalog::read_schema(space, alloc, root) {
+        Ok(schema) => Ok(schema),
+        Err(fault) => Err(fault),
+    }
+}
+
+/// All rows of the table of a name, in the order of their numbers; none where no table has it.
+///
+/// Refused as `read_schema` is.
+pub fn scan<R: PageReader>(
+    space: &mut R,
+    alloc: Global,
+    root: u32,
+    name: &Text,
+) -> Result<Numbered, Fault>
+    ensures rows { (tables : List TableAt) → HoldsTables (R.pages space.old) root tables → IfOk result (λ found. AreEntries found (entries_of (get (contents_of tables) name.now))) }
+    ensures same { R.pages space.new ≡ R.pages space.old }
+    ensures whole { R.is_whole space.old → R.is_whole space.new }
+    ensures refusal { IfErr result (ReadRefused (HoldsNoTables (R.pages space.old) root) (R.refused space.old) (R.refused space.new)) }
+    ensures rising { R.refused space.old ≤ R.refused space.new }
+    ensures follows { R.follows space.old space.new }
+{
+    match table_root(space, alloc, root, name) {
+        Ok(found) => tablestore::scan(space, alloc, or_none(found)),
+        Err(fault) => Err(fault),
+    }
+}
+
+/// The first row above a number of the table of a name, or the first of all; none where no table has the name.
+///
+/// Refused as `read_schema` is.
+pub fn next<R: PageReader>(
+    space: &mut R,
+    alloc: Global,
+    root: u32,
+    name: &Text,
+    after: Option<u64>,
+) -> Result<Option<NumberedRow>, Fault>
+    ensures row { (tables : List TableAt) → HoldsTables (R.pages space.old) root tables → IfOk result (λ found. IsEntry found (entry_after after (entries_of (get (contents_of tables) name.now)))) }
+    ensures same { R.pages space.new ≡ R.pages space.old }
+    ensures whole { R.is_whole space.old → R.is_whole space.new }
+    ensures refusal { IfErr result (ReadRefused (HoldsNoTables (R.pages space.old) root) (R.refused space.old) (R.refused space.new)) }
+    ensures rising { R.refused space.old ≤ R.refused space.new }
+    ensures follows { R.follows space.old space.new }
+{
+    match table_root(space, alloc, root, name) {
+        Ok(found) => tablestore::next(space, alloc, or_none(found), after),
+        Err(fault) => Err(fault),
+    }
+}

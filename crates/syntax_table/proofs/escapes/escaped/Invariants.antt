@@ -1,6 +1,0 @@
-use Rattle.std.proofs.Common.{◌≡◌, take}
-use Rattle.syntax_table.specs.Escapes.{line_of}
-use Rattle.syntax_table.proofs.escapes.escaped.Given as goal
-
-abbrev pub invariant-loop-byte : goal.invariant-loop-byte
-invariant-loop-byte l = l.line.items ≡ line_of (take l.byte-index l.text)

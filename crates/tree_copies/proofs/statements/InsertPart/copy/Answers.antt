@@ -1,5 +1,0 @@
-use Rattle.std.proofs.Common.{refl}
-use Rattle.tree_copies.proofs.statements.InsertPart.copy.Goals as goal
-
-pub returns : goal.returns
-returns c = rw (c.in_ok-table.ensures.first _ c.copy.ensures.copied, c.in_ok-table.ensures.second _ c.copy-2.ensures, c.in_ok-table.ensures.third _ c.copy-3.ensures) refl

@@ -1,5 +1,0 @@
-pub mod AscendLemmas
-pub mod WalkLemmas
-pub mod ChangeLemmas
-pub mod OneLemmas
-pub mod KeptLemmas

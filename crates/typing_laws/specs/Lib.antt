@@ -1,0 +1,9 @@
+pub mod Reasons
+pub mod WellTyped
+pub mod Scopes
+pub mod Statements
+pub mod Listed
+pub mod Numbered
+pub mod Placed
+pub mod Types
+pub mod Stored

@@ -1,0 +1,4 @@
+use Rattle.uncorrelated_subqueries.proofs.subqueries.lasting_values.Goals as goal
+
+pub returns-in-Ok : goal.returns-in-Ok
+returns-in-Ok g c = λ x h. c.values_of_found.ensures _ (rw (c.get.ensures, rw c.in-Ok.is at h) at c.lasting_rows.ensures)

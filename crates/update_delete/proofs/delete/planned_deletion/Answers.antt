@@ -1,0 +1,44 @@
+use Rattle.std.proofs.Common.{◌≡◌, ◌∙◌, sym, subst, ap, arith}
+use Rattle.std.proofs.lemmas.Result.{IfOk-weaker, IfErr-weaker}
+use Rattle.std.specs.FinMap.{get}
+use Rattle.sqlval.specs.declared.schema.Schema.{Schema}
+use Rattle.denote.specs.SchemaOf.{IsSchemaOf}
+use Rattle.store.specs.Contents.{database_of}
+use Rattle.store.specs.Stored.{Stored}
+use Rattle.update_delete.specs.Candidates.{AreCandidates}
+use Rattle.update_delete.proofs.delete.planned_deletion.Goals as goal
+
+pub returns-clause-planned : goal.returns-clause-planned
+returns-clause-planned g c = IfOk-weaker c.all_deletions.result _ _
+    (λ planned h reading sound of.
+    let old = g.S.Store.shows c.args.store.now in
+    let schema : IsSchemaOf c.schema-2.result.now (database_of old.working) =
+    subst (λ (s : Schema). IsSchemaOf s (database_of old.working)) (sym (c.schema-2.ensures ∙ c.candidates.ensures.prepared ∙ c.lent_to_delete.ensures.prepared)) of in
+    let lent = g.S.Store.shows c.lent_to_delete.new.store in
+    let of_lent : IsSchemaOf (g.S.Store.prepared c.lent_to_delete.new.store) (database_of lent.working) =
+    subst (λ (s : Schema). IsSchemaOf s (database_of lent.working)) (sym c.lent_to_delete.ensures.prepared)
+    (subst (λ (s : Stored). IsSchemaOf (g.S.Store.prepared c.args.store.now) (database_of s.working)) (sym c.lent_to_delete.ensures.shows) of) in
+    let entries : AreCandidates (get old.working c.args.delete.now.table) c.in-Ok.filter c.in-Ok-candidates.found =
+    subst (λ (s : Stored). AreCandidates (get s.working c.args.delete.now.table) c.in-Ok.filter c.in-Ok-candidates.found) c.lent_to_delete.ensures.shows
+    (c.in-Ok-candidates.ensures.rows (c.lent_to_delete.ensures.sound sound) of_lent) in
+    h reading old.working schema c.in-Ok.ensures.tree (c.in-Ok-lent_to_delete.ensures.lent sound) entries)
+    c.all_deletions.ensures.planned
+
+pub returns-clause-refused : goal.returns-clause-refused
+returns-clause-refused g c = IfErr-weaker c.all_deletions.result _ _
+    (λ refusal h reading sound of.
+    let old = g.S.Store.shows c.args.store.now in
+    let schema : IsSchemaOf c.schema-2.result.now (database_of old.working) =
+    subst (λ (s : Schema). IsSchemaOf s (database_of old.working)) (sym (c.schema-2.ensures ∙ c.candidates.ensures.prepared ∙ c.lent_to_delete.ensures.prepared)) of in
+    let lent = g.S.Store.shows c.lent_to_delete.new.store in
+    let of_lent : IsSchemaOf (g.S.Store.prepared c.lent_to_delete.new.store) (database_of lent.working) =
+    subst (λ (s : Schema). IsSchemaOf s (database_of lent.working)) (sym c.lent_to_delete.ensures.prepared)
+    (subst (λ (s : Stored). IsSchemaOf (g.S.Store.prepared c.args.store.now) (database_of s.working)) (sym c.lent_to_delete.ensures.shows) of) in
+    let entries : AreCandidates (get old.working c.args.delete.now.table) c.in-Ok.filter c.in-Ok-candidates.found =
+    subst (λ (s : Stored). AreCandidates (get s.working c.args.delete.now.table) c.in-Ok.filter c.in-Ok-candidates.found) c.lent_to_delete.ensures.shows
+    (c.in-Ok-candidates.ensures.rows (c.lent_to_delete.ensures.sound sound) of_lent) in
+    h reading old.working schema c.in-Ok.ensures.tree (c.in-Ok-lent_to_delete.ensures.lent sound) entries)
+    c.all_deletions.ensures.refused
+
+pub returns-clause-device : goal.returns-clause-device
+returns-clause-device g c = IfErr-weaker c.all_deletions.result _ _ (λ refusal h e. absurd (h e)) c.all_deletions.ensures.device

@@ -1,0 +1,60 @@
+use Rattle.std.proofs.Common.{◌≡◌, ◌∙◌, refl, sym, subst, List, filter}
+use Rattle.sqlval.specs.Value.{Row}
+use Rattle.session_definitions.specs.Refusals.{IsReserved}
+use Rattle.constraints.specs.Changed.{RefusesChange}
+use Rattle.update_delete.specs.Kept.{Keeps, KeepAll}
+use Rattle.std.specs.FinMap.{get}
+use Rattle.denote.specs.Database.{checks_of, rows_in, table_of}
+use Rattle.store.specs.Contents.{database_of, rows_of}
+use Rattle.store.specs.Indexes.{entries_of}
+use Rattle.query_answers.specs.Lent.{rows_lent}
+use Rattle.constraints.proofs.Violations.{table_read}
+use Rattle.update_delete.proofs.Sparse.{rows-filtered}
+use Rattle.update_delete.proofs.Coming.{few-in}
+use Rattle.update_delete.proofs.Planning.{no_update, update_harmless, update_stopped, is_no_device}
+use Rattle.transactions.specs.Refused.{TellsNoLimit}
+use Rattle.constraints.proofs.Limits.{stop_tells}
+use Rattle.update_delete.proofs.update.all_updates.Goals as goal
+
+pub returns-in_default-clause-planned : goal.returns-in_default-clause-planned
+returns-in_default-clause-planned g c = λ reading k of decided checks made agree entries. no_update reading k c.args.schema.now c.args.update.now of c.in_default.ensures.none
+
+pub returns-in-Ok-are_harmless-clause-planned : goal.returns-in-Ok-are_harmless-clause-planned
+returns-in-Ok-are_harmless-clause-planned g c = λ reading k of decided checks made agree entries.
+    let u = c.args.update.now in
+    let d = c.in-Some.table.now in
+    let whole = rows_of (entries_of (get k u.table)) in
+    let table = table_of d whole in
+    let there = table_read k c.args.schema.now u.table d whole of c.in-Some.ensures.there c.in-Some.ensures.named refl in
+    let passing = entries.are.rows ∙ rows-filtered entries.test (entries_of (get k u.table)) in
+    let given = (c.in-Ok.ensures.gives (rows_in (database_of k)) (checks_of reading u.table table) u whole entries.test (c.as_slice.ensures ∙ passing)
+    (entries.others (rows_lent c.args.lent.now.tables)) agree made (checks table there)).ok in
+    update_harmless reading k u table there (record { numbers = c.args.found.numbers; changes = c.in-Ok.changes; harmless = c.in-Ok-are_harmless.harmless }) entries.test entries.are.numbers
+    given.0 given.1 given.2 (few-in c.in-Ok.changes c.as_slice.result.now (filter entries.test whole) c.in-Ok.ensures.as_many (c.as_slice.ensures ∙ passing))
+    (λ sure. subst (λ (rows : List Row). KeepAll (Keeps reading u.table table d.constraints) rows c.in-Ok.changes) passing
+    (c.in-Ok-are_harmless.ensures.sure reading u.table whole (decided table there) sure))
+
+pub returns-in-Err-are_harmless-clause-refused : goal.returns-in-Err-are_harmless-clause-refused
+returns-in-Err-are_harmless-clause-refused g c = λ reading k of checks made agree entries. RefusesChange.withheld (subst IsReserved (sym c.in-Err-are_harmless.ensures.refused) tt)
+
+pub returns-in-Err-are_harmless-clause-device : goal.returns-in-Err-are_harmless-clause-device
+returns-in-Err-are_harmless-clause-device g c = λ e. let memory = c.in-Err-are_harmless.ensures.refused in absurd (cc (e, memory))
+
+pub returns-in-Err-clause-refused : goal.returns-in-Err-clause-refused
+returns-in-Err-clause-refused g c = λ reading k of checks made agree entries.
+    let u = c.args.update.now in
+    let whole = rows_of (entries_of (get k u.table)) in
+    let table = table_of c.in-Some.table.now whole in
+    let there = table_read k c.args.schema.now u.table c.in-Some.table.now whole of c.in-Some.ensures.there c.in-Some.ensures.named refl in
+    let passing = c.as_slice.ensures ∙ entries.are.rows ∙ rows-filtered entries.test (entries_of (get k u.table)) in
+    let given = (c.in-Err.ensures.gives (rows_in (database_of k)) (checks_of reading u.table table) u whole entries.test passing (entries.others (rows_lent c.args.lent.now.tables)) agree made (checks table there)).err in
+    rw c.refusal_of_stop.ensures (update_stopped reading k u table there c.in-Err.stop given)
+
+pub returns-in-Err-clause-device : goal.returns-in-Err-clause-device
+returns-in-Err-clause-device g c = rw c.refusal_of_stop.ensures (is_no_device c.in-Err.stop)
+
+pub returns-in-Err-clause-limits : goal.returns-in-Err-clause-limits
+returns-in-Err-clause-limits g c = stop_tells c.in-Err.stop _ c.refusal_of_stop.ensures
+
+pub returns-in-Err-are_harmless-clause-limits : goal.returns-in-Err-are_harmless-clause-limits
+returns-in-Err-are_harmless-clause-limits g c = subst TellsNoLimit (sym c.in-Err-are_harmless.ensures.refused) tt
