@@ -241,7 +241,7 @@ def write_list(home):
         new = NAMES.get(crate, crate)
         own, all_deps = lines.setdefault(new, ([], []))
         own += [it for it in words if it not in own]
-        all_deps += [it for it in (NAMES.get(dep, dep) for dep in deps) if it not in all_deps and it != new]
+        all_deps += dict.fromkeys(NAMES.get(dep, dep) for dep in deps)
     places = {it: at for at, it in enumerate(it for _, names in ORDER for it in names.split())}
     text, left = HEADINGS, dict(lines)
     for heading, names in ORDER:
@@ -250,7 +250,7 @@ def write_list(home):
             text += "\n# %s\n" % heading
         for name in some:
             words, deps = left.pop(name)
-            deps = sorted(deps, key=lambda it: (it not in places, places.get(it, 0), it))
+            deps = sorted(set(deps) - {name}, key=lambda it: (it not in places, places.get(it, 0), it))
             text += " ".join([name, *words]) + ":" + "".join(" " + it for it in deps) + "\n"
     if left:
         raise SystemExit("no heading has %s" % ", ".join(left))

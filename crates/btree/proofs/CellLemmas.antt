@@ -6,7 +6,7 @@ use Rattle.std.proofs.lemmas.List.{get_or-take, get_or-drop, length-take, length
 use Rattle.page_space.specs.Space.{PageMap}
 use Rattle.sqlrecord.specs.Build.{lent, Fits}
 use Rattle.sqlrecord.specs.Cell.{IsLeafCell, IsInnerCell}
-use Rattle.page_space.specs.declared.fault.Fault.{Fault}
+use Rattle.page_space.specs.declared.error.SpaceError.{SpaceError}
 use Rattle.sqlrecord.specs.Page.{child_of}
 use Rattle.btree_read.specs.Nodes.{LeafNode, InnerNode, HasNode, IsStocked, IsSmall, IsSmallBranch}
 use Rattle.btree_read.proofs.ListLemmas.{each_append, each_left, each_right}
@@ -281,13 +281,13 @@ entry_is cell key value w = λ i. record { key = w.key_is i; value = w.value_is 
 pub branch_is : (cell key : List ℕ) (child : ℕ) → IsInnerCell cell key child → branch_of cell ≡ record { key = key; child = child }
 branch_is cell key child w = λ i. record { key = w.key_is i; child = w.child_is i }
 
-pub put_in_written : (old new : PageMap) (page next other : ℕ) (es now : List Entry) (result : Result (Option Branch) Fault) → other ≡ next → es ≡ now → IsStocked (LeafNode next es)
+pub put_in_written : (old new : PageMap) (page next other : ℕ) (es now : List Entry) (result : Result (Option Branch) SpaceError) → other ≡ next → es ≡ now → IsStocked (LeafNode next es)
     → (IsStocked (LeafNode other now) → IfOk result (LeafWritten old new page other now)) → IfOk result (LeafWritten old new page next es)
 put_in_written old new page next other es now result o e s f =
     subst (λ x. IfOk result (LeafWritten old new page next x)) (sym e)
     (subst (λ n. IsStocked (LeafNode n now) → IfOk result (LeafWritten old new page n now)) o f (subst (λ x. IsStocked (LeafNode next x)) e s))
 
-pub put_in_inner_written : (old new : PageMap) (page first other : ℕ) (bs now : List Branch) (result : Result (Option Branch) Fault) → other ≡ first → bs ≡ now → IsStocked (InnerNode first bs)
+pub put_in_inner_written : (old new : PageMap) (page first other : ℕ) (bs now : List Branch) (result : Result (Option Branch) SpaceError) → other ≡ first → bs ≡ now → IsStocked (InnerNode first bs)
     → (IsStocked (InnerNode other now) → IfOk result (InnerWritten old new page other now)) → IfOk result (InnerWritten old new page first bs)
 put_in_inner_written old new page first other bs now result o e s f =
     subst (λ x. IfOk result (InnerWritten old new page first x)) (sym e)

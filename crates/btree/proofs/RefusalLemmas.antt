@@ -19,33 +19,33 @@ use Rattle.btree_read.specs.Lists.{Apart}
 use Rattle.btree.specs.Overfull.{size_of, IsOverfull, RisesBehind, HasNoTreeFor, IsNoTreeIn}
 use Rattle.btree.proofs.CellLemmas.{stocked_put, stocked_branch, branches_with, entry_is}
 use Rattle.btree.proofs.WithLemmas.{small_leaf_cell, small_inner_cell, small_leaf_cells, small_inner_cells, size_with, formed_with, rises_are}
-use Rattle.page_space.specs.declared.fault.Fault.{Fault}
-use Rattle.page_space.specs.declared.fault.Fault.TheVariants.{Memory, Disk, Damaged, Pages, Private}
+use Rattle.page_space.specs.declared.error.SpaceError.{SpaceError}
+use Rattle.page_space.specs.declared.error.SpaceError.TheVariants.{Memory, Disk, Damaged, Pages, Private}
 use Rattle.page_space.specs.Space.{ReadRefused, ChangeRefused}
 
-pub change_refused : (AtLimit : Fault → Type 0) (H G : Type 0) (a b c : ℕ) (f : Fault) → a ≤ b → (H → G) → ChangeRefused AtLimit H b c f → ChangeRefused AtLimit G a c f
+pub change_refused : (AtLimit : SpaceError → Type 0) (H G : Type 0) (a b c : ℕ) (f : SpaceError) → a ≤ b → (H → G) → ChangeRefused AtLimit H b c f → ChangeRefused AtLimit G a c f
 change_refused L H G a b c Memory h g w = tt
 change_refused L H G a b c Disk h g w = record { no_less = omega (arith, w.no_less); more = omega (arith, w.more) }
 change_refused L H G a b c Damaged h g w = g w
 change_refused L H G a b c Pages h g w = w
 change_refused L H G a b c Private h g w = w
 
-pub change_refused_on : {A : Type 0} (result : Result A Fault) (AtLimit : Fault → Type 0) (H G : Type 0) (a b c : ℕ) → a ≤ b → (H → G)
+pub change_refused_on : {A : Type 0} (result : Result A SpaceError) (AtLimit : SpaceError → Type 0) (H G : Type 0) (a b c : ℕ) → a ≤ b → (H → G)
     → IfErr result (ChangeRefused AtLimit H b c) → IfErr result (ChangeRefused AtLimit G a c)
 change_refused_on (Ok x) L H G a b c h g w = tt
 change_refused_on (Err f) L H G a b c h g w = change_refused L H G a b c f h g w
 
-pub change_harm_on : {A : Type 0} (result : Result A Fault) (AtLimit : Fault → Type 0) (H G : Type 0) (a c : ℕ) → (H → G)
+pub change_harm_on : {A : Type 0} (result : Result A SpaceError) (AtLimit : SpaceError → Type 0) (H G : Type 0) (a c : ℕ) → (H → G)
     → IfErr result (ChangeRefused AtLimit H a c) → IfErr result (ChangeRefused AtLimit G a c)
 change_harm_on result L H G a c g w = change_refused_on result L H G a a c (omega arith) g w
 
 pub both_rise : (a b c : ℕ) → a ≤ b → b ≤ c → a ≤ c
 both_rise a b c h g = omega arith
 
-pub change_harm : (AtLimit : Fault → Type 0) (H G : Type 0) (a c : ℕ) (f : Fault) → (H → G) → ChangeRefused AtLimit H a c f → ChangeRefused AtLimit G a c f
+pub change_harm : (AtLimit : SpaceError → Type 0) (H G : Type 0) (a c : ℕ) (f : SpaceError) → (H → G) → ChangeRefused AtLimit H a c f → ChangeRefused AtLimit G a c f
 change_harm L H G a c f g w = change_refused L H G a a c f (omega arith) g w
 
-pub read_as_change : (AtLimit : Fault → Type 0) (H G : Type 0) (a c : ℕ) (f : Fault) → (H → G) → ReadRefused H a c f → ChangeRefused AtLimit G a c f
+pub read_as_change : (AtLimit : SpaceError → Type 0) (H G : Type 0) (a c : ℕ) (f : SpaceError) → (H → G) → ReadRefused H a c f → ChangeRefused AtLimit G a c f
 read_as_change L H G a c Memory g w = tt
 read_as_change L H G a c Disk g w = w
 read_as_change L H G a c Damaged g w = g w

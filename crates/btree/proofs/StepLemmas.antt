@@ -1,7 +1,7 @@
 -- One call of insertion, over plain variables.
 use Rattle.std.proofs.Common.{◌≡◌, ℕ, zero, suc, ◌+◌, ◌≤◌, List, [], ◌∷◌, ◌++◌, map, refl, sym, ap, ◌∙◌, subst, Option, Some, None, IsSome, Bool, true, false, if◌then◌else◌, Result, Ok, IfOk, take, drop, arith}
 use Rattle.std.specs.List.{flat_map, AllByRecursion}
-use Rattle.page_space.specs.declared.fault.Fault.{Fault}
+use Rattle.page_space.specs.declared.error.SpaceError.{SpaceError}
 use Rattle.page_space.specs.Space.{PageMap}
 use Rattle.sqlrecord.specs.declared.kind.PageKind.TheVariants.{Leaf, Inner}
 use Rattle.sqlrecord.specs.Cell.{IsLeafCell}
@@ -51,7 +51,7 @@ inner_is_no_leaf pages page view t lo hi s k u =
     let e : InnerNode view.link (map branch_of view.cells) ≡ LeafNode t.next t.entries = sym (inner_shown pages page view k) ∙ sees_leaf pages page view t lo hi s u in cc
 
 module _ (old mid : PageMap) (page : ℕ) (view : PageView) (k : Key) (v : List ℕ) (same : mid ≡ old) (sees : Sees old page view) where
-  pub grown_at_leaf : (new : PageMap) (result : Result (Option Branch) Fault) → view.kind ≡ Leaf
+  pub grown_at_leaf : (new : PageMap) (result : Result (Option Branch) SpaceError) → view.kind ≡ Leaf
       → (IsSome (mid page) → IsStocked (LeafNode view.link (map entry_of view.cells)) → IfOk result (LeafWritten mid new page view.link (put k v (map entry_of view.cells))))
       → GrowsBelow old new page k v result
   grown_at_leaf new result kind h zero t lo hi u =
@@ -132,7 +132,7 @@ module _ (old mid : PageMap) (page : ℕ) (view : PageView) (k : Key) (v : List 
     written new d t lo hi u branches sp None x = whole old low page d t lo hi at (Holding k) (put k v (entries_of (suc d) t)) new branches u sp x.0 x.1
     written new d t lo hi u branches sp (Some c) x = cut old low page d t lo hi at (Holding k) (put k v (entries_of (suc d) t)) new branches c u sp x
 
-    pub grown_up : (new : PageMap) (b x : Branch) (result : Result (Option Branch) Fault) → GrowsBelow mid low child k v (Ok (Some b)) → x ≡ b
+    pub grown_up : (new : PageMap) (b x : Branch) (result : Result (Option Branch) SpaceError) → GrowsBelow mid low child k v (Ok (Some b)) → x ≡ b
         → (IsSome (low page) → IsStocked (InnerNode view.link (map branch_of view.cells))
         → IfOk result (InnerWritten low new page view.link (take at (map branch_of view.cells) ++ x ∷ drop at (map branch_of view.cells))))
         → GrowsBelow old new page k v result

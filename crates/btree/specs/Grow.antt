@@ -2,7 +2,7 @@
 use Rattle.std.specs.Prelude.{◌≡◌, ℕ, ◌⊎◌, List, ◌∷◌, ◌++◌, map, Option, Some, None, IsSome, Result, IfOk}
 use Rattle.std.specs.List.{flat_map}
 use Rattle.std.specs.Option.{option_to_list}
-use Rattle.page_space.specs.declared.fault.Fault.{Fault}
+use Rattle.page_space.specs.declared.error.SpaceError.{SpaceError}
 use Rattle.page_space.specs.Space.{PageMap}
 use Rattle.btree_read.specs.declared.entry.Entry.{Entry}
 use Rattle.btree_read.specs.declared.entry.Branch.{Branch}
@@ -82,7 +82,7 @@ pub record IsGrown (old new : PageMap) (d : ℕ) (t : Tree d) (Fits : Key → Op
   pub entries : flat_map (entries_of d) (kids tree more) ≡ now
 
 -- whatever tree is under the page, the key is now put into it
-abbrev pub GrowsBelow : PageMap → PageMap → ℕ → Key → List ℕ → Result (Option Branch) Fault → Type 0
+abbrev pub GrowsBelow : PageMap → PageMap → ℕ → Key → List ℕ → Result (Option Branch) SpaceError → Type 0
 GrowsBelow old new page k v result =
     (d : ℕ) (t : Tree d) (lo : Key) (hi : Option Key) → IsUnder old page d t lo hi
     → IfOk result (IsGrown old new d t (λ a b. IsWithin a b k) (put k v (entries_of d t)))

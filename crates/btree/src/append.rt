@@ -9,7 +9,7 @@ ghost use Rattle.btree.specs.Written.{InsertsAll, Appends, KeepsPages};
 
 use crate::insertion::insert;
 use btree_read::Entry;
-use page_space::{Fault, PageSpace};
+use page_space::{SpaceError, PageSpace};
 use std::alloc::Global;
 
 /// Puts entries into a tree, one after another, each in place of one with its key, and answers the
@@ -20,7 +20,7 @@ pub fn insert_all<S: PageSpace>(
     alloc: Global,
     root: u32,
     entries: &[Entry],
-) -> Result<u32, Fault>
+) -> Result<u32, SpaceError>
     requires { AllByRecursion IsSmall entries.now }
     ensures inserts { InsertsAll (S.pages space.old) (S.pages space.new) root entries.now result }
     ensures appends { Appends (S.pages space.old) (S.pages space.new) root entries.now result }

@@ -13,7 +13,7 @@ use crate::cells::{cell_child, cell_key, cells_with, cut_of};
 use crate::page::write_page;
 use btree_read::Branch;
 use items::Items;
-use page_space::{Fault, PageSpace};
+use page_space::{SpaceError, PageSpace};
 use sqlrecord::{MAXIMUM_KEY, PageKind, SlotPage, are_cells, fits};
 use std::alloc::Global;
 
@@ -28,7 +28,7 @@ pub fn write_inner<S: PageSpace>(
     first: u32,
     cells: &[&[u8]],
     is_last: bool,
-) -> Result<Option<Branch>, Fault>
+) -> Result<Option<Branch>, SpaceError>
     requires { AreCells Inner (lent cells.now) }
     ensures written { IsSome (S.pages space.old page) → IsStocked (InnerNode first (map branch_of (lent cells.now)))
         → IfOk result (InnerWritten (S.pages space.old) (S.pages space.new) page first (map branch_of (lent cells.now))) }
@@ -44,13 +44,13 @@ pub fn write_inner<S: PageSpace>(
         return Ok(None);
     }
     let Some(at) = cut_of(cells, is_last, 2) else {
-        return Err(Fault::Damaged);
+        return Err(SpaceError::Damaged);
     };
     let (left, right) = cells.split_at(at);
     let middle = right[0];
     let divider = cell_key(middle);
     if divider.len() > MAXIMUM_KEY {
-        return Err(Fault::Damaged);
+        return Err(SpaceError::Damaged);
     }
     let key = Items::from_slice(alloc, divider)?;
     let below = cell_child(middle);
@@ -68,7 +68,7 @@ pub(crate) fn put_in_inner<'a, S: PageSpace>(
     node: &SlotPage<'a>,
     at: usize,
     cell: &'a [u8],
-) -> Result<Option<Branch>, Fault>
+) -> Result<Option<Branch>, SpaceError>
     requires place { at ≤ length node.now.cells }
     requires inner { node.now.kind ≡ Inner }
     requires fits { Fits node.now.cells }
@@ -85,7 +85,7 @@ pub(crate) fn put_in_inner<'a, S: PageSpace>(
 {
     let cells = cells_with(alloc, node, at, at, cell)?;
     if !are_cells(PageKind::Inner, cells.as_slice()) {
-        return Err(Fault::Damaged);
+        return Err(SpaceError::Damaged);
     }
     let is_last = at == node.len();
     write_inner(space, alloc, page, node.link(), cells.as_slice(), is_last)

@@ -11,7 +11,7 @@ use crate::inner::put_in_inner;
 use crate::leaf::put_in_leaf;
 use crate::page::write_page;
 use btree_read::{Branch, MAXIMUM_LEVELS, Start, child_at, first_place, read_node};
-use page_space::{Fault, PAGE_SIZE, PageSpace};
+use page_space::{SpaceError, PAGE_SIZE, PageSpace};
 use sqlrecord::{PageKind, inner_cell, leaf_cell};
 use std::alloc::Global;
 
@@ -23,7 +23,7 @@ fn insert_below<S: PageSpace>(
     levels: u32,
     key: &[u8],
     value: &[u8],
-) -> Result<Option<Branch>, Fault>
+) -> Result<Option<Branch>, SpaceError>
     requires { IsSmall (record { key = key.now; value = value.now }) }
     ensures grows { GrowsBelow (S.pages space.old) (S.pages space.new) page key.now value.now result }
     ensures small { IfOk result (λ split. IfSome split IsSmallBranch) }
@@ -41,7 +41,7 @@ fn insert_below<S: PageSpace>(
         }
         PageKind::Inner => {
             if levels == 0 {
-                return Err(Fault::Damaged);
+                return Err(SpaceError::Damaged);
             }
             let at = first_place(&node, Start::Behind, key);
             let child = child_at(&node, at);
@@ -66,7 +66,7 @@ pub fn insert<S: PageSpace>(
     root: u32,
     key: &[u8],
     value: &[u8],
-) -> Result<u32, Fault>
+) -> Result<u32, SpaceError>
     requires { IsSmall (record { key = key.now; value = value.now }) }
     ensures inserts { Inserts (S.pages space.old) (S.pages space.new) root key.now value.now result }
     ensures keeps { KeepsPages (S.pages space.old) (S.pages space.new) root result }

@@ -15,7 +15,7 @@ use crate::cells::{cell_key, cells_with, cut_of, place_of};
 use crate::page::write_page;
 use btree_read::Branch;
 use items::Items;
-use page_space::{Fault, PageSpace};
+use page_space::{SpaceError, PageSpace};
 use sqlrecord::{MAXIMUM_KEY, PageKind, SlotPage, fits};
 use std::alloc::Global;
 
@@ -27,7 +27,7 @@ fn write_leaf<S: PageSpace>(
     next: u32,
     cells: &[&[u8]],
     is_last: bool,
-) -> Result<Option<Branch>, Fault>
+) -> Result<Option<Branch>, SpaceError>
     requires { AreCells Leaf (lent cells.now) }
     ensures written { IsSome (S.pages space.old page) → IsStocked (LeafNode next (map entry_of (lent cells.now)))
         → IfOk result (LeafWritten (S.pages space.old) (S.pages space.new) page next (map entry_of (lent cells.now))) }
@@ -43,12 +43,12 @@ fn write_leaf<S: PageSpace>(
         return Ok(None);
     }
     let Some(at) = cut_of(cells, is_last, 1) else {
-        return Err(Fault::Damaged);
+        return Err(SpaceError::Damaged);
     };
     let (left, right) = cells.split_at(at);
     let first = cell_key(right[0]);
     if first.len() > MAXIMUM_KEY {
-        return Err(Fault::Damaged);
+        return Err(SpaceError::Damaged);
     }
     let key = Items::from_slice(alloc, first)?;
     let child = space.allocate()?;
@@ -65,7 +65,7 @@ pub(crate) fn put_in_leaf<'a, S: PageSpace>(
     leaf: &SlotPage<'a>,
     key: &[u8],
     cell: &'a [u8],
-) -> Result<Option<Branch>, Fault>
+) -> Result<Option<Branch>, SpaceError>
     requires leaf { leaf.now.kind ≡ Leaf }
     requires fits { Fits leaf.now.cells }
     requires cell { IsCell Leaf cell.now }

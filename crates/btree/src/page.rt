@@ -7,7 +7,7 @@ ghost use Rattle.sqlrecord.specs.Page.{AreCells};
 ghost use Rattle.btree_read.specs.Nodes.{node_of, IsStocked, HasNode};
 ghost use Rattle.std.specs.Prelude.{None};
 
-use page_space::{Fault, PAGE_SIZE, PageSpace};
+use page_space::{SpaceError, PAGE_SIZE, PageSpace};
 use sqlrecord::{PageKind, build_page};
 
 /// Writes a page of these cells. Refused as `PageSpace::write` is.
@@ -17,7 +17,7 @@ pub fn write_page<S: PageSpace>(
     kind: PageKind,
     link: u32,
     cells: &[&[u8]],
-) -> Result<(), Fault>
+) -> Result<(), SpaceError>
     requires fits { Fits (lent cells.now) }
     requires cells { AreCells kind (lent cells.now) }
     ensures node { OnOk result (IsSome (S.pages space.old page) → IsStocked (node_of kind link (lent cells.now)) → HasNode (S.pages space.new) page (node_of kind link (lent cells.now))) }

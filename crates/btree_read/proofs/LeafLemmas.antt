@@ -3,8 +3,8 @@ use Rattle.std.proofs.Common.{◌≡◌, ℕ, zero, suc, ◌+◌, ◌<◌, ◌�
 use Rattle.std.specs.Prelude.{⊤}
 use Rattle.std.specs.List.{flat_map}
 use Rattle.std.proofs.lemmas.List.{append-nil as append_nil}
-use Rattle.page_space.specs.declared.fault.Fault.{Fault}
-use Rattle.page_space.specs.declared.fault.Fault.TheVariants.{Memory, Disk, Damaged, Pages, Private}
+use Rattle.page_space.specs.declared.error.SpaceError.{SpaceError}
+use Rattle.page_space.specs.declared.error.SpaceError.TheVariants.{Memory, Disk, Damaged, Pages, Private}
 use Rattle.page_space.specs.Space.{PageMap, ReadRefused}
 use Rattle.sqlrecord.specs.declared.kind.PageKind.TheVariants.{Leaf, Inner}
 use Rattle.sqlrecord.specs.Page.{PageView}
@@ -138,7 +138,7 @@ in_use pages page (suc d) t lo hi u = subst (λ n. IsSome (pages n)) u.at (node_
 
 -- ---- a leaf
 
-pub seen_leaf : (pages : PageMap) (page : ℕ) (view : PageView) (was now : Walk) (result : Result ⊤ Fault) → Sees pages page view → view.kind ≡ Leaf
+pub seen_leaf : (pages : PageMap) (page : ℕ) (view : PageView) (was now : Walk) (result : Result ⊤ SpaceError) → Sees pages page view → view.kind ≡ Leaf
     → OnOk result (now.entries ≡ was.entries ++ map entry_of view.cells) → OnOk result (Names was.named page) → OnOk result (now.named ≡ Some view.link)
     → SeesBelow pages page was now result
 seen_leaf pages page view was now (Err f) s k a b c d t lo hi u = tt
@@ -151,14 +151,14 @@ pub leaf_not_named : (pages : PageMap) (page levels : ℕ) (view : PageView) (wa
 leaf_not_named pages page levels view was s k f zero t lo hi to l u h = f (subst (λ n. Names was.named n) u.at h.0)
 leaf_not_named pages page levels view was s k f (suc d) t lo hi to l u h = no_inner pages page view d t lo hi s k u
 
-leaf_refused : (H G : Type 0) (b c : ℕ) (f : Fault) → b ≤ c → (H → G) → ReadRefused H 0 0 f → ReadRefused G b c f
+leaf_refused : (H G : Type 0) (b c : ℕ) (f : SpaceError) → b ≤ c → (H → G) → ReadRefused H 0 0 f → ReadRefused G b c f
 leaf_refused H G b c Memory l g w = tt
 leaf_refused H G b c Disk l g w = absurd (omega (arith, w.more))
 leaf_refused H G b c Damaged l g w = g w
 leaf_refused H G b c Pages l g w = w
 leaf_refused H G b c Private l g w = w
 
-pub leaf_refused_on : {A : Type 0} (result : Result A Fault) (H G : Type 0) (b c : ℕ) → b ≤ c → (H → G) → IfErr result (ReadRefused H 0 0) → IfErr result (ReadRefused G b c)
+pub leaf_refused_on : {A : Type 0} (result : Result A SpaceError) (H G : Type 0) (b c : ℕ) → b ≤ c → (H → G) → IfErr result (ReadRefused H 0 0) → IfErr result (ReadRefused G b c)
 leaf_refused_on (Ok x) H G b c l g w = tt
 leaf_refused_on (Err f) H G b c l g w = leaf_refused H G b c f l g w
 

@@ -1,8 +1,8 @@
 -- What lies at a page and what its reader sees.
 use Rattle.std.proofs.Common.{◌≡◌, ◌≢◌, ℕ, ◌+◌, ◌≤◌, List, [], ◌∷◌, map, length, refl, sym, ap, ◌∙◌, subst, Option, Some, None, IsSome, Result, Ok, Err, IfErr, IfOk, rules, arith}
 use Rattle.page_space.specs.Space.{PageMap, ReadRefused}
-use Rattle.page_space.specs.declared.fault.Fault.{Fault}
-use Rattle.page_space.specs.declared.fault.Fault.TheVariants.{Memory, Disk, Damaged, Pages, Private}
+use Rattle.page_space.specs.declared.error.SpaceError.{SpaceError}
+use Rattle.page_space.specs.declared.error.SpaceError.TheVariants.{Memory, Disk, Damaged, Pages, Private}
 use Rattle.sqlrecord.specs.declared.kind.PageKind.{PageKind}
 use Rattle.sqlrecord.specs.declared.kind.PageKind.TheVariants.{Leaf, Inner}
 use Rattle.sqlrecord.specs.Page.{link_of, cells_of, kind_byte, IsSound, PageView}
@@ -58,17 +58,17 @@ node_kept old new n node e h = record { bytes = h.bytes; kind = h.kind; there = 
 
 -- ---- refusals
 
-pub read_refused : (H G : Type 0) (a b c : ℕ) (f : Fault) → a ≤ b → (H → G) → ReadRefused H b c f → ReadRefused G a c f
+pub read_refused : (H G : Type 0) (a b c : ℕ) (f : SpaceError) → a ≤ b → (H → G) → ReadRefused H b c f → ReadRefused G a c f
 read_refused H G a b c Memory h g w = tt
 read_refused H G a b c Disk h g w = record { no_less = omega (arith, w.no_less); more = omega (arith, w.more) }
 read_refused H G a b c Damaged h g w = g w
 read_refused H G a b c Pages h g w = w
 read_refused H G a b c Private h g w = w
 
-pub read_refused_on : {A : Type 0} (result : Result A Fault) (H G : Type 0) (a b c : ℕ) → a ≤ b → (H → G)
+pub read_refused_on : {A : Type 0} (result : Result A SpaceError) (H G : Type 0) (a b c : ℕ) → a ≤ b → (H → G)
     → IfErr result (ReadRefused H b c) → IfErr result (ReadRefused G a c)
 read_refused_on (Ok x) H G a b c h g w = tt
 read_refused_on (Err f) H G a b c h g w = read_refused H G a b c f h g w
 
-pub harm_weaker : (H G : Type 0) (a c : ℕ) (f : Fault) → (H → G) → ReadRefused H a c f → ReadRefused G a c f
+pub harm_weaker : (H G : Type 0) (a c : ℕ) (f : SpaceError) → (H → G) → ReadRefused H a c f → ReadRefused G a c f
 harm_weaker H G a c f g w = read_refused H G a a c f (omega arith) g w

@@ -3,7 +3,7 @@ use Rattle.std.proofs.Common.{◌≡◌, ℕ, zero, suc, ◌+◌, ◌<◌, ◌�
 use borrow.Author.Tests.{ltb-true, ltb-false}
 use Rattle.std.specs.List.{flat_map, AllByRecursion}
 use Rattle.std.proofs.lemmas.List.{append-nil as append_nil, length-map}
-use Rattle.page_space.specs.declared.fault.Fault.{Fault}
+use Rattle.page_space.specs.declared.error.SpaceError.{SpaceError}
 use Rattle.page_space.specs.Space.{PageMap}
 use Rattle.sqlrecord.specs.declared.kind.PageKind.{PageKind}
 use Rattle.sqlrecord.specs.declared.kind.PageKind.TheVariants.{Leaf, Inner}
@@ -78,7 +78,7 @@ child_found pages page view child d t lo hi at s k c u =
 
 -- ---- answers
 
-pub answers_leaf : {A : Type 0} (pages : PageMap) (page : ℕ) (view : PageView) (f : List Entry → A) (result : Result A Fault)
+pub answers_leaf : {A : Type 0} (pages : PageMap) (page : ℕ) (view : PageView) (f : List Entry → A) (result : Result A SpaceError)
     → Sees pages page view → view.kind ≡ Leaf → IfOk result (λ a. a ≡ f (map entry_of view.cells)) → Answers pages page f result
 answers_leaf pages page view f result s k h zero t lo hi u =
     let e : LeafNode view.link (map entry_of view.cells) ≡ LeafNode t.next t.entries = sym (leaf_shown pages page view k) ∙ sees_leaf pages page view t lo hi s u in
@@ -118,7 +118,7 @@ get_on_way d lo hi k first rest h =
     let b = beside d lo hi k first rest h in
     ap (get_of k) b.all ∙ get_right k b.before _ b.low ∙ get_left k _ b.after b.high
 
-pub got_below : (pages mid : PageMap) (page : ℕ) (view : PageView) (child at : ℕ) (k : Key) (result : Result (Option (List ℕ)) Fault)
+pub got_below : (pages mid : PageMap) (page : ℕ) (view : PageView) (child at : ℕ) (k : Key) (result : Result (Option (List ℕ)) SpaceError)
     → mid ≡ pages → Sees pages page view → view.kind ≡ Inner → route_of k (map branch_of view.cells) ≡ at → child ≡ child_at view.link (map branch_of view.cells) at
     → Answers mid child (get_of k) result → Answers pages page (get_of k) result
 got_below pages mid page view child at k result e s kind r c g zero t lo hi u = absurd (no_leaf pages page view t lo hi s kind u)
@@ -251,7 +251,7 @@ found_here pages mid page view child at start k found e s kind r c some g (suc d
     (subst (λ m. Answers {A = Option Entry} m child (first_from start k) (Ok found)) e g d (kid_at t.first t.rest at) _ _ (child_found pages page view child d t lo hi at s kind c u))
     (subst (λ n. (found ≡ None → ⊥) ⊎ (n ≤ at)) m some)
 
-pub found_behind : (pages mid low : PageMap) (page : ℕ) (view : PageView) (child sibling at : ℕ) (start : Start) (k : Key) (result : Result (Option Entry) Fault)
+pub found_behind : (pages mid low : PageMap) (page : ℕ) (view : PageView) (child sibling at : ℕ) (start : Start) (k : Key) (result : Result (Option Entry) SpaceError)
     → mid ≡ pages → low ≡ pages → Sees pages page view → view.kind ≡ Inner → route_of k (map branch_of view.cells) ≡ at → child ≡ child_at view.link (map branch_of view.cells) at
     → at < length view.cells → sibling ≡ child_at view.link (map branch_of view.cells) (at + 1)
     → Answers {A = Option Entry} mid child (first_from start k) (Ok None) → Answers low sibling (first_from start k) result → Answers pages page (first_from start k) result
@@ -293,7 +293,7 @@ under_root pages root owned entries w = record {
   order = w.order;
 }
 
-pub answers_root : {A : Type 0} (pages : PageMap) (root : ℕ) (f : List Entry → A) (result : Result A Fault) → (root ≡ 0 → ⊥)
+pub answers_root : {A : Type 0} (pages : PageMap) (root : ℕ) (f : List Entry → A) (result : Result A SpaceError) → (root ≡ 0 → ⊥)
     → Answers pages root f result → AnswersAt pages root f result
 answers_root pages zero f result nz g owned entries w = absurd (nz refl)
 answers_root pages (suc r) f result nz g owned entries w =

@@ -1,6 +1,6 @@
 -- What a walk over the leaves of a tree sees. Our own choice.
 use Rattle.std.specs.Prelude.{◌≡◌, ℕ, ◌≤◌, List, [], ◌∷◌, ◌++◌, Option, Some, None, Result, OnOk, IfOk, ⊤}
-use Rattle.page_space.specs.declared.fault.Fault.{Fault}
+use Rattle.page_space.specs.declared.error.SpaceError.{SpaceError}
 use Rattle.page_space.specs.Space.{PageMap}
 use Rattle.btree_read.specs.declared.entry.Entry.{Entry}
 use Rattle.btree_read.specs.Lists.{Leads}
@@ -20,7 +20,7 @@ LeadsOn [] from to = from ≡ to
 LeadsOn (leaf ∷ leaves) from to = Names from leaf.0 × LeadsOn leaves (Some leaf.1) to
 
 -- whatever tree is under the page, its entries are behind those that were there, and each of its leaves was named by the one before it
-abbrev pub SeesBelow : PageMap → ℕ → Walk → Walk → Result ⊤ Fault → Type 0
+abbrev pub SeesBelow : PageMap → ℕ → Walk → Walk → Result ⊤ SpaceError → Type 0
 SeesBelow pages page was now result =
     (d : ℕ) (t : Tree d) (lo : Key) (hi : Option Key) → IsUnder pages page d t lo hi
     → OnOk result ((now.entries ≡ was.entries ++ entries_of d t) × LeadsOn (leaves_of d t) was.named now.named)
@@ -36,6 +36,6 @@ pub record AreLinked (d : ℕ) (t : Tree d) : Type 0 where
   pub links : Leads leftmost (leaves_of d t) 0
 
 -- whatever tree is at the root, its links right or wrong: where its entries are given, the links were seen to be right
-abbrev pub SeesLinks : PageMap → ℕ → Result (List Entry) Fault → Type 0
+abbrev pub SeesLinks : PageMap → ℕ → Result (List Entry) SpaceError → Type 0
 SeesLinks pages root result =
     (d : ℕ) (t : Tree d) → IsUnder pages root d t [] None → IfOk result (λ entries. (entries ≡ entries_of d t) × AreLinked d t)

@@ -1,6 +1,6 @@
 -- What searches give.
 use Rattle.std.specs.Prelude.{◌≡◌, ℕ, ◌≤◌, List, [], map, Option, Result, IfOk, if◌then◌else◌, zero, suc, ◌∷◌}
-use Rattle.page_space.specs.declared.fault.Fault.{Fault}
+use Rattle.page_space.specs.declared.error.SpaceError.{SpaceError}
 use Rattle.page_space.specs.Space.{PageMap}
 use Rattle.sqlrecord.specs.Page.{PageView}
 use Rattle.btree_read.specs.declared.entry.Entry.{Entry}
@@ -38,11 +38,11 @@ child_at first (b ∷ bs) zero = first
 child_at first (b ∷ bs) (suc at) = child_at b.child bs at
 
 -- whatever tree is under the page, the answer is so of its entries
-abbrev pub Answers : {A : Type 0} → PageMap → ℕ → (List Entry → A) → Result A Fault → Type 0
+abbrev pub Answers : {A : Type 0} → PageMap → ℕ → (List Entry → A) → Result A SpaceError → Type 0
 Answers pages page f result = (d : ℕ) (t : Tree d) (lo : Key) (hi : Option Key) → IsUnder pages page d t lo hi → IfOk result (λ a. a ≡ f (entries_of d t))
 
 -- whatever tree is at the root, the answer is so of its entries
-abbrev pub AnswersAt : {A : Type 0} → PageMap → ℕ → (List Entry → A) → Result A Fault → Type 0
+abbrev pub AnswersAt : {A : Type 0} → PageMap → ℕ → (List Entry → A) → Result A SpaceError → Type 0
 AnswersAt pages root f result = (owned : List ℕ) (entries : List Entry) → IsTree pages root owned entries → IfOk result (λ a. a ≡ f entries)
 
 -- no tree is at the root

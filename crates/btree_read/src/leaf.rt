@@ -7,7 +7,7 @@ ghost use Rattle.btree_read.specs.Leaves.{Names};
 
 use crate::entry::Entry;
 use items::Items;
-use page_space::Fault;
+use page_space::SpaceError;
 use sqlrecord::SlotPage;
 use std::alloc::{AllocError, Global};
 
@@ -62,14 +62,14 @@ pub(crate) fn see_leaf(
     page: u32,
     leaf: &SlotPage<'_>,
     walk: &mut Walk,
-) -> Result<(), Fault>
+) -> Result<(), SpaceError>
     ensures entries { OnOk result (walk.new.entries ≡ walk.old.entries ++ map entry_of leaf.now.cells) }
     ensures named { OnOk result (Names walk.old.named page) }
     ensures next { OnOk result (walk.new.named ≡ Some leaf.now.link) }
     ensures refusal { IfErr result (ReadRefused (Names walk.old.named page → ⊥) 0 0) }
 {
     if !is_named(walk.named, page) {
-        return Err(Fault::Damaged);
+        return Err(SpaceError::Damaged);
     }
     take_entries(alloc, leaf, &mut walk.entries)?;
     walk.named = Some(leaf.link());

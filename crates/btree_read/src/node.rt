@@ -6,7 +6,7 @@ ghost use Rattle.sqlrecord.specs.Build.{Fits};
 ghost use Rattle.btree_read.specs.Nodes.{Node, HasNode};
 ghost use Rattle.btree_read.specs.Search.{Sees};
 
-use page_space::{Fault, Page, PageReader};
+use page_space::{SpaceError, Page, PageReader};
 use sqlrecord::SlotPage;
 
 /// Reads a page of a tree into a buffer. Refused where the read is, and as damaged only where the page has no node.
@@ -14,7 +14,7 @@ pub fn read_node<'a, R: PageReader>(
     space: &mut R,
     page: u32,
     buffer: &'a mut Page,
-) -> Result<SlotPage<'a>, Fault>
+) -> Result<SlotPage<'a>, SpaceError>
     ensures node { IfOk result (Sees (R.pages space.old) page) }
     ensures some { IfOk result (λ view. view.cells ≢ []) }
     ensures fits { IfOk result (λ view. Fits view.cells) }
@@ -26,10 +26,10 @@ pub fn read_node<'a, R: PageReader>(
 {
     space.read(page, buffer)?;
     let Some(node) = SlotPage::read(buffer) else {
-        return Err(Fault::Damaged);
+        return Err(SpaceError::Damaged);
     };
     if node.is_empty() {
-        return Err(Fault::Damaged);
+        return Err(SpaceError::Damaged);
     }
     Ok(node)
 }

@@ -10,7 +10,7 @@ use crate::node::read_node;
 use crate::place::{child_at, first_place, is_before};
 use crate::{MAXIMUM_LEVELS, Start};
 use items::Items;
-use page_space::{Fault, PAGE_SIZE, Page, PageReader};
+use page_space::{SpaceError, PAGE_SIZE, Page, PageReader};
 use sqlrecord::{PageKind, SlotPage};
 use std::alloc::{AllocError, Global};
 
@@ -36,7 +36,7 @@ fn get_below<R: PageReader>(
     levels: u32,
     key: &[u8],
     buffer: &mut Page,
-) -> Result<Option<Items<u8>>, Fault>
+) -> Result<Option<Items<u8>>, SpaceError>
     ensures found { Answers (R.pages space.old) page (get_of key.now) result }
     ensures same { R.pages space.new ≡ R.pages space.old }
     ensures whole { R.is_whole space.old → R.is_whole space.new }
@@ -49,7 +49,7 @@ fn get_below<R: PageReader>(
         PageKind::Leaf => Ok(value_in(alloc, &node, key)?),
         PageKind::Inner => {
             if levels == 0 {
-                return Err(Fault::Damaged);
+                return Err(SpaceError::Damaged);
             }
             let at = first_place(&node, Start::Behind, key);
             let child = child_at(&node, at);
@@ -65,7 +65,7 @@ pub fn get<R: PageReader>(
     alloc: Global,
     root: u32,
     key: &[u8],
-) -> Result<Option<Items<u8>>, Fault>
+) -> Result<Option<Items<u8>>, SpaceError>
     ensures found { AnswersAt (R.pages space.old) root (get_of key.now) result }
     ensures same { R.pages space.new ≡ R.pages space.old }
     ensures whole { R.is_whole space.old → R.is_whole space.new }

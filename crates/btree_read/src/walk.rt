@@ -12,7 +12,7 @@ use crate::node::read_node;
 use crate::place::{child_at, first_place};
 use crate::{Entry, MAXIMUM_LEVELS, Start};
 use items::Items;
-use page_space::{Fault, PAGE_SIZE, Page, PageReader};
+use page_space::{SpaceError, PAGE_SIZE, Page, PageReader};
 use sqlrecord::{PageKind, SlotPage};
 use std::alloc::{AllocError, Global};
 
@@ -56,7 +56,7 @@ fn find_below<R: PageReader>(
     start: Start,
     key: &[u8],
     buffer: &mut Page,
-) -> Result<Option<Entry>, Fault>
+) -> Result<Option<Entry>, SpaceError>
     ensures found { Answers (R.pages space.old) page (first_from start key.now) result }
     ensures same { R.pages space.new ≡ R.pages space.old }
     ensures whole { R.is_whole space.old → R.is_whole space.new }
@@ -69,7 +69,7 @@ fn find_below<R: PageReader>(
         PageKind::Leaf => Ok(entry_in(alloc, &node, start, key)?),
         PageKind::Inner => {
             if levels == 0 {
-                return Err(Fault::Damaged);
+                return Err(SpaceError::Damaged);
             }
             let at = first_place(&node, Start::Behind, key);
             let child = child_at(&node, at);
@@ -94,7 +94,7 @@ fn find<R: PageReader>(
     root: u32,
     start: Start,
     key: &[u8],
-) -> Result<Option<Entry>, Fault>
+) -> Result<Option<Entry>, SpaceError>
     ensures found { AnswersAt (R.pages space.old) root (first_from start key.now) result }
     ensures same { R.pages space.new ≡ R.pages space.old }
     ensures whole { R.is_whole space.old → R.is_whole space.new }
@@ -115,7 +115,7 @@ pub fn seek<R: PageReader>(
     alloc: Global,
     root: u32,
     key: &[u8],
-) -> Result<Option<Entry>, Fault>
+) -> Result<Option<Entry>, SpaceError>
     ensures found { AnswersAt (R.pages space.old) root (first_from At key.now) result }
     ensures same { R.pages space.new ≡ R.pages space.old }
     ensures whole { R.is_whole space.old → R.is_whole space.new }
@@ -132,7 +132,7 @@ pub fn next<R: PageReader>(
     alloc: Global,
     root: u32,
     after: &[u8],
-) -> Result<Option<Entry>, Fault>
+) -> Result<Option<Entry>, SpaceError>
     ensures found { AnswersAt (R.pages space.old) root (first_from Behind after.now) result }
     ensures same { R.pages space.new ≡ R.pages space.old }
     ensures whole { R.is_whole space.old → R.is_whole space.new }

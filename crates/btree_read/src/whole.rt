@@ -12,7 +12,7 @@ use crate::entry::Entry;
 use crate::node::read_node;
 use crate::place::child_at;
 use items::Items;
-use page_space::{Fault, PAGE_SIZE, PageReader};
+use page_space::{SpaceError, PAGE_SIZE, PageReader};
 use sqlrecord::PageKind;
 use std::alloc::Global;
 
@@ -23,7 +23,7 @@ fn scan_below<R: PageReader>(
     page: u32,
     levels: u32,
     walk: &mut Walk,
-) -> Result<(), Fault>
+) -> Result<(), SpaceError>
     ensures sees { SeesBelow (R.pages space.old) page walk.old walk.new result }
     ensures same { R.pages space.new ≡ R.pages space.old }
     ensures whole { R.is_whole space.old → R.is_whole space.new }
@@ -37,7 +37,7 @@ fn scan_below<R: PageReader>(
         PageKind::Leaf => see_leaf(alloc, page, &node, walk),
         PageKind::Inner => {
             if levels == 0 {
-                return Err(Fault::Damaged);
+                return Err(SpaceError::Damaged);
             }
             let first = child_at(&node, 0);
             scan_below(space, alloc, first, levels - 1, walk)?;
@@ -64,7 +64,7 @@ fn has_ended(named: Option<u32>) -> bool
 /// All entries of the tree at a root, in order; root 0 is the tree without entries. Each page of the
 /// tree is read once. Refused for memory, where the device refuses a call, and as damaged only where no
 /// tree is at the root; so it is where a leaf does not name the leaf that follows. Returns on any pages.
-pub fn scan<R: PageReader>(space: &mut R, alloc: Global, root: u32) -> Result<Items<Entry>, Fault>
+pub fn scan<R: PageReader>(space: &mut R, alloc: Global, root: u32) -> Result<Items<Entry>, SpaceError>
     ensures found { AnswersAt (R.pages space.old) root (λ entries. entries) result }
     ensures links { SeesLinks (R.pages space.old) root result }
     ensures same { R.pages space.new ≡ R.pages space.old }
@@ -84,7 +84,7 @@ pub fn scan<R: PageReader>(space: &mut R, alloc: Global, root: u32) -> Result<It
     scan_below(space, alloc, root, MAXIMUM_LEVELS, &mut walk)?;
     let Walk { entries, named } = walk;
     if !has_ended(named) {
-        return Err(Fault::Damaged);
+        return Err(SpaceError::Damaged);
     }
     Ok(entries)
 }

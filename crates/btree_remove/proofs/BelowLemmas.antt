@@ -1,6 +1,6 @@
 -- Removal on the way down and up again, and why it is refused, over plain variables.
 use Rattle.std.proofs.Common.{◌≡◌, ℕ, zero, suc, ◌+◌, ◌≤◌, List, [], ◌∷◌, map, refl, sym, ap, ◌∙◌, subst, Option, Some, None, IsSome, Result, Ok, IfOk, arith}
-use Rattle.page_space.specs.declared.fault.Fault.{Fault}
+use Rattle.page_space.specs.declared.error.SpaceError.{SpaceError}
 use Rattle.page_space.specs.Space.{PageMap}
 use Rattle.sqlrecord.specs.declared.kind.PageKind.TheVariants.{Inner}
 use Rattle.sqlrecord.specs.Page.{PageView}
@@ -43,7 +43,7 @@ module _ (old mid : PageMap) (page : ℕ) (view : PageView) (at child : ℕ) (sa
         (subst (λ m. TakesBelow m low child k (Ok below)) same g d (kid_at t.first t.rest at) _ _ (child_found old page view child d t lo hi at sees kind leads u));
   }
 
-  pub taken_settled : (low new : PageMap) (k : Key) (below : Removed) (result : Result Removed Fault) → route_of k (map branch_of view.cells) ≡ at → TakesBelow mid low child k (Ok below)
+  pub taken_settled : (low new : PageMap) (k : Key) (below : Removed) (result : Result Removed SpaceError) → route_of k (map branch_of view.cells) ≡ at → TakesBelow mid low child k (Ok below)
       → Settles low new page view at below result → TakesBelow old new page k result
   taken_settled low new k below result way g f zero t lo hi u = absurd (no_leaf old page view t lo hi sees kind u)
   taken_settled low new k below result way g f (suc d) t lo hi u = f old k d t lo hi (left_below low k below way g d t lo hi u)

@@ -4,7 +4,7 @@ use Rattle.std.specs.Prelude.{⊤}
 use Rattle.std.specs.List.{flat_map}
 use Rattle.std.proofs.lemmas.List.{append-nil as append_nil}
 use Rattle.std.proofs.lemmas.Bool.{eqb-true, eqb-false}
-use Rattle.page_space.specs.declared.fault.Fault.{Fault}
+use Rattle.page_space.specs.declared.error.SpaceError.{SpaceError}
 use Rattle.page_space.specs.Space.{PageMap}
 use Rattle.sqlrecord.specs.declared.kind.PageKind.TheVariants.{Leaf, Inner}
 use Rattle.sqlrecord.specs.Page.{PageView}
@@ -106,7 +106,7 @@ as_many pages page view d t lo hi s k u =
 
 -- ---- a leaf
 
-pub dropped_leaf : (old mid new : PageMap) (page : ℕ) (view : PageView) (result : Result ⊤ Fault) → mid ≡ old → Sees old page view → view.kind ≡ Leaf
+pub dropped_leaf : (old mid new : PageMap) (page : ℕ) (view : PageView) (result : Result ⊤ SpaceError) → mid ≡ old → Sees old page view → view.kind ≡ Leaf
     → OnOk result (new page ≡ None) → ((n : ℕ) → n ≢ page → new n ≡ mid n) → DropsBelow old new page result
 dropped_leaf old mid new page view (Err f) m s k e g d t lo hi u = tt
 dropped_leaf old mid new page view (Ok x) m s k e g zero t lo hi u =
@@ -175,7 +175,7 @@ module _ (old mid : PageMap) (page : ℕ) (view : PageView) (n : ℕ) (sees : Se
       let m = as_many old page view d t lo hi sees kind u in
       subst (λ ns. AreDropped old mid (pages_in ns)) (ap (λ k. done d t.first t.rest (suc k)) (all ∙ m) ∙ done_all d t.first t.rest) (stays d t lo hi u)
 
-  pub dropped_inner : (new : PageMap) (result : Result ⊤ Fault) → OnOk result (new page ≡ None) → ((n : ℕ) → n ≢ page → new n ≡ mid n) → DropsBelow old new page result
+  pub dropped_inner : (new : PageMap) (result : Result ⊤ SpaceError) → OnOk result (new page ≡ None) → ((n : ℕ) → n ≢ page → new n ≡ mid n) → DropsBelow old new page result
   dropped_inner new (Err f) e g d t lo hi u = tt
   dropped_inner new (Ok x) e g zero t lo hi u = absurd (no_leaf old page view t lo hi sees kind u)
   dropped_inner new (Ok x) e g (suc d) t lo hi u =
@@ -197,7 +197,7 @@ no_node_in pages page levels W f = no_tree_in pages page levels W (no_node_no_tr
 
 -- ---- at the root
 
-pub dropped_root : (old new : PageMap) (root : ℕ) (result : Result ⊤ Fault) → (root ≡ 0 → ⊥) → DropsBelow old new root result → Drops old new root result
+pub dropped_root : (old new : PageMap) (root : ℕ) (result : Result ⊤ SpaceError) → (root ≡ 0 → ⊥) → DropsBelow old new root result → Drops old new root result
 dropped_root old new zero result nz f owned entries w = absurd (nz refl)
 dropped_root old new (suc r) result nz f owned entries w =
     subst (λ ps. OnOk result (AreDropped old new ps)) w.owns (f w.depth w.tree [] None (under_root old (suc r) owned entries w))

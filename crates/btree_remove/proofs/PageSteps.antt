@@ -3,7 +3,7 @@ use Rattle.std.proofs.Common.{◌≡◌, ◌≢◌, ℕ, zero, suc, ◌+◌, ◌
 use Rattle.std.specs.Prelude.{⊤, slice_index_or, MatchOption}
 use Rattle.std.proofs.Math.Seq.{take-length}
 use Rattle.std.proofs.lemmas.List.{append-nil as append_nil, length-map}
-use Rattle.page_space.specs.declared.fault.Fault.{Fault}
+use Rattle.page_space.specs.declared.error.SpaceError.{SpaceError}
 use Rattle.page_space.specs.Space.{PageMap, ReadRefused, ChangeRefused}
 use Rattle.sqlrecord.specs.declared.kind.PageKind.{PageKind}
 use Rattle.sqlrecord.specs.declared.kind.PageKind.TheVariants.{Leaf, Inner}
@@ -35,7 +35,7 @@ not_before false h = refl
 
 -- ---- a page written
 
-pub written_without : (old new : PageMap) (page : ℕ) (kind other : PageKind) (link : ℕ) (cells now : List (List ℕ)) (r : Result ⊤ Fault) → other ≡ kind → now ≡ cells
+pub written_without : (old new : PageMap) (page : ℕ) (kind other : PageKind) (link : ℕ) (cells now : List (List ℕ)) (r : Result ⊤ SpaceError) → other ≡ kind → now ≡ cells
     → OnOk r (IsSome (old page) → IsStocked (node_of other link now) → HasNode new page (node_of other link now))
     → IsSome (old page) → IsStocked (node_of kind link cells) → OnOk r (HasNode new page (node_of kind link cells))
 written_without old new page kind other link cells now r e f h used stocked =
@@ -66,7 +66,7 @@ leaf_kind Inner link cells next es e = cc
 pub leaf_link : (pages : PageMap) (page : ℕ) (view : PageView) (next : ℕ) (es : List Entry) → Sees pages page view → HasNode pages page (LeafNode next es) → view.link ≡ next
 leaf_link pages page view next es s h = (leaf_kind view.kind view.link view.cells next es (s _ h)).0
 
-pub leaves_are_joined : (p0 p1 p2 p3 p4 : PageMap) (left right kept next a b : ℕ) (es ys : List Entry) (view : PageView) (r : Result ⊤ Fault) → p1 ≡ p0 → p2 ≡ p1 → Sees p1 kept view
+pub leaves_are_joined : (p0 p1 p2 p3 p4 : PageMap) (left right kept next a b : ℕ) (es ys : List Entry) (view : PageView) (r : Result ⊤ SpaceError) → p1 ≡ p0 → p2 ≡ p1 → Sees p1 kept view
     → ((next_of : ℕ) (xs : List Entry) → HasNode p0 right (LeafNode next_of xs) → next ≡ next_of)
     → (IsSome (p2 left) → IsStocked (node_of view.kind next view.cells) → HasNode p3 left (node_of view.kind next view.cells)) → SamePages p2 p3 (λ n. n ≡ left)
     → OnOk r (p4 right ≡ None) → SamePages p3 p4 (λ n. n ≡ right)
@@ -93,7 +93,7 @@ inner_facts Inner link cells first bs e =
     (refl, g, f)
 
 -- what was freed, and then written
-inners_joined : (p0 p1 p2 : PageMap) (left right link first : ℕ) (now bs : List Branch) (r : Result (Option Branch) Fault) (Stocked : Type 0) → IsSome (p0 left) → left ≢ right → p1 right ≡ None
+inners_joined : (p0 p1 p2 : PageMap) (left right link first : ℕ) (now bs : List Branch) (r : Result (Option Branch) SpaceError) (Stocked : Type 0) → IsSome (p0 left) → left ≢ right → p1 right ≡ None
     → SamePages p0 p1 (λ n. n ≡ right) → link ≡ first → now ≡ bs → (IsSome (p1 left) → Stocked → IfOk r (InnerWritten p1 p2 left link now)) → Stocked → IfOk r (AreInnersJoined p0 p2 left right first bs)
 inners_joined p0 p1 p2 left right link first now bs r Stocked used ne freed same e f write s =
     if_ok (InnerWritten p1 p2 left link now) (AreInnersJoined p0 p2 left right first bs) r
@@ -115,13 +115,13 @@ branches_at_end cells n b x e f =
     ap (λ bs. bs ++ b ∷ drop n (map branch_of cells)) (take_end (map branch_of cells) n l) ∙ ap (λ bs. map branch_of cells ++ b ∷ bs) (drop_end (map branch_of cells) n l)
     ∙ ap (λ y. map branch_of cells ++ y ∷ []) f
 
-pub joined_before : (p0 p1 p2 : PageMap) (left right only : ℕ) (cells : List (List ℕ)) (b x : Branch) (r : Result (Option Branch) Fault) (Stocked : Type 0) → b ≡ x → p1 right ≡ None
+pub joined_before : (p0 p1 p2 : PageMap) (left right only : ℕ) (cells : List (List ℕ)) (b x : Branch) (r : Result (Option Branch) SpaceError) (Stocked : Type 0) → b ≡ x → p1 right ≡ None
     → SamePages p0 p1 (λ n. n ≡ right) → (IsSome (p1 left) → Stocked → IfOk r (InnerWritten p1 p2 left only (take 0 (map branch_of cells) ++ b ∷ drop 0 (map branch_of cells))))
     → IsSome (p0 left) → left ≢ right → Stocked → IfOk r (AreInnersJoined p0 p2 left right only (x ∷ map branch_of cells))
 joined_before p0 p1 p2 left right only cells b x r Stocked e freed same write used ne s =
     inners_joined p0 p1 p2 left right only only _ (x ∷ map branch_of cells) r Stocked used ne freed same refl (ap (λ y. y ∷ map branch_of cells) e) write s
 
-pub joined_behind : (p0 p1 p2 : PageMap) (left right link first n : ℕ) (cells : List (List ℕ)) (b x : Branch) (r : Result (Option Branch) Fault) (Stocked : Type 0) → b ≡ x → link ≡ first → n ≡ length cells
+pub joined_behind : (p0 p1 p2 : PageMap) (left right link first n : ℕ) (cells : List (List ℕ)) (b x : Branch) (r : Result (Option Branch) SpaceError) (Stocked : Type 0) → b ≡ x → link ≡ first → n ≡ length cells
     → p1 right ≡ None → SamePages p0 p1 (λ n. n ≡ right) → (IsSome (p1 left) → Stocked → IfOk r (InnerWritten p1 p2 left link (take n (map branch_of cells) ++ b ∷ drop n (map branch_of cells))))
     → IsSome (p0 left) → left ≢ right → Stocked → IfOk r (AreInnersJoined p0 p2 left right first (map branch_of cells ++ x ∷ []))
 joined_behind p0 p1 p2 left right link first n cells b x r Stocked e l m freed same write used ne s =
@@ -148,18 +148,18 @@ behind_refused p0 p1 pair first n cells b W0 W1 k m same wh f lo used there ne w
     f lo (subst IsSome (sym (same pair.left ne)) used) (wh w) s (subst (RisesBehind lo) (sym (branches_at_end cells n b b m refl)) (behind k))
 
 -- the branch by its key and child
-pub before_as : (p1 p2 : PageMap) (pair : Pair) (only : ℕ) (bs : List Branch) (b x : Branch) (Stocked : Type 0) (r : Result (Option Branch) Fault) → (pair.kept ≡ pair.right → b ≡ x)
+pub before_as : (p1 p2 : PageMap) (pair : Pair) (only : ℕ) (bs : List Branch) (b x : Branch) (Stocked : Type 0) (r : Result (Option Branch) SpaceError) → (pair.kept ≡ pair.right → b ≡ x)
     → (pair.kept ≡ pair.right → IsSome (p1 pair.left) → pair.left ≢ pair.right → Stocked → IfOk r (AreInnersJoined p1 p2 pair.left pair.right only (b ∷ bs)))
     → pair.kept ≡ pair.right → IsSome (p1 pair.left) → pair.left ≢ pair.right → Stocked → IfOk r (AreInnersJoined p1 p2 pair.left pair.right only (x ∷ bs))
 before_as p1 p2 pair only bs b x Stocked r is f k used ne s = subst (λ y. IfOk r (AreInnersJoined p1 p2 pair.left pair.right only (y ∷ bs))) (is k) (f k used ne s)
 
-pub behind_as : (p1 p2 : PageMap) (pair : Pair) (link : ℕ) (bs : List Branch) (b x : Branch) (Stocked : Type 0) (r : Result (Option Branch) Fault) → (pair.kept ≢ pair.right → b ≡ x)
+pub behind_as : (p1 p2 : PageMap) (pair : Pair) (link : ℕ) (bs : List Branch) (b x : Branch) (Stocked : Type 0) (r : Result (Option Branch) SpaceError) → (pair.kept ≢ pair.right → b ≡ x)
     → (pair.kept ≢ pair.right → IsSome (p1 pair.left) → pair.left ≢ pair.right → Stocked → IfOk r (AreInnersJoined p1 p2 pair.left pair.right link (bs ++ b ∷ [])))
     → pair.kept ≢ pair.right → IsSome (p1 pair.left) → pair.left ≢ pair.right → Stocked → IfOk r (AreInnersJoined p1 p2 pair.left pair.right link (bs ++ x ∷ []))
 behind_as p1 p2 pair link bs b x Stocked r is f k used ne s = subst (λ y. IfOk r (AreInnersJoined p1 p2 pair.left pair.right link (bs ++ y ∷ []))) (is k) (f k used ne s)
 
 -- a page of which the node was read
-pub inner_read : (p0 p1 p2 : PageMap) (pair : Pair) (divider : Key) (only : ℕ) (view : PageView) (r : Result (Option Branch) Fault) → p1 ≡ p0 → Sees p0 pair.kept view
+pub inner_read : (p0 p1 p2 : PageMap) (pair : Pair) (divider : Key) (only : ℕ) (view : PageView) (r : Result (Option Branch) SpaceError) → p1 ≡ p0 → Sees p0 pair.kept view
     → (pair.kept ≡ pair.right → IsSome (p1 pair.left) → pair.left ≢ pair.right → IsStocked (InnerNode view.link (map branch_of view.cells))
     → IfOk r (AreInnersJoined p1 p2 pair.left pair.right only (record { key = divider; child = view.link } ∷ map branch_of view.cells)))
     → (first : ℕ) (bs : List Branch) → pair.kept ≡ pair.right → HasNode p0 pair.kept (InnerNode first bs) → IsSome (p0 pair.left) → pair.left ≢ pair.right
@@ -173,7 +173,7 @@ inner_read p0 p1 p2 pair divider only view r e s f first bs k h used ne =
     (subst (λ c. AreInnersJoined p1 p2 pair.left pair.right only (record { key = divider; child = c } ∷ bs) split) x.1
     (subst (λ cs. AreInnersJoined p1 p2 pair.left pair.right only (record { key = divider; child = view.link } ∷ cs) split) x.2 w))) g
 
-pub inner_read_behind : (p0 p1 p2 : PageMap) (pair : Pair) (divider : Key) (only : ℕ) (view : PageView) (r : Result (Option Branch) Fault) → p1 ≡ p0 → Sees p0 pair.kept view
+pub inner_read_behind : (p0 p1 p2 : PageMap) (pair : Pair) (divider : Key) (only : ℕ) (view : PageView) (r : Result (Option Branch) SpaceError) → p1 ≡ p0 → Sees p0 pair.kept view
     → (pair.kept ≢ pair.right → IsSome (p1 pair.left) → pair.left ≢ pair.right → IsStocked (InnerNode view.link (map branch_of view.cells))
     → IfOk r (AreInnersJoined p1 p2 pair.left pair.right view.link (map branch_of view.cells ++ record { key = divider; child = only } ∷ [])))
     → (first : ℕ) (bs : List Branch) → pair.kept ≢ pair.right → HasNode p0 pair.kept (InnerNode first bs) → IsSome (p0 pair.left) → pair.left ≢ pair.right
@@ -219,7 +219,7 @@ divider_is_long p0 pair divider only W l lo first bs h used there ne short w bef
 
 -- ---- refusals
 
-pub read_then : (L : Fault → Type 0) (H G : Type 0) (a b c : ℕ) (f : Fault) → a ≤ b → (H → G) → ReadRefused H b c f → ChangeRefused L G a c f
+pub read_then : (L : SpaceError → Type 0) (H G : Type 0) (a b c : ℕ) (f : SpaceError) → a ≤ b → (H → G) → ReadRefused H b c f → ChangeRefused L G a c f
 read_then L H G a b c f o g h = change_refused L G G a b c f o (λ x. x) (read_as_change L H G b c f g h)
 
 -- what the code needs to know of two leaves
@@ -286,7 +286,7 @@ branch_not_written p0 p1 page view at behind branch x b W0 W1 e s is same wh f l
     subst (λ c. RisesBehind lo (take at bs ++ c ∷ drop behind bs)) (sym same) (subst (λ o. RisesBehind lo (take at bs ++ (option_to_list o ++ drop behind bs))) is r) in
     f lo (subst (λ p. IsSome (p page)) (sym e) (node_is_used p0 page _ h)) (wh w) stocked (subst (λ cs. RisesBehind lo (take at cs ++ b ∷ drop behind cs)) (sym y.2) up)
 
-pub without_branch : (p0 p1 p2 : PageMap) (page : ℕ) (view : PageView) (at behind : ℕ) (branch : Option Branch) (r : Result Removed Fault) → p1 ≡ p0 → Sees p0 page view → branch ≡ None
+pub without_branch : (p0 p1 p2 : PageMap) (page : ℕ) (view : PageView) (at behind : ℕ) (branch : Option Branch) (r : Result Removed SpaceError) → p1 ≡ p0 → Sees p0 page view → branch ≡ None
     → (IsSome (p1 page) → IsStocked (InnerNode view.link (map branch_of view.cells))
     → IfOk r (Rewritten p1 p2 page view.link (take at (map branch_of view.cells) ++ drop behind (map branch_of view.cells))))
     → (first : ℕ) (bs : List Branch) → HasNode p0 page (InnerNode first bs) → behind ≤ length bs → IfOk r (Rewritten p0 p2 page first (take at bs ++ (option_to_list branch ++ drop behind bs)))

@@ -2,7 +2,7 @@
 use Rattle.std.proofs.Common.{◌≡◌, ◌≢◌, ℕ, zero, suc, ◌+◌, ◌<◌, ◌≤◌, List, [], ◌∷◌, ◌++◌, map, length, ◌⊎◌, inl, inr, refl, sym, ap, ◌∙◌, subst, Option, Some, None, IsSome, Result, Ok, Err, IfOk, OnOk, arith, add-one}
 use Rattle.std.specs.Prelude.{⊤, slice_index_or}
 use Rattle.std.proofs.lemmas.List.{append-nil as append_nil, map-append, length-map}
-use Rattle.page_space.specs.declared.fault.Fault.{Fault}
+use Rattle.page_space.specs.declared.error.SpaceError.{SpaceError}
 use Rattle.page_space.specs.Space.{PageMap}
 use Rattle.sqlrecord.specs.declared.kind.PageKind.TheVariants.{Leaf, Inner}
 use Rattle.sqlrecord.specs.Page.{key_of, PageView}

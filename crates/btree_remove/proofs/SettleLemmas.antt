@@ -4,7 +4,7 @@ use Rattle.std.specs.Prelude.{slice_index_or}
 use Rattle.std.specs.List.{AllByRecursion}
 use Rattle.std.specs.Option.{option_to_list}
 use Rattle.std.proofs.lemmas.List.{length-map}
-use Rattle.page_space.specs.declared.fault.Fault.{Fault}
+use Rattle.page_space.specs.declared.error.SpaceError.{SpaceError}
 use Rattle.page_space.specs.Space.{PageMap}
 use Rattle.sqlrecord.specs.declared.kind.PageKind.TheVariants.{Leaf, Inner}
 use Rattle.sqlrecord.specs.Page.{key_of, PageView}
@@ -25,7 +25,7 @@ use Rattle.btree_remove.proofs.PairLemmas.{IsShownBy, shown_by, ArePaired, paire
 use Rattle.btree_remove.proofs.StepLemmas.{AreLeft, one_left, two_left, settled, not_settled, settled_absent, settled_below, way_within}
 
 -- what the exchange of branches gives, and why it is refused
-abbrev Exchanged : PageMap → PageMap → ℕ → ℕ → ℕ → Option Branch → Result Removed Fault → Type 0
+abbrev Exchanged : PageMap → PageMap → ℕ → ℕ → ℕ → Option Branch → Result Removed SpaceError → Type 0
 Exchanged low new page at behind branch result =
     (first : ℕ) (bs : List Branch) → HasNode low page (InnerNode first bs) → behind ≤ length bs
     → IfOk result (Rewritten low new page first (take at bs ++ (option_to_list branch ++ drop behind bs)))
@@ -37,7 +37,7 @@ NotExchanged low page at behind branch W =
 
 -- ---- a second tree beside the child
 
-pub split_settled : (old new : PageMap) (page : ℕ) (view : PageView) (at : ℕ) (split : Option Branch) (result : Result Removed Fault) → view.kind ≡ Inner
+pub split_settled : (old new : PageMap) (page : ℕ) (view : PageView) (at : ℕ) (split : Option Branch) (result : Result Removed SpaceError) → view.kind ≡ Inner
     → Exchanged old new page at at split result → Settles old new page view at (Done split) result
 split_settled old new page view at split result kind f before k d t lo hi w =
     settled before old page view d t lo hi k at at split w.sees kind w.under (one_left before old d t k at split (way_within before old page view d t lo hi k at (Done split) kind w) w.under.holds w.under.apart w.taken) new result f
@@ -72,7 +72,7 @@ emptied_left old low page view at pair kind is f before k zero t lo hi w =
     let j = g h.a p.two.right.next h.es p.two.right.entries h.kept h.right h.used h.differ in
     two_left before low zero t k pair.place (pair.place + 1) p.two None (add-one pair.place) (pair_within before page view _ t lo hi at pair kind is w.sees w.under) w.under.holds w.under.apart (h.emptied k w.taken.0 low j)
 
-pub emptied_settled : (old low new : PageMap) (page : ℕ) (view : PageView) (at : ℕ) (pair : Pair) (result : Result Removed Fault) → view.kind ≡ Inner
+pub emptied_settled : (old low new : PageMap) (page : ℕ) (view : PageView) (at : ℕ) (pair : Pair) (result : Result Removed SpaceError) → view.kind ≡ Inner
     → IsPairAt view.link (map branch_of view.cells) at pair → Joined old low pair → Exchanged low new page pair.place (pair.place + 1) None result
     → Settles old new page view at Emptied result
 emptied_settled old low new page view at pair result kind is f g before k d t lo hi w =
@@ -190,7 +190,7 @@ lone_left old low page view at pair divider only split kind is e f g before k (s
     let r = ready before old d t at pair divider only k p w.taken in
     two_left before low (suc d) t k pair.place (pair.place + 1) p.two split (add-one pair.place) (pair_within before page view _ t lo hi at pair kind is w.sees w.under) w.under.holds w.under.apart (r.now low split f g)
 
-pub lone_settled : (old low new : PageMap) (page : ℕ) (view : PageView) (at : ℕ) (pair : Pair) (divider : Key) (only : ℕ) (split : Option Branch) (result : Result Removed Fault) → view.kind ≡ Inner
+pub lone_settled : (old low new : PageMap) (page : ℕ) (view : PageView) (at : ℕ) (pair : Pair) (divider : Key) (only : ℕ) (split : Option Branch) (result : Result Removed SpaceError) → view.kind ≡ Inner
     → IsPairAt view.link (map branch_of view.cells) at pair → divider ≡ key_of (slice_index_or view.cells pair.place [])
     → JoinedBefore old low pair divider only split → JoinedBehind old low pair divider only split → Exchanged low new page pair.place (pair.place + 1) split result
     → Settles old new page view at (Lone only) result
@@ -224,7 +224,7 @@ inners_not_joined old page view at pair divider only W kind is e f before k (suc
 
 -- ---- by what is left below
 
-pub settles_as : (old new : PageMap) (page : ℕ) (view : PageView) (at : ℕ) (below other : Removed) (result : Result Removed Fault) → below ≡ other → Settles old new page view at other result
+pub settles_as : (old new : PageMap) (page : ℕ) (view : PageView) (at : ℕ) (below other : Removed) (result : Result Removed SpaceError) → below ≡ other → Settles old new page view at other result
     → Settles old new page view at below result
 settles_as old new page view at below other result e f = subst (λ r. Settles old new page view at r result) (sym e) f
 

@@ -2,7 +2,7 @@
 use Rattle.std.proofs.Common.{Bool, true, false, if◌then◌else◌, ◌≡◌, ◌≢◌, ℕ, zero, suc, ◌+◌, ◌<◌, ◌≤◌, List, [], ◌∷◌, ◌++◌, map, length, take, drop, ◌⊎◌, inl, inr, refl, sym, ap, ◌∙◌, subst, Option, Some, None, IsSome, Result, Ok, Err, IfOk, OnOk, arith}
 use Rattle.std.specs.Option.{option_to_list}
 use Rattle.std.proofs.lemmas.List.{append-nil as append_nil, take-append-drop}
-use Rattle.page_space.specs.declared.fault.Fault.{Fault}
+use Rattle.page_space.specs.declared.error.SpaceError.{SpaceError}
 use Rattle.page_space.specs.Space.{PageMap}
 use Rattle.sqlrecord.specs.declared.kind.PageKind.TheVariants.{Leaf, Inner}
 use Rattle.sqlrecord.specs.Page.{PageView}
@@ -32,7 +32,7 @@ use Rattle.btree_remove.proofs.PairLemmas.{IsShownBy, shown_by}
 
 -- ---- a leaf
 
-pub taken_of_leaf : (old mid new : PageMap) (page : ℕ) (view : PageView) (k : Key) (result : Result Removed Fault) → mid ≡ old → Sees old page view → view.kind ≡ Leaf
+pub taken_of_leaf : (old mid new : PageMap) (page : ℕ) (view : PageView) (k : Key) (result : Result Removed SpaceError) → mid ≡ old → Sees old page view → view.kind ≡ Leaf
     → (IsSome (mid page) → IsStocked (LeafNode view.link (map entry_of view.cells)) → IfOk result (LeafLess mid new page view.link (map entry_of view.cells) k))
     → TakesBelow old new page k result
 taken_of_leaf old mid new page view k result m s kind h (suc d) t lo hi u =
@@ -158,7 +158,7 @@ module _ (before low : PageMap) (page : ℕ) (view : PageView) (d : ℕ) (t : Tr
   within : behind ≤ length (map branch_of view.cells)
   within = subst (λ bs. behind ≤ length bs) (sym shown.branches) left.within
 
-  pub settled : (new : PageMap) (result : Result Removed Fault)
+  pub settled : (new : PageMap) (result : Result Removed SpaceError)
       → ((first : ℕ) (bs : List Branch) → HasNode low page (InnerNode first bs) → behind ≤ length bs
       → IfOk result (Rewritten low new page first (take at bs ++ (option_to_list branch ++ drop behind bs))))
       → IfOk result (IsTaken before new (suc d) t k)

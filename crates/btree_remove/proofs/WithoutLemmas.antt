@@ -4,7 +4,7 @@ use Rattle.std.specs.Prelude.{⊤, slice_index_or}
 use Rattle.std.specs.List.{AllByRecursion}
 use Rattle.std.specs.Option.{option_to_list}
 use Rattle.std.proofs.lemmas.List.{append-nil as append_nil, map-append, take-map, drop-map, take-append-drop, get_or-drop}
-use Rattle.page_space.specs.declared.fault.Fault.{Fault}
+use Rattle.page_space.specs.declared.error.SpaceError.{SpaceError}
 use Rattle.page_space.specs.Space.{PageMap}
 use Rattle.sqlrecord.specs.declared.kind.PageKind.{PageKind}
 use Rattle.sqlrecord.specs.declared.kind.PageKind.TheVariants.{Leaf, Inner}
@@ -97,7 +97,7 @@ over_refused Used W cells now a b cell first link x e is o fits c small f lo u w
     let short : 4 + length cell ≤ 1014 = small_inner_cell cell c small_cell in
     f u wh (subst (λ bs. IsStocked (InnerNode first bs)) same (stocked_over first link (map branch_of cells) a b (branch_of cell) small_cell s)) (omega (arith, room, short, fits))
 
-pub over_written : (old new : PageMap) (page first : ℕ) (now bs : List Branch) (result : Result (Option Branch) Fault) → now ≡ bs → IsStocked (InnerNode first bs)
+pub over_written : (old new : PageMap) (page first : ℕ) (now bs : List Branch) (result : Result (Option Branch) SpaceError) → now ≡ bs → IsStocked (InnerNode first bs)
     → (IsStocked (InnerNode first now) → IfOk result (InnerWritten old new page first now)) → IfOk result (InnerWritten old new page first bs)
 over_written old new page first now bs result e s f = subst (λ x. IfOk result (InnerWritten old new page first x)) e (f (subst (λ x. IsStocked (InnerNode first x)) (sym e) s))
 

@@ -1,6 +1,6 @@
 -- What is left where a tree was.
 use Rattle.std.specs.Prelude.{◌≡◌, ℕ, ◌≤◌, List, Option, None, Result, OnOk, ⊤}
-use Rattle.page_space.specs.declared.fault.Fault.{Fault}
+use Rattle.page_space.specs.declared.error.SpaceError.{SpaceError}
 use Rattle.page_space.specs.Space.{PageMap}
 use Rattle.btree_read.specs.declared.entry.Entry.{Entry}
 use Rattle.btree_read.specs.Lists.{Has}
@@ -14,11 +14,11 @@ pub record AreDropped (old new : PageMap) (owned : List ℕ) : Type 0 where
   pub others : (n : ℕ) → (Has n owned → ⊥) → new n ≡ old n
 
 -- whatever tree is under the page, its pages are dropped
-abbrev pub DropsBelow : PageMap → PageMap → ℕ → Result ⊤ Fault → Type 0
+abbrev pub DropsBelow : PageMap → PageMap → ℕ → Result ⊤ SpaceError → Type 0
 DropsBelow old new page result = (d : ℕ) (t : Tree d) (lo : Key) (hi : Option Key) → IsUnder old page d t lo hi → OnOk result (AreDropped old new (pages_in (nodes_of d t)))
 
 -- whatever tree is at the root, its pages are dropped
-abbrev pub Drops : PageMap → PageMap → ℕ → Result ⊤ Fault → Type 0
+abbrev pub Drops : PageMap → PageMap → ℕ → Result ⊤ SpaceError → Type 0
 Drops old new root result = (owned : List ℕ) (entries : List Entry) → IsTree old root owned entries → OnOk result (AreDropped old new owned)
 
 -- no tree of at most so many levels is under the page, or the space is not whole

@@ -2,7 +2,7 @@
 use Rattle.std.specs.Prelude.{◌≡◌, ◌≢◌, ℕ, zero, suc, ◌+◌, ◌<◌, ◌≤◌, ◌⊎◌, List, [], ◌∷◌, ◌++◌, map, length, Option, Some, None, IsSome, IfSome, Result, IfOk, ⊤}
 use Rattle.std.specs.List.{flat_map}
 use Rattle.std.specs.Option.{option_to_list}
-use Rattle.page_space.specs.declared.fault.Fault.{Fault}
+use Rattle.page_space.specs.declared.error.SpaceError.{SpaceError}
 use Rattle.page_space.specs.Space.{PageMap}
 use Rattle.sqlrecord.specs.Page.{PageView}
 use Rattle.btree_read.specs.declared.entry.Entry.{Entry}
@@ -112,7 +112,7 @@ IsTaken old new d t k Emptied = IsEmptied d t k × (new ≡ old)
 IsTaken old new d t k (Lone only) = IsLone old new d t k only
 
 -- whatever tree is under the page, the entry is taken out of it
-abbrev pub TakesBelow : PageMap → PageMap → ℕ → Key → Result Removed Fault → Type 0
+abbrev pub TakesBelow : PageMap → PageMap → ℕ → Key → Result Removed SpaceError → Type 0
 TakesBelow old new page k result = (d : ℕ) (t : Tree d) (lo : Key) (hi : Option Key) → IsUnder old page d t lo hi → IfOk result (IsTaken old new d t k)
 
 -- the key of a second tree is a small one
@@ -138,7 +138,7 @@ pub record IsLeftBelow (before old : PageMap) (page : ℕ) (view : PageView) (at
   pub taken : IsTaken before old d (kid t.first t.rest at) k below
 
 -- whatever tree was under the page before the removal under the child, the entry is now taken out of it
-abbrev pub Settles : PageMap → PageMap → ℕ → PageView → ℕ → Removed → Result Removed Fault → Type 0
+abbrev pub Settles : PageMap → PageMap → ℕ → PageView → ℕ → Removed → Result Removed SpaceError → Type 0
 Settles old new page view at below result =
     (before : PageMap) (k : Key) (d : ℕ) (t : Tree (suc d)) (lo : Key) (hi : Option Key)
     → IsLeftBelow before old page view at below k d t lo hi → IfOk result (IsTaken before new (suc d) t k)
@@ -174,5 +174,5 @@ Outcome old new owned entries k None = (get_of k entries ≡ None) × (new ≡ o
 Outcome old new owned entries k (Some root) = IsRemoved old new owned entries k root
 
 -- whatever tree is at the root, the entry is taken out of it
-abbrev pub Removes : PageMap → PageMap → ℕ → Key → Result (Option ℕ) Fault → Type 0
+abbrev pub Removes : PageMap → PageMap → ℕ → Key → Result (Option ℕ) SpaceError → Type 0
 Removes old new root k result = (owned : List ℕ) (entries : List Entry) → IsTree old root owned entries → IfOk result (Outcome old new owned entries k)

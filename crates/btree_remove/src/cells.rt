@@ -7,7 +7,7 @@ ghost use Rattle.sqlrecord.specs.Page.{AreCells};
 ghost use Rattle.btree_read.specs.Nodes.{node_of, IsStocked, HasNode};
 
 use btree::write_page;
-use page_space::{Fault, PageSpace};
+use page_space::{SpaceError, PageSpace};
 use sqlrecord::SlotPage;
 use std::alloc::{AllocError, Global};
 
@@ -42,7 +42,7 @@ pub(crate) fn write_without<S: PageSpace>(
     node: &SlotPage<'_>,
     at: usize,
     behind: usize,
-) -> Result<(), Fault>
+) -> Result<(), SpaceError>
     requires order { at ≤ behind }
     requires within { behind ≤ length node.now.cells }
     requires fits { Fits node.now.cells }

@@ -17,7 +17,7 @@ use crate::outcome::Removed;
 use crate::pair::Pair;
 use btree::{cells_with, write_inner};
 use btree_read::{Branch, read_node};
-use page_space::{Fault, PAGE_SIZE, PageSpace};
+use page_space::{SpaceError, PAGE_SIZE, PageSpace};
 use sqlrecord::{MAXIMUM_KEY, PageKind, SlotPage, are_cells, inner_cell};
 use std::alloc::Global;
 
@@ -43,7 +43,7 @@ fn put_cell<'a, S: PageSpace>(
     at: usize,
     behind: usize,
     cell: &'a [u8],
-) -> Result<Option<Branch>, Fault>
+) -> Result<Option<Branch>, SpaceError>
     requires order { at ≤ behind }
     requires within { behind ≤ length node.now.cells }
     requires inner { node.now.kind ≡ Inner }
@@ -62,7 +62,7 @@ fn put_cell<'a, S: PageSpace>(
 {
     let cells = cells_with(alloc, node, at, behind, cell)?;
     if !are_cells(PageKind::Inner, cells.as_slice()) {
-        return Err(Fault::Damaged);
+        return Err(SpaceError::Damaged);
     }
     write_inner(space, alloc, page, first, cells.as_slice(), false)
 }
@@ -76,7 +76,7 @@ fn leave_out<S: PageSpace>(
     node: &SlotPage<'_>,
     at: usize,
     behind: usize,
-) -> Result<Removed, Fault>
+) -> Result<Removed, SpaceError>
     requires order { at ≤ behind }
     requires within { behind ≤ length node.now.cells }
     requires inner { node.now.kind ≡ Inner }
@@ -106,7 +106,7 @@ pub(crate) fn exchange_branches<S: PageSpace>(
     at: usize,
     behind: usize,
     branch: Option<Branch>,
-) -> Result<Removed, Fault>
+) -> Result<Removed, SpaceError>
     requires order { at ≤ behind }
     requires small { IfSome branch IsSmallBranch }
     ensures written { (first : ℕ) (bs : List Branch) → HasNode (S.pages space.old) page (InnerNode first bs) → behind ≤ length bs
@@ -122,7 +122,7 @@ pub(crate) fn exchange_branches<S: PageSpace>(
     let mut buffer = [0; PAGE_SIZE];
     let node = read_node(space, page, &mut buffer)?;
     if !has_branches(&node, behind) {
-        return Err(Fault::Damaged);
+        return Err(SpaceError::Damaged);
     }
     let Some(branch) = branch else {
         return leave_out(space, alloc, page, &node, at, behind);
@@ -151,7 +151,7 @@ fn add_child<'a, S: PageSpace>(
     node: &SlotPage<'a>,
     only: u32,
     cell: &'a [u8],
-) -> Result<Option<Branch>, Fault>
+) -> Result<Option<Branch>, SpaceError>
     requires inner { node.now.kind ≡ Inner }
     requires fits { Fits node.now.cells }
     requires cell { IsCell Inner cell.now }
@@ -202,7 +202,7 @@ pub(crate) fn join_inners<S: PageSpace>(
     pair: &Pair,
     divider: &[u8],
     only: u32,
-) -> Result<Option<Branch>, Fault>
+) -> Result<Option<Branch>, SpaceError>
     ensures before { (first : ℕ) (bs : List Branch) → pair.now.kept ≡ pair.now.right → HasNode (S.pages space.old) pair.now.kept (InnerNode first bs)
         → IsSome (S.pages space.old pair.now.left) → pair.now.left ≢ pair.now.right
         → IfOk result (AreInnersJoined (S.pages space.old) (S.pages space.new) pair.now.left pair.now.right only (record { key = divider.now; child = first } ∷ bs)) }
@@ -221,7 +221,7 @@ pub(crate) fn join_inners<S: PageSpace>(
     ensures follows { S.follows space.old space.new }
 {
     if divider.len() > MAXIMUM_KEY {
-        return Err(Fault::Damaged);
+        return Err(SpaceError::Damaged);
     }
     let mut buffer = [0; PAGE_SIZE];
     let node = read_node(space, pair.kept, &mut buffer)?;
@@ -231,6 +231,6 @@ pub(crate) fn join_inners<S: PageSpace>(
             let cell = inner_cell(alloc, divider, child)?;
             add_child(space, alloc, pair, &node, only, cell.as_slice())
         }
-        PageKind::Leaf => Err(Fault::Damaged),
+        PageKind::Leaf => Err(SpaceError::Damaged),
     }
 }

@@ -14,7 +14,7 @@ use crate::cells::write_without;
 use crate::outcome::Removed;
 use crate::pair::Pair;
 use btree_read::{Start, first_place, is_before, read_node};
-use page_space::{Fault, PAGE_SIZE, PageSpace};
+use page_space::{SpaceError, PAGE_SIZE, PageSpace};
 use sqlrecord::{PageKind, SlotPage};
 use std::alloc::Global;
 
@@ -40,7 +40,7 @@ pub(crate) fn take_from_leaf<S: PageSpace>(
     page: u32,
     leaf: &SlotPage<'_>,
     key: &[u8],
-) -> Result<Removed, Fault>
+) -> Result<Removed, SpaceError>
     requires leaf { leaf.now.kind ≡ Leaf }
     requires fits { Fits leaf.now.cells }
     ensures taken { IsSome (S.pages space.old page) → IsStocked (LeafNode leaf.now.link (map entry_of leaf.now.cells))
@@ -62,7 +62,7 @@ pub(crate) fn take_from_leaf<S: PageSpace>(
 }
 
 /// The page that a leaf names as the next one.
-fn next_leaf<S: PageSpace>(space: &mut S, page: u32) -> Result<u32, Fault>
+fn next_leaf<S: PageSpace>(space: &mut S, page: u32) -> Result<u32, SpaceError>
     ensures next { (next : ℕ) (es : List Entry) → HasNode (S.pages space.old) page (LeafNode next es) → IfOk result (λ link. link ≡ next) }
     ensures same { S.pages space.new ≡ S.pages space.old }
     ensures whole { S.is_whole space.old → S.is_whole space.new }
@@ -81,7 +81,7 @@ pub(crate) fn join_leaves<S: PageSpace>(
     space: &mut S,
     alloc: Global,
     pair: &Pair,
-) -> Result<(), Fault>
+) -> Result<(), SpaceError>
     ensures joined { (a b : ℕ) (es ys : List Entry) → HasNode (S.pages space.old) pair.now.kept (LeafNode a es) → HasNode (S.pages space.old) pair.now.right (LeafNode b ys)
         → IsSome (S.pages space.old pair.now.left) → pair.now.left ≢ pair.now.right → OnOk result (AreLeavesJoined (S.pages space.old) (S.pages space.new) pair.now.left pair.now.right b es) }
     ensures whole { OnOk result (S.is_whole space.old → S.is_whole space.new) }

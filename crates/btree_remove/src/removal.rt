@@ -12,7 +12,7 @@ use crate::outcome::Removed;
 use crate::settling::settle;
 use btree::write_page;
 use btree_read::{Branch, MAXIMUM_LEVELS, Start, child_at, first_place, read_node};
-use page_space::{Fault, PAGE_SIZE, PageSpace};
+use page_space::{SpaceError, PAGE_SIZE, PageSpace};
 use sqlrecord::{PageKind, inner_cell};
 use std::alloc::Global;
 
@@ -23,7 +23,7 @@ fn remove_below<S: PageSpace>(
     page: u32,
     levels: u32,
     key: &[u8],
-) -> Result<Removed, Fault>
+) -> Result<Removed, SpaceError>
     ensures taken { TakesBelow (S.pages space.old) (S.pages space.new) page key.now result }
     ensures small { IfOk result IsSmallOutcome }
     ensures whole { OnOk result (S.is_whole space.old → S.is_whole space.new) }
@@ -37,7 +37,7 @@ fn remove_below<S: PageSpace>(
         PageKind::Leaf => take_from_leaf(space, alloc, page, &node, key),
         PageKind::Inner => {
             if levels == 0 {
-                return Err(Fault::Damaged);
+                return Err(SpaceError::Damaged);
             }
             let at = first_place(&node, Start::Behind, key);
             let child = child_at(&node, at);
@@ -53,7 +53,7 @@ fn root_over<S: PageSpace>(
     alloc: Global,
     first: u32,
     branch: &Branch,
-) -> Result<u32, Fault>
+) -> Result<u32, SpaceError>
     requires { IsSmallBranch branch.now }
     ensures over { IfOk result (IsRootOver (S.pages space.old) (S.pages space.new) first branch.now) }
     ensures whole { OnOk result (S.is_whole space.old → S.is_whole space.new) }
@@ -77,7 +77,7 @@ pub fn remove<S: PageSpace>(
     alloc: Global,
     root: u32,
     key: &[u8],
-) -> Result<Option<u32>, Fault>
+) -> Result<Option<u32>, SpaceError>
     ensures removes { Removes (S.pages space.old) (S.pages space.new) root key.now result }
     ensures whole { OnOk result (S.is_whole space.old → S.is_whole space.new) }
     ensures refusal { IfErr result (ChangeRefused (S.at_limit space.new) (IsNoTreeIn (S.pages space.old) root (S.is_whole space.old)) (S.refused space.old) (S.refused space.new)) }

@@ -12,7 +12,7 @@ use crate::inner::{exchange_branches, join_inners};
 use crate::leaf::join_leaves;
 use crate::outcome::Removed;
 use crate::pair::pair_at;
-use page_space::{Fault, PageSpace};
+use page_space::{SpaceError, PageSpace};
 use sqlrecord::SlotPage;
 use std::alloc::Global;
 
@@ -23,7 +23,7 @@ fn join_emptied<S: PageSpace>(
     page: u32,
     node: &SlotPage<'_>,
     at: usize,
-) -> Result<Removed, Fault>
+) -> Result<Removed, SpaceError>
     requires inner { node.now.kind ≡ Inner }
     requires some { 0 < length node.now.cells }
     requires place { at ≤ length node.now.cells }
@@ -48,7 +48,7 @@ fn join_lone<S: PageSpace>(
     node: &SlotPage<'_>,
     at: usize,
     only: u32,
-) -> Result<Removed, Fault>
+) -> Result<Removed, SpaceError>
     requires inner { node.now.kind ≡ Inner }
     requires some { 0 < length node.now.cells }
     requires place { at ≤ length node.now.cells }
@@ -73,7 +73,7 @@ pub(crate) fn settle<S: PageSpace>(
     node: &SlotPage<'_>,
     at: usize,
     below: Removed,
-) -> Result<Removed, Fault>
+) -> Result<Removed, SpaceError>
     requires inner { node.now.kind ≡ Inner }
     requires some { 0 < length node.now.cells }
     requires place { at ≤ length node.now.cells }

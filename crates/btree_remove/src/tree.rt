@@ -6,11 +6,11 @@ ghost use Rattle.btree.specs.Overfull.{IsNoTreeIn};
 ghost use Rattle.btree_remove.specs.Dropped.{DropsBelow, Drops, HasNoTreeIn};
 
 use btree_read::{MAXIMUM_LEVELS, child_at, read_node};
-use page_space::{Fault, PAGE_SIZE, PageSpace};
+use page_space::{SpaceError, PAGE_SIZE, PageSpace};
 use sqlrecord::PageKind;
 
 /// Gives back all pages of the tree under a page.
-fn drop_below<S: PageSpace>(space: &mut S, page: u32, levels: u32) -> Result<(), Fault>
+fn drop_below<S: PageSpace>(space: &mut S, page: u32, levels: u32) -> Result<(), SpaceError>
     ensures dropped { DropsBelow (S.pages space.old) (S.pages space.new) page result }
     ensures whole { OnOk result (S.is_whole space.old → S.is_whole space.new) }
     ensures refusal { IfErr result (ChangeRefused (S.at_limit space.new) (HasNoTreeIn (S.pages space.old) page levels (S.is_whole space.old)) (S.refused space.old) (S.refused space.new)) }
@@ -23,7 +23,7 @@ fn drop_below<S: PageSpace>(space: &mut S, page: u32, levels: u32) -> Result<(),
         PageKind::Leaf => space.free(page),
         PageKind::Inner => {
             if levels == 0 {
-                return Err(Fault::Damaged);
+                return Err(SpaceError::Damaged);
             }
             let first = child_at(&node, 0);
             drop_below(space, first, levels - 1)?;
@@ -40,7 +40,7 @@ fn drop_below<S: PageSpace>(space: &mut S, page: u32, levels: u32) -> Result<(),
 /// entries, in no page. Refused for memory, where the device refuses a call, at a limit where the
 /// space is at it, and as damaged only where no tree is at the root or the list of free pages is
 /// none.
-pub fn drop_tree<S: PageSpace>(space: &mut S, root: u32) -> Result<(), Fault>
+pub fn drop_tree<S: PageSpace>(space: &mut S, root: u32) -> Result<(), SpaceError>
     ensures dropped { Drops (S.pages space.old) (S.pages space.new) root result }
     ensures whole { OnOk result (S.is_whole space.old → S.is_whole space.new) }
     ensures refusal { IfErr result (ChangeRefused (S.at_limit space.new) (IsNoTreeIn (S.pages space.old) root (S.is_whole space.old)) (S.refused space.old) (S.refused space.new)) }

@@ -27,7 +27,7 @@ use Rattle.catalog.specs.Held.{entry_of, entries_of, IsCoded, AreCoded, HoldsSch
 use Rattle.catalog.specs.Changed.{with_table, IsFree, SchemaWritten, MayRefuse}
 use Rattle.catalog.specs.declared.error.ChangeError.{ChangeError}
 use Rattle.catalog.specs.declared.error.ChangeError.TheVariants.{Space, Record, Key as LongKey}
-use Rattle.page_space.specs.declared.fault.Fault.{Fault}
+use Rattle.page_space.specs.declared.error.SpaceError.{SpaceError}
 use Rattle.btree.proofs.RefusalLemmas.{change_refused}
 use Rattle.catalog.proofs.OrderLemmas.{less_bytes, named_less, name_greater}
 use Rattle.catalog.proofs.PutLemmas.{entries_append}
@@ -165,11 +165,11 @@ altered (Ok next) old mid new root top owned before behind was now same good hel
 
 -- ---- refusals
 
-later : (AtLimit : Fault → Type 0) (H G : Type 0) (a b c : ℕ) (e : ChangeError) → a ≤ b → (H → G) → MayRefuse AtLimit H b c e → MayRefuse AtLimit G a c e
+later : (AtLimit : SpaceError → Type 0) (H G : Type 0) (a b c : ℕ) (e : ChangeError) → a ≤ b → (H → G) → MayRefuse AtLimit H b c e → MayRefuse AtLimit G a c e
 later AtLimit H G a b c (Space f) h g w = change_refused AtLimit H G a b c f h g w
 later AtLimit H G a b c Record h g w = tt
 later AtLimit H G a b c LongKey h g w = tt
 
-pub refused_behind : {A : Type 0} (result : Result A ChangeError) (AtLimit : Fault → Type 0) (H G : Type 0) (a b c : ℕ) → a ≤ b → (H → G) → IfErr result (MayRefuse AtLimit H b c) → IfErr result (MayRefuse AtLimit G a c)
+pub refused_behind : {A : Type 0} (result : Result A ChangeError) (AtLimit : SpaceError → Type 0) (H G : Type 0) (a b c : ℕ) → a ≤ b → (H → G) → IfErr result (MayRefuse AtLimit H b c) → IfErr result (MayRefuse AtLimit G a c)
 refused_behind (Ok x) AtLimit H G a b c h g w = tt
 refused_behind (Err e) AtLimit H G a b c h g w = later AtLimit H G a b c e h g w

@@ -8,8 +8,8 @@ use Rattle.catalog_records.specs.declared.record.Record as catalogued
 use Rattle.sqlrecord.specs.Key.{key_code}
 use Rattle.sqlrecord.specs.Row.{row_code}
 use Rattle.page_space.specs.Space.{PageMap, ChangeRefused}
-use Rattle.page_space.specs.declared.fault.Fault.{Fault}
-use Rattle.page_space.specs.declared.fault.Fault.TheVariants.{Memory}
+use Rattle.page_space.specs.declared.error.SpaceError.{SpaceError}
+use Rattle.page_space.specs.declared.error.SpaceError.TheVariants.{Memory}
 use Rattle.catalog.specs.declared.error.ChangeError.{ChangeError}
 use Rattle.catalog.specs.declared.error.ChangeError.TheVariants.{Space, Record, Key}
 use Rattle.btree_read.specs.declared.entry.Entry.{Entry}
@@ -48,7 +48,7 @@ HoldsNoSchemaIn pages root Whole = (owned : List ℕ) (tables : List Table) → 
 
 -- Why a change of a schema may be refused, with what is known where it was for damage and with the counts of refused device calls before and after: as a
 -- change of pages is, and where a record is too long.
-abbrev pub MayRefuse : (Fault → Type 0) → Type 0 → ℕ → ℕ → ChangeError → Type 0
+abbrev pub MayRefuse : (SpaceError → Type 0) → Type 0 → ℕ → ℕ → ChangeError → Type 0
 MayRefuse AtLimit Harm before after (Space fault) = ChangeRefused AtLimit Harm before after fault
 MayRefuse AtLimit Harm before after Record = ⊤
 MayRefuse AtLimit Harm before after Key = ⊤

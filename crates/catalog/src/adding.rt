@@ -19,7 +19,7 @@ use crate::ChangeError;
 use btree::insert;
 use catalog_records::{Record, WriteError, records_of_table, table_record};
 use items::{Items, Text};
-use page_space::{Fault, PageSpace};
+use page_space::{SpaceError, PageSpace};
 use sqlrecord::{EncodeError, MAXIMUM_KEY, encode_key, encode_row};
 use sqlval::{Table, Value};
 use std::alloc::Global;
@@ -41,7 +41,7 @@ fn code_of_key(alloc: Global, key: &[Value]) -> Result<Items<u8>, ChangeError>
             }
             Ok(code)
         }
-        Err(EncodeError::OutOfMemory) => Err(ChangeError::Space(Fault::Memory)),
+        Err(EncodeError::OutOfMemory) => Err(ChangeError::Space(SpaceError::Memory)),
         Err(_) => Err(ChangeError::Key),
     }
 }
@@ -55,7 +55,7 @@ fn code_of_row(alloc: Global, row: &[Value]) -> Result<Items<u8>, ChangeError>
 {
     match encode_row(alloc, row) {
         Ok(code) => Ok(code),
-        Err(EncodeError::OutOfMemory) => Err(ChangeError::Space(Fault::Memory)),
+        Err(EncodeError::OutOfMemory) => Err(ChangeError::Space(SpaceError::Memory)),
         Err(_) => Err(ChangeError::Record),
     }
 }
@@ -117,7 +117,7 @@ fn records_of(alloc: Global, table: &Table) -> Result<Items<Record>, ChangeError
 {
     match records_of_table(alloc, table) {
         Ok(records) => Ok(records),
-        Err(WriteError::Memory) => Err(ChangeError::Space(Fault::Memory)),
+        Err(WriteError::Memory) => Err(ChangeError::Space(SpaceError::Memory)),
         Err(WriteError::TooLong) => Err(ChangeError::Record),
     }
 }
@@ -174,7 +174,7 @@ fn record_of_table(alloc: Global, name: &Text, root: u32) -> Result<Record, Chan
 {
     match table_record(alloc, name, root) {
         Ok(made) => Ok(made),
-        Err(WriteError::Memory) => Err(ChangeError::Space(Fault::Memory)),
+        Err(WriteError::Memory) => Err(ChangeError::Space(SpaceError::Memory)),
         Err(WriteError::TooLong) => Err(ChangeError::Record),
     }
 }

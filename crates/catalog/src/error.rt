@@ -1,4 +1,4 @@
-use page_space::Fault;
+use page_space::SpaceError;
 use std::alloc::AllocError;
 use thiserror::Error;
 
@@ -7,7 +7,7 @@ use thiserror::Error;
 pub enum ChangeError {
     /// The space of pages refused a call, or memory was wanting.
     #[error("{0}")]
-    Space(Fault),
+    Space(SpaceError),
     /// The limit `record`: a record's row takes more than 1,000 bytes, or its key and row together more than 1,008.
     #[error("a record is too long")]
     Record,
@@ -19,11 +19,11 @@ pub enum ChangeError {
 impl From<AllocError> for ChangeError {
     ghost use Rattle.std.specs.Prelude.{◌≡◌};
     ghost use Rattle.catalog.specs.declared.error.ChangeError.TheVariants.{Space};
-    ghost use Rattle.page_space.specs.declared.fault.Fault.TheVariants.{Memory};
+    ghost use Rattle.page_space.specs.declared.error.SpaceError.TheVariants.{Memory};
 
     ghost from_gives = { λ _ error. error ≡ Space Memory };
 
     fn from(_refused: AllocError) -> ChangeError {
-        ChangeError::Space(Fault::Memory)
+        ChangeError::Space(SpaceError::Memory)
     }
 }

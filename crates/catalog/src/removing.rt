@@ -15,7 +15,7 @@ use btree_remove::remove;
 use crate::error::ChangeError;
 use catalog_records::{Record, WriteError, records_of_table};
 use items::Items;
-use page_space::{Fault, PageSpace};
+use page_space::{SpaceError, PageSpace};
 use sqlrecord::{EncodeError, encode_key};
 use sqlval::{Table, Value};
 use std::alloc::Global;
@@ -27,7 +27,7 @@ fn code_of_key(alloc: Global, key: &[Value]) -> Result<Items<u8>, ChangeError>
 {
     match encode_key(alloc, key) {
         Ok(code) => Ok(code),
-        Err(EncodeError::OutOfMemory) => Err(ChangeError::Space(Fault::Memory)),
+        Err(EncodeError::OutOfMemory) => Err(ChangeError::Space(SpaceError::Memory)),
         Err(_) => Err(ChangeError::Key),
     }
 }
@@ -85,7 +85,7 @@ fn records_of(alloc: Global, table: &Table) -> Result<Items<Record>, ChangeError
 {
     match records_of_table(alloc, table) {
         Ok(records) => Ok(records),
-        Err(WriteError::Memory) => Err(ChangeError::Space(Fault::Memory)),
+        Err(WriteError::Memory) => Err(ChangeError::Space(SpaceError::Memory)),
         Err(WriteError::TooLong) => Err(ChangeError::Record),
     }
 }

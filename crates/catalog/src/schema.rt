@@ -7,7 +7,7 @@ ghost use Rattle.catalog.specs.Held.{HoldsSchema, HoldsNoSchema};
 use crate::decoding::schema_of_entries;
 use btree_read::scan;
 use catalog_records::ReadError;
-use page_space::{Fault, PageReader};
+use page_space::{SpaceError, PageReader};
 use sqlval::Schema;
 use std::alloc::Global;
 
@@ -15,7 +15,7 @@ use std::alloc::Global;
 ///
 /// Refused for want of memory, where the device refuses a call, and as damaged only where no schema is held
 /// there.
-pub fn read_schema<R: PageReader>(space: &mut R, alloc: Global, root: u32) -> Result<Schema, Fault>
+pub fn read_schema<R: PageReader>(space: &mut R, alloc: Global, root: u32) -> Result<Schema, SpaceError>
     ensures found { (owned : List ℕ) (tables : List AnyTable) → HoldsSchema (R.pages space.old) root owned tables → IfOk result (λ schema. schema.tables ≡ tables) }
     ensures same { R.pages space.new ≡ R.pages space.old }
     ensures whole { R.is_whole space.old → R.is_whole space.new }
@@ -26,7 +26,7 @@ pub fn read_schema<R: PageReader>(space: &mut R, alloc: Global, root: u32) -> Re
     let entries = scan(space, alloc, root)?;
     match schema_of_entries(alloc, entries.as_slice()) {
         Ok(schema) => Ok(schema),
-        Err(ReadError::Memory) => Err(Fault::Memory),
-        Err(ReadError::Damaged) => Err(Fault::Damaged),
+        Err(ReadError::Memory) => Err(SpaceError::Memory),
+        Err(ReadError::Damaged) => Err(SpaceError::Damaged),
     }
 }

@@ -13,7 +13,7 @@ use Rattle.store.specs.View.{AreEntries, entry_of}
 use Rattle.store.specs.declared.rows.NumberedRow.{NumberedRow}
 use Rattle.store.specs.declared.rows.Numbered.{Numbered}
 use Rattle.page_space.specs.Space.{PageMap}
-use Rattle.page_space.specs.declared.fault.Fault.{Fault}
+use Rattle.page_space.specs.declared.error.SpaceError.{SpaceError}
 use Rattle.btree_read.specs.Lists.{Has}
 use Rattle.btree_read.proofs.ListLemmas.{each_append}
 use Rattle.btree_read.proofs.NodeLemmas.{not_fresh}
@@ -105,24 +105,24 @@ replace_unsettled old mid root top table found row put are h w keeps =
 
 -- ---- refusals
 
-pub append_refused : (e : AppendError) (r : DatabaseError) (A : Fault → Type 0) (H G : Type 0) (k b m : ℕ) (rows : List Row) → r ≡ of_append e → (H → G) → k ≤ b → MayRefuse A H b m rows e → SpaceRefused A G k m r
+pub append_refused : (e : AppendError) (r : DatabaseError) (A : SpaceError → Type 0) (H G : Type 0) (k b m : ℕ) (rows : List Row) → r ≡ of_append e → (H → G) → k ≤ b → MayRefuse A H b m rows e → SpaceRefused A G k m r
 append_refused (put.Space f) r A H G k b m rows is more rises h = rw is (change_refused A H G k b m f rises more h)
 append_refused put.Record r A H G k b m rows is more rises h = rw is tt
 append_refused put.Number r A H G k b m rows is more rises h = rw is tt
 
 -- how many rows there were is known where they are
-pub append_reaches : (e : AppendError) (r : DatabaseError) (A : Fault → Type 0) (H K Known : Type 0) (k m : ℕ) (given rows : List Row) (held : Known → List Entry) → r ≡ of_append e → given ≡ rows → MayRefuse A H k m given e
+pub append_reaches : (e : AppendError) (r : DatabaseError) (A : SpaceError → Type 0) (H K Known : Type 0) (k m : ℕ) (given rows : List Row) (held : Known → List Entry) → r ≡ of_append e → given ≡ rows → MayRefuse A H k m given e
     → ((h : Known) → NumbersEnd (held h) (length given) e) → Reaches (HasLongRow rows) K ((h : Known) → 2 ^ 63 < next_number (held h) + length rows) r
 append_reaches (put.Space f) r A H K Known k m given rows held is same h g = rw is tt
 append_reaches put.Record r A H K Known k m given rows held is same h g = rw is (subst (λ (rs : List Row). HasLongRow rs) same h)
 append_reaches put.Number r A H K Known k m given rows held is same h g = rw is (λ known. subst (λ (rs : List Row). 2 ^ 63 < next_number (held known) + length rs) same (g known))
 
-pub row_refused : (e : AppendError) (r : DatabaseError) (A : Fault → Type 0) (H G : Type 0) (k b m : ℕ) (row : Row) → r ≡ of_append e → (H → G) → k ≤ b → MayRefuseRow A H b m row e → SpaceRefused A G k m r
+pub row_refused : (e : AppendError) (r : DatabaseError) (A : SpaceError → Type 0) (H G : Type 0) (k b m : ℕ) (row : Row) → r ≡ of_append e → (H → G) → k ≤ b → MayRefuseRow A H b m row e → SpaceRefused A G k m r
 row_refused (put.Space f) r A H G k b m row is more rises h = rw is (change_refused A H G k b m f rises more h)
 row_refused put.Record r A H G k b m row is more rises h = rw is tt
 row_refused put.Number r A H G k b m row is more rises h = rw is tt
 
-pub row_reaches : (e : AppendError) (r : DatabaseError) (A : Fault → Type 0) (H K : Type 0) (k m : ℕ) (row : Row) → r ≡ of_append e → MayRefuseRow A H k m row e → Reaches (HasLongRow (row ∷ [])) K ⊥ r
+pub row_reaches : (e : AppendError) (r : DatabaseError) (A : SpaceError → Type 0) (H K : Type 0) (k m : ℕ) (row : Row) → r ≡ of_append e → MayRefuseRow A H k m row e → Reaches (HasLongRow (row ∷ [])) K ⊥ r
 row_reaches (put.Space f) r A H K k m row is h = rw is tt
 row_reaches put.Record r A H K k m row is h = rw is (record { row = row; one = (0, omega arith, refl); long = h })
 row_reaches put.Number r A H K k m row is h = absurd h

@@ -17,7 +17,7 @@ use Rattle.denote.specs.SchemaOf.{index_of}
 use Rattle.store.specs.Contents.{Entry, StoredTable, without_index, unindexed}
 use Rattle.store.proofs.Databases.{same_tables}
 use Rattle.page_space.specs.Space.{PageMap, ChangeRefused}
-use Rattle.page_space.specs.declared.fault.Fault.{Fault}
+use Rattle.page_space.specs.declared.error.SpaceError.{SpaceError}
 use Rattle.std.specs.Result.{IfErr, IsErrAnd}
 use Rattle.std.proofs.lemmas.Result.{err_from_is_err_and}
 use Rattle.btree.proofs.RefusalLemmas.{change_refused}
@@ -45,7 +45,7 @@ pub not_both : (b : Bool) → b ≡ true → b ≡ false → ⊥
 not_both b e f = let bad : true ≡ false = sym e ∙ f in absurd (cc)
 
 -- a refusal of the space at the exit of a `?`
-pub exit_fault : {X : Type 0} (result : Result X Fault) (f : Fault) (A : Fault → Type 0) (H G : Type 0) (k b m : ℕ) → (H → G) → k ≤ b → IsErrAnd result (λ y. y ≡ f) → ChangeRefused A H b m f → IfErr result (ChangeRefused A G k m)
+pub exit_fault : {X : Type 0} (result : Result X SpaceError) (f : SpaceError) (A : SpaceError → Type 0) (H G : Type 0) (k b m : ℕ) → (H → G) → k ≤ b → IsErrAnd result (λ y. y ≡ f) → ChangeRefused A H b m f → IfErr result (ChangeRefused A G k m)
 exit_fault result f A H G k b m more rises is h = let p = err_from_is_err_and result is in rw (p.1, p.2) (change_refused A H G k b m f rises more h)
 
 -- ---- what is declared

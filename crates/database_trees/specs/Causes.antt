@@ -1,5 +1,5 @@
 -- Why a database was not changed, by the refusals of what it stands on.
-use Rattle.page_space.specs.declared.fault.Fault.TheVariants.{Damaged}
+use Rattle.page_space.specs.declared.error.SpaceError.TheVariants.{Damaged}
 use Rattle.catalog.specs.declared.error.ChangeError.{ChangeError}
 use Rattle.catalog.specs.declared.error.ChangeError.TheVariants as change
 use Rattle.index_trees.specs.declared.error.IndexError.{IndexError}

@@ -7,8 +7,8 @@ use Rattle.store.specs.Contents.{Contents, next_number}
 use Rattle.store.specs.Indexes.{entries_of}
 use Rattle.store.specs.Errors.{HasLongRow, HasLongKey, indexes_of}
 use Rattle.page_space.specs.Space.{PageMap, ChangeRefused}
-use Rattle.page_space.specs.declared.fault.Fault.{Fault}
-use Rattle.page_space.specs.declared.fault.Fault.TheVariants.{Memory}
+use Rattle.page_space.specs.declared.error.SpaceError.{SpaceError}
+use Rattle.page_space.specs.declared.error.SpaceError.TheVariants.{Memory}
 use Rattle.database_trees.specs.declared.error.DatabaseError.{DatabaseError}
 use Rattle.database_trees.specs.declared.error.DatabaseError.TheVariants.{Space, Record, Key, Number, Schema}
 use Rattle.database_trees.specs.Held.{TableAt, HoldsFor, HoldsDatabase, contents_of}
@@ -31,7 +31,7 @@ abbrev pub HoldsNoDatabaseIn : PageMap → ℕ → Type 0 → Type 0
 HoldsNoDatabaseIn pages root Whole = (tables : List TableAt) → HoldsDatabase pages root tables → Whole → ⊥
 
 -- Why the space of pages may refuse a change, with what is known where it was for damage and with the counts of refused device calls before and after; of the other refusals nothing is said here.
-abbrev pub SpaceRefused : (Fault → Type 0) → Type 0 → ℕ → ℕ → DatabaseError → Type 0
+abbrev pub SpaceRefused : (SpaceError → Type 0) → Type 0 → ℕ → ℕ → DatabaseError → Type 0
 SpaceRefused AtLimit Harm before after (Space fault) = ChangeRefused AtLimit Harm before after fault
 SpaceRefused AtLimit Harm before after Record = ⊤
 SpaceRefused AtLimit Harm before after Key = ⊤

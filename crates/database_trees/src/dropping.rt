@@ -14,12 +14,12 @@ use crate::error::of_change;
 use crate::naming::find_table;
 use btree_remove::drop_tree;
 use items::{Items, Text};
-use page_space::{Fault, PageSpace};
+use page_space::{SpaceError, PageSpace};
 use sqlval::{Index, Table};
 use std::alloc::Global;
 
 /// Gives back the trees of these indexes.
-fn drop_indexes<S: PageSpace>(space: &mut S, indexes: &Items<Index>) -> Result<(), Fault>
+fn drop_indexes<S: PageSpace>(space: &mut S, indexes: &Items<Index>) -> Result<(), SpaceError>
     ensures dropped { (alone : Bool) (h : AreIndexes alone (S.pages space.old) indexes.now) → OnOk result (AreDropped (S.pages space.old) (S.pages space.new) (pages_of (trees_of_indexes h.rows h.its))) }
     ensures whole { OnOk result (S.is_whole space.old → S.is_whole space.new) }
     ensures refusal { IfErr result (ChangeRefused (S.at_limit space.new) (AreIndexes false (S.pages space.old) indexes.now → S.is_whole space.old → ⊥) (S.refused space.old) (S.refused space.new)) }
@@ -33,7 +33,7 @@ fn drop_indexes<S: PageSpace>(space: &mut S, indexes: &Items<Index>) -> Result<(
 }
 
 /// Gives back the trees of a table.
-fn drop_trees<S: PageSpace>(space: &mut S, table: &Table) -> Result<(), Fault>
+fn drop_trees<S: PageSpace>(space: &mut S, table: &Table) -> Result<(), SpaceError>
     ensures dropped { (alone : Bool) (h : AreTreesOf alone (S.pages space.old) table.now) → OnOk result (AreDropped (S.pages space.old) (S.pages space.new) (pages_of (table_trees h.at))) }
     ensures whole { OnOk result (S.is_whole space.old → S.is_whole space.new) }
     ensures refusal { IfErr result (ChangeRefused (S.at_limit space.new) (AreTreesOf false (S.pages space.old) table.now → S.is_whole space.old → ⊥) (S.refused space.old) (S.refused space.new)) }

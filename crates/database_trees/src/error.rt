@@ -3,7 +3,7 @@ ghost use Rattle.database_trees.specs.Causes.{of_index, of_removal, of_append, o
 
 use catalog::ChangeError;
 use index_trees::IndexError;
-use page_space::Fault;
+use page_space::SpaceError;
 use std::alloc::AllocError;
 use tablestore::AppendError;
 use thiserror::Error;
@@ -13,7 +13,7 @@ use thiserror::Error;
 pub enum DatabaseError {
     /// The space of pages refused a call, or memory was wanting.
     #[error("{0}")]
-    Space(Fault),
+    Space(SpaceError),
     /// The limit `record`: a row's code takes more than 1,000 bytes.
     #[error("a row is too long")]
     Record,
@@ -31,12 +31,12 @@ pub enum DatabaseError {
 impl From<AllocError> for DatabaseError {
     ghost use Rattle.std.specs.Prelude.{◌≡◌};
     ghost use Rattle.database_trees.specs.declared.error.DatabaseError.TheVariants.{Space};
-    ghost use Rattle.page_space.specs.declared.fault.Fault.TheVariants.{Memory};
+    ghost use Rattle.page_space.specs.declared.error.SpaceError.TheVariants.{Memory};
 
     ghost from_gives = { λ _ error. error ≡ Space Memory };
 
     fn from(_refused: AllocError) -> DatabaseError {
-        DatabaseError::Space(Fault::Memory)
+        DatabaseError::Space(SpaceError::Memory)
     }
 }
 
@@ -55,7 +55,7 @@ pub(crate) fn of_removal(error: IndexError) -> DatabaseError
 {
     match error {
         IndexError::Space(fault) => DatabaseError::Space(fault),
-        IndexError::Key => DatabaseError::Space(Fault::Damaged),
+        IndexError::Key => DatabaseError::Space(SpaceError::Damaged),
     }
 }
 

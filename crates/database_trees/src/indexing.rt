@@ -20,7 +20,7 @@ use crate::naming::find_table;
 use crate::settling::put_table;
 use catalog_records::are_among;
 use items::Text;
-use page_space::{Fault, PageSpace};
+use page_space::{SpaceError, PageSpace};
 use sqlval::{Index, Table};
 use std::alloc::Global;
 use tablestore::scan;
@@ -105,7 +105,7 @@ fn put_index<S: PageSpace>(
             Ok(changed) => put_table(space, alloc, root, table, &changed),
             Err(error) => Err(error),
         },
-        Ok(None) => Err(DatabaseError::Space(Fault::Damaged)),
+        Ok(None) => Err(DatabaseError::Space(SpaceError::Damaged)),
         Err(fault) => Err(DatabaseError::Space(fault)),
     }
 }
@@ -142,14 +142,14 @@ fn create_on<S: PageSpace>(
 ) -> Result<u32, DatabaseError>
     ensures indexed { (alone : Bool) (h : IsTableOf alone (S.pages space.old) root table.now) → ArePlaces index.columns → IfOk result (IndexMade alone (S.pages space.new) h.before h.at h.behind index) }
     ensures limits { (h : IsTableOf false (S.pages space.old) root table.now) → IfErr result (Reaches ⊥ (HasLongKey (index_of index ∷ []) (stored.rows_of h.at.rows)) ⊥) }
-    ensures places { (AreAmong (length table.now.columns) index.columns → ⊥) → result ≡ Err (DatabaseError.Space Fault.Memory) }
+    ensures places { (AreAmong (length table.now.columns) index.columns → ⊥) → result ≡ Err (DatabaseError.Space SpaceError.Memory) }
     ensures whole { OnOk result (S.is_whole space.old → S.is_whole space.new) }
     ensures refusal { IfErr result (SpaceRefused (S.at_limit space.new) (IsTableOf false (S.pages space.old) root table.now → S.is_whole space.old → ⊥) (S.refused space.old) (S.refused space.new)) }
     ensures rising { S.refused space.old ≤ S.refused space.new }
     ensures follows { S.follows space.old space.new }
 {
     if !are_among(table.columns.len(), index.columns.as_slice()) {
-        return Err(DatabaseError::Space(Fault::Memory));
+        return Err(DatabaseError::Space(SpaceError::Memory));
     }
     index_on(space, alloc, root, table, index)
 }

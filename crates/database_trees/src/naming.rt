@@ -7,7 +7,7 @@ ghost use Rattle.database_trees.specs.Named.{table_named};
 
 use catalog::read_schema;
 use items::Text;
-use page_space::{Fault, PageReader};
+use page_space::{SpaceError, PageReader};
 use sqlval::{Schema, Table};
 use std::alloc::Global;
 
@@ -39,7 +39,7 @@ pub fn find_table<R: PageReader>(
     alloc: Global,
     root: u32,
     name: &Text,
-) -> Result<Option<Table>, Fault>
+) -> Result<Option<Table>, SpaceError>
     ensures found { (owned : List ℕ) (tables : List AnyTable) → HoldsSchema (R.pages space.old) root owned tables → IfOk result (λ found. found ≡ table_named name.now tables) }
     ensures same { R.pages space.new ≡ R.pages space.old }
     ensures whole { R.is_whole space.old → R.is_whole space.new }

@@ -12,7 +12,7 @@ ghost use Rattle.database_trees.specs.Named.{row_numbered, one_before, if_number
 use crate::DatabaseError;
 use denote::Row;
 use items::Items;
-use page_space::{Fault, PageReader};
+use page_space::{SpaceError, PageReader};
 use std::alloc::Global;
 use store::NumberedRow;
 use tablestore::next;
@@ -71,7 +71,7 @@ pub fn row_of<R: PageReader>(
     alloc: Global,
     root: u32,
     number: u64,
-) -> Result<Option<NumberedRow>, Fault>
+) -> Result<Option<NumberedRow>, SpaceError>
     ensures found { (owned : List ℕ) (rows : List stored.Entry) → HoldsRows (R.pages space.old) root owned rows → IfOk result (λ found. IsEntry found (row_numbered number rows)) }
     ensures same { R.pages space.new ≡ R.pages space.old }
     ensures whole { R.is_whole space.old → R.is_whole space.new }

@@ -13,7 +13,7 @@ use crate::indexes::exchange_each;
 use crate::naming::find_table;
 use catalog::alter_table;
 use items::Items;
-use page_space::{Fault, PageSpace};
+use page_space::{SpaceError, PageSpace};
 use sqlval::{Index, Table};
 use std::alloc::Global;
 
@@ -125,7 +125,7 @@ fn put_roots<S: PageSpace>(
             let changed = table_with(found, rows, roots);
             put_table(space, alloc, root, table, &changed)
         }
-        Ok(None) => Err(DatabaseError::Space(Fault::Damaged)),
+        Ok(None) => Err(DatabaseError::Space(SpaceError::Damaged)),
         Err(fault) => Err(DatabaseError::Space(fault)),
     }
 }

@@ -17,7 +17,7 @@ use crate::settling::put_table;
 use btree_remove::drop_tree;
 use catalog::read_schema;
 use items::{Items, Text};
-use page_space::{Fault, PageSpace};
+use page_space::{SpaceError, PageSpace};
 use sqlval::{Index, Table};
 use std::alloc::Global;
 
@@ -66,7 +66,7 @@ fn table_without(alloc: Global, table: Table, name: &Text) -> Result<Table, Data
 }
 
 /// Gives back the tree of an index, where it has a name.
-fn drop_if_named<S: PageSpace>(space: &mut S, index: &Index, name: &Text) -> Result<(), Fault>
+fn drop_if_named<S: PageSpace>(space: &mut S, index: &Index, name: &Text) -> Result<(), SpaceError>
     ensures dropped { is_named name.now index.now.name ≡ true → Drops (S.pages space.old) (S.pages space.new) index.now.root result }
     ensures same { is_named name.now index.now.name ≡ false → S.pages space.new ≡ S.pages space.old }
     ensures whole { OnOk result (S.is_whole space.old → S.is_whole space.new) }
@@ -82,7 +82,7 @@ fn drop_if_named<S: PageSpace>(space: &mut S, index: &Index, name: &Text) -> Res
 }
 
 /// Gives back the trees of those of these indexes that have a name.
-fn drop_named<S: PageSpace>(space: &mut S, indexes: &Items<Index>, name: &Text) -> Result<(), Fault>
+fn drop_named<S: PageSpace>(space: &mut S, indexes: &Items<Index>, name: &Text) -> Result<(), SpaceError>
     ensures left { (alone : Bool) (h : AreIndexes alone (S.pages space.old) indexes.now) → OnOk result (IndexesLeft alone (S.pages space.new) name.now h.before h.its h.behind h.rows) }
     ensures whole { OnOk result (S.is_whole space.old → S.is_whole space.new) }
     ensures refusal { IfErr result (ChangeRefused (S.at_limit space.new) (AreIndexes false (S.pages space.old) indexes.now → S.is_whole space.old → ⊥) (S.refused space.old) (S.refused space.new)) }
@@ -115,7 +115,7 @@ fn put_without<S: PageSpace>(
             Ok(changed) => put_table(space, alloc, root, table, &changed),
             Err(error) => Err(error),
         },
-        Ok(None) => Err(DatabaseError::Space(Fault::Damaged)),
+        Ok(None) => Err(DatabaseError::Space(SpaceError::Damaged)),
         Err(fault) => Err(DatabaseError::Space(fault)),
     }
 }

@@ -2,7 +2,7 @@
 use Rattle.std.proofs.Common.{◌≡◌, ◌∙◌, ℕ, ◌<◌, ◌≤◌, List, Option, Some, None, Result, Ok, Err, OnOk, OnErr, IfOk, IfErr, IsSome, refl, sym, ap, subst, ◌⊎◌, inl, inr}
 use Rattle.store.specs.Contents.{Contents}
 use Rattle.page_space.specs.Space.{ChangeRefused}
-use Rattle.page_space.specs.declared.fault.Fault.{Fault}
+use Rattle.page_space.specs.declared.error.SpaceError.{SpaceError}
 use Rattle.pool.specs.Pages.{PageMap, over}
 use Rattle.overlay.specs.InUse.{in_use}
 use Rattle.overlay.specs.Layers.{size_of}
@@ -31,7 +31,7 @@ put_owned_after {E} stay read rise (Ok done) version next_version written next r
     (put_after {E = E} stay read rise (Ok done) version next_version written next root contents same has others whole was (written_any (in_use version written) contents root put)) start put
 put_owned_after stay read rise (Err e) version next_version written next root contents same has others whole start was put = has
 
-pub root_put_refused : (result : Result (Unit {0}) Fault) (version next_version written next : PageMap) (root : ℕ) (k n : ℕ) → next_version ≡ version
+pub root_put_refused : (result : Result (Unit {0}) SpaceError) (version next_version written next : PageMap) (root : ℕ) (k n : ℕ) → next_version ≡ version
     → IfErr result (ChangeRefused (AtLimit (over next next_version 0) (size_of next)) (IsWhole (over written version) → (root ≡ 0) ⊎ IsSome (in_use version written root) → ⊥) k n)
     → IfErr result (ChangeRefused (AtLimit (over next version 0) (size_of next)) ((contents : Contents) → IsWholeOver version written → DatabaseWritten (in_use version written) contents root → ⊥) k n)
 root_put_refused (Ok done) version next_version written next root k n same h = h

@@ -16,8 +16,8 @@ use Rattle.store.specs.Indexes.{entries_of}
 use Rattle.pagefile.specs.declared.header.FileHeader.{FileHeader}
 use Rattle.pagefile.specs.Header.{IsHeader}
 use Rattle.page_space.specs.Space.{ReadRefused, ChangeRefused}
-use Rattle.page_space.specs.declared.fault.Fault.{Fault}
-use Rattle.page_space.specs.declared.fault.Fault.TheVariants as fault
+use Rattle.page_space.specs.declared.error.SpaceError.{SpaceError}
+use Rattle.page_space.specs.declared.error.SpaceError.TheVariants as fault
 use Rattle.pool.specs.Pages.{PageMap, over}
 use Rattle.pool.specs.Refused.{IsRefused, IsOfDevice}
 use Rattle.pool.specs.declared.error.PoolError.{PoolError}
@@ -41,7 +41,7 @@ risen_on top k m n less more = omega (arith, less, more)
 pub has_risen : (k m n : ℕ) → k ≤ m → device.HasRisen m n → HasRisen k n
 has_risen k m n less h = risen_on (2 ^ 64 - 1) k m n less h.more
 
-pub read_fails : (sound harm : Type 0) (reached : StoreLimit → Type 0) (k m n : ℕ) (f : Fault) → k ≤ m → (sound → harm → ⊥) → ReadRefused harm m n f → MayFail sound k n reached (of_fault f)
+pub read_fails : (sound harm : Type 0) (reached : StoreLimit → Type 0) (k m n : ℕ) (f : SpaceError) → k ≤ m → (sound → harm → ⊥) → ReadRefused harm m n f → MayFail sound k n reached (of_fault f)
 read_fails sound harm reached k m n fault.Memory less never h = tt
 read_fails sound harm reached k m n fault.Disk less never h = has_risen k m n less h
 read_fails sound harm reached k m n fault.Damaged less never h = λ s. never s h
@@ -49,7 +49,7 @@ read_fails sound harm reached k m n fault.Pages less never h = absurd h
 read_fails sound harm reached k m n fault.Private less never h = absurd h
 
 -- page 0 of a database is a header
-pub header_fails : (version written : PageMap) (reached : StoreLimit → Type 0) (k n : ℕ) (f : Fault) → ReadRefused ((header : FileHeader) → IsSaid (over written version 0) header → ⊥) k n f
+pub header_fails : (version written : PageMap) (reached : StoreLimit → Type 0) (k n : ℕ) (f : SpaceError) → ReadRefused ((header : FileHeader) → IsSaid (over written version 0) header → ⊥) k n f
     → MayFail (IsDatabase version written) k n reached (of_fault f)
 header_fails version written reached k n f h = read_fails (IsDatabase version written) ((header : FileHeader) → IsSaid (over written version 0) header → ⊥) reached k k n f (omega arith)
     (λ d harm. let w = d.whole.whole in harm w.0 (said (over written version 0) w.1.first w.0 w.1.there (w.1.says, w.1.bounds))) h
@@ -66,7 +66,7 @@ pub tables_held_at : (version written : PageMap) (header : FileHeader) → ((fir
     → plain.HoldsTables (in_use version written) header.catalog_root (rows_of_tables d.tables)
 tables_held_at version written header says d = as_tables (in_use version written) header.catalog_root d.tables (held_at version written header says d)
 
-pub tables_fail : (version written : PageMap) (header : FileHeader) (reached : StoreLimit → Type 0) (k m n : ℕ) (f : Fault)
+pub tables_fail : (version written : PageMap) (header : FileHeader) (reached : StoreLimit → Type 0) (k m n : ℕ) (f : SpaceError)
     → ((first : List ℕ) → over written version 0 ≡ Some first → IsHeader first header) → k ≤ m
     → ReadRefused ((tables : List plain.TableAt) → plain.HoldsTables (in_use version written) header.catalog_root tables → ⊥) m n f → MayFail (IsDatabase version written) k n reached (of_fault f)
 tables_fail version written header reached k m n f says less h =
@@ -125,7 +125,7 @@ table_refused version written next header k m n change.Number says less h = tt
 table_refused version written next header k m n change.Schema says less h = tt
 
 -- a refusal of the last step, where the step before it was carried out
-pub root_refused : (version written next : PageMap) (harm : Type 0) (sound : Type 0) (reached : StoreLimit → Type 0) (k m n : ℕ) (f : Fault) → k ≤ m → (sound → harm → ⊥)
+pub root_refused : (version written next : PageMap) (harm : Type 0) (sound : Type 0) (reached : StoreLimit → Type 0) (k m n : ℕ) (f : SpaceError) → k ≤ m → (sound → harm → ⊥)
     → (IsReached version next fault.Pages → reached limit.Pages) → (IsReached version next fault.Private → reached limit.Private)
     → ChangeRefused (AtLimit (over next version 0) (size_of next)) harm m n f → MayFail sound k n reached (of_fault f)
 root_refused version written next harm sound reached k m n fault.Memory less never pages private h = tt
@@ -136,7 +136,7 @@ root_refused version written next harm sound reached k m n fault.Private less ne
 
 -- ---- weaker
 
-pub change_weaker : (A B : Fault → Type 0) (H J : Type 0) (k n : ℕ) (f : Fault) → ((g : Fault) → A g → B g) → (H → J) → ChangeRefused A H k n f → ChangeRefused B J k n f
+pub change_weaker : (A B : SpaceError → Type 0) (H J : Type 0) (k n : ℕ) (f : SpaceError) → ((g : SpaceError) → A g → B g) → (H → J) → ChangeRefused A H k n f → ChangeRefused B J k n f
 change_weaker A B H J k n fault.Memory at harm h = tt
 change_weaker A B H J k n fault.Disk at harm h = h
 change_weaker A B H J k n fault.Damaged at harm h = harm h

@@ -11,8 +11,8 @@ use Rattle.store.specs.Errors.{MayFail, ChangingReaches}
 use Rattle.pagefile.specs.declared.header.FileHeader.{FileHeader}
 use Rattle.pagefile.specs.Header.{IsHeader}
 use Rattle.page_space.specs.Space.{ReadRefused, ChangeRefused}
-use Rattle.page_space.specs.declared.fault.Fault.{Fault}
-use Rattle.page_space.specs.declared.fault.Fault.TheVariants as fault
+use Rattle.page_space.specs.declared.error.SpaceError.{SpaceError}
+use Rattle.page_space.specs.declared.error.SpaceError.TheVariants as fault
 use Rattle.pool.specs.Pages.{PageMap, over}
 use Rattle.pool.specs.Versions.{Versions}
 use Rattle.overlay.specs.InUse.{in_use}
@@ -42,7 +42,7 @@ pub read_of : (P : Contents → Type 0) (version next written : PageMap) (header
 read_of P version next written header says same read d =
     subst P (sym d.read) (read (rows_of_tables d.tables) (subst (λ (v : PageMap). plain.HoldsTables (in_use v written) header.catalog_root (rows_of_tables d.tables)) (sym same) (tables_held_at version written header says d)))
 
-pub tables_fail_at : (version next written : PageMap) (header : FileHeader) (reached : StoreLimit → Type 0) (k m n : ℕ) (f : Fault) (error : StoreError) → error ≡ of_fault f → Says version written header → next ≡ version → k ≤ m
+pub tables_fail_at : (version next written : PageMap) (header : FileHeader) (reached : StoreLimit → Type 0) (k m n : ℕ) (f : SpaceError) (error : StoreError) → error ≡ of_fault f → Says version written header → next ≡ version → k ≤ m
     → ReadRefused (plain.HoldsNoTables (in_use next written) header.catalog_root) m n f → MayFail (IsDatabase version written) k n reached error
 tables_fail_at version next written header reached k m n f error is says same less h =
     fails_as (IsDatabase version written) k n reached error (of_fault f) is
@@ -54,7 +54,7 @@ pub read_database : (P : Contents → Type 0) (version next written : PageMap) (
 read_database P version next written header says same read d =
     subst P (sym d.read) (read d.tables (subst (λ (v : PageMap). HoldsDatabase (in_use v written) header.catalog_root d.tables) (sym same) (held_at version written header says d)))
 
-pub database_fail_at : (version next written : PageMap) (header : FileHeader) (reached : StoreLimit → Type 0) (k m n : ℕ) (f : Fault) (error : StoreError) → error ≡ of_fault f → Says version written header → next ≡ version → k ≤ m
+pub database_fail_at : (version next written : PageMap) (header : FileHeader) (reached : StoreLimit → Type 0) (k m n : ℕ) (f : SpaceError) (error : StoreError) → error ≡ of_fault f → Says version written header → next ≡ version → k ≤ m
     → ReadRefused (HoldsNoDatabase (in_use next written) header.catalog_root) m n f → MayFail (IsDatabase version written) k n reached error
 database_fail_at version next written header reached k m n f error is says same less h =
     fails_as (IsDatabase version written) k n reached error (of_fault f) is
@@ -77,7 +77,7 @@ module _ (change : Contents → Contents) (v0 v1 v2 written mid : PageMap) (head
   pub changed_of : (next : PageMap) → ((contents : Contents) → IsWholeOver v2 mid → DatabaseWritten (in_use v2 mid) contents top → IsNow v2 next contents) → IsDatabase v0 written → IsNow v0 next (change (contents_in v0 written))
   changed_of next put d = subst (λ (v : PageMap). IsNow v next (change (contents_in v0 written))) (second ∙ first) (put (change (contents_in v0 written)) (whole_now d) (put_now d))
 
-  pub root_fails : (next : PageMap) (reached : StoreLimit → Type 0) (k m n : ℕ) (f : Fault) (error : StoreError) → error ≡ of_fault f → k ≤ m
+  pub root_fails : (next : PageMap) (reached : StoreLimit → Type 0) (k m n : ℕ) (f : SpaceError) (error : StoreError) → error ≡ of_fault f → k ≤ m
       → (IsReached v0 next fault.Pages → reached limit.Pages) → (IsReached v0 next fault.Private → reached limit.Private)
       → ChangeRefused (AtLimit (over next v2 0) (size_of next)) ((contents : Contents) → IsWholeOver v2 mid → DatabaseWritten (in_use v2 mid) contents top → ⊥) m n f
       → MayFail (IsDatabase v0 written) k n reached error

@@ -1,7 +1,7 @@
 -- The limit that a change had reached, once it is undone.
 use Rattle.store.specs.declared.error.StoreLimit.{StoreLimit}
 use Rattle.store.specs.declared.error.StoreLimit.TheVariants as limit
-use Rattle.page_space.specs.declared.fault.Fault.TheVariants as fault
+use Rattle.page_space.specs.declared.error.SpaceError.TheVariants as fault
 use Rattle.pool.specs.Pages.{PageMap}
 use Rattle.overlay.specs.Layers.{size_of}
 use Rattle.overlay.specs.Undone.{Undone, AreUndone}

@@ -10,8 +10,8 @@ use Rattle.store.specs.declared.error.StoreError.{StoreError}
 use Rattle.store.specs.declared.error.StoreError.TheVariants as refused
 use Rattle.store.specs.declared.error.StoreLimit.{StoreLimit}
 use Rattle.store.specs.declared.error.StoreLimit.TheVariants as limit
-use Rattle.page_space.specs.declared.fault.Fault.{Fault}
-use Rattle.page_space.specs.declared.fault.Fault.TheVariants as fault
+use Rattle.page_space.specs.declared.error.SpaceError.{SpaceError}
+use Rattle.page_space.specs.declared.error.SpaceError.TheVariants as fault
 use Rattle.pool.specs.Pages.{PageMap, over}
 use Rattle.pagefile.specs.declared.error.OpenError.{OpenError}
 use Rattle.pagefile.specs.declared.error.OpenError.TheVariants as opening
@@ -23,7 +23,7 @@ use Rattle.overlay.specs.Layers.{size_of}
 use Rattle.overlay.specs.Whole.{AtLimit}
 use Rattle.database_versions.specs.Databases.{IsDatabase, contents_in}
 
-abbrev pub of_fault : Fault → StoreError
+abbrev pub of_fault : SpaceError → StoreError
 of_fault fault.Memory = refused.Memory
 of_fault fault.Disk = refused.Device
 of_fault fault.Damaged = refused.Damaged
@@ -57,7 +57,7 @@ of_rows change.Number = refused.Exceeded limit.Pages
 of_rows change.Schema = refused.Memory
 
 -- the pages that a change has written, over a version, are at the limit that a fault names
-abbrev pub IsReached : PageMap → PageMap → Fault → Type 0
+abbrev pub IsReached : PageMap → PageMap → SpaceError → Type 0
 IsReached version written f = AtLimit (over written version 0) (size_of written) f
 
 -- ... that a store names

@@ -2,7 +2,7 @@
 use Rattle.std.specs.Prelude.{ℕ, List, Option}
 use Rattle.store.specs.declared.error.StoreLimit.{StoreLimit}
 use Rattle.store.specs.declared.error.StoreLimit.TheVariants as limit
-use Rattle.page_space.specs.declared.fault.Fault.TheVariants as fault
+use Rattle.page_space.specs.declared.error.SpaceError.TheVariants as fault
 use Rattle.overlay.specs.Undone.{Undone, WasAtLimit}
 
 -- the pages that were undone last had reached the limit that a store names, over a version with this page 0

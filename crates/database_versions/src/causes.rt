@@ -3,19 +3,19 @@ ghost use Rattle.std.specs.Prelude.{◌≡◌};
 ghost use Rattle.database_versions.specs.Refusals.{of_fault, of_pool, of_change, of_rows};
 
 use database_trees::DatabaseError;
-use page_space::Fault;
+use page_space::SpaceError;
 use pool::PoolError;
 use store::{StoreError, StoreLimit};
 
-pub(crate) fn of_fault(fault: Fault) -> StoreError
+pub(crate) fn of_fault(fault: SpaceError) -> StoreError
     ensures { result ≡ of_fault fault }
 {
     match fault {
-        Fault::Memory => StoreError::Memory,
-        Fault::Disk => StoreError::Device,
-        Fault::Damaged => StoreError::Damaged,
-        Fault::Pages => StoreError::Exceeded(StoreLimit::Pages),
-        Fault::Private => StoreError::Exceeded(StoreLimit::Private),
+        SpaceError::Memory => StoreError::Memory,
+        SpaceError::Disk => StoreError::Device,
+        SpaceError::Damaged => StoreError::Damaged,
+        SpaceError::Pages => StoreError::Exceeded(StoreLimit::Pages),
+        SpaceError::Private => StoreError::Exceeded(StoreLimit::Private),
     }
 }
 

@@ -7,7 +7,7 @@ ghost use Rattle.store.specs.Indexes.{sought, ranged, next_entry};
 ghost use Rattle.store.specs.View.{AreEntries, IsEntry, position_of};
 ghost use Rattle.page_space.specs.Space.{ReadRefused};
 ghost use Rattle.pool.specs.Versions.{versions_of, device_of};
-ghost use Rattle.overlay.specs.Changes.{private_of};
+ghost use Rattle.overlay.specs.WriteSet.{private_of};
 ghost use Rattle.overlay.specs.InUse.{in_use};
 ghost use Rattle.database_trees.specs.Held.{TableAt, HoldsDatabase, HoldsNoDatabase, contents_of};
 ghost use Rattle.database_versions.specs.Databases.{IsDatabase, contents_in};
@@ -15,8 +15,8 @@ ghost use Rattle.database_versions.specs.Databases.{IsDatabase, contents_in};
 use crate::causes::of_fault;
 use disk::Disk;
 use items::Text;
-use overlay::{Changed, Changes, read_header};
-use page_space::Fault;
+use overlay::{Changed, WriteSet, read_header};
+use page_space::SpaceError;
 use pool::Pool;
 use sqlval::Value;
 use std::alloc::Global;
@@ -27,13 +27,13 @@ use store::{Numbered, NumberedRow, Position, StoreError};
 fn seek_from<D: Disk>(
     alloc: Global,
     pool: &mut Pool<D>,
-    changes: &Changes,
+    changes: &WriteSet,
     at: u64,
     root: u32,
     name: &Text,
     index: usize,
     key: &[Value],
-) -> Result<Numbered, Fault>
+) -> Result<Numbered, SpaceError>
     ensures rows { (tables : List TableAt) → HoldsDatabase (in_use ((versions_of pool.old).pages at) (private_of changes.now)) root tables
         → IfOk result (λ found. AreEntries found (sought (get (contents_of tables) name.now) index key.now)) }
     ensures versions { versions_of pool.new ≡ versions_of pool.old }
@@ -48,7 +48,7 @@ fn seek_from<D: Disk>(
 pub fn rows_sought<D: Disk>(
     alloc: Global,
     pool: &mut Pool<D>,
-    changes: &Changes,
+    changes: &WriteSet,
     at: u64,
     name: &Text,
     index: usize,
@@ -82,14 +82,14 @@ pub fn rows_sought<D: Disk>(
 fn range_from<D: Disk>(
     alloc: Global,
     pool: &mut Pool<D>,
-    changes: &Changes,
+    changes: &WriteSet,
     at: u64,
     root: u32,
     name: &Text,
     index: usize,
     low: &Bound<Value>,
     high: &Bound<Value>,
-) -> Result<Numbered, Fault>
+) -> Result<Numbered, SpaceError>
     ensures rows { (tables : List TableAt) → HoldsDatabase (in_use ((versions_of pool.old).pages at) (private_of changes.now)) root tables
         → IfOk result (λ found. AreEntries found (ranged (get (contents_of tables) name.now) index low.now high.now)) }
     ensures versions { versions_of pool.new ≡ versions_of pool.old }
@@ -104,7 +104,7 @@ fn range_from<D: Disk>(
 pub fn rows_within<D: Disk>(
     alloc: Global,
     pool: &mut Pool<D>,
-    changes: &Changes,
+    changes: &WriteSet,
     at: u64,
     name: &Text,
     index: usize,
@@ -140,13 +140,13 @@ pub fn rows_within<D: Disk>(
 fn next_in_from<D: Disk>(
     alloc: Global,
     pool: &mut Pool<D>,
-    changes: &Changes,
+    changes: &WriteSet,
     at: u64,
     root: u32,
     name: &Text,
     index: usize,
     after: Option<&Position>,
-) -> Result<Option<NumberedRow>, Fault>
+) -> Result<Option<NumberedRow>, SpaceError>
     ensures row { (tables : List TableAt) → HoldsDatabase (in_use ((versions_of pool.old).pages at) (private_of changes.now)) root tables
         → IfOk result (λ found. IsEntry found (next_entry (get (contents_of tables) name.now) index (option_map (λ p. position_of p.now) after.entry))) }
     ensures versions { versions_of pool.new ≡ versions_of pool.old }
@@ -161,7 +161,7 @@ fn next_in_from<D: Disk>(
 pub fn row_beyond<D: Disk>(
     alloc: Global,
     pool: &mut Pool<D>,
-    changes: &Changes,
+    changes: &WriteSet,
     at: u64,
     name: &Text,
     index: usize,

@@ -4,7 +4,7 @@ ghost use Rattle.store.specs.Contents.{Contents};
 ghost use Rattle.page_space.specs.Space.{ChangeRefused};
 ghost use Rattle.pool.specs.Pages.{over};
 ghost use Rattle.pool.specs.Versions.{versions_of, device_of};
-ghost use Rattle.overlay.specs.Changes.{private_of, settled_of};
+ghost use Rattle.overlay.specs.WriteSet.{private_of, settled_of};
 ghost use Rattle.overlay.specs.InUse.{in_use};
 ghost use Rattle.overlay.specs.Layers.{size_of};
 ghost use Rattle.overlay.specs.Whole.{IsFull, IsWholeOver, AtLimit};
@@ -13,20 +13,20 @@ ghost use Rattle.database_versions.specs.Changed.{IsNow};
 ghost use Rattle.database_versions.specs.Databases.{IsOwned};
 
 use disk::Disk;
-use overlay::{Changes, set_catalog_root};
+use overlay::{WriteSet, set_catalog_root};
 use stored_tables::contents_are_read;
 use database_trees::database_stays;
-use page_space::Fault;
+use page_space::SpaceError;
 use stored_tables::numbers_rise;
 use pool::Pool;
 
 /// Lets page 0 name the root at which the pages hold a database.
 pub(crate) fn put_root<D: Disk>(
     pool: &mut Pool<D>,
-    changes: &mut Changes,
+    changes: &mut WriteSet,
     at: u64,
     root: u32,
-) -> Result<(), Fault>
+) -> Result<(), SpaceError>
     ensures put { (contents : Contents) → IsWholeOver ((versions_of pool.old).pages at) (private_of changes.old) → DatabaseWritten (in_use ((versions_of pool.old).pages at) (private_of changes.old)) contents root
         → OnOk result (IsNow ((versions_of pool.old).pages at) (private_of changes.new) contents) }
     ensures owned { (contents : Contents) → IsFull ((versions_of pool.old).pages at) → IsWholeOver ((versions_of pool.old).pages at) (private_of changes.old) → DatabaseOwned (in_use ((versions_of pool.old).pages at) (private_of changes.old)) contents root

@@ -8,7 +8,7 @@ ghost use Rattle.store.specs.Indexes.{entries_of, entry_after};
 ghost use Rattle.store.specs.View.{AreEntries, IsEntry};
 ghost use Rattle.page_space.specs.Space.{ReadRefused};
 ghost use Rattle.pool.specs.Versions.{versions_of, device_of};
-ghost use Rattle.overlay.specs.Changes.{private_of};
+ghost use Rattle.overlay.specs.WriteSet.{private_of};
 ghost use Rattle.overlay.specs.InUse.{in_use};
 ghost use Rattle.stored_tables.specs.Held.{TableAt, HoldsTables, HoldsNoTables, contents_of};
 ghost use Rattle.database_versions.specs.Databases.{IsDatabase, contents_in};
@@ -16,8 +16,8 @@ ghost use Rattle.database_versions.specs.Databases.{IsDatabase, contents_in};
 use crate::causes::of_fault;
 use disk::Disk;
 use items::Text;
-use overlay::{Changed, Changes, read_header};
-use page_space::Fault;
+use overlay::{Changed, WriteSet, read_header};
+use page_space::SpaceError;
 use pool::Pool;
 use sqlval::Schema;
 use std::alloc::Global;
@@ -27,10 +27,10 @@ use store::{Numbered, NumberedRow, StoreError};
 fn schema_from<D: Disk>(
     alloc: Global,
     pool: &mut Pool<D>,
-    changes: &Changes,
+    changes: &WriteSet,
     at: u64,
     root: u32,
-) -> Result<Schema, Fault>
+) -> Result<Schema, SpaceError>
     ensures found { (tables : List TableAt) → HoldsTables (in_use ((versions_of pool.old).pages at) (private_of changes.now)) root tables
         → IfOk result (λ schema. IsSchemaOf schema (database_of (contents_of tables))) }
     ensures versions { versions_of pool.new ≡ versions_of pool.old }
@@ -45,7 +45,7 @@ fn schema_from<D: Disk>(
 pub fn schema_of<D: Disk>(
     alloc: Global,
     pool: &mut Pool<D>,
-    changes: &Changes,
+    changes: &WriteSet,
     at: u64,
 ) -> Result<Schema, StoreError>
     ensures found { IsDatabase ((versions_of pool.old).pages at) (private_of changes.now)
@@ -67,11 +67,11 @@ pub fn schema_of<D: Disk>(
 fn scan_from<D: Disk>(
     alloc: Global,
     pool: &mut Pool<D>,
-    changes: &Changes,
+    changes: &WriteSet,
     at: u64,
     root: u32,
     name: &Text,
-) -> Result<Numbered, Fault>
+) -> Result<Numbered, SpaceError>
     ensures rows { (tables : List TableAt) → HoldsTables (in_use ((versions_of pool.old).pages at) (private_of changes.now)) root tables
         → IfOk result (λ found. AreEntries found (entries_of (get (contents_of tables) name.now))) }
     ensures versions { versions_of pool.new ≡ versions_of pool.old }
@@ -86,7 +86,7 @@ fn scan_from<D: Disk>(
 pub fn rows_of<D: Disk>(
     alloc: Global,
     pool: &mut Pool<D>,
-    changes: &Changes,
+    changes: &WriteSet,
     at: u64,
     name: &Text,
 ) -> Result<Numbered, StoreError>
@@ -109,12 +109,12 @@ pub fn rows_of<D: Disk>(
 fn next_from<D: Disk>(
     alloc: Global,
     pool: &mut Pool<D>,
-    changes: &Changes,
+    changes: &WriteSet,
     at: u64,
     root: u32,
     name: &Text,
     after: Option<u64>,
-) -> Result<Option<NumberedRow>, Fault>
+) -> Result<Option<NumberedRow>, SpaceError>
     ensures row { (tables : List TableAt) → HoldsTables (in_use ((versions_of pool.old).pages at) (private_of changes.now)) root tables
         → IfOk result (λ found. IsEntry found (entry_after after (entries_of (get (contents_of tables) name.now)))) }
     ensures versions { versions_of pool.new ≡ versions_of pool.old }
@@ -129,7 +129,7 @@ fn next_from<D: Disk>(
 pub fn row_after<D: Disk>(
     alloc: Global,
     pool: &mut Pool<D>,
-    changes: &Changes,
+    changes: &WriteSet,
     at: u64,
     name: &Text,
     after: Option<u64>,

@@ -1,11 +1,11 @@
-//! Changes of the rows of a version of a pool, as pages over it.
+//! WriteSet of the rows of a version of a pool, as pages over it.
 ghost use Rattle.std.specs.Prelude.{◌≡◌, ◌≤◌, ◌∷◌, [], ℕ, List, IfOk, IfErr, OnOk};
 ghost use Rattle.std.specs.FinMap.{get};
 ghost use Rattle.store.specs.Contents.{appended, replaced, deleted};
 ghost use Rattle.store.specs.Errors.{MayFail, ChangingReaches};
 ghost use Rattle.pool.specs.Pages.{over};
 ghost use Rattle.pool.specs.Versions.{versions_of, device_of};
-ghost use Rattle.overlay.specs.Changes.{private_of, settled_of};
+ghost use Rattle.overlay.specs.WriteSet.{private_of, settled_of};
 ghost use Rattle.overlay.specs.InUse.{in_use};
 ghost use Rattle.overlay.specs.Layers.{size_of};
 ghost use Rattle.overlay.specs.Whole.{IsWholeOver, AtLimit};
@@ -20,7 +20,7 @@ use crate::naming::put_root;
 use denote::{Row, Rows};
 use disk::Disk;
 use items::Text;
-use overlay::{Changes, Overlay, read_header};
+use overlay::{WriteSet, Overlay, read_header};
 use database_trees::DatabaseError;
 use pool::Pool;
 use std::alloc::Global;
@@ -30,7 +30,7 @@ use store::StoreError;
 fn append_from<D: Disk>(
     alloc: Global,
     pool: &mut Pool<D>,
-    changes: &mut Changes,
+    changes: &mut WriteSet,
     at: u64,
     root: u32,
     name: &Text,
@@ -54,7 +54,7 @@ fn append_from<D: Disk>(
 pub fn append_rows<D: Disk>(
     alloc: Global,
     pool: &mut Pool<D>,
-    changes: &mut Changes,
+    changes: &mut WriteSet,
     at: u64,
     name: &Text,
     rows: Rows,
@@ -82,7 +82,7 @@ pub fn append_rows<D: Disk>(
 fn replace_from<D: Disk>(
     alloc: Global,
     pool: &mut Pool<D>,
-    changes: &mut Changes,
+    changes: &mut WriteSet,
     at: u64,
     root: u32,
     name: &Text,
@@ -107,7 +107,7 @@ fn replace_from<D: Disk>(
 pub fn replace_row<D: Disk>(
     alloc: Global,
     pool: &mut Pool<D>,
-    changes: &mut Changes,
+    changes: &mut WriteSet,
     at: u64,
     name: &Text,
     number: u64,
@@ -145,7 +145,7 @@ pub fn replace_row<D: Disk>(
 fn delete_from<D: Disk>(
     alloc: Global,
     pool: &mut Pool<D>,
-    changes: &mut Changes,
+    changes: &mut WriteSet,
     at: u64,
     root: u32,
     name: &Text,
@@ -168,7 +168,7 @@ fn delete_from<D: Disk>(
 pub fn delete_row<D: Disk>(
     alloc: Global,
     pool: &mut Pool<D>,
-    changes: &mut Changes,
+    changes: &mut WriteSet,
     at: u64,
     name: &Text,
     number: u64,

@@ -1,4 +1,4 @@
-//! Changes of the schema of a version of a pool, as pages over it.
+//! WriteSet of the schema of a version of a pool, as pages over it.
 ghost use Rattle.std.specs.Prelude.{◌≡◌, ◌≤◌, ℕ, List, IfOk, IfErr, OnOk};
 ghost use Rattle.std.specs.List.{AllByRecursion};
 ghost use Rattle.catalog_records.specs.Keepable.{ArePlaces, IsTable};
@@ -6,7 +6,7 @@ ghost use Rattle.store.specs.Contents.{with_table, without_table, indexed, unind
 ghost use Rattle.store.specs.Errors.{MayFail, ChangingReaches};
 ghost use Rattle.pool.specs.Pages.{over};
 ghost use Rattle.pool.specs.Versions.{versions_of, device_of};
-ghost use Rattle.overlay.specs.Changes.{private_of, settled_of};
+ghost use Rattle.overlay.specs.WriteSet.{private_of, settled_of};
 ghost use Rattle.overlay.specs.InUse.{in_use};
 ghost use Rattle.overlay.specs.Layers.{size_of};
 ghost use Rattle.overlay.specs.Whole.{IsWholeOver, AtLimit};
@@ -20,7 +20,7 @@ use crate::causes::{of_change, of_fault};
 use crate::naming::put_root;
 use disk::Disk;
 use items::Text;
-use overlay::{Changes, Overlay, read_header};
+use overlay::{WriteSet, Overlay, read_header};
 use database_trees::DatabaseError;
 use pool::Pool;
 use sqlval::{Index, Table};
@@ -31,7 +31,7 @@ use store::StoreError;
 fn create_from<D: Disk>(
     alloc: Global,
     pool: &mut Pool<D>,
-    changes: &mut Changes,
+    changes: &mut WriteSet,
     at: u64,
     root: u32,
     table: &Table,
@@ -55,7 +55,7 @@ fn create_from<D: Disk>(
 pub fn create_table<D: Disk>(
     alloc: Global,
     pool: &mut Pool<D>,
-    changes: &mut Changes,
+    changes: &mut WriteSet,
     at: u64,
     table: &Table,
 ) -> Result<(), StoreError>
@@ -85,7 +85,7 @@ pub fn create_table<D: Disk>(
 fn drop_from<D: Disk>(
     alloc: Global,
     pool: &mut Pool<D>,
-    changes: &mut Changes,
+    changes: &mut WriteSet,
     at: u64,
     root: u32,
     name: &Text,
@@ -107,7 +107,7 @@ fn drop_from<D: Disk>(
 pub fn drop_table<D: Disk>(
     alloc: Global,
     pool: &mut Pool<D>,
-    changes: &mut Changes,
+    changes: &mut WriteSet,
     at: u64,
     name: &Text,
 ) -> Result<(), StoreError>
@@ -134,7 +134,7 @@ pub fn drop_table<D: Disk>(
 fn index_from<D: Disk>(
     alloc: Global,
     pool: &mut Pool<D>,
-    changes: &mut Changes,
+    changes: &mut WriteSet,
     at: u64,
     root: u32,
     name: &Text,
@@ -157,7 +157,7 @@ fn index_from<D: Disk>(
 pub fn create_index<D: Disk>(
     alloc: Global,
     pool: &mut Pool<D>,
-    changes: &mut Changes,
+    changes: &mut WriteSet,
     at: u64,
     name: &Text,
     index: Index,
@@ -186,7 +186,7 @@ pub fn create_index<D: Disk>(
 fn unindex_from<D: Disk>(
     alloc: Global,
     pool: &mut Pool<D>,
-    changes: &mut Changes,
+    changes: &mut WriteSet,
     at: u64,
     root: u32,
     name: &Text,
@@ -208,7 +208,7 @@ fn unindex_from<D: Disk>(
 pub fn drop_index<D: Disk>(
     alloc: Global,
     pool: &mut Pool<D>,
-    changes: &mut Changes,
+    changes: &mut WriteSet,
     at: u64,
     name: &Text,
 ) -> Result<(), StoreError>

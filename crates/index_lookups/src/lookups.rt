@@ -7,7 +7,7 @@ ghost use Rattle.store.specs.Contents as stored;
 ghost use Rattle.store.specs.Indexes.{sought, ranged, next_entry};
 ghost use Rattle.store.specs.View.{AreEntries, IsEntry, entry_of, position_of};
 ghost use Rattle.page_space.specs.Space.{ReadRefused};
-ghost use Rattle.page_space.specs.declared.fault.Fault.TheVariants.{Memory as OfMemory};
+ghost use Rattle.page_space.specs.declared.error.SpaceError.TheVariants.{Memory as OfMemory};
 ghost use Rattle.database_trees.specs.Held.{TableAt, HoldsDatabase, HoldsNoDatabase, contents_of};
 ghost use Rattle.index_lookups.specs.Sought.{is_wanted};
 ghost use Rattle.index_lookups.specs.Walked.{walk_of, HoldsIndexed, HoldsNoIndexed};
@@ -18,7 +18,7 @@ use crate::sought::Sought;
 use crate::walking::{row_found, rows_from};
 use btree_read::next;
 use items::{Items, Text};
-use page_space::{Fault, PageReader};
+use page_space::{SpaceError, PageReader};
 use sqlrecord::{EncodeError, encode_index_key, encode_key};
 use sqlval::Value;
 use std::alloc::Global;
@@ -42,7 +42,7 @@ fn rows_behind<R: PageReader>(
     place: &Place,
     sought: Sought<'_>,
     code: &[u8],
-) -> Result<Numbered, Fault>
+) -> Result<Numbered, SpaceError>
     ensures rows { (rows : List stored.Entry) → HoldsIndexed (R.pages space.old) place.now.root place.now.rows_root place.now.columns rows → MaySkip sought.entry place.now.columns code.now
         → IfOk result (λ found. AreEntries found (filter (is_wanted sought.entry place.now.columns) (walk_of place.now.columns rows))) }
     ensures same { R.pages space.new ≡ R.pages space.old }
@@ -58,14 +58,14 @@ fn rows_behind<R: PageReader>(
 }
 
 /// Where a walk from a key on begins: at its code, and at the beginning where it is too long to have one.
-fn start_of(alloc: Global, key: &[Value]) -> Result<Items<u8>, Fault>
+fn start_of(alloc: Global, key: &[Value]) -> Result<Items<u8>, SpaceError>
     ensures start { IfOk result (IsStart key.now) }
     ensures memory { IfErr result (λ fault. fault ≡ OfMemory) }
 {
     match encode_key(alloc, key) {
         Ok(code) => Ok(code),
         Err(EncodeError::Key) => Ok(Items::new(alloc)),
-        Err(EncodeError::OutOfMemory) => Err(Fault::Memory),
+        Err(EncodeError::OutOfMemory) => Err(SpaceError::Memory),
         Err(EncodeError::Record) => unreachable!(),
     }
 }
@@ -76,7 +76,7 @@ fn matching<R: PageReader>(
     alloc: Global,
     place: &Place,
     key: &[Value],
-) -> Result<Numbered, Fault>
+) -> Result<Numbered, SpaceError>
     ensures rows { (rows : List stored.Entry) → HoldsIndexed (R.pages space.old) place.now.root place.now.rows_root place.now.columns rows
         → IfOk result (λ found. AreEntries found (filter (λ (e : stored.Entry). matches place.now.columns key.now e.1) rows)) }
     ensures same { R.pages space.new ≡ R.pages space.old }
@@ -103,7 +103,7 @@ pub fn seek<R: PageReader>(
     name: &Text,
     index: usize,
     key: &[Value],
-) -> Result<Numbered, Fault>
+) -> Result<Numbered, SpaceError>
     ensures rows { (tables : List TableAt) → HoldsDatabase (R.pages space.old) root tables → IfOk result (λ found. AreEntries found (sought (get (contents_of tables) name.now) index key.now)) }
     ensures same { R.pages space.new ≡ R.pages space.old }
     ensures whole { R.is_whole space.old → R.is_whole space.new }
@@ -119,7 +119,7 @@ pub fn seek<R: PageReader>(
 }
 
 /// Where a walk within bounds begins: at the code of the lower one.
-fn start_above(alloc: Global, low: &Bound<Value>) -> Result<Items<u8>, Fault>
+fn start_above(alloc: Global, low: &Bound<Value>) -> Result<Items<u8>, SpaceError>
     ensures start { IfOk result (StartsBelow low.now) }
     ensures memory { IfErr result (λ fault. fault ≡ OfMemory) }
 {
@@ -137,7 +137,7 @@ fn within<R: PageReader>(
     place: &Place,
     low: &Bound<Value>,
     high: &Bound<Value>,
-) -> Result<Numbered, Fault>
+) -> Result<Numbered, SpaceError>
     ensures rows { (rows : List stored.Entry) → HoldsIndexed (R.pages space.old) place.now.root place.now.rows_root place.now.columns rows
         → IfOk result (λ found. AreEntries found (rows_within low.now high.now place.now.columns rows)) }
     ensures same { R.pages space.new ≡ R.pages space.old }
@@ -171,7 +171,7 @@ pub fn range<R: PageReader>(
     index: usize,
     low: &Bound<Value>,
     high: &Bound<Value>,
-) -> Result<Numbered, Fault>
+) -> Result<Numbered, SpaceError>
     ensures rows { (tables : List TableAt) → HoldsDatabase (R.pages space.old) root tables → IfOk result (λ found. AreEntries found (ranged (get (contents_of tables) name.now) index low.now high.now)) }
     ensures same { R.pages space.new ≡ R.pages space.old }
     ensures whole { R.is_whole space.old → R.is_whole space.new }
@@ -208,7 +208,7 @@ fn first_beyond<R: PageReader>(
     alloc: Global,
     place: &Place,
     after: &Position,
-) -> Result<Option<NumberedRow>, Fault>
+) -> Result<Option<NumberedRow>, SpaceError>
     ensures row { (rows : List stored.Entry) → HoldsIndexed (R.pages space.old) place.now.root place.now.rows_root place.now.columns rows → IfOk result (IsNextRow place.now.columns rows (Some (position_of after.now))) }
     ensures same { R.pages space.new ≡ R.pages space.old }
     ensures whole { R.is_whole space.old → R.is_whole space.new }
@@ -228,7 +228,7 @@ fn row_behind<R: PageReader>(
     alloc: Global,
     place: &Place,
     code: &[u8],
-) -> Result<Option<NumberedRow>, Fault>
+) -> Result<Option<NumberedRow>, SpaceError>
     ensures row { (rows : List stored.Entry) → HoldsIndexed (R.pages space.old) place.now.root place.now.rows_root place.now.columns rows → IfOk result (IsRowBehind place.now.columns rows code.now) }
     ensures same { R.pages space.new ≡ R.pages space.old }
     ensures whole { R.is_whole space.old → R.is_whole space.new }
@@ -247,7 +247,7 @@ fn first_row<R: PageReader>(
     space: &mut R,
     alloc: Global,
     place: &Place,
-) -> Result<Option<NumberedRow>, Fault>
+) -> Result<Option<NumberedRow>, SpaceError>
     ensures row { (rows : List stored.Entry) → HoldsIndexed (R.pages space.old) place.now.root place.now.rows_root place.now.columns rows → IfOk result (IsNextRow place.now.columns rows None) }
     ensures same { R.pages space.new ≡ R.pages space.old }
     ensures whole { R.is_whole space.old → R.is_whole space.new }
@@ -267,7 +267,7 @@ fn row_beyond<R: PageReader>(
     alloc: Global,
     place: &Place,
     after: &Position,
-) -> Result<Option<NumberedRow>, Fault>
+) -> Result<Option<NumberedRow>, SpaceError>
     ensures row { (rows : List stored.Entry) → HoldsIndexed (R.pages space.old) place.now.root place.now.rows_root place.now.columns rows → IfOk result (IsNextRow place.now.columns rows (Some (position_of after.now))) }
     ensures same { R.pages space.new ≡ R.pages space.old }
     ensures whole { R.is_whole space.old → R.is_whole space.new }
@@ -282,7 +282,7 @@ fn row_beyond<R: PageReader>(
     match encode_index_key(alloc, after.key.as_slice(), number) {
         Ok(code) => row_behind(space, alloc, place, code.as_slice()),
         Err(EncodeError::Key) => first_beyond(space, alloc, place, after),
-        Err(EncodeError::OutOfMemory) => Err(Fault::Memory),
+        Err(EncodeError::OutOfMemory) => Err(SpaceError::Memory),
         Err(EncodeError::Record) => unreachable!(),
     }
 }
@@ -298,7 +298,7 @@ pub fn next_in<R: PageReader>(
     name: &Text,
     index: usize,
     after: Option<&Position>,
-) -> Result<Option<NumberedRow>, Fault>
+) -> Result<Option<NumberedRow>, SpaceError>
     ensures row { (tables : List TableAt) → HoldsDatabase (R.pages space.old) root tables → IfOk result (λ found. IsEntry found (next_entry (get (contents_of tables) name.now) index (option_map (λ p. position_of p.now) after.entry))) }
     ensures same { R.pages space.new ≡ R.pages space.old }
     ensures whole { R.is_whole space.old → R.is_whole space.new }

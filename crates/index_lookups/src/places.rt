@@ -8,7 +8,7 @@ ghost use Rattle.index_lookups.specs.Walked.{place_of, IsPlaceOf};
 
 use items::{Items, Text};
 use database_trees::find_table;
-use page_space::{Fault, PageReader};
+use page_space::{SpaceError, PageReader};
 use sqlval::{Index, Table};
 use std::alloc::Global;
 
@@ -50,7 +50,7 @@ pub(crate) fn index_at<R: PageReader>(
     root: u32,
     name: &Text,
     at: usize,
-) -> Result<Option<Place>, Fault>
+) -> Result<Option<Place>, SpaceError>
     ensures found { (tables : List TableAt) → HoldsDatabase (R.pages space.old) root tables → IfOk result (IsPlaceOf (R.pages space.old) (get (contents_of tables) name.now) at) }
     ensures same { R.pages space.new ≡ R.pages space.old }
     ensures whole { R.is_whole space.old → R.is_whole space.new }

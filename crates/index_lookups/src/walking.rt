@@ -14,7 +14,7 @@ use crate::sought::{Sought, is_past, is_wanted};
 use btree_read::{Entry, next};
 use items::Items;
 use database_trees::row_of;
-use page_space::{Fault, PageReader};
+use page_space::{SpaceError, PageReader};
 use sqlrecord::row_number_of;
 use std::alloc::{AllocError, Global};
 use store::{Numbered, NumberedRow};
@@ -32,7 +32,7 @@ fn row_there<R: PageReader>(
     alloc: Global,
     rows_root: u32,
     number: u64,
-) -> Result<NumberedRow, Fault>
+) -> Result<NumberedRow, SpaceError>
     ensures row { (owned : List ℕ) (rows : List stored.Entry) → HoldsRows (R.pages space.old) rows_root owned rows → IfOk result (λ found. row_numbered number rows ≡ Some (entry_of found)) }
     ensures same { R.pages space.new ≡ R.pages space.old }
     ensures whole { R.is_whole space.old → R.is_whole space.new }
@@ -42,7 +42,7 @@ fn row_there<R: PageReader>(
 {
     match row_of(space, alloc, rows_root, number) {
         Ok(Some(found)) => Ok(found),
-        Ok(None) => Err(Fault::Damaged),
+        Ok(None) => Err(SpaceError::Damaged),
         Err(fault) => Err(fault),
     }
 }
@@ -53,7 +53,7 @@ fn row_of_entry<R: PageReader>(
     alloc: Global,
     place: &Place,
     entry: &Entry,
-) -> Result<NumberedRow, Fault>
+) -> Result<NumberedRow, SpaceError>
     ensures row { (rows left : List stored.Entry) → HoldsIndexed (R.pages space.old) place.now.root place.now.rows_root place.now.columns rows → StandsAt place.now.columns rows (Some entry.now) left
         → IfOk result (λ found. slice_get left 0 ≡ Some (entry_of found)) }
     ensures same { R.pages space.new ≡ R.pages space.old }
@@ -64,7 +64,7 @@ fn row_of_entry<R: PageReader>(
 {
     match row_number_of(entry.key.as_slice()) {
         Some(number) => row_there(space, alloc, place.rows_root, number),
-        None => Err(Fault::Damaged),
+        None => Err(SpaceError::Damaged),
     }
 }
 
@@ -74,7 +74,7 @@ pub(crate) fn row_found<R: PageReader>(
     alloc: Global,
     place: &Place,
     entry: &Option<Entry>,
-) -> Result<Option<NumberedRow>, Fault>
+) -> Result<Option<NumberedRow>, SpaceError>
     ensures row { (rows left : List stored.Entry) → HoldsIndexed (R.pages space.old) place.now.root place.now.rows_root place.now.columns rows → StandsAt place.now.columns rows entry.now left
         → IfOk result (λ found. option_map entry_of found ≡ slice_get left 0) }
     ensures same { R.pages space.new ≡ R.pages space.old }
@@ -111,7 +111,7 @@ fn entry_behind<R: PageReader>(
     alloc: Global,
     place: &Place,
     at: &Option<Entry>,
-) -> Result<Option<Entry>, Fault>
+) -> Result<Option<Entry>, SpaceError>
     ensures stands { (rows rest : List stored.Entry) (e : stored.Entry) → HoldsIndexed (R.pages space.old) place.now.root place.now.rows_root place.now.columns rows → StandsAt place.now.columns rows at.now (e ∷ rest)
         → IfOk result (λ entry. StandsAt place.now.columns rows entry rest) }
     ensures same { R.pages space.new ≡ R.pages space.old }
@@ -134,7 +134,7 @@ fn go_on<R: PageReader>(
     sought: Sought<'_>,
     walk: &mut Walk,
     row: NumberedRow,
-) -> Result<bool, Fault>
+) -> Result<bool, SpaceError>
     ensures stepped { (rows left list : List stored.Entry) → HoldsIndexed (R.pages space.old) place.now.root place.now.rows_root place.now.columns rows → StandsAt place.now.columns rows walk.old.next left
         → slice_get left 0 ≡ Some (entry_of row) → AreEntries walk.old.found list → IfOk result (HasStepped place.now.columns rows (is_wanted sought.entry place.now.columns) left list walk.new) }
     ensures same { R.pages space.new ≡ R.pages space.old }
@@ -164,7 +164,7 @@ fn step<R: PageReader>(
     place: &Place,
     sought: Sought<'_>,
     walk: &mut Walk,
-) -> Result<bool, Fault>
+) -> Result<bool, SpaceError>
     ensures stepped { (rows left list : List stored.Entry) → HoldsIndexed (R.pages space.old) place.now.root place.now.rows_root place.now.columns rows → StandsAt place.now.columns rows walk.old.next left
         → AreEntries walk.old.found list → IfOk result (HasStepped place.now.columns rows (is_wanted sought.entry place.now.columns) left list walk.new) }
     ensures same { R.pages space.new ≡ R.pages space.old }
@@ -190,7 +190,7 @@ pub(crate) fn rows_from<R: PageReader>(
     place: &Place,
     sought: Sought<'_>,
     first: Option<Entry>,
-) -> Result<Numbered, Fault>
+) -> Result<Numbered, SpaceError>
     ensures rows { (rows left : List stored.Entry) → HoldsIndexed (R.pages space.old) place.now.root place.now.rows_root place.now.columns rows → StandsAt place.now.columns rows first left
         → IfOk result (λ found. AreEntries found (filter (is_wanted sought.entry place.now.columns) left)) }
     ensures same { R.pages space.new ≡ R.pages space.old }
@@ -211,5 +211,5 @@ pub(crate) fn rows_from<R: PageReader>(
             return Ok(walk.found);
         }
     }
-    Err(Fault::Memory)
+    Err(SpaceError::Memory)
 }

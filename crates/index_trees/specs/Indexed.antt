@@ -6,7 +6,7 @@ use Rattle.sqlval.specs.Value.{Row}
 use Rattle.store.specs.Contents as stored
 use Rattle.sqlrecord.specs.Key.{index_key_code}
 use Rattle.page_space.specs.Space.{PageMap, ChangeRefused}
-use Rattle.page_space.specs.declared.fault.Fault.{Fault}
+use Rattle.page_space.specs.declared.error.SpaceError.{SpaceError}
 use Rattle.btree_read.specs.declared.entry.Entry.{Entry}
 use Rattle.btree_read.specs.Lists.{Has}
 use Rattle.btree_read.specs.Sorted.{get_of}
@@ -70,6 +70,6 @@ HasEntry pages root columns one = (owned : List ℕ) (entries : List Entry) → 
 
 -- Why a change of an index may be refused, with what is known where it was for damage and with the counts of refused device calls before and after: as a change of
 -- pages is, and where a row's key is too long.
-abbrev pub MayRefuse : (Fault → Type 0) → Type 0 → ℕ → ℕ → List ℕ → Row → IndexError → Type 0
+abbrev pub MayRefuse : (SpaceError → Type 0) → Type 0 → ℕ → ℕ → List ℕ → Row → IndexError → Type 0
 MayRefuse AtLimit Harm before after columns row (Space fault) = ChangeRefused AtLimit Harm before after fault
 MayRefuse AtLimit Harm before after columns row Key = 600 < key_length (key_of columns row) + 8

@@ -3,7 +3,7 @@ use Rattle.std.specs.Prelude.{◌≡◌, ℕ, ◌+◌, ◌<◌, List}
 use Rattle.sqlval.specs.CodedLength.{key_length}
 use Rattle.sqlval.specs.Matching.{key_of}
 use Rattle.sqlval.specs.Value.{Row}
-use Rattle.page_space.specs.declared.fault.Fault.TheVariants.{Memory}
+use Rattle.page_space.specs.declared.error.SpaceError.TheVariants.{Memory}
 use Rattle.index_trees.specs.declared.error.IndexError.{IndexError}
 use Rattle.index_trees.specs.declared.error.IndexError.TheVariants.{Space, Key}
 

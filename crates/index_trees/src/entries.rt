@@ -14,7 +14,7 @@ use btree::insert;
 use btree_remove::remove;
 use denote::Row;
 use items::Items;
-use page_space::{Fault, PageSpace};
+use page_space::{SpaceError, PageSpace};
 use sqlrecord::{EncodeError, encode_index_key};
 use sqlval::Value;
 use std::alloc::{AllocError, Global};
@@ -55,7 +55,7 @@ fn code_of(
     let key = key_of(alloc, row, columns)?;
     match encode_index_key(alloc, key.as_slice(), number) {
         Ok(code) => Ok(code),
-        Err(EncodeError::OutOfMemory) => Err(IndexError::Space(Fault::Memory)),
+        Err(EncodeError::OutOfMemory) => Err(IndexError::Space(SpaceError::Memory)),
         Err(EncodeError::Key) => Err(IndexError::Key),
         Err(EncodeError::Record) => unreachable!(),
     }
@@ -116,7 +116,7 @@ pub fn remove_row<S: PageSpace>(
     let code = code_of(alloc, row, columns, number)?;
     match remove(space, alloc, root, code.as_slice()) {
         Ok(Some(top)) => Ok(top),
-        Ok(None) => Err(IndexError::Space(Fault::Damaged)),
+        Ok(None) => Err(IndexError::Space(SpaceError::Damaged)),
         Err(fault) => Err(IndexError::Space(fault)),
     }
 }

@@ -1,4 +1,4 @@
-use page_space::Fault;
+use page_space::SpaceError;
 use std::alloc::AllocError;
 use thiserror::Error;
 
@@ -7,7 +7,7 @@ use thiserror::Error;
 pub enum IndexError {
     /// The space of pages refused a call, or memory was wanting.
     #[error("{0}")]
-    Space(Fault),
+    Space(SpaceError),
     /// The limit `key`: a row's key takes more than 600 bytes with its number.
     #[error("a key is too long")]
     Key,
@@ -16,11 +16,11 @@ pub enum IndexError {
 impl From<AllocError> for IndexError {
     ghost use Rattle.std.specs.Prelude.{◌≡◌};
     ghost use Rattle.index_trees.specs.declared.error.IndexError.TheVariants.{Space};
-    ghost use Rattle.page_space.specs.declared.fault.Fault.TheVariants.{Memory};
+    ghost use Rattle.page_space.specs.declared.error.SpaceError.TheVariants.{Memory};
 
     ghost from_gives = { λ _ error. error ≡ Space Memory };
 
     fn from(_refused: AllocError) -> IndexError {
-        IndexError::Space(Fault::Memory)
+        IndexError::Space(SpaceError::Memory)
     }
 }

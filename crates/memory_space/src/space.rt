@@ -2,7 +2,7 @@ ghost use Rattle.std.specs.Prelude.{◌≡◌, ℕ, None};
 ghost use Rattle.memory_space.specs.Pages.{pages_of};
 
 use items::{Boxed, Items};
-use page_space::{Fault, Page, PageReader, PageSpace};
+use page_space::{SpaceError, Page, PageReader, PageSpace};
 use std::alloc::Global;
 
 /// Pages in memory, for tests. A page that was taken out of use is not used again.
@@ -42,17 +42,17 @@ impl PageReader for MemorySpace {
 
     ghost follows_trans = { λ a b c h g. tt };
 
-    fn read(&mut self, page: u32, into: &mut Page) -> Result<(), Fault> {
+    fn read(&mut self, page: u32, into: &mut Page) -> Result<(), SpaceError> {
         let at = page as usize;
         if page == 0 || page >= 65536 || at >= self.pages.len() {
-            return Err(Fault::Damaged);
+            return Err(SpaceError::Damaged);
         }
         match &self.pages.as_slice()[at] {
             Some(bytes) => {
                 *into = *bytes.get();
                 Ok(())
             }
-            None => Err(Fault::Damaged),
+            None => Err(SpaceError::Damaged),
         }
     }
 }
@@ -62,39 +62,39 @@ impl PageSpace for MemorySpace {
 
     ghost at_limit = { λ s fault. 65536 ≤ length s.pages };
 
-    fn write(&mut self, page: u32, bytes: &Page) -> Result<(), Fault> {
+    fn write(&mut self, page: u32, bytes: &Page) -> Result<(), SpaceError> {
         let at = page as usize;
         if page == 0 || page >= 65536 || at >= self.pages.len() {
-            return Err(Fault::Damaged);
+            return Err(SpaceError::Damaged);
         }
         if self.pages.as_slice()[at].is_none() {
-            return Err(Fault::Damaged);
+            return Err(SpaceError::Damaged);
         }
         let copy = Boxed::new(self.alloc, *bytes)?;
         self.pages.set(at, Some(copy));
         Ok(())
     }
 
-    fn allocate(&mut self) -> Result<u32, Fault> {
+    fn allocate(&mut self) -> Result<u32, SpaceError> {
         if self.pages.is_empty() {
             self.pages.push(None)?;
         }
         let page = self.pages.len();
         if page >= 65536 {
-            return Err(Fault::Pages);
+            return Err(SpaceError::Pages);
         }
         let bytes = Boxed::new(self.alloc, [0; 4096])?;
         self.pages.push(Some(bytes))?;
         Ok(page as u32)
     }
 
-    fn free(&mut self, page: u32) -> Result<(), Fault> {
+    fn free(&mut self, page: u32) -> Result<(), SpaceError> {
         let at = page as usize;
         if page == 0 || page >= 65536 || at >= self.pages.len() {
-            return Err(Fault::Damaged);
+            return Err(SpaceError::Damaged);
         }
         if self.pages.as_slice()[at].is_none() {
-            return Err(Fault::Damaged);
+            return Err(SpaceError::Damaged);
         }
         self.pages.set(at, None);
         Ok(())

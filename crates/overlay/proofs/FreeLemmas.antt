@@ -3,8 +3,8 @@ use Rattle.std.proofs.Common.{◌≡◌, ◌≢◌, ℕ, ◌<◌, ◌≤◌, Boo
 use Rattle.pagefile.specs.declared.header.FileHeader.{FileHeader}
 use Rattle.pagefile.specs.Header.{IsHeader, IsInBounds}
 use Rattle.pagefile.specs.Free.{IsFree}
-use Rattle.page_space.specs.declared.fault.Fault.{Fault}
-use Rattle.page_space.specs.declared.fault.Fault.TheVariants.{Memory, Disk, Damaged, Pages, Private}
+use Rattle.page_space.specs.declared.error.SpaceError.{SpaceError}
+use Rattle.page_space.specs.declared.error.SpaceError.TheVariants.{Memory, Disk, Damaged, Pages, Private}
 use Rattle.page_space.specs.Space.{ReadRefused, ChangeRefused}
 use Rattle.pool.specs.Pages.{PageMap, over, only, pick}
 use Rattle.overlay.specs.InUse.{in_use}
@@ -92,7 +92,7 @@ never_used o e there = not_none (subst (λ (p : Option (List ℕ)). IsSome p) e 
     not_none : IsSome {T = List ℕ} None → ⊥
     not_none h = cc
 
-pub read_more : (f : Fault) (A : Fault → Type 0) (H G : Type 0) (k b m : ℕ) → (H → G) → k ≤ b → ReadRefused H b m f → ChangeRefused A G k m f
+pub read_more : (f : SpaceError) (A : SpaceError → Type 0) (H G : Type 0) (k b m : ℕ) → (H → G) → k ≤ b → ReadRefused H b m f → ChangeRefused A G k m f
 read_more Memory A H G k b m more rises h = h
 read_more Disk A H G k b m more rises h = omega (arith, rises, h)
 read_more Damaged A H G k b m more rises h = more h

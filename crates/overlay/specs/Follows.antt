@@ -2,8 +2,8 @@
 use Rattle.std.specs.Prelude.{◌≡◌, ℕ, ◌≤◌, refl}
 use Rattle.std.proofs.Common.{◌∙◌, arith}
 use Rattle.pool.specs.Versions.{Versions}
-use Rattle.overlay.specs.declared.changes.Changes.{Changes}
-use Rattle.overlay.specs.Changes.{settled_of, undone_of}
+use Rattle.overlay.specs.declared.write_set.WriteSet.{WriteSet}
+use Rattle.overlay.specs.WriteSet.{settled_of, undone_of}
 
 -- the pool shows what it showed, and the count of refused calls does not fall
 pub record IsRead (old new : Versions) (refused_old refused_new : ℕ) : Type 0 where
@@ -17,12 +17,12 @@ pub read_on : (u v w : Versions) (k m n : ℕ) → IsRead u v k m → IsRead v w
 read_on u v w k m n h g = let x = h.rising in let y = g.rising in record { versions = g.versions ∙ h.versions; rising = omega arith }
 
 -- the pages that a transaction wrote before the mark stay, and so does what is kept of the pages that were undone last
-pub record IsAfterMark (old new : Changes) : Type 0 where
+pub record IsAfterMark (old new : WriteSet) : Type 0 where
   pub settled : settled_of new ≡ settled_of old
   pub undone : undone_of new ≡ undone_of old
 
-pub mark_none : (c : Changes) → IsAfterMark c c
+pub mark_none : (c : WriteSet) → IsAfterMark c c
 mark_none c = record { settled = refl; undone = refl }
 
-pub mark_on : (a b c : Changes) → IsAfterMark a b → IsAfterMark b c → IsAfterMark a c
+pub mark_on : (a b c : WriteSet) → IsAfterMark a b → IsAfterMark b c → IsAfterMark a c
 mark_on a b c h g = record { settled = g.settled ∙ h.settled; undone = g.undone ∙ h.undone }

@@ -2,8 +2,8 @@
 use Rattle.std.specs.Prelude.{◌≡◌, ℕ, zero, suc, ◌+◌, ◌^◌, ◌≤◌, ◌==◌, Bool, true, List, IsSome, if◌then◌else◌, ⊤}
 use Rattle.std.specs.Option.{is_some}
 use Rattle.std.specs.List.{list_any}
-use Rattle.page_space.specs.declared.fault.Fault.{Fault}
-use Rattle.page_space.specs.declared.fault.Fault.TheVariants.{Memory, Disk, Damaged, Pages, Private}
+use Rattle.page_space.specs.declared.error.SpaceError.{SpaceError}
+use Rattle.page_space.specs.declared.error.SpaceError.TheVariants.{Memory, Disk, Damaged, Pages, Private}
 use Rattle.pool.specs.Pages.{PageMap}
 
 -- how many of the numbers below a bound have a page
@@ -20,7 +20,7 @@ abbrev pub AreListed : PageMap → List ℕ → Type 0
 AreListed pages numbers = (n : ℕ) → IsSome (pages n) → list_any (λ k. k == n) numbers ≡ true
 
 -- why a page was not kept among so many private pages: for memory, or since there are 1,024
-abbrev pub IsNotKept : ℕ → Fault → Type 0
+abbrev pub IsNotKept : ℕ → SpaceError → Type 0
 IsNotKept size Memory = ⊤
 IsNotKept size Disk = ⊥
 IsNotKept size Damaged = ⊥

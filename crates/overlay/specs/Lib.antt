@@ -1,6 +1,6 @@
 pub mod Layers
 pub mod Undone
-pub mod Changes
+pub mod WriteSet
 pub mod InUse
 pub mod Bounded
 pub mod Whole

@@ -1,7 +1,7 @@
 -- What is kept of the pages that were undone last. Our own choice.
 use Rattle.std.specs.Prelude.{◌≡◌, ℕ, ◌≤◌, List, Option, Some, None, ⊤}
-use Rattle.page_space.specs.declared.fault.Fault.{Fault}
-use Rattle.page_space.specs.declared.fault.Fault.TheVariants.{Memory, Disk, Damaged, Pages, Private}
+use Rattle.page_space.specs.declared.error.SpaceError.{SpaceError}
+use Rattle.page_space.specs.declared.error.SpaceError.TheVariants.{Memory, Disk, Damaged, Pages, Private}
 use Rattle.pagefile.specs.Number.{number_at}
 use Rattle.pool.specs.Pages.{PageMap, pick}
 use Rattle.overlay.specs.Layers.{size_of}
@@ -32,7 +32,7 @@ AreMost (Some counts) = (65536 ≤ counts.0) × (counts.1 ≡ 0)
 
 -- The pages that were undone last had reached the limit that a fault names, over a version with this page 0: there were 1,024, or
 -- page 0, where it is known, had the greatest page count and no free page.
-abbrev pub WasAtLimit : Option (List ℕ) → Undone → Fault → Type 0
+abbrev pub WasAtLimit : Option (List ℕ) → Undone → SpaceError → Type 0
 WasAtLimit first undone Memory = ⊥
 WasAtLimit first undone Disk = ⊥
 WasAtLimit first undone Damaged = ⊥

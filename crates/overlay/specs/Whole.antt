@@ -1,7 +1,7 @@
 -- Files whose list of free pages is one.
 use Rattle.std.specs.Prelude.{◌≡◌, ◌≢◌, Bool, true, false, Option, ℕ, ◌<◌, ◌≤◌, List, [], ◌∷◌, Some, None, IsSome, ⊤, ◌⊎◌, slice_index}
-use Rattle.page_space.specs.declared.fault.Fault.{Fault}
-use Rattle.page_space.specs.declared.fault.Fault.TheVariants.{Memory, Disk, Damaged, Pages, Private}
+use Rattle.page_space.specs.declared.error.SpaceError.{SpaceError}
+use Rattle.page_space.specs.declared.error.SpaceError.TheVariants.{Memory, Disk, Damaged, Pages, Private}
 use Rattle.pagefile.specs.Number.{number_at}
 use Rattle.pagefile.specs.declared.header.FileHeader.{FileHeader}
 use Rattle.pagefile.specs.Header.{IsHeader, IsInBounds}
@@ -75,7 +75,7 @@ HasMostPages None = ⊤
 HasMostPages (Some first) = (65536 ≤ number_at first 8) × (number_at first 12 ≡ 0)
 
 -- the limit that a fault names is reached, with this page 0 and so many private pages
-abbrev pub AtLimit : Option (List ℕ) → ℕ → Fault → Type 0
+abbrev pub AtLimit : Option (List ℕ) → ℕ → SpaceError → Type 0
 AtLimit first size Memory = ⊥
 AtLimit first size Disk = ⊥
 AtLimit first size Damaged = ⊥

@@ -1,16 +1,16 @@
 ghost use Rattle.std.specs.Prelude.{◌≡◌};
 
-use crate::changes::Changes;
+use crate::write_set::WriteSet;
 use crate::version::read_changed;
 use disk::Disk;
-use page_space::{Fault, Page, PageReader};
+use page_space::{SpaceError, Page, PageReader};
 use pool::Pool;
 
 /// A version of a pool, of the commit of this number, with pages that a transaction has written over it, to be read alone.
 #[derive(Drop)]
 pub struct Changed<'a, D: Disk> {
     pub pool: &'a mut Pool<D>,
-    pub changes: &'a Changes,
+    pub changes: &'a WriteSet,
     pub at: u64,
 }
 
@@ -18,7 +18,7 @@ impl<'a, D: Disk> PageReader for Changed<'a, D> {
     ghost use Rattle.std.proofs.Common.{refl, ◌∙◌};
     ghost use Rattle.pool.specs.Pages.{over};
     ghost use Rattle.pool.specs.Versions.{versions_of, device_of};
-    ghost use Rattle.overlay.specs.Changes.{private_of};
+    ghost use Rattle.overlay.specs.WriteSet.{private_of};
     ghost use Rattle.overlay.specs.InUse.{in_use};
     ghost use Rattle.overlay.specs.Bounded.{in_use-bounded};
     ghost use Rattle.overlay.specs.Whole.{IsWhole};
@@ -39,7 +39,7 @@ impl<'a, D: Disk> PageReader for Changed<'a, D> {
 
     ghost follows_trans = { λ a b c h g. (read_on _ _ _ _ _ _ h.0 g.0, g.1 ∙ h.1, g.2 ∙ h.2, g.3 ∙ h.3) };
 
-    fn read(&mut self, page: u32, into: &mut Page) -> Result<(), Fault> {
+    fn read(&mut self, page: u32, into: &mut Page) -> Result<(), SpaceError> {
         read_changed(self.pool, self.changes, self.at, page, into)
     }
 }

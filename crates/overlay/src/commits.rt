@@ -3,16 +3,16 @@ ghost use Rattle.std.specs.Prelude.{◌≡◌, ◌+◌, ◌-◌, ◌<◌, ◌≤
 ghost use Rattle.pool.specs.Pages.{over, known};
 ghost use Rattle.pool.specs.Refused.{IsRefused};
 ghost use Rattle.pool.specs.Versions.{versions_of, device_of};
-ghost use Rattle.overlay.specs.Changes.{private_of};
+ghost use Rattle.overlay.specs.WriteSet.{private_of};
 
-use crate::changes::Changes;
+use crate::write_set::WriteSet;
 use disk::Disk;
 use pool::{Pool, PoolError};
 
 /// Makes one commit more, of the pages that a transaction has written laid over the last, and answers
 /// its number. Refused as the pool's `commit` is, and then all versions stay. What the transaction has written
 /// is left to the caller, who drops it where the commit was made.
-pub fn commit<D: Disk>(pool: &mut Pool<D>, changes: &Changes) -> Result<u64, PoolError>
+pub fn commit<D: Disk>(pool: &mut Pool<D>, changes: &WriteSet) -> Result<u64, PoolError>
     ensures number { IfOk result (λ c. c ≡ (versions_of pool.new).last) }
     ensures last { OnOk result ((versions_of pool.new).last ≡ (versions_of pool.old).last + 1) }
     ensures written { OnOk result ((versions_of pool.new).pages (versions_of pool.new).last

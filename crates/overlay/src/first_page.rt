@@ -5,13 +5,13 @@ ghost use Rattle.pagefile.specs.declared.header.FileHeader.{FileHeader};
 ghost use Rattle.pagefile.specs.Header.{IsHeader, IsInBounds};
 ghost use Rattle.pool.specs.Pages.{over};
 ghost use Rattle.pool.specs.Versions.{versions_of, device_of};
-ghost use Rattle.overlay.specs.Changes.{private_of};
+ghost use Rattle.overlay.specs.WriteSet.{private_of};
 ghost use Rattle.overlay.specs.Whole.{IsSaid};
 
-use crate::changes::Changes;
+use crate::write_set::WriteSet;
 use crate::version::read_changed;
 use disk::Disk;
-use page_space::Fault;
+use page_space::SpaceError;
 use pagefile::{FileHeader, PAGE_SIZE, Page};
 use pool::Pool;
 
@@ -33,9 +33,9 @@ fn header_of(first: &Page) -> Option<FileHeader>
 /// damaged only where page 0 is no header within its bounds.
 pub fn read_header<D: Disk>(
     pool: &mut Pool<D>,
-    changes: &Changes,
+    changes: &WriteSet,
     at: u64,
-) -> Result<FileHeader, Fault>
+) -> Result<FileHeader, SpaceError>
     ensures says { IfOk result (λ header. (first : List ℕ) → over (private_of changes.now) ((versions_of pool.old).pages at) 0 ≡ Some first → IsHeader first header) }
     ensures bounds { IfOk result IsInBounds }
     ensures versions { versions_of pool.new ≡ versions_of pool.old }
@@ -47,6 +47,6 @@ pub fn read_header<D: Disk>(
     read_changed(pool, changes, at, 0, &mut first)?;
     match header_of(&first) {
         Some(header) => Ok(header),
-        None => Err(Fault::Damaged),
+        None => Err(SpaceError::Damaged),
     }
 }

@@ -4,27 +4,27 @@ ghost use Rattle.page_space.specs.Space.{ChangeRefused};
 ghost use Rattle.pagefile.specs.declared.header.FileHeader.{FileHeader};
 ghost use Rattle.pool.specs.Pages.{over};
 ghost use Rattle.pool.specs.Versions.{versions_of, device_of};
-ghost use Rattle.overlay.specs.Changes.{settled_of, private_of, undone_of};
+ghost use Rattle.overlay.specs.WriteSet.{settled_of, private_of, undone_of};
 ghost use Rattle.overlay.specs.Layers.{size_of, IsNotKept};
 ghost use Rattle.overlay.specs.InUse.{in_use};
 ghost use Rattle.overlay.specs.Whole.{IsWhole, IsFull, AtLimit, IsFirstFree};
 ghost use Rattle.overlay.specs.Puts.{PutsBoth, PutsAtMost, Freed, Frees, WritesAtMost};
 
-use crate::changes::Changes;
+use crate::write_set::WriteSet;
 use crate::first_page::read_header;
 use crate::uses::is_in_use;
 use disk::Disk;
-use page_space::Fault;
+use page_space::SpaceError;
 use pagefile::{FileHeader, FreePage, Page};
 use pool::Pool;
 
 /// Writes a page, and this header as page 0. A refusal leaves each other page.
 pub(crate) fn put_with_header(
-    changes: &mut Changes,
+    changes: &mut WriteSet,
     page: u32,
     bytes: &Page,
     header: FileHeader,
-) -> Result<(), Fault>
+) -> Result<(), SpaceError>
     ensures written { OnOk result (PutsBoth page bytes.now header (private_of changes.old) (private_of changes.new)) }
     ensures left { OnErr result (PutsAtMost page bytes.now (private_of changes.old) (private_of changes.new)) }
     ensures settled { settled_of changes.new ≡ settled_of changes.old }
@@ -36,7 +36,7 @@ pub(crate) fn put_with_header(
 }
 
 /// Writes a page as a free one, the first of the list of this header.
-fn put_free(changes: &mut Changes, page: u32, header: FileHeader) -> Result<(), Fault>
+fn put_free(changes: &mut WriteSet, page: u32, header: FileHeader) -> Result<(), SpaceError>
     requires { 0 < page }
     ensures written { OnOk result (Freed page header (private_of changes.old) (private_of changes.new)) }
     ensures left { OnErr result (WritesAtMost page (private_of changes.old) (private_of changes.new)) }
@@ -58,10 +58,10 @@ fn put_free(changes: &mut Changes, page: u32, header: FileHeader) -> Result<(), 
 /// Writes a page in use as a free one, the first of the list.
 fn free_used<D: Disk>(
     pool: &mut Pool<D>,
-    changes: &mut Changes,
+    changes: &mut WriteSet,
     at: u64,
     page: u32,
-) -> Result<(), Fault>
+) -> Result<(), SpaceError>
     ensures written { OnOk result (Frees (over (private_of changes.old) ((versions_of pool.old).pages at)) page (private_of changes.old) (private_of changes.new)) }
     ensures left { OnErr result (WritesAtMost page (private_of changes.old) (private_of changes.new)) }
     ensures settled { settled_of changes.new ≡ settled_of changes.old }
@@ -74,7 +74,7 @@ fn free_used<D: Disk>(
 {
     let used = is_in_use(pool, changes, at, page)?;
     if !used {
-        return Err(Fault::Damaged);
+        return Err(SpaceError::Damaged);
     }
     match read_header(pool, changes, at) {
         Ok(header) => put_free(changes, page, header),
@@ -88,10 +88,10 @@ fn free_used<D: Disk>(
 /// this page nothing is said; each other page is as it was.
 pub fn free_page<D: Disk>(
     pool: &mut Pool<D>,
-    changes: &mut Changes,
+    changes: &mut WriteSet,
     at: u64,
     page: u32,
-) -> Result<(), Fault>
+) -> Result<(), SpaceError>
     ensures freed { OnOk result (in_use ((versions_of pool.new).pages at) (private_of changes.new) page ≡ None) }
     ensures first { OnOk result (IsFirstFree (over (private_of changes.old) ((versions_of pool.old).pages at)) (over (private_of changes.new) ((versions_of pool.new).pages at)) page) }
     ensures others { (n : ℕ) → n ≢ page → in_use ((versions_of pool.new).pages at) (private_of changes.new) n ≡ in_use ((versions_of pool.old).pages at) (private_of changes.old) n }

@@ -2,7 +2,7 @@
 #![tactic(auto)]
 
 mod changed;
-mod changes;
+mod write_set;
 mod commits;
 mod first_page;
 mod frees;
@@ -16,7 +16,7 @@ mod version;
 mod writes;
 
 pub use changed::Changed;
-pub use changes::Changes;
+pub use write_set::WriteSet;
 pub use commits::commit;
 pub use first_page::read_header;
 pub use frees::free_page;

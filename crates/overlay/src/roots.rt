@@ -4,21 +4,21 @@ ghost use Rattle.page_space.specs.Space.{ChangeRefused};
 ghost use Rattle.pagefile.specs.declared.header.FileHeader.{FileHeader};
 ghost use Rattle.pool.specs.Pages.{over};
 ghost use Rattle.pool.specs.Versions.{versions_of, device_of};
-ghost use Rattle.overlay.specs.Changes.{settled_of, private_of, undone_of};
+ghost use Rattle.overlay.specs.WriteSet.{settled_of, private_of, undone_of};
 ghost use Rattle.overlay.specs.InUse.{in_use};
 ghost use Rattle.overlay.specs.Layers.{size_of, IsNotKept};
 ghost use Rattle.overlay.specs.Whole.{IsWhole, IsFull, AtLimit, HasRoot};
 ghost use Rattle.overlay.specs.Puts.{PutsHeader, Rooted, with_root};
 
-use crate::changes::Changes;
+use crate::write_set::WriteSet;
 use crate::first_page::read_header;
 use disk::Disk;
-use page_space::Fault;
+use page_space::SpaceError;
 use pagefile::FileHeader;
 use pool::Pool;
 
 /// Writes this header as page 0, with another root.
-fn put_root(changes: &mut Changes, header: FileHeader, root: u32) -> Result<(), Fault>
+fn put_root(changes: &mut WriteSet, header: FileHeader, root: u32) -> Result<(), SpaceError>
     ensures written { OnOk result (PutsHeader (with_root header root) (private_of changes.old) (private_of changes.new)) }
     ensures left { OnErr result (private_of changes.new ≡ private_of changes.old) }
     ensures settled { settled_of changes.new ≡ settled_of changes.old }
@@ -36,10 +36,10 @@ fn put_root(changes: &mut Changes, header: FileHeader, root: u32) -> Result<(), 
 /// Lets page 0 name this root.
 fn set_root<D: Disk>(
     pool: &mut Pool<D>,
-    changes: &mut Changes,
+    changes: &mut WriteSet,
     at: u64,
     root: u32,
-) -> Result<(), Fault>
+) -> Result<(), SpaceError>
     ensures written { OnOk result (Rooted (over (private_of changes.old) ((versions_of pool.old).pages at)) root (private_of changes.old) (private_of changes.new)) }
     ensures same { IsSome (over (private_of changes.old) ((versions_of pool.old).pages at) 0) → HasRoot (over (private_of changes.old) ((versions_of pool.old).pages at) 0) root
         → OnOk result (private_of changes.new ≡ private_of changes.old) }
@@ -58,7 +58,7 @@ fn set_root<D: Disk>(
                 return Ok(());
             }
             if root >= header.page_count {
-                return Err(Fault::Damaged);
+                return Err(SpaceError::Damaged);
             }
             put_root(changes, header, root)
         }
@@ -71,10 +71,10 @@ fn set_root<D: Disk>(
 /// the list of free pages is none; then no page is other than it was. Nothing is written where page 0 names it already.
 pub fn set_catalog_root<D: Disk>(
     pool: &mut Pool<D>,
-    changes: &mut Changes,
+    changes: &mut WriteSet,
     at: u64,
     root: u32,
-) -> Result<(), Fault>
+) -> Result<(), SpaceError>
     ensures root { OnOk result (HasRoot (over (private_of changes.new) ((versions_of pool.new).pages at) 0) root) }
     ensures same { IsSome (over (private_of changes.old) ((versions_of pool.old).pages at) 0) → HasRoot (over (private_of changes.old) ((versions_of pool.old).pages at) 0) root
         → OnOk result (private_of changes.new ≡ private_of changes.old) }

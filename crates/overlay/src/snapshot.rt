@@ -2,7 +2,7 @@ ghost use Rattle.std.specs.Prelude.{◌≡◌};
 
 use crate::version::read_version;
 use disk::Disk;
-use page_space::{Fault, Page, PageReader};
+use page_space::{SpaceError, Page, PageReader};
 use pool::Pool;
 
 /// A version of a pool, to be read: the pages in use at the commit of this number.
@@ -36,7 +36,7 @@ impl<'a, D: Disk> PageReader for Snapshot<'a, D> {
 
     ghost follows_trans = { λ a b c h g. (read_on _ _ _ _ _ _ h.0 g.0, g.1 ∙ h.1, g.2 ∙ h.2) };
 
-    fn read(&mut self, page: u32, into: &mut Page) -> Result<(), Fault> {
+    fn read(&mut self, page: u32, into: &mut Page) -> Result<(), SpaceError> {
         read_version(self.pool, self.at, page, into)
     }
 }

@@ -1,26 +1,26 @@
 ghost use Rattle.std.specs.Prelude.{◌≡◌};
 
-use crate::changes::Changes;
+use crate::write_set::WriteSet;
 use crate::frees::free_page;
 use crate::takes::allocate_page;
 use crate::version::read_changed;
 use crate::writes::replace_page;
 use disk::Disk;
-use page_space::{Fault, Page, PageReader, PageSpace};
+use page_space::{SpaceError, Page, PageReader, PageSpace};
 use pool::Pool;
 
 /// A version of a pool, of the commit of this number, with the pages that a transaction has written over it.
 #[derive(Drop)]
 pub struct Overlay<'a, D: Disk> {
     pub pool: &'a mut Pool<D>,
-    pub changes: &'a mut Changes,
+    pub changes: &'a mut WriteSet,
     pub at: u64,
 }
 
 impl<'a, D: Disk> PageReader for Overlay<'a, D> {
     ghost use Rattle.std.proofs.Common.{refl, ◌∙◌};
     ghost use Rattle.pool.specs.Versions.{versions_of, device_of};
-    ghost use Rattle.overlay.specs.Changes.{private_of};
+    ghost use Rattle.overlay.specs.WriteSet.{private_of};
     ghost use Rattle.overlay.specs.InUse.{in_use};
     ghost use Rattle.overlay.specs.Bounded.{in_use-bounded};
     ghost use Rattle.overlay.specs.Whole.{IsWholeOver};
@@ -41,7 +41,7 @@ impl<'a, D: Disk> PageReader for Overlay<'a, D> {
 
     ghost follows_trans = { λ a b c h g. (read_on _ _ _ _ _ _ h.0 g.0, mark_on _ _ _ h.1 g.1, g.2 ∙ h.2, g.3 ∙ h.3, g.4 ∙ h.4) };
 
-    fn read(&mut self, page: u32, into: &mut Page) -> Result<(), Fault> {
+    fn read(&mut self, page: u32, into: &mut Page) -> Result<(), SpaceError> {
         read_changed(self.pool, self.changes, self.at, page, into)
     }
 }
@@ -49,21 +49,21 @@ impl<'a, D: Disk> PageReader for Overlay<'a, D> {
 impl<'a, D: Disk> PageSpace for Overlay<'a, D> {
     ghost use Rattle.pool.specs.Pages.{over};
     ghost use Rattle.pool.specs.Versions.{versions_of};
-    ghost use Rattle.overlay.specs.Changes.{private_of};
+    ghost use Rattle.overlay.specs.WriteSet.{private_of};
     ghost use Rattle.overlay.specs.Layers.{size_of};
     ghost use Rattle.overlay.specs.Whole.{AtLimit};
 
     ghost at_limit = { λ s fault. AtLimit (over (private_of s.changes.now) ((versions_of s.pool.now).pages s.at) 0) (size_of (private_of s.changes.now)) fault };
 
-    fn write(&mut self, page: u32, bytes: &Page) -> Result<(), Fault> {
+    fn write(&mut self, page: u32, bytes: &Page) -> Result<(), SpaceError> {
         replace_page(self.pool, self.changes, self.at, page, bytes)
     }
 
-    fn allocate(&mut self) -> Result<u32, Fault> {
+    fn allocate(&mut self) -> Result<u32, SpaceError> {
         allocate_page(self.pool, self.changes, self.at)
     }
 
-    fn free(&mut self, page: u32) -> Result<(), Fault> {
+    fn free(&mut self, page: u32) -> Result<(), SpaceError> {
         free_page(self.pool, self.changes, self.at, page)
     }
 }

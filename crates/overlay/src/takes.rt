@@ -5,19 +5,19 @@ ghost use Rattle.pagefile.specs.Free.{IsFree};
 ghost use Rattle.pagefile.specs.Header.{IsHeader, IsInBounds};
 ghost use Rattle.pool.specs.Pages.{over};
 ghost use Rattle.pool.specs.Versions.{versions_of, device_of};
-ghost use Rattle.overlay.specs.Changes.{settled_of, private_of, undone_of};
+ghost use Rattle.overlay.specs.WriteSet.{settled_of, private_of, undone_of};
 ghost use Rattle.overlay.specs.Layers.{size_of, IsNotKept};
 ghost use Rattle.overlay.specs.InUse.{in_use};
 ghost use Rattle.overlay.specs.Whole.{IsWhole, IsFull, AtLimit, IsNext, NamesRest};
 ghost use Rattle.overlay.specs.Puts.{PutsLeaf, PutsLeafAtMost, Takes, Took, TookAtMost};
 
-use crate::changes::Changes;
+use crate::write_set::WriteSet;
 use crate::first_page::read_header;
 use crate::frees::put_with_header;
 use crate::uses::MOST_PAGES;
 use crate::version::read_changed;
 use disk::Disk;
-use page_space::Fault;
+use page_space::SpaceError;
 use pagefile::{FileHeader, FreePage, PAGE_SIZE, Page};
 use pool::Pool;
 
@@ -50,10 +50,10 @@ fn next_free(page: &Page, count: u32) -> Option<u32>
 /// The header after the first free page is taken.
 fn take_first<D: Disk>(
     pool: &mut Pool<D>,
-    changes: &Changes,
+    changes: &WriteSet,
     at: u64,
     header: FileHeader,
-) -> Result<FileHeader, Fault>
+) -> Result<FileHeader, SpaceError>
     requires some { 0 < header.first_free }
     requires says { (first : List ℕ) → over (private_of changes.now) ((versions_of pool.old).pages at) 0 ≡ Some first → IsHeader first header }
     requires bounds { IsInBounds header }
@@ -71,17 +71,17 @@ fn take_first<D: Disk>(
             first_free: next,
             catalog_root: header.catalog_root,
         }),
-        None => Err(Fault::Damaged),
+        None => Err(SpaceError::Damaged),
     }
 }
 
 /// The page that can be taken, the first free one or the one behind the last, and the header after that.
 fn page_to_take<D: Disk>(
     pool: &mut Pool<D>,
-    changes: &Changes,
+    changes: &WriteSet,
     at: u64,
     header: FileHeader,
-) -> Result<(u32, FileHeader), Fault>
+) -> Result<(u32, FileHeader), SpaceError>
     requires says { (first : List ℕ) → over (private_of changes.now) ((versions_of pool.old).pages at) 0 ≡ Some first → IsHeader first header }
     requires bounds { IsInBounds header }
     ensures taken { IfOk result (λ found. Takes ((versions_of pool.old).pages at) (private_of changes.now) header found.0 found.1) }
@@ -99,10 +99,10 @@ fn page_to_take<D: Disk>(
     }
     let page = header.page_count;
     if page >= MOST_PAGES {
-        return Err(Fault::Pages);
+        return Err(SpaceError::Pages);
     }
     if changes.has(page) {
-        return Err(Fault::Damaged);
+        return Err(SpaceError::Damaged);
     }
     let new = FileHeader {
         page_count: page + 1,
@@ -113,7 +113,7 @@ fn page_to_take<D: Disk>(
 }
 
 /// Writes a page that is taken, and the header that says so.
-fn put_leaf(changes: &mut Changes, page: u32, new: FileHeader) -> Result<u32, Fault>
+fn put_leaf(changes: &mut WriteSet, page: u32, new: FileHeader) -> Result<u32, SpaceError>
     ensures number { IfOk result (λ taken. taken ≡ page) }
     ensures written { OnOk result (PutsLeaf page new (private_of changes.old) (private_of changes.new)) }
     ensures left { OnErr result (PutsLeafAtMost page (private_of changes.old) (private_of changes.new)) }
@@ -130,10 +130,10 @@ fn put_leaf(changes: &mut Changes, page: u32, new: FileHeader) -> Result<u32, Fa
 /// Takes a page as this header of page 0 has it.
 fn take_by<D: Disk>(
     pool: &mut Pool<D>,
-    changes: &mut Changes,
+    changes: &mut WriteSet,
     at: u64,
     header: FileHeader,
-) -> Result<u32, Fault>
+) -> Result<u32, SpaceError>
     requires says { (first : List ℕ) → over (private_of changes.old) ((versions_of pool.old).pages at) 0 ≡ Some first → IsHeader first header }
     requires bounds { IsInBounds header }
     ensures taken { IfOk result (λ page. Took ((versions_of pool.old).pages at) (private_of changes.old) page (private_of changes.new)) }
@@ -152,7 +152,7 @@ fn take_by<D: Disk>(
 }
 
 /// Takes a page that is not in use.
-fn take_page<D: Disk>(pool: &mut Pool<D>, changes: &mut Changes, at: u64) -> Result<u32, Fault>
+fn take_page<D: Disk>(pool: &mut Pool<D>, changes: &mut WriteSet, at: u64) -> Result<u32, SpaceError>
     ensures taken { IfOk result (λ page. Took ((versions_of pool.old).pages at) (private_of changes.old) page (private_of changes.new)) }
     ensures left { OnErr result (TookAtMost ((versions_of pool.old).pages at) (private_of changes.old) (private_of changes.new)) }
     ensures settled { settled_of changes.new ≡ settled_of changes.old }
@@ -174,9 +174,9 @@ fn take_page<D: Disk>(pool: &mut Pool<D>, changes: &mut Changes, at: u64) -> Res
 /// a refusal each page in use is as it was.
 pub fn allocate_page<D: Disk>(
     pool: &mut Pool<D>,
-    changes: &mut Changes,
+    changes: &mut WriteSet,
     at: u64,
-) -> Result<u32, Fault>
+) -> Result<u32, SpaceError>
     ensures next { IfOk result (IsNext (over (private_of changes.old) ((versions_of pool.old).pages at) 0)) }
     ensures list { IfOk result (NamesRest (over (private_of changes.old) ((versions_of pool.old).pages at)) (over (private_of changes.new) ((versions_of pool.new).pages at))) }
     ensures fresh { IfOk result (IsFresh (in_use ((versions_of pool.old).pages at) (private_of changes.old)) (in_use ((versions_of pool.new).pages at) (private_of changes.new))) }

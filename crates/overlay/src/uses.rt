@@ -4,16 +4,16 @@ ghost use Rattle.page_space.specs.Space.{ReadRefused, ChangeRefused};
 ghost use Rattle.pagefile.specs.Number.{number_at};
 ghost use Rattle.pool.specs.Pages.{over, only};
 ghost use Rattle.pool.specs.Versions.{versions_of, device_of};
-ghost use Rattle.overlay.specs.Changes.{settled_of, private_of, undone_of};
+ghost use Rattle.overlay.specs.WriteSet.{settled_of, private_of, undone_of};
 ghost use Rattle.overlay.specs.InUse.{in_use};
 ghost use Rattle.overlay.specs.Layers.{size_of};
 ghost use Rattle.overlay.specs.Whole.{IsWritable, AtLimit};
 
-use crate::changes::Changes;
+use crate::write_set::WriteSet;
 use crate::version::{read_changed, read_version};
 use byteorder::{BigEndian, ByteOrder};
 use disk::Disk;
-use page_space::Fault;
+use page_space::SpaceError;
 use pagefile::{PAGE_SIZE, Page};
 use pool::Pool;
 
@@ -32,7 +32,7 @@ pub(crate) fn number_in(page: &[u8], at: usize) -> u32
 }
 
 /// The page count that page 0 says.
-fn page_count<D: Disk>(pool: &mut Pool<D>, changes: &Changes, at: u64) -> Result<u32, Fault>
+fn page_count<D: Disk>(pool: &mut Pool<D>, changes: &WriteSet, at: u64) -> Result<u32, SpaceError>
     ensures count { IfOk result (λ count. (first : List ℕ) → over (private_of changes.now) ((versions_of pool.old).pages at) 0 ≡ Some first → number_at first 8 ≡ count) }
     ensures versions { versions_of pool.new ≡ versions_of pool.old }
     ensures refusal { IfErr result (ReadRefused ⊥ (D.refused (device_of pool.old)) (D.refused (device_of pool.new))) }
@@ -46,10 +46,10 @@ fn page_count<D: Disk>(pool: &mut Pool<D>, changes: &Changes, at: u64) -> Result
 /// Whether a page of a version, which the transaction has not written, is in use.
 fn is_stored<D: Disk>(
     pool: &mut Pool<D>,
-    changes: &Changes,
+    changes: &WriteSet,
     at: u64,
     page: u32,
-) -> Result<bool, Fault>
+) -> Result<bool, SpaceError>
     requires { private_of changes.now page ≡ None }
     ensures unused { IfOk result (λ used. used ≡ false → in_use ((versions_of pool.old).pages at) (private_of changes.now) page ≡ None) }
     ensures used { IfOk result (λ used. used ≡ true → IsWritable (over (private_of changes.now) ((versions_of pool.old).pages at)) page) }
@@ -72,10 +72,10 @@ fn is_stored<D: Disk>(
 /// Whether a page is in use.
 pub(crate) fn is_in_use<D: Disk>(
     pool: &mut Pool<D>,
-    changes: &Changes,
+    changes: &WriteSet,
     at: u64,
     page: u32,
-) -> Result<bool, Fault>
+) -> Result<bool, SpaceError>
     ensures unused { IfOk result (λ used. used ≡ false → in_use ((versions_of pool.old).pages at) (private_of changes.now) page ≡ None) }
     ensures used { IfOk result (λ used. used ≡ true → IsWritable (over (private_of changes.now) ((versions_of pool.old).pages at)) page) }
     ensures within { IfOk result (λ used. used ≡ true → 0 < page) }
@@ -103,11 +103,11 @@ pub(crate) fn is_in_use<D: Disk>(
 /// Puts these bytes in place of a page in use.
 pub(crate) fn write_page<D: Disk>(
     pool: &mut Pool<D>,
-    changes: &mut Changes,
+    changes: &mut WriteSet,
     at: u64,
     page: u32,
     bytes: &Page,
-) -> Result<(), Fault>
+) -> Result<(), SpaceError>
     requires { slice_index bytes.now 0 ≢ 3 }
     ensures written { OnOk result (private_of changes.new ≡ over (only page bytes.now) (private_of changes.old)) }
     ensures used { OnOk result (IsWritable (over (private_of changes.old) ((versions_of pool.old).pages at)) page) }
@@ -122,7 +122,7 @@ pub(crate) fn write_page<D: Disk>(
 {
     let used = is_in_use(pool, changes, at, page)?;
     if !used {
-        return Err(Fault::Damaged);
+        return Err(SpaceError::Damaged);
     }
     changes.put(page, bytes)
 }

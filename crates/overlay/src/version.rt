@@ -4,11 +4,11 @@ ghost use Rattle.page_space.specs.Space.{ReadRefused};
 ghost use Rattle.pagefile.specs.Number.{number_at};
 ghost use Rattle.pool.specs.Pages.{over};
 ghost use Rattle.pool.specs.Versions.{versions_of, device_of};
-ghost use Rattle.overlay.specs.Changes.{private_of};
+ghost use Rattle.overlay.specs.WriteSet.{private_of};
 
-use crate::changes::Changes;
+use crate::write_set::WriteSet;
 use disk::Disk;
-use page_space::Fault;
+use page_space::SpaceError;
 use pagefile::Page;
 use pool::{Pool, PoolError};
 
@@ -18,7 +18,7 @@ pub(crate) fn read_version<D: Disk>(
     at: u64,
     page: u32,
     into: &mut Page,
-) -> Result<(), Fault>
+) -> Result<(), SpaceError>
     ensures value { OnOk result ((bytes : List ℕ) → (versions_of pool.old).pages at page ≡ Some bytes → into.new ≡ bytes) }
     ensures versions { versions_of pool.new ≡ versions_of pool.old }
     ensures refusal { IfErr result (ReadRefused ⊥ (D.refused (device_of pool.old)) (D.refused (device_of pool.new))) }
@@ -26,8 +26,8 @@ pub(crate) fn read_version<D: Disk>(
 {
     match pool.read(at, page, into) {
         Ok(()) => Ok(()),
-        Err(PoolError::Memory) => Err(Fault::Memory),
-        Err(PoolError::Device(_)) => Err(Fault::Disk),
+        Err(PoolError::Memory) => Err(SpaceError::Memory),
+        Err(PoolError::Device(_)) => Err(SpaceError::Disk),
         Err(PoolError::Pages) => unreachable!(),
         Err(PoolError::Kept) => unreachable!(),
     }
@@ -36,11 +36,11 @@ pub(crate) fn read_version<D: Disk>(
 /// The same, with the pages that the transaction has written over it.
 pub(crate) fn read_changed<D: Disk>(
     pool: &mut Pool<D>,
-    changes: &Changes,
+    changes: &WriteSet,
     at: u64,
     page: u32,
     into: &mut Page,
-) -> Result<(), Fault>
+) -> Result<(), SpaceError>
     ensures value { OnOk result ((bytes : List ℕ) → over (private_of changes.now) ((versions_of pool.old).pages at) page ≡ Some bytes → into.new ≡ bytes) }
     ensures versions { versions_of pool.new ≡ versions_of pool.old }
     ensures refusal { IfErr result (ReadRefused ⊥ (D.refused (device_of pool.old)) (D.refused (device_of pool.new))) }

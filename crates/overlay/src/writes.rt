@@ -3,15 +3,15 @@ ghost use Rattle.std.specs.Prelude.{◌≡◌, ◌≢◌, ◌≤◌, ℕ, Some, 
 ghost use Rattle.page_space.specs.Space.{ChangeRefused};
 ghost use Rattle.pool.specs.Pages.{over};
 ghost use Rattle.pool.specs.Versions.{versions_of, device_of};
-ghost use Rattle.overlay.specs.Changes.{settled_of, private_of, undone_of};
+ghost use Rattle.overlay.specs.WriteSet.{settled_of, private_of, undone_of};
 ghost use Rattle.overlay.specs.InUse.{in_use};
 ghost use Rattle.overlay.specs.Layers.{size_of};
 ghost use Rattle.overlay.specs.Whole.{IsWhole, IsFull, AtLimit};
 
-use crate::changes::Changes;
+use crate::write_set::WriteSet;
 use crate::uses::write_page;
 use disk::Disk;
-use page_space::Fault;
+use page_space::SpaceError;
 use pagefile::Page;
 use pool::Pool;
 
@@ -20,11 +20,11 @@ use pool::Pool;
 /// private pages, and as damaged only where the page is not in use; then no page is other than it was.
 pub fn replace_page<D: Disk>(
     pool: &mut Pool<D>,
-    changes: &mut Changes,
+    changes: &mut WriteSet,
     at: u64,
     page: u32,
     bytes: &Page,
-) -> Result<(), Fault>
+) -> Result<(), SpaceError>
     requires { slice_index bytes.now 0 ≢ 3 }
     ensures written { OnOk result (IsSome (in_use ((versions_of pool.old).pages at) (private_of changes.old) page)
         → in_use ((versions_of pool.new).pages at) (private_of changes.new) page ≡ Some bytes.now) }

@@ -1,10 +1,10 @@
 //! A space of numbered pages that trees read and change.
 #![tactic(auto)]
 
-mod fault;
+mod error;
 mod space;
 
-pub use fault::Fault;
+pub use error::SpaceError;
 pub use space::{PageReader, PageSpace};
 
 /// The bytes of a page.

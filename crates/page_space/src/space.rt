@@ -1,8 +1,8 @@
 ghost use Rattle.std.specs.Prelude.{◌≡◌, ◌≢◌, ◌<◌, ◌≤◌, ℕ, List, Some, None, IsSome, IfOk, IfErr, OnOk, OnErr, slice_index};
-ghost use Rattle.page_space.specs.declared.fault.Fault.{Fault};
+ghost use Rattle.page_space.specs.declared.error.SpaceError.{SpaceError};
 ghost use Rattle.page_space.specs.Space.{PageMap, IsFresh, ReadRefused, ChangeRefused};
 
-use crate::{Fault, Page};
+use crate::{SpaceError, Page};
 
 /// A space of numbered pages that can be read.
 ///
@@ -23,7 +23,7 @@ pub trait PageReader {
 
     /// Gives what lies at a page, where one lies there. Refused for memory, where the device refuses
     /// a call, and as damaged only where no page lies. After a refusal `into` may hold anything.
-    fn read(&mut self, page: u32, into: &mut Page) -> Result<(), Fault>
+    fn read(&mut self, page: u32, into: &mut Page) -> Result<(), SpaceError>
         ensures bytes { OnOk result ((bytes : List ℕ) → pages self.old page ≡ Some bytes → into.new ≡ bytes) }
         ensures same { pages self.new ≡ pages self.old }
         ensures whole { is_whole self.old → is_whole self.new }
@@ -47,12 +47,12 @@ pub trait PageReader {
 /// only where the space is at it.
 pub trait PageSpace: PageReader {
     /// That the space is at the limit that a fault names.
-    ghost at_limit: { Self → Fault → Type 0 };
+    ghost at_limit: { Self → SpaceError → Type 0 };
 
     /// Puts these bytes, which are not those of a free page, in place of a page in use. Refused for
     /// memory, where the device refuses a call, at the limit of private pages, and as damaged only
     /// where the page is not in use.
-    fn write(&mut self, page: u32, bytes: &Page) -> Result<(), Fault>
+    fn write(&mut self, page: u32, bytes: &Page) -> Result<(), SpaceError>
         requires { slice_index bytes.now 0 ≢ 3 }
         ensures written { OnOk result (IsSome (Self.pages self.old page) → Self.pages self.new page ≡ Some bytes.now) }
         ensures others { (n : ℕ) → n ≢ page → Self.pages self.new n ≡ Self.pages self.old n }
@@ -64,7 +64,7 @@ pub trait PageSpace: PageReader {
     /// Takes a page into use that was not in use; it then has some bytes. Refused for memory, where
     /// the device refuses a call, at the limits of pages and of private pages, and as damaged only
     /// where the list of free pages is none.
-    fn allocate(&mut self) -> Result<u32, Fault>
+    fn allocate(&mut self) -> Result<u32, SpaceError>
         ensures fresh { IfOk result (IsFresh (Self.pages self.old) (Self.pages self.new)) }
         ensures others { IfOk result (λ page. (n : ℕ) → n ≢ page → Self.pages self.new n ≡ Self.pages self.old n) }
         ensures kept { OnErr result ((n : ℕ) → IsSome (Self.pages self.old n) → Self.pages self.new n ≡ Self.pages self.old n) }
@@ -75,7 +75,7 @@ pub trait PageSpace: PageReader {
 
     /// Takes a page out of use. Refused as `write` is, and as damaged also where the list of free
     /// pages is none.
-    fn free(&mut self, page: u32) -> Result<(), Fault>
+    fn free(&mut self, page: u32) -> Result<(), SpaceError>
         ensures freed { OnOk result (Self.pages self.new page ≡ None) }
         ensures others { (n : ℕ) → n ≢ page → Self.pages self.new n ≡ Self.pages self.old n }
         ensures whole { OnOk result (Self.is_whole self.old → Self.is_whole self.new) }

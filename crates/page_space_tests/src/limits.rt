@@ -1,7 +1,7 @@
 //! The limits `pages` and `private`, reached page by page over a first page that says how many pages there are.
 use disk::MemDisk;
-use overlay::{Changes, Overlay};
-use page_space::{Fault, PAGE_SIZE, PageSpace};
+use overlay::{WriteSet, Overlay};
+use page_space::{SpaceError, PAGE_SIZE, PageSpace};
 use pagefile::{FileHeader, PageFile};
 use pool::Pool;
 use std::alloc::Global;
@@ -22,7 +22,7 @@ fn pool_of(alloc: Global, page_count: u32) -> Option<Pool<MemDisk>> {
 }
 
 /// How many pages can be taken into use, and why one more is refused.
-fn taken(pool: &mut Pool<MemDisk>, changes: &mut Changes) -> (u32, Option<Fault>) {
+fn taken(pool: &mut Pool<MemDisk>, changes: &mut WriteSet) -> (u32, Option<SpaceError>) {
     let mut space = Overlay {
         pool,
         changes,
@@ -37,7 +37,7 @@ fn taken(pool: &mut Pool<MemDisk>, changes: &mut Changes) -> (u32, Option<Fault>
 }
 
 /// Whether a page that was written can be written again, and given up and taken once more.
-fn is_still_changed(pool: &mut Pool<MemDisk>, changes: &mut Changes, page: u32) -> bool {
+fn is_still_changed(pool: &mut Pool<MemDisk>, changes: &mut WriteSet, page: u32) -> bool {
     let mut space = Overlay {
         pool,
         changes,
@@ -54,10 +54,10 @@ fn is_still_changed(pool: &mut Pool<MemDisk>, changes: &mut Changes, page: u32) 
 #[test]
 fn a_file_has_so_many_pages(rt: HostRuntime) -> Result<(), Fail> {
     for (page_count, left) in [(65_534, 2), (65_535, 1), (65_536, 0)] {
-        let mut changes = Changes::new(rt.alloc());
+        let mut changes = WriteSet::new(rt.alloc());
         match pool_of(rt.alloc(), page_count) {
             Some(mut pool) => {
-                assert!(rt; taken(&mut pool, &mut changes) == (left, Some(Fault::Pages)));
+                assert!(rt; taken(&mut pool, &mut changes) == (left, Some(SpaceError::Pages)));
             }
             None => assert!(rt; false, "no pool"),
         }
@@ -68,16 +68,16 @@ fn a_file_has_so_many_pages(rt: HostRuntime) -> Result<(), Fail> {
 /// A transaction writes 1,024 pages at most, page 0 among them. These may be written again; and once they are given back, as many may be written anew.
 #[test]
 fn a_transaction_has_so_many_pages(rt: HostRuntime) -> Result<(), Fail> {
-    let mut changes = Changes::new(rt.alloc());
+    let mut changes = WriteSet::new(rt.alloc());
     match pool_of(rt.alloc(), 1) {
         Some(mut pool) => {
-            assert!(rt; taken(&mut pool, &mut changes) == (1_023, Some(Fault::Private)));
+            assert!(rt; taken(&mut pool, &mut changes) == (1_023, Some(SpaceError::Private)));
             assert!(rt; changes.len() == 1_024);
             assert!(rt; is_still_changed(&mut pool, &mut changes, 7));
-            assert!(rt; taken(&mut pool, &mut changes) == (0, Some(Fault::Private)));
+            assert!(rt; taken(&mut pool, &mut changes) == (0, Some(SpaceError::Private)));
             changes.undo();
             assert!(rt; changes.len() == 0);
-            assert!(rt; taken(&mut pool, &mut changes) == (1_023, Some(Fault::Private)));
+            assert!(rt; taken(&mut pool, &mut changes) == (1_023, Some(SpaceError::Private)));
         }
         None => assert!(rt; false, "no pool"),
     }

@@ -1,4 +1,4 @@
--- Changes of the tables that are shown, and refusals of the pool.
+-- WriteSet of the tables that are shown, and refusals of the pool.
 use Rattle.std.proofs.Common.{◌≡◌, ◌∙◌, refl, sym, ap, subst, ℕ, Bool, List, Option, IsTrue}
 use Rattle.std.specs.Ordering.{nat_cmp}
 use Rattle.std.specs.FinMap.{FinMap}

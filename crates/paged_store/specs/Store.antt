@@ -2,7 +2,7 @@
 use Rattle.disk.specs.declared.device.Disk.{Ghosts}
 use Rattle.store.specs.Stored.{Stored}
 use Rattle.pool.specs.Versions.{versions_of}
-use Rattle.overlay.specs.Changes.{private_of, settled_of}
+use Rattle.overlay.specs.WriteSet.{private_of, settled_of}
 use Rattle.snapshot_pins.specs.Pinned.{numbers_of}
 use Rattle.paged_store.specs.declared.paged.Paged.{Paged}
 use Rattle.paged_store.specs.Shown.{stored}

@@ -2,7 +2,7 @@
 ghost use Rattle.std.specs.Prelude.{◌≡◌};
 ghost use Rattle.pool.specs.Versions.{versions_of};
 ghost use Rattle.store.specs.View.{count_of};
-ghost use Rattle.overlay.specs.Changes.{private_of, settled_of};
+ghost use Rattle.overlay.specs.WriteSet.{private_of, settled_of};
 ghost use Rattle.paged_store.specs.Orderly.{IsOrderly, IsSteady};
 
 use crate::keeping::{are_places, is_kept};
@@ -12,7 +12,7 @@ use crate::writing::write_some;
 use denote::{Row, Rows};
 use disk::Disk;
 use items::{Items, Text};
-use overlay::Changes;
+use overlay::WriteSet;
 use snapshot_pins::{Readers, found_is_pinned};
 use database_versions::{
     append_rows, close_pool, create_index, create_table, delete_row, drop_index, drop_table,
@@ -33,7 +33,7 @@ use store::{Numbered, NumberedRow, Position, Returned, Store, StoreError, View};
 pub struct Paged<D: Disk> {
     alloc: Global,
     pool: Pool<D>,
-    changes: Changes,
+    changes: WriteSet,
     readers: Readers,
     /// The schema that was made ready last.
     prepared: Schema,
@@ -77,7 +77,7 @@ fn rows_in(found: &Option<NumberedRow>) -> usize
 impl<D: Disk + Drop> Store for Paged<D> {
     ghost use Rattle.std.specs.Prelude.{◌≡◌};
     ghost use Rattle.pool.specs.Versions.{versions_of, device_of, unwritten_of};
-    ghost use Rattle.overlay.specs.Changes.{settled_of, undone_of};
+    ghost use Rattle.overlay.specs.WriteSet.{settled_of, undone_of};
     ghost use Rattle.database_versions.specs.Opened.{IsReadable};
     ghost use Rattle.paged_store.specs.Counted.{IsCounted};
     ghost use Rattle.paged_store.specs.Saved.{IsSavedAlone};
@@ -117,7 +117,7 @@ impl<D: Disk + Drop> Store for Paged<D> {
             Ok(pool) => Ok(Paged {
                 alloc,
                 pool,
-                changes: Changes::new(alloc),
+                changes: WriteSet::new(alloc),
                 readers: Readers::new(alloc),
                 prepared: Schema {
                     tables: Items::new(alloc),
@@ -146,7 +146,7 @@ impl<D: Disk + Drop> Store for Paged<D> {
                 value: Paged {
                     alloc,
                     pool: refused.pool,
-                    changes: Changes::new(alloc),
+                    changes: WriteSet::new(alloc),
                     readers,
                     prepared,
                     commits,
@@ -199,7 +199,7 @@ impl<D: Disk + Drop> Store for Paged<D> {
         match overlay::commit(&mut self.pool, &self.changes) {
             Ok(number) => {
                 self.commits = number;
-                self.changes = Changes::new(self.alloc);
+                self.changes = WriteSet::new(self.alloc);
                 Ok(())
             }
             Err(error) => Err(of_pool(error)),
@@ -207,7 +207,7 @@ impl<D: Disk + Drop> Store for Paged<D> {
     }
 
     fn discard(&mut self) {
-        self.changes = Changes::new(self.alloc);
+        self.changes = WriteSet::new(self.alloc);
     }
 
     fn prepare(&mut self, view: View) -> Result<(), StoreError> {

@@ -9,14 +9,14 @@ ghost use Rattle.store.specs.Indexes.{entries_of, entry_after, sought, ranged, n
 ghost use Rattle.store.specs.View.{AreEntries, IsEntry, seen_by, position_of};
 ghost use Rattle.pool.specs.Pages.{PageMap};
 ghost use Rattle.pool.specs.Versions.{versions_of, device_of};
-ghost use Rattle.overlay.specs.Changes.{private_of};
+ghost use Rattle.overlay.specs.WriteSet.{private_of};
 ghost use Rattle.snapshot_pins.specs.Pinned.{numbers_of};
 ghost use Rattle.paged_store.specs.Shown.{stored};
 ghost use Rattle.paged_store.specs.Sound.{IsSound};
 
 use disk::Disk;
 use items::Text;
-use overlay::Changes;
+use overlay::WriteSet;
 use snapshot_pins::Readers;
 use database_versions::{row_after, row_beyond, rows_of, rows_sought, rows_within, schema_of};
 use pool::Pool;
@@ -39,7 +39,7 @@ fn number_seen(readers: &Readers, reader: u64, commits: u64) -> u64
 pub(crate) fn schema_seen<D: Disk>(
     alloc: Global,
     pool: &mut Pool<D>,
-    changes: &Changes,
+    changes: &WriteSet,
     readers: &Readers,
     commits: u64,
     view: View,
@@ -54,7 +54,7 @@ pub(crate) fn schema_seen<D: Disk>(
     match view {
         View::Found(reader) => {
             let at = number_seen(readers, reader, commits);
-            let none = Changes::new(alloc);
+            let none = WriteSet::new(alloc);
             schema_of(alloc, pool, &none, at)
         }
         View::Working => schema_of(alloc, pool, changes, commits),
@@ -65,7 +65,7 @@ pub(crate) fn schema_seen<D: Disk>(
 pub(crate) fn rows_seen<D: Disk>(
     alloc: Global,
     pool: &mut Pool<D>,
-    changes: &Changes,
+    changes: &WriteSet,
     readers: &Readers,
     commits: u64,
     view: View,
@@ -81,7 +81,7 @@ pub(crate) fn rows_seen<D: Disk>(
     match view {
         View::Found(reader) => {
             let at = number_seen(readers, reader, commits);
-            let none = Changes::new(alloc);
+            let none = WriteSet::new(alloc);
             rows_of(alloc, pool, &none, at, name)
         }
         View::Working => rows_of(alloc, pool, changes, commits, name),
@@ -92,7 +92,7 @@ pub(crate) fn rows_seen<D: Disk>(
 pub(crate) fn next_seen<D: Disk>(
     alloc: Global,
     pool: &mut Pool<D>,
-    changes: &Changes,
+    changes: &WriteSet,
     readers: &Readers,
     commits: u64,
     view: View,
@@ -109,7 +109,7 @@ pub(crate) fn next_seen<D: Disk>(
     match view {
         View::Found(reader) => {
             let at = number_seen(readers, reader, commits);
-            let none = Changes::new(alloc);
+            let none = WriteSet::new(alloc);
             row_after(alloc, pool, &none, at, name, after)
         }
         View::Working => row_after(alloc, pool, changes, commits, name, after),
@@ -120,7 +120,7 @@ pub(crate) fn next_seen<D: Disk>(
 pub(crate) fn sought_seen<D: Disk>(
     alloc: Global,
     pool: &mut Pool<D>,
-    changes: &Changes,
+    changes: &WriteSet,
     readers: &Readers,
     commits: u64,
     view: View,
@@ -138,7 +138,7 @@ pub(crate) fn sought_seen<D: Disk>(
     match view {
         View::Found(reader) => {
             let at = number_seen(readers, reader, commits);
-            let none = Changes::new(alloc);
+            let none = WriteSet::new(alloc);
             rows_sought(alloc, pool, &none, at, name, index, key)
         }
         View::Working => rows_sought(alloc, pool, changes, commits, name, index, key),
@@ -149,7 +149,7 @@ pub(crate) fn sought_seen<D: Disk>(
 pub(crate) fn ranged_seen<D: Disk>(
     alloc: Global,
     pool: &mut Pool<D>,
-    changes: &Changes,
+    changes: &WriteSet,
     readers: &Readers,
     commits: u64,
     view: View,
@@ -168,7 +168,7 @@ pub(crate) fn ranged_seen<D: Disk>(
     match view {
         View::Found(reader) => {
             let at = number_seen(readers, reader, commits);
-            let none = Changes::new(alloc);
+            let none = WriteSet::new(alloc);
             rows_within(alloc, pool, &none, at, name, index, low, high)
         }
         View::Working => rows_within(alloc, pool, changes, commits, name, index, low, high),
@@ -179,7 +179,7 @@ pub(crate) fn ranged_seen<D: Disk>(
 pub(crate) fn beyond_seen<D: Disk>(
     alloc: Global,
     pool: &mut Pool<D>,
-    changes: &Changes,
+    changes: &WriteSet,
     readers: &Readers,
     commits: u64,
     view: View,
@@ -197,7 +197,7 @@ pub(crate) fn beyond_seen<D: Disk>(
     match view {
         View::Found(reader) => {
             let at = number_seen(readers, reader, commits);
-            let none = Changes::new(alloc);
+            let none = WriteSet::new(alloc);
             row_beyond(alloc, pool, &none, at, name, index, after)
         }
         View::Working => row_beyond(alloc, pool, changes, commits, name, index, after),

@@ -1,14 +1,14 @@
-//! Changes that were refused, undone.
+//! WriteSet that were refused, undone.
 ghost use Rattle.std.specs.Prelude.{◌≡◌, OnOk, OnErr};
-ghost use Rattle.overlay.specs.Changes.{private_of, settled_of, undone_of};
+ghost use Rattle.overlay.specs.WriteSet.{private_of, settled_of, undone_of};
 ghost use Rattle.overlay.specs.Undone.{AreUndone};
 
-use overlay::Changes;
+use overlay::WriteSet;
 use store::StoreError;
 
 /// Goes back to the mark where a change was refused, and answers as it did.
 pub(crate) fn undo_refused(
-    changes: &mut Changes,
+    changes: &mut WriteSet,
     done: Result<(), StoreError>,
 ) -> Result<(), StoreError>
     ensures same { result ≡ done }

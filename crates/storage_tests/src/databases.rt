@@ -8,7 +8,7 @@ use memory_space::MemorySpace;
 use database_trees::{
     DatabaseError, append, create_index, create_table, delete, drop_index, drop_table, replace,
 };
-use page_space::Fault;
+use page_space::SpaceError;
 use stored_tables::{read_schema, scan};
 use sqlval::{Column, ColumnType, Index, Table, Value};
 use std::alloc::{AllocError, Global};
@@ -16,7 +16,7 @@ use std::alloc::{AllocError, Global};
 fn text(alloc: Global, codes: &[u8]) -> Result<Text, DatabaseError> {
     match Text::from_items(Items::from_slice(alloc, codes)?) {
         Some(text) => Ok(text),
-        None => Err(DatabaseError::Space(Fault::Damaged)),
+        None => Err(DatabaseError::Space(SpaceError::Damaged)),
     }
 }
 

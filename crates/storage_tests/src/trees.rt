@@ -6,7 +6,7 @@ use btree_remove::drop_tree;
 use btree_read::scan;
 use items::Items;
 use memory_space::MemorySpace;
-use page_space::Fault;
+use page_space::SpaceError;
 use std::alloc::Global;
 
 /// A key so long that few fit into a page, with a number at its end.
@@ -17,14 +17,14 @@ fn key_of(number: u8) -> [u8; 500] {
 }
 
 /// Puts a number in, with a value that shows it.
-fn put(space: &mut MemorySpace, alloc: Global, root: u32, number: u8) -> Result<u32, Fault> {
+fn put(space: &mut MemorySpace, alloc: Global, root: u32, number: u8) -> Result<u32, SpaceError> {
     let key = key_of(number);
     let value = [number; 40];
     insert(space, alloc, root, key.as_slice(), value.as_slice())
 }
 
 /// A tree of the numbers below 120, put in out of order.
-fn tree(space: &mut MemorySpace, alloc: Global) -> Result<u32, Fault> {
+fn tree(space: &mut MemorySpace, alloc: Global) -> Result<u32, SpaceError> {
     let mut root = 0;
     for i in 0..60u8 {
         root = put(space, alloc, root, 119 - i)?;
@@ -42,7 +42,7 @@ fn has(space: &mut MemorySpace, alloc: Global, root: u32, key: &[u8], value: &[u
 }
 
 /// How many entries the tree has.
-fn count(space: &mut MemorySpace, alloc: Global, root: u32) -> Result<usize, Fault> {
+fn count(space: &mut MemorySpace, alloc: Global, root: u32) -> Result<usize, SpaceError> {
     Ok(scan(space, alloc, root)?.len())
 }
 
@@ -56,7 +56,7 @@ fn has_numbers(space: &mut MemorySpace, alloc: Global, root: u32) -> bool {
     true
 }
 
-fn is_found(space: &mut MemorySpace, alloc: Global) -> Result<bool, Fault> {
+fn is_found(space: &mut MemorySpace, alloc: Global) -> Result<bool, SpaceError> {
     let root = tree(space, alloc)?;
     let absent = get(space, alloc, root, key_of(120).as_slice())?.is_none();
     Ok(has_numbers(space, alloc, root) && absent)
@@ -69,7 +69,7 @@ fn what_is_put_in_is_found(rt: HostRuntime) {
     assert!(rt; matches!(found, Ok(true)));
 }
 
-fn is_replaced(space: &mut MemorySpace, alloc: Global) -> Result<bool, Fault> {
+fn is_replaced(space: &mut MemorySpace, alloc: Global) -> Result<bool, SpaceError> {
     let root = insert(space, alloc, 0, b"a", b"one")?;
     let root = insert(space, alloc, root, b"a", b"two")?;
     let count = count(space, alloc, root)?;
@@ -84,7 +84,7 @@ fn a_value_is_replaced(rt: HostRuntime) {
 }
 
 /// Puts two entries in at once.
-fn put_two(space: &mut MemorySpace, alloc: Global, root: u32) -> Result<u32, Fault> {
+fn put_two(space: &mut MemorySpace, alloc: Global, root: u32) -> Result<u32, SpaceError> {
     let second = Entry {
         key: Items::from_slice(alloc, b"b")?,
         value: Items::from_slice(alloc, b"2")?,
@@ -96,7 +96,7 @@ fn put_two(space: &mut MemorySpace, alloc: Global, root: u32) -> Result<u32, Fau
     insert_all(space, alloc, root, &[second, third])
 }
 
-fn are_put_in(space: &mut MemorySpace, alloc: Global) -> Result<bool, Fault> {
+fn are_put_in(space: &mut MemorySpace, alloc: Global) -> Result<bool, SpaceError> {
     let root = insert(space, alloc, 0, b"a", b"1")?;
     let root = put_two(space, alloc, root)?;
     let count = count(space, alloc, root)?;
@@ -128,7 +128,7 @@ fn are_numbers(entries: &[Entry]) -> bool {
     entries.len() == 120
 }
 
-fn is_in_order(space: &mut MemorySpace, alloc: Global) -> Result<bool, Fault> {
+fn is_in_order(space: &mut MemorySpace, alloc: Global) -> Result<bool, SpaceError> {
     let none = count(space, alloc, 0)?;
     let root = tree(space, alloc)?;
     let all = scan(space, alloc, root)?;
@@ -143,7 +143,7 @@ fn a_scan_has_all_entries_in_order(rt: HostRuntime) {
 }
 
 /// Whether the entry of this number was found.
-fn is_number(found: &Result<Option<Entry>, Fault>, number: u8) -> bool {
+fn is_number(found: &Result<Option<Entry>, SpaceError>, number: u8) -> bool {
     match found {
         Ok(Some(entry)) => is_entry(entry, number),
         _ => false,
@@ -160,7 +160,7 @@ fn goes_on(space: &mut MemorySpace, alloc: Global, root: u32, first: u8) -> bool
     matches!(next(space, alloc, root, key_of(119).as_slice()), Ok(None))
 }
 
-fn is_walked(space: &mut MemorySpace, alloc: Global) -> Result<bool, Fault> {
+fn is_walked(space: &mut MemorySpace, alloc: Global) -> Result<bool, SpaceError> {
     let root = tree(space, alloc)?;
     let begun = is_number(&seek(space, alloc, root, key_of(50).as_slice()), 50);
     Ok(begun && goes_on(space, alloc, root, 50))
@@ -173,13 +173,13 @@ fn a_walk_goes_from_key_to_key(rt: HostRuntime) {
     assert!(rt; matches!(walked, Ok(true)));
 }
 
-fn is_dropped(space: &mut MemorySpace, alloc: Global) -> Result<bool, Fault> {
+fn is_dropped(space: &mut MemorySpace, alloc: Global) -> Result<bool, SpaceError> {
     let other = insert(space, alloc, 0, b"a", b"1")?;
     let root = tree(space, alloc)?;
     drop_tree(space, 0)?;
     drop_tree(space, root)?;
-    let gone = matches!(count(space, alloc, root), Err(Fault::Damaged));
-    let twice = matches!(drop_tree(space, root), Err(Fault::Damaged));
+    let gone = matches!(count(space, alloc, root), Err(SpaceError::Damaged));
+    let twice = matches!(drop_tree(space, root), Err(SpaceError::Damaged));
     let kept = count(space, alloc, other)?;
     Ok(gone && twice && kept == 1)
 }
@@ -193,9 +193,9 @@ fn a_dropped_tree_is_gone(rt: HostRuntime) {
 
 /// Whether no tree has this root: no call finds one there.
 fn is_no_tree(space: &mut MemorySpace, alloc: Global, root: u32) -> bool {
-    matches!(scan(space, alloc, root), Err(Fault::Damaged))
-        && matches!(get(space, alloc, root, b"a"), Err(Fault::Damaged))
-        && matches!(insert(space, alloc, root, b"a", b"b"), Err(Fault::Damaged))
+    matches!(scan(space, alloc, root), Err(SpaceError::Damaged))
+        && matches!(get(space, alloc, root, b"a"), Err(SpaceError::Damaged))
+        && matches!(insert(space, alloc, root, b"a", b"b"), Err(SpaceError::Damaged))
 }
 
 #[test]

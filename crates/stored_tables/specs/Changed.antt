@@ -3,7 +3,7 @@ use Rattle.std.specs.Prelude.{◌≡◌, ℕ, List, Some}
 use Rattle.denote.specs.Database.{Name}
 use Rattle.store.specs.Contents.{Contents}
 use Rattle.page_space.specs.Space.{PageMap, ChangeRefused}
-use Rattle.page_space.specs.declared.fault.Fault.{Fault}
+use Rattle.page_space.specs.declared.error.SpaceError.{SpaceError}
 use Rattle.tablestore.specs.declared.error.AppendError.{AppendError}
 use Rattle.tablestore.specs.declared.error.AppendError.TheVariants.{Space, Record, Number}
 use Rattle.stored_tables.specs.Held.{TableAt, HoldsTables, contents_of, declared_of}
@@ -24,7 +24,7 @@ abbrev pub HoldsNoneAt : PageMap → ℕ → Name → ℕ → Type 0 → Type 0
 HoldsNoneAt pages root name from Whole = (tables : List TableAt) → HoldsTables pages root tables → root_named name (declared_of tables) ≡ Some from → Whole → ⊥
 
 -- a refusal of the space of pages, or for want of memory
-abbrev pub IsOfSpace : (Fault → Type 0) → Type 0 → ℕ → ℕ → AppendError → Type 0
+abbrev pub IsOfSpace : (SpaceError → Type 0) → Type 0 → ℕ → ℕ → AppendError → Type 0
 IsOfSpace AtLimit Harm before after (Space fault) = ChangeRefused AtLimit Harm before after fault
 IsOfSpace AtLimit Harm before after Record = ⊥
 IsOfSpace AtLimit Harm before after Number = ⊥

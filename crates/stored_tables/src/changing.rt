@@ -16,7 +16,7 @@ use crate::naming::table_root;
 use catalog::{ChangeError, add_table, set_root};
 use denote::Row;
 use items::Text;
-use page_space::{Fault, PageSpace};
+use page_space::{SpaceError, PageSpace};
 use sqlval::Table;
 use std::alloc::Global;
 use tablestore::AppendError;
@@ -66,8 +66,8 @@ fn put_root<S: PageSpace>(
     match set_root(space, alloc, root, name, rows) {
         Ok(root) => Ok(root),
         Err(ChangeError::Space(fault)) => Err(AppendError::Space(fault)),
-        Err(ChangeError::Record) => Err(AppendError::Space(Fault::Memory)),
-        Err(ChangeError::Key) => Err(AppendError::Space(Fault::Memory)),
+        Err(ChangeError::Record) => Err(AppendError::Space(SpaceError::Memory)),
+        Err(ChangeError::Key) => Err(AppendError::Space(SpaceError::Memory)),
     }
 }
 

@@ -5,7 +5,7 @@ ghost use Rattle.stored_tables.specs.Held.{TableAt, declared_of, HoldsTables, Ho
 ghost use Rattle.stored_tables.specs.Named.{root_named, or_none};
 
 use items::Text;
-use page_space::{Fault, PageReader};
+use page_space::{SpaceError, PageReader};
 use sqlval::Table;
 use std::alloc::Global;
 
@@ -37,7 +37,7 @@ pub(crate) fn table_root<R: PageReader>(
     alloc: Global,
     root: u32,
     name: &Text,
-) -> Result<Option<u32>, Fault>
+) -> Result<Option<u32>, SpaceError>
     ensures found { (tables : List TableAt) → HoldsTables (R.pages space.old) root tables → IfOk result (λ found. found ≡ root_named name.now (declared_of tables)) }
     ensures same { R.pages space.new ≡ R.pages space.old }
     ensures whole { R.is_whole space.old → R.is_whole space.new }

@@ -9,7 +9,7 @@ use Rattle.store.specs.Contents as stored
 use Rattle.sqlrecord.specs.Key.{number_code}
 use Rattle.sqlrecord.specs.Row.{row_code, IsCodeOf}
 use Rattle.page_space.specs.Space.{PageMap, ReadRefused, ChangeRefused}
-use Rattle.page_space.specs.declared.fault.Fault.{Fault}
+use Rattle.page_space.specs.declared.error.SpaceError.{SpaceError}
 use Rattle.btree.proofs.RefusalLemmas.{change_refused, read_as_change}
 use Rattle.tablestore.specs.declared.error.AppendError.{AppendError}
 use Rattle.tablestore.specs.declared.error.AppendError.TheVariants.{Space, Record, Number}
@@ -247,17 +247,17 @@ replaced_by (Ok top) old mid new root n owned held r key found v h holds k f g e
 
 -- ---- refusals
 
-later : (AtLimit : Fault → Type 0) (H G : Type 0) (a b c : ℕ) (r : Row) (e : AppendError) → a ≤ b → (H → G) → MayRefuseRow AtLimit H b c r e → MayRefuseRow AtLimit G a c r e
+later : (AtLimit : SpaceError → Type 0) (H G : Type 0) (a b c : ℕ) (r : Row) (e : AppendError) → a ≤ b → (H → G) → MayRefuseRow AtLimit H b c r e → MayRefuseRow AtLimit G a c r e
 later AtLimit H G a b c r (Space f) h g w = change_refused AtLimit H G a b c f h g w
 later AtLimit H G a b c r Record h g w = w
 later AtLimit H G a b c r Number h g w = w
 
-pub put_refused : {A : Type 0} (result : Result A AppendError) (AtLimit : Fault → Type 0) (H G : Type 0) (a b c : ℕ) (r : Row) → a ≤ b → (H → G) → IfErr result (MayRefuseRow AtLimit H b c r)
+pub put_refused : {A : Type 0} (result : Result A AppendError) (AtLimit : SpaceError → Type 0) (H G : Type 0) (a b c : ℕ) (r : Row) → a ≤ b → (H → G) → IfErr result (MayRefuseRow AtLimit H b c r)
     → IfErr result (MayRefuseRow AtLimit G a c r)
 put_refused (Ok x) AtLimit H G a b c r h g w = tt
 put_refused (Err e) AtLimit H G a b c r h g w = later AtLimit H G a b c r e h g w
 
-pub read_refused : (AtLimit : Fault → Type 0) (H G : Type 0) (a b : ℕ) (f : Fault) → (H → G) → ReadRefused H a b f → ChangeRefused AtLimit G a b f
+pub read_refused : (AtLimit : SpaceError → Type 0) (H G : Type 0) (a b : ℕ) (f : SpaceError) → (H → G) → ReadRefused H a b f → ChangeRefused AtLimit G a b f
 read_refused AtLimit H G a b f g w = read_as_change AtLimit H G a b f g w
 
 pub no_page_lost_by_removal : (old new : PageMap) (k : Key) (root top : ℕ) → ((owned : List ℕ) (entries : List Entry) → IsTree old root owned entries → IsRemoved old new owned entries k top) → LosesNoPage old new root top

@@ -5,8 +5,8 @@ use Rattle.sqlval.specs.CodedLength.{row_length}
 use Rattle.store.specs.Contents as stored
 use Rattle.store.specs.Errors.{HasLongRow}
 use Rattle.page_space.specs.Space.{PageMap, ChangeRefused}
-use Rattle.page_space.specs.declared.fault.Fault.{Fault}
-use Rattle.page_space.specs.declared.fault.Fault.TheVariants.{Memory}
+use Rattle.page_space.specs.declared.error.SpaceError.{SpaceError}
+use Rattle.page_space.specs.declared.error.SpaceError.TheVariants.{Memory}
 use Rattle.btree_read.specs.Lists.{Has}
 use Rattle.tablestore.specs.declared.error.AppendError.{AppendError}
 use Rattle.tablestore.specs.declared.error.AppendError.TheVariants.{Space, Record, Number}
@@ -25,7 +25,7 @@ HoldsNoRowsIn pages root Whole = (owned : List ℕ) (rows : List stored.Entry) �
 
 -- Why rows may be refused, with what is known where it was for damage and with the counts of refused device calls before and after: as a change of pages is,
 -- and where a row is too long.
-abbrev pub MayRefuse : (Fault → Type 0) → Type 0 → ℕ → ℕ → List Row → AppendError → Type 0
+abbrev pub MayRefuse : (SpaceError → Type 0) → Type 0 → ℕ → ℕ → List Row → AppendError → Type 0
 MayRefuse AtLimit Harm before after rows (Space fault) = ChangeRefused AtLimit Harm before after fault
 MayRefuse AtLimit Harm before after rows Record = HasLongRow rows
 MayRefuse AtLimit Harm before after rows Number = ⊤
@@ -43,7 +43,7 @@ IsOfRow row Record = 1000 < row_length row
 IsOfRow row Number = ⊥
 
 -- a refusal of one row that is put into a tree
-abbrev pub MayRefuseRow : (Fault → Type 0) → Type 0 → ℕ → ℕ → Row → AppendError → Type 0
+abbrev pub MayRefuseRow : (SpaceError → Type 0) → Type 0 → ℕ → ℕ → Row → AppendError → Type 0
 MayRefuseRow AtLimit Harm before after row (Space fault) = ChangeRefused AtLimit Harm before after fault
 MayRefuseRow AtLimit Harm before after row Record = 1000 < row_length row
 MayRefuseRow AtLimit Harm before after row Number = ⊥

@@ -19,7 +19,7 @@ use crate::number::{NUMBERS, next_number};
 use btree::insert;
 use denote::Row;
 use items::Items;
-use page_space::{Fault, PageSpace};
+use page_space::{SpaceError, PageSpace};
 use sqlrecord::{EncodeError, encode_row};
 use std::alloc::Global;
 
@@ -30,7 +30,7 @@ fn code_of(alloc: Global, row: &Row) -> Result<Items<u8>, AppendError>
 {
     match encode_row(alloc, row.as_slice()) {
         Ok(code) => Ok(code),
-        Err(EncodeError::OutOfMemory) => Err(AppendError::Space(Fault::Memory)),
+        Err(EncodeError::OutOfMemory) => Err(AppendError::Space(SpaceError::Memory)),
         Err(EncodeError::Record) => Err(AppendError::Record),
         Err(EncodeError::Key) => unreachable!(),
     }

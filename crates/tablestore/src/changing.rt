@@ -19,7 +19,7 @@ use btree_read::get;
 use btree_remove::remove;
 use denote::Row;
 use items::Items;
-use page_space::{Fault, PageSpace};
+use page_space::{SpaceError, PageSpace};
 use sqlrecord::{EncodeError, encode_row};
 use std::alloc::Global;
 use crate::error::AppendError;
@@ -35,7 +35,7 @@ pub fn delete<S: PageSpace>(
     alloc: Global,
     root: u32,
     number: u64,
-) -> Result<u32, Fault>
+) -> Result<u32, SpaceError>
     ensures deleted { (owned : List ℕ) (held : List stored.Entry) → HoldsRows (S.pages space.old) root owned held
         → IfOk result (RowsLeft (S.pages space.old) (S.pages space.new) owned (without_number number held)) }
     ensures keeps { IfOk result (LosesNoPage (S.pages space.old) (S.pages space.new) root) }
@@ -58,7 +58,7 @@ fn code_of(alloc: Global, row: &Row) -> Result<Items<u8>, AppendError>
 {
     match encode_row(alloc, row.as_slice()) {
         Ok(code) => Ok(code),
-        Err(EncodeError::OutOfMemory) => Err(AppendError::Space(Fault::Memory)),
+        Err(EncodeError::OutOfMemory) => Err(AppendError::Space(SpaceError::Memory)),
         Err(EncodeError::Record) => Err(AppendError::Record),
         Err(EncodeError::Key) => unreachable!(),
     }

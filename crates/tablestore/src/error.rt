@@ -1,4 +1,4 @@
-use page_space::Fault;
+use page_space::SpaceError;
 use std::alloc::AllocError;
 use thiserror::Error;
 
@@ -7,7 +7,7 @@ use thiserror::Error;
 pub enum AppendError {
     /// The space of pages refused a call, or memory was wanting.
     #[error("{0}")]
-    Space(Fault),
+    Space(SpaceError),
     /// The limit `record`: a row's code takes more than 1,000 bytes.
     #[error("a row is too long")]
     Record,
@@ -19,22 +19,22 @@ pub enum AppendError {
 impl From<AllocError> for AppendError {
     ghost use Rattle.std.specs.Prelude.{◌≡◌};
     ghost use Rattle.tablestore.specs.declared.error.AppendError.TheVariants.{Space};
-    ghost use Rattle.page_space.specs.declared.fault.Fault.TheVariants.{Memory};
+    ghost use Rattle.page_space.specs.declared.error.SpaceError.TheVariants.{Memory};
 
     ghost from_gives = { λ _ error. error ≡ Space Memory };
 
     fn from(_refused: AllocError) -> AppendError {
-        AppendError::Space(Fault::Memory)
+        AppendError::Space(SpaceError::Memory)
     }
 }
 
-impl From<Fault> for AppendError {
+impl From<SpaceError> for AppendError {
     ghost use Rattle.std.specs.Prelude.{◌≡◌};
     ghost use Rattle.tablestore.specs.declared.error.AppendError.TheVariants.{Space};
 
     ghost from_gives = { λ fault error. error ≡ Space fault };
 
-    fn from(fault: Fault) -> AppendError {
+    fn from(fault: SpaceError) -> AppendError {
         AppendError::Space(fault)
     }
 }

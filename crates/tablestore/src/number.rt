@@ -7,7 +7,7 @@ ghost use Rattle.btree_read.specs.Tree.{IsTree};
 ghost use Rattle.tablestore.specs.Held.{HoldsRows, HoldsNoRows, ArePast};
 
 use btree_read::{Entry, seek};
-use page_space::{Fault, PageReader};
+use page_space::{SpaceError, PageReader};
 use std::alloc::Global;
 
 /// The least number that no row may have.
@@ -30,7 +30,7 @@ fn ends_before<R: PageReader>(
     alloc: Global,
     root: u32,
     number: u64,
-) -> Result<bool, Fault>
+) -> Result<bool, SpaceError>
     ensures none { (owned : List ℕ) (rows : List stored.Entry) → HoldsRows (R.pages space.old) root owned rows → IfOk result (λ ends. ends ≡ true → stored.next_number rows ≤ number) }
     ensures some { (owned : List ℕ) (rows : List stored.Entry) → HoldsRows (R.pages space.old) root owned rows → IfOk result (λ ends. ends ≡ false → number < stored.next_number rows) }
     ensures past { (owned : List ℕ) (entries : List AnyEntry) → IsTree (R.pages space.old) root owned entries → IfOk result (λ ends. ends ≡ true → ArePast entries number) }
@@ -46,7 +46,7 @@ fn ends_before<R: PageReader>(
 
 /// The number of the next row of the tree at a root, and 2^63 where greater keys lie there, too. A tree is read from its least key
 /// on, so the number is looked for twice as far each time, and by halves once no row is found there.
-fn number_behind<R: PageReader>(space: &mut R, alloc: Global, root: u32) -> Result<u64, Fault>
+fn number_behind<R: PageReader>(space: &mut R, alloc: Global, root: u32) -> Result<u64, SpaceError>
     ensures found { (owned : List ℕ) (rows : List stored.Entry) → HoldsRows (R.pages space.old) root owned rows → IfOk result (λ number. number ≡ stored.next_number rows) }
     ensures past { (owned : List ℕ) (entries : List AnyEntry) → IsTree (R.pages space.old) root owned entries → IfOk result (λ number. number < 2 ^ 63 → ArePast entries number) }
     ensures same { R.pages space.new ≡ R.pages space.old }
@@ -72,7 +72,7 @@ fn number_behind<R: PageReader>(space: &mut R, alloc: Global, root: u32) -> Resu
 /// tree lies there, no key is the code of this number, or comes behind it.
 ///
 /// Refused as `scan` is.
-pub fn next_number<R: PageReader>(space: &mut R, alloc: Global, root: u32) -> Result<u64, Fault>
+pub fn next_number<R: PageReader>(space: &mut R, alloc: Global, root: u32) -> Result<u64, SpaceError>
     ensures found { (owned : List ℕ) (rows : List stored.Entry) → HoldsRows (R.pages space.old) root owned rows → IfOk result (λ number. number ≡ stored.next_number rows) }
     ensures past { (owned : List ℕ) (entries : List AnyEntry) → IsTree (R.pages space.old) root owned entries → IfOk result (ArePast entries) }
     ensures same { R.pages space.new ≡ R.pages space.old }
@@ -88,5 +88,5 @@ pub fn next_number<R: PageReader>(space: &mut R, alloc: Global, root: u32) -> Re
     if ends_before(space, alloc, root, number)? {
         return Ok(number);
     }
-    Err(Fault::Damaged)
+    Err(SpaceError::Damaged)
 }

@@ -9,7 +9,7 @@ ghost use Rattle.tablestore.specs.Held.{row_entry, HoldsRows, HoldsNoRows};
 
 use crate::decoding::{row_found, rows_of_entries};
 use btree_read::{Entry, seek};
-use page_space::{Fault, PageReader};
+use page_space::{SpaceError, PageReader};
 use sqlrecord::DecodeError;
 use std::alloc::Global;
 use store::{Numbered, NumberedRow};
@@ -17,7 +17,7 @@ use store::{Numbered, NumberedRow};
 /// All rows of the tree at a root, in the order of their numbers; root 0 is the table without rows.
 ///
 /// Refused for want of memory, where the device refuses a call, and as damaged only where no rows are held there.
-pub fn scan<R: PageReader>(space: &mut R, alloc: Global, root: u32) -> Result<Numbered, Fault>
+pub fn scan<R: PageReader>(space: &mut R, alloc: Global, root: u32) -> Result<Numbered, SpaceError>
     ensures found { (owned : List ℕ) (rows : List stored.Entry) → HoldsRows (R.pages space.old) root owned rows → IfOk result (λ found. AreEntries found rows) }
     ensures same { R.pages space.new ≡ R.pages space.old }
     ensures whole { R.is_whole space.old → R.is_whole space.new }
@@ -28,8 +28,8 @@ pub fn scan<R: PageReader>(space: &mut R, alloc: Global, root: u32) -> Result<Nu
     let entries = btree_read::scan(space, alloc, root)?;
     match rows_of_entries(alloc, entries.as_slice()) {
         Ok(found) => Ok(found),
-        Err(DecodeError::OutOfMemory) => Err(Fault::Memory),
-        Err(DecodeError::Damaged) => Err(Fault::Damaged),
+        Err(DecodeError::OutOfMemory) => Err(SpaceError::Memory),
+        Err(DecodeError::Damaged) => Err(SpaceError::Damaged),
     }
 }
 
@@ -39,7 +39,7 @@ fn entry_above<R: PageReader>(
     alloc: Global,
     root: u32,
     number: u64,
-) -> Result<Option<Entry>, Fault>
+) -> Result<Option<Entry>, SpaceError>
     ensures found { (owned : List ℕ) (rows : List stored.Entry) → HoldsRows (R.pages space.old) root owned rows → IfOk result (λ found. found ≡ option_map row_entry (entry_after (Some number) rows)) }
     ensures same { R.pages space.new ≡ R.pages space.old }
     ensures whole { R.is_whole space.old → R.is_whole space.new }
@@ -56,7 +56,7 @@ fn entry_behind<R: PageReader>(
     alloc: Global,
     root: u32,
     after: Option<u64>,
-) -> Result<Option<Entry>, Fault>
+) -> Result<Option<Entry>, SpaceError>
     ensures found { (owned : List ℕ) (rows : List stored.Entry) → HoldsRows (R.pages space.old) root owned rows → IfOk result (λ found. found ≡ option_map row_entry (entry_after after rows)) }
     ensures same { R.pages space.new ≡ R.pages space.old }
     ensures whole { R.is_whole space.old → R.is_whole space.new }
@@ -78,7 +78,7 @@ pub fn next<R: PageReader>(
     alloc: Global,
     root: u32,
     after: Option<u64>,
-) -> Result<Option<NumberedRow>, Fault>
+) -> Result<Option<NumberedRow>, SpaceError>
     ensures found { (owned : List ℕ) (rows : List stored.Entry) → HoldsRows (R.pages space.old) root owned rows → IfOk result (λ found. IsEntry found (entry_after after rows)) }
     ensures same { R.pages space.new ≡ R.pages space.old }
     ensures whole { R.is_whole space.old → R.is_whole space.new }
@@ -89,7 +89,7 @@ pub fn next<R: PageReader>(
     let found = entry_behind(space, alloc, root, after)?;
     match row_found(alloc, &found) {
         Ok(row) => Ok(row),
-        Err(DecodeError::OutOfMemory) => Err(Fault::Memory),
-        Err(DecodeError::Damaged) => Err(Fault::Damaged),
+        Err(DecodeError::OutOfMemory) => Err(SpaceError::Memory),
+        Err(DecodeError::Damaged) => Err(SpaceError::Damaged),
     }
 }

@@ -6,7 +6,7 @@ use Rattle.store.specs.Indexes.{next_entry}
 use Rattle.store.specs.View.{IsEntry, position_of}
 use Rattle.store.specs.Errors.{Never}
 use Rattle.pool.specs.Versions.{Versions, versions_of, device_of}
-use Rattle.overlay.specs.Changes.{private_of}
+use Rattle.overlay.specs.WriteSet.{private_of}
 use Rattle.database_versions.specs.Databases.{IsDatabase}
 use Rattle.database_versions.specs.Refusals.{of_fault}
 use Rattle.database_versions.proofs.RefusalLemmas.{header_fails}

@@ -1,6 +1,6 @@
 use Rattle.std.proofs.Common.{ap}
 use Rattle.pool.specs.Versions.{Versions, versions_of, device_of}
-use Rattle.overlay.specs.Changes.{private_of}
+use Rattle.overlay.specs.WriteSet.{private_of}
 use Rattle.overlay.proofs.WholeLemmas.{whole_over}
 use Rattle.database_versions.proofs.ChangeLemmas.{put_after, put_owned_after, root_put_refused}
 use Rattle.database_versions.proofs.naming.put_root.Goals as goal

@@ -5,7 +5,7 @@ use Rattle.store.specs.Indexes.{entries_of}
 use Rattle.store.specs.View.{AreEntries}
 use Rattle.store.specs.Errors.{Never}
 use Rattle.pool.specs.Versions.{Versions, versions_of, device_of}
-use Rattle.overlay.specs.Changes.{private_of}
+use Rattle.overlay.specs.WriteSet.{private_of}
 use Rattle.database_versions.specs.Databases.{IsDatabase}
 use Rattle.database_versions.specs.Refusals.{of_fault}
 use Rattle.database_versions.proofs.RefusalLemmas.{header_fails}

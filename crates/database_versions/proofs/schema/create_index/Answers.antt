@@ -2,7 +2,7 @@ use Rattle.std.proofs.Common.{ap, ◌∙◌, inl, inr, arith}
 use Rattle.store.specs.Errors.{ChangingReaches}
 use Rattle.store.specs.Contents.{Contents, indexed}
 use Rattle.pool.specs.Versions.{Versions, versions_of, device_of}
-use Rattle.overlay.specs.Changes.{private_of}
+use Rattle.overlay.specs.WriteSet.{private_of}
 use Rattle.database_versions.specs.Databases.{contents_in, IsDatabase}
 use Rattle.database_versions.specs.Refusals.{of_fault, IsCounted}
 use Rattle.database_versions.proofs.RefusalLemmas.{header_fails}

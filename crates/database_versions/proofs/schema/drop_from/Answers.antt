@@ -2,8 +2,8 @@ use Rattle.std.proofs.Common.{ℕ, IfOk, IfErr, OnOk, ap, sym, subst}
 use Rattle.store.specs.Contents.{without_table}
 use Rattle.pool.specs.Pages.{PageMap, over}
 use Rattle.pool.specs.Versions.{versions_of, device_of}
-use Rattle.overlay.specs.declared.changes.Changes.{Changes}
-use Rattle.overlay.specs.Changes.{private_of}
+use Rattle.overlay.specs.declared.write_set.WriteSet.{WriteSet}
+use Rattle.overlay.specs.WriteSet.{private_of}
 use Rattle.overlay.specs.InUse.{in_use}
 use Rattle.overlay.specs.Layers.{size_of}
 use Rattle.overlay.specs.Whole.{IsWholeOver, AtLimit}
@@ -16,21 +16,21 @@ pub returns-clause-dropped : goal.returns-clause-dropped
 returns-clause-dropped g c = λ tables h.
     let follows = c.drop_table.ensures.follows in
     let now = c.changes-1.given.1 (sym follows.3) in
-    subst (λ (w : PageMap). IfOk c.drop_table.result (DatabaseWritten (in_use ((versions_of c.args.pool.now).pages c.args.at) w) (without_table (contents_of tables) c.args.name.now))) (sym (ap (λ (k : Changes). private_of k) now))
+    subst (λ (w : PageMap). IfOk c.drop_table.result (DatabaseWritten (in_use ((versions_of c.args.pool.now).pages c.args.at) w) (without_table (contents_of tables) c.args.name.now))) (sym (ap (λ (k : WriteSet). private_of k) now))
     (subst (λ (v : PageMap). IfOk c.drop_table.result (DatabaseWritten (in_use v (private_of c.drop_table.new.space.changes.now)) (without_table (contents_of tables) c.args.name.now))) (same_pages _ _ _ _ follows.0.versions follows.4) (c.drop_table.ensures.dropped tables h))
 
 pub returns-clause-owned : goal.returns-clause-owned
 returns-clause-owned g c = λ tables h.
     let follows = c.drop_table.ensures.follows in
     let now = c.changes-1.given.1 (sym follows.3) in
-    subst (λ (w : PageMap). IfOk c.drop_table.result (DatabaseOwned (in_use ((versions_of c.args.pool.now).pages c.args.at) w) (without_table (contents_of tables) c.args.name.now))) (sym (ap (λ (k : Changes). private_of k) now))
+    subst (λ (w : PageMap). IfOk c.drop_table.result (DatabaseOwned (in_use ((versions_of c.args.pool.now).pages c.args.at) w) (without_table (contents_of tables) c.args.name.now))) (sym (ap (λ (k : WriteSet). private_of k) now))
     (subst (λ (v : PageMap). IfOk c.drop_table.result (DatabaseOwned (in_use v (private_of c.drop_table.new.space.changes.now)) (without_table (contents_of tables) c.args.name.now))) (same_pages _ _ _ _ follows.0.versions follows.4) (c.drop_table.ensures.owned tables h))
 
 pub returns-clause-whole : goal.returns-clause-whole
 returns-clause-whole g c =
     let follows = c.drop_table.ensures.follows in
     let now = c.changes-1.given.1 (sym follows.3) in
-    subst (λ (w : PageMap). OnOk c.drop_table.result (IsWholeOver ((versions_of c.args.pool.now).pages c.args.at) (private_of c.args.changes.now) → IsWholeOver ((versions_of c.args.pool.now).pages c.args.at) w)) (sym (ap (λ (k : Changes). private_of k) now))
+    subst (λ (w : PageMap). OnOk c.drop_table.result (IsWholeOver ((versions_of c.args.pool.now).pages c.args.at) (private_of c.args.changes.now) → IsWholeOver ((versions_of c.args.pool.now).pages c.args.at) w)) (sym (ap (λ (k : WriteSet). private_of k) now))
     (subst (λ (v : PageMap). OnOk c.drop_table.result (IsWholeOver ((versions_of c.args.pool.now).pages c.args.at) (private_of c.args.changes.now) → IsWholeOver v (private_of c.drop_table.new.space.changes.now))) (same_pages _ _ _ _ follows.0.versions follows.4) c.drop_table.ensures.whole)
 
 pub returns-clause-refusal : goal.returns-clause-refusal
@@ -39,5 +39,5 @@ returns-clause-refusal g c =
     let now = c.changes-1.given.1 (sym follows.3) in
     let pool = c.pool-1.given.1 (sym follows.2) in
     subst (λ (n : ℕ). IfErr c.drop_table.result (SpaceRefused (AtLimit (over (private_of c.changes-1.given.0) ((versions_of c.args.pool.now).pages c.args.at) 0) (size_of (private_of c.changes-1.given.0))) (HoldsNoDatabaseIn (in_use ((versions_of c.args.pool.now).pages c.args.at) (private_of c.args.changes.now)) c.args.root (IsWholeOver ((versions_of c.args.pool.now).pages c.args.at) (private_of c.args.changes.now))) (g.D.Disk.refused (device_of c.args.pool.now)) n)) (sym (ap (λ p. g.D.Disk.refused (device_of p)) pool))
-    (subst (λ (w : PageMap). IfErr c.drop_table.result (SpaceRefused (AtLimit (over w ((versions_of c.args.pool.now).pages c.args.at) 0) (size_of w)) (HoldsNoDatabaseIn (in_use ((versions_of c.args.pool.now).pages c.args.at) (private_of c.args.changes.now)) c.args.root (IsWholeOver ((versions_of c.args.pool.now).pages c.args.at) (private_of c.args.changes.now))) (g.D.Disk.refused (device_of c.args.pool.now)) (g.D.Disk.refused (device_of c.drop_table.new.space.pool.now)))) (sym (ap (λ (k : Changes). private_of k) now))
+    (subst (λ (w : PageMap). IfErr c.drop_table.result (SpaceRefused (AtLimit (over w ((versions_of c.args.pool.now).pages c.args.at) 0) (size_of w)) (HoldsNoDatabaseIn (in_use ((versions_of c.args.pool.now).pages c.args.at) (private_of c.args.changes.now)) c.args.root (IsWholeOver ((versions_of c.args.pool.now).pages c.args.at) (private_of c.args.changes.now))) (g.D.Disk.refused (device_of c.args.pool.now)) (g.D.Disk.refused (device_of c.drop_table.new.space.pool.now)))) (sym (ap (λ (k : WriteSet). private_of k) now))
     (subst (λ (v : PageMap). IfErr c.drop_table.result (SpaceRefused (AtLimit (over (private_of c.drop_table.new.space.changes.now) v 0) (size_of (private_of c.drop_table.new.space.changes.now))) (HoldsNoDatabaseIn (in_use ((versions_of c.args.pool.now).pages c.args.at) (private_of c.args.changes.now)) c.args.root (IsWholeOver ((versions_of c.args.pool.now).pages c.args.at) (private_of c.args.changes.now))) (g.D.Disk.refused (device_of c.args.pool.now)) (g.D.Disk.refused (device_of c.drop_table.new.space.pool.now)))) (same_pages _ _ _ _ follows.0.versions follows.4) c.drop_table.ensures.refusal))

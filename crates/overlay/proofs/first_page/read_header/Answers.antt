@@ -1,7 +1,7 @@
 use Rattle.std.proofs.Common.{refl}
 use Rattle.pool.specs.Pages.{over}
 use Rattle.pool.specs.Versions.{versions_of}
-use Rattle.overlay.specs.Changes.{private_of}
+use Rattle.overlay.specs.WriteSet.{private_of}
 use Rattle.overlay.proofs.HeaderLemmas.{header_read, no_header}
 use Rattle.overlay.proofs.first_page.read_header.Goals as goal
 

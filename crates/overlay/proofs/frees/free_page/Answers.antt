@@ -1,6 +1,6 @@
 use Rattle.std.proofs.Common.{true, false, ap}
 use Rattle.pool.specs.Versions.{Versions, versions_of}
-use Rattle.overlay.specs.Changes.{private_of}
+use Rattle.overlay.specs.WriteSet.{private_of}
 use Rattle.overlay.proofs.FreeLemmas.{none_after, first_after, freed_others_after, freed_whole_after}
 use Rattle.overlay.proofs.frees.free_page.Goals as goal
 

@@ -5,7 +5,7 @@ use Rattle.pagefile.specs.declared.header.FileHeader.{FileHeader}
 use Rattle.overlay.specs.Layers.{size_of}
 use Rattle.overlay.specs.Whole.{IsWhole, IsSaid, AtLimit}
 use Rattle.pool.specs.Versions.{Versions, versions_of, device_of}
-use Rattle.overlay.specs.Changes.{private_of}
+use Rattle.overlay.specs.WriteSet.{private_of}
 use Rattle.overlay.specs.InUse.{in_use}
 use Rattle.overlay.proofs.FreeLemmas.{never_used, never_whole, read_more, frees_by}
 use Rattle.overlay.proofs.frees.free_used.Goals as goal

@@ -1,4 +1,4 @@
-use Rattle.overlay.specs.Changes.{private_of}
+use Rattle.overlay.specs.WriteSet.{private_of}
 use Rattle.overlay.proofs.FreeLemmas.{freed_by, at_most_by}
 use Rattle.overlay.proofs.frees.put_free.Goals as goal
 

@@ -1,5 +1,5 @@
 use Rattle.std.proofs.Common.{◌∙◌}
-use Rattle.overlay.specs.Changes.{private_of}
+use Rattle.overlay.specs.WriteSet.{private_of}
 use Rattle.overlay.proofs.PutLemmas.{puts_both, puts_one}
 use Rattle.overlay.proofs.frees.put_with_header.Goals as goal
 

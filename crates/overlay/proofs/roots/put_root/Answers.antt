@@ -1,4 +1,4 @@
-use Rattle.overlay.specs.Changes.{private_of}
+use Rattle.overlay.specs.WriteSet.{private_of}
 use Rattle.overlay.proofs.RootLemmas.{root_put}
 use Rattle.overlay.proofs.roots.put_root.Goals as goal
 

@@ -1,6 +1,6 @@
 use Rattle.std.proofs.Common.{true, false, ap}
 use Rattle.pool.specs.Versions.{Versions, versions_of}
-use Rattle.overlay.specs.Changes.{private_of}
+use Rattle.overlay.specs.WriteSet.{private_of}
 use Rattle.overlay.proofs.RootLemmas.{root_after, root_others_after, root_whole_after}
 use Rattle.overlay.proofs.roots.set_catalog_root.Goals as goal
 

@@ -2,7 +2,7 @@ use Rattle.std.proofs.Common.{◌≡◌, ◌⊎◌, IsSome, true, false, refl, a
 use Rattle.pagefile.specs.declared.header.FileHeader.{FileHeader}
 use Rattle.pool.specs.Pages.{over}
 use Rattle.pool.specs.Versions.{versions_of, device_of}
-use Rattle.overlay.specs.Changes.{private_of}
+use Rattle.overlay.specs.WriteSet.{private_of}
 use Rattle.overlay.specs.InUse.{in_use}
 use Rattle.overlay.specs.Layers.{size_of}
 use Rattle.overlay.specs.Whole.{IsWhole, IsSaid, AtLimit}

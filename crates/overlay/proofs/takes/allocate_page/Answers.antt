@@ -1,6 +1,6 @@
 use Rattle.std.proofs.Common.{true, false, ap}
 use Rattle.pool.specs.Versions.{Versions, versions_of}
-use Rattle.overlay.specs.Changes.{private_of}
+use Rattle.overlay.specs.WriteSet.{private_of}
 use Rattle.overlay.proofs.TakeLemmas.{next_after, rest_after, fresh_after, taken_others_after, kept_after, taken_whole_after}
 use Rattle.overlay.proofs.takes.allocate_page.Goals as goal
 

@@ -1,7 +1,7 @@
 use Rattle.std.proofs.Common.{refl, ap, inl}
 use Rattle.pool.specs.Pages.{over}
 use Rattle.pool.specs.Versions.{Versions, versions_of, device_of}
-use Rattle.overlay.specs.Changes.{private_of}
+use Rattle.overlay.specs.WriteSet.{private_of}
 use Rattle.overlay.specs.Layers.{size_of}
 use Rattle.overlay.specs.Whole.{IsWhole}
 use Rattle.overlay.proofs.RefusalLemmas.{put_refused}

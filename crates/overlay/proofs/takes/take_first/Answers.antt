@@ -1,7 +1,7 @@
 use Rattle.std.proofs.Common.{refl}
 use Rattle.pool.specs.Pages.{over}
 use Rattle.pool.specs.Versions.{versions_of}
-use Rattle.overlay.specs.Changes.{private_of}
+use Rattle.overlay.specs.WriteSet.{private_of}
 use Rattle.overlay.proofs.TakeLemmas.{takes_first, never_first}
 use Rattle.overlay.proofs.takes.take_first.Goals as goal
 

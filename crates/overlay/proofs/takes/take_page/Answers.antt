@@ -3,7 +3,7 @@ use Rattle.pagefile.specs.declared.header.FileHeader.{FileHeader}
 use Rattle.pagefile.specs.Header.{IsHeader}
 use Rattle.pool.specs.Pages.{over}
 use Rattle.pool.specs.Versions.{Versions, versions_of, device_of}
-use Rattle.overlay.specs.Changes.{private_of}
+use Rattle.overlay.specs.WriteSet.{private_of}
 use Rattle.overlay.specs.Layers.{size_of}
 use Rattle.overlay.specs.Whole.{IsWhole, IsSaid, AtLimit}
 use Rattle.overlay.specs.Puts.{Took, TookAtMost}

@@ -1,6 +1,6 @@
 use Rattle.std.proofs.Common.{arith, sym, ◌∙◌}
 use Rattle.pool.specs.Versions.{versions_of}
-use Rattle.overlay.specs.Changes.{private_of}
+use Rattle.overlay.specs.WriteSet.{private_of}
 use Rattle.overlay.proofs.InUseLemmas.{none_outside, in_use-freed}
 use Rattle.overlay.proofs.uses.is_in_use.Goals as goal
 

@@ -1,6 +1,6 @@
 use Rattle.std.proofs.Common.{ap}
 use Rattle.pool.specs.Versions.{Versions, versions_of}
-use Rattle.overlay.specs.Changes.{private_of}
+use Rattle.overlay.specs.WriteSet.{private_of}
 use Rattle.overlay.proofs.InUseLemmas.{stored_behind, stored_free, stored_writable}
 use Rattle.overlay.proofs.uses.is_stored.Goals as goal
 

@@ -1,6 +1,6 @@
 use Rattle.std.proofs.Common.{true, false, ap}
 use Rattle.pool.specs.Versions.{Versions, versions_of}
-use Rattle.overlay.specs.Changes.{private_of}
+use Rattle.overlay.specs.WriteSet.{private_of}
 use Rattle.overlay.proofs.WriteLemmas.{shown_after, others_after, whole_after}
 use Rattle.overlay.proofs.writes.replace_page.Goals as goal
 

@@ -1,6 +1,6 @@
 use Rattle.std.proofs.Common.{◌≡◌, Result, OnErr, sym, subst}
 use Rattle.store.specs.declared.error.StoreError.{StoreError}
-use Rattle.overlay.specs.Changes.{fresh_of, private_of, settled_of}
+use Rattle.overlay.specs.WriteSet.{fresh_of, private_of, settled_of}
 use Rattle.paged_store.proofs.PageLemmas.{none_fresh}
 use Rattle.paged_store.proofs.undoing.undo_refused.Goals as goal
 

@@ -1,7 +1,7 @@
 use Rattle.std.proofs.Common.{ap, sym, subst}
 use Rattle.pool.specs.Pages.{over}
 use Rattle.pool.specs.Versions.{Versions, versions_of}
-use Rattle.overlay.specs.Changes.{private_of}
+use Rattle.overlay.specs.WriteSet.{private_of}
 use Rattle.overlay.specs.InUse.{in_use}
 use Rattle.overlay.specs.Whole.{IsWhole}
 use Rattle.overlay.proofs.InUseLemmas.{reads_in_use}

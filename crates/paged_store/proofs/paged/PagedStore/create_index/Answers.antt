@@ -4,7 +4,7 @@ use Rattle.store.specs.Indexes.{entries_of}
 use Rattle.paged_store.specs.Store.{shown_of}
 use Rattle.store.specs.Contents.{Contents, indexed, rows_of}
 use Rattle.pool.specs.Versions.{versions_of, device_of}
-use Rattle.overlay.specs.Changes.{settled_of, private_of, undone_of}
+use Rattle.overlay.specs.WriteSet.{settled_of, private_of, undone_of}
 use Rattle.snapshot_pins.specs.Pinned.{numbers_of}
 use Rattle.paged_store.proofs.DoneLemmas.{done_shows, done_undone, done_sound, done_steady, index_fails}
 use Rattle.paged_store.proofs.OrderlyLemmas.{orderly_same}

@@ -1,6 +1,6 @@
 use Rattle.store.specs.Contents.{Contents, without_table}
 use Rattle.pool.specs.Versions.{versions_of, device_of}
-use Rattle.overlay.specs.Changes.{settled_of, private_of, undone_of}
+use Rattle.overlay.specs.WriteSet.{settled_of, private_of, undone_of}
 use Rattle.snapshot_pins.specs.Pinned.{numbers_of}
 use Rattle.paged_store.proofs.DoneLemmas.{done_shows, done_undone, done_sound, done_steady, change_fails}
 use Rattle.paged_store.proofs.OrderlyLemmas.{orderly_same}

@@ -3,7 +3,7 @@ use Rattle.std.specs.FinMap.{get}
 use Rattle.paged_store.specs.Store.{shown_of}
 use Rattle.store.specs.Contents.{Contents, replaced}
 use Rattle.pool.specs.Versions.{versions_of, device_of}
-use Rattle.overlay.specs.Changes.{settled_of, private_of, undone_of}
+use Rattle.overlay.specs.WriteSet.{settled_of, private_of, undone_of}
 use Rattle.snapshot_pins.specs.Pinned.{numbers_of}
 use Rattle.paged_store.proofs.DoneLemmas.{done_shows, done_undone, done_sound, done_steady, replace_fails}
 use Rattle.paged_store.proofs.OrderlyLemmas.{orderly_same}

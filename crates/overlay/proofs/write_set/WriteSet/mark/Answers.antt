@@ -1,8 +1,8 @@
 use Rattle.std.proofs.Common.{◌≡◌, None, ap, sym, ◌∙◌}
 use Rattle.pool.specs.Pages.{PageMap, pages_in, over}
-use Rattle.overlay.specs.Changes.{settled_of}
+use Rattle.overlay.specs.WriteSet.{settled_of}
 use Rattle.overlay.proofs.LayerLemmas.{none_listed, listed_moved, settled_now, settled_pages, size_undone, marked_same}
-use Rattle.overlay.proofs.changes.Changes.mark.Goals as goal
+use Rattle.overlay.proofs.write_set.WriteSet.mark.Goals as goal
 
 pub invariant_of-self-2 : goal.invariant_of-self-2
 invariant_of-self-2 c =

@@ -5,7 +5,7 @@ use thiserror::Error;
 
 /// Why a call on pages was refused.
 #[derive(Clone, Copy, Debug, PartialEq, Eq, Error)]
-pub enum Fault {
+pub enum SpaceError {
     /// There was no memory.
     #[error("out of memory")]
     Memory,
@@ -23,12 +23,12 @@ pub enum Fault {
     Private,
 }
 
-impl From<AllocError> for Fault {
-    ghost use Rattle.page_space.specs.declared.fault.Fault.TheVariants.{Memory};
+impl From<AllocError> for SpaceError {
+    ghost use Rattle.page_space.specs.declared.error.SpaceError.TheVariants.{Memory};
 
     ghost from_gives = { λ e r. r ≡ Memory };
 
-    fn from(_error: AllocError) -> Fault {
-        Fault::Memory
+    fn from(_error: AllocError) -> SpaceError {
+        SpaceError::Memory
     }
 }

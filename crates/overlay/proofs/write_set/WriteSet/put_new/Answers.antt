@@ -1,8 +1,8 @@
 use Rattle.std.proofs.Common.{arith}
 use Rattle.pool.specs.Pages.{pages_in}
-use Rattle.overlay.specs.Changes.{settled_of}
+use Rattle.overlay.specs.WriteSet.{settled_of}
 use Rattle.overlay.proofs.LayerLemmas.{listed_put, size_put_new, put_over}
-use Rattle.overlay.proofs.changes.Changes.put_new.Goals as goal
+use Rattle.overlay.proofs.write_set.WriteSet.put_new.Goals as goal
 
 pub invariant_of-self-2 : goal.invariant_of-self-2
 invariant_of-self-2 c = record {

@@ -1,8 +1,8 @@
 use Rattle.std.proofs.Common.{ap}
 use Rattle.pool.specs.Pages.{pages_in}
-use Rattle.overlay.specs.Changes.{settled_of}
+use Rattle.overlay.specs.WriteSet.{settled_of}
 use Rattle.overlay.proofs.LayerLemmas.{none_listed, size_undone, few_undone}
-use Rattle.overlay.proofs.changes.Changes.undo.Goals as goal
+use Rattle.overlay.proofs.write_set.WriteSet.undo.Goals as goal
 
 pub invariant_of-self : goal.invariant_of-self
 invariant_of-self c = record {

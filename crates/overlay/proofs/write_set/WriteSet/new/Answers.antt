@@ -1,7 +1,7 @@
 use Rattle.std.proofs.Common.{◌≡◌, None, ap, sym, rules}
 use Rattle.pool.specs.Pages.{PageMap, pages_in, over}
 use Rattle.overlay.proofs.LayerLemmas.{size_empty, none_listed, both_none}
-use Rattle.overlay.proofs.changes.Changes.new.Goals as goal
+use Rattle.overlay.proofs.write_set.WriteSet.new.Goals as goal
 
 pub invariant_of-result : goal.invariant_of-result
 invariant_of-result c =

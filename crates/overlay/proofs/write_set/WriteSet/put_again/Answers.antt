@@ -1,7 +1,7 @@
 use Rattle.pool.specs.Pages.{pages_in}
-use Rattle.overlay.specs.Changes.{settled_of}
+use Rattle.overlay.specs.WriteSet.{settled_of}
 use Rattle.overlay.proofs.LayerLemmas.{put_or_left, listed_either, size_either, put_over}
-use Rattle.overlay.proofs.changes.Changes.put_again.Goals as goal
+use Rattle.overlay.proofs.write_set.WriteSet.put_again.Goals as goal
 
 pub invariant_of-self-2 : goal.invariant_of-self-2
 invariant_of-self-2 c = record {

@@ -1,7 +1,7 @@
 use Rattle.std.proofs.Common.{◌≡◌, None, ap, sym, ◌∙◌}
 use Rattle.pool.specs.Pages.{PageMap, pages_in, over}
 use Rattle.overlay.proofs.LayerLemmas.{size_empty, over_none}
-use Rattle.overlay.proofs.changes.Changes.all_pages.Goals as goal
+use Rattle.overlay.proofs.write_set.WriteSet.all_pages.Goals as goal
 
 pub settle_all-requires-clause-counted : goal.settle_all-requires-clause-counted
 settle_all-requires-clause-counted c = sym (size_empty (pages_in c.new-set.result) (ap pages_in c.new-set.ensures))

@@ -8,7 +8,7 @@ use crate::PRIVATE_PAGES;
 use crate::layers::{list_number, settle_all};
 use crate::uses::number_in;
 use items::Items;
-use page_space::Fault;
+use page_space::SpaceError;
 use pagefile::Page;
 use pool::PageSet;
 use std::alloc::{AllocError, Global};
@@ -19,7 +19,7 @@ use std::alloc::{AllocError, Global};
 /// The settled pages are two sets: those that were fresh at the last mark lie over the older ones, and go
 /// among these at the next mark. So a mark that is refused changes nothing.
 #[derive(Drop)]
-pub struct Changes {
+pub struct WriteSet {
     alloc: Global,
     older: PageSet,
     older_count: usize,
@@ -52,16 +52,16 @@ fn counts_of(first: Option<&Page>) -> Option<(u32, u32)>
     }
 }
 
-impl Changes {
-    ghost use Rattle.overlay.specs.Changes.{fresh_of, settled_of, private_of, undone_of};
+impl WriteSet {
+    ghost use Rattle.overlay.specs.WriteSet.{fresh_of, settled_of, private_of, undone_of};
 
     /// No page written. Takes no memory until the first.
-    pub fn new(alloc: Global) -> Changes
+    pub fn new(alloc: Global) -> WriteSet
         ensures fresh { fresh_of result ≡ (λ n. None) }
         ensures settled { settled_of result ≡ (λ n. None) }
         ensures undone { undone_of result ≡ none_undone }
     {
-        Changes {
+        WriteSet {
             alloc,
             older: PageSet::new(alloc),
             older_count: 0,
@@ -141,7 +141,7 @@ impl Changes {
 
     /// Writes a page. Refuses for memory, and at the limit of private pages where this one was not
     /// written before; then all stays as it was.
-    pub(crate) fn put(&mut self, number: u32, page: &Page) -> Result<(), Fault>
+    pub(crate) fn put(&mut self, number: u32, page: &Page) -> Result<(), SpaceError>
         ensures put { OnOk result (private_of self.new ≡ over (only number page.now) (private_of self.old)) }
         ensures settled { settled_of self.new ≡ settled_of self.old }
         ensures undone { undone_of self.new ≡ undone_of self.old }
@@ -153,7 +153,7 @@ impl Changes {
             return Ok(());
         }
         if self.private_count >= PRIVATE_PAGES {
-            return Err(Fault::Private);
+            return Err(SpaceError::Private);
         }
         self.put_new(number, page)?;
         Ok(())
