@@ -9,7 +9,7 @@ ghost use Rattle.btree.specs.Written.{InsertsAll, Appends, KeepsPages};
 
 use crate::insertion::insert;
 use btree_read::Entry;
-use page_space::{SpaceError, PageSpace};
+use page_space::{PageSpace, SpaceError};
 use std::alloc::Global;
 
 /// Puts entries into a tree, one after another, each in place of one with its key, and answers the

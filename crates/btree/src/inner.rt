@@ -13,7 +13,7 @@ use crate::cells::{cell_child, cell_key, cells_with, cut_of};
 use crate::page::write_page;
 use btree_read::Branch;
 use items::Items;
-use page_space::{SpaceError, PageSpace};
+use page_space::{PageSpace, SpaceError};
 use sqlrecord::{MAXIMUM_KEY, PageKind, SlotPage, are_cells, fits};
 use std::alloc::Global;
 

@@ -11,7 +11,7 @@ use crate::inner::put_in_inner;
 use crate::leaf::put_in_leaf;
 use crate::page::write_page;
 use btree_read::{Branch, MAXIMUM_LEVELS, Start, child_at, first_place, read_node};
-use page_space::{SpaceError, PAGE_SIZE, PageSpace};
+use page_space::{PAGE_SIZE, PageSpace, SpaceError};
 use sqlrecord::{PageKind, inner_cell, leaf_cell};
 use std::alloc::Global;
 

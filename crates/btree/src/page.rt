@@ -7,7 +7,7 @@ ghost use Rattle.sqlrecord.specs.Page.{AreCells};
 ghost use Rattle.btree_read.specs.Nodes.{node_of, IsStocked, HasNode};
 ghost use Rattle.std.specs.Prelude.{None};
 
-use page_space::{SpaceError, PAGE_SIZE, PageSpace};
+use page_space::{PAGE_SIZE, PageSpace, SpaceError};
 use sqlrecord::{PageKind, build_page};
 
 /// Writes a page of these cells. Refused as `PageSpace::write` is.

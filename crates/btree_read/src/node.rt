@@ -6,7 +6,7 @@ ghost use Rattle.sqlrecord.specs.Build.{Fits};
 ghost use Rattle.btree_read.specs.Nodes.{Node, HasNode};
 ghost use Rattle.btree_read.specs.Search.{Sees};
 
-use page_space::{SpaceError, Page, PageReader};
+use page_space::{Page, PageReader, SpaceError};
 use sqlrecord::SlotPage;
 
 /// Reads a page of a tree into a buffer. Refused where the read is, and as damaged only where the page has no node.

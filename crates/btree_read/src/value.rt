@@ -10,7 +10,7 @@ use crate::node::read_node;
 use crate::place::{child_at, first_place, is_before};
 use crate::{MAXIMUM_LEVELS, Start};
 use items::Items;
-use page_space::{SpaceError, PAGE_SIZE, Page, PageReader};
+use page_space::{PAGE_SIZE, Page, PageReader, SpaceError};
 use sqlrecord::{PageKind, SlotPage};
 use std::alloc::{AllocError, Global};
 

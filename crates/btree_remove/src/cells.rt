@@ -7,7 +7,7 @@ ghost use Rattle.sqlrecord.specs.Page.{AreCells};
 ghost use Rattle.btree_read.specs.Nodes.{node_of, IsStocked, HasNode};
 
 use btree::write_page;
-use page_space::{SpaceError, PageSpace};
+use page_space::{PageSpace, SpaceError};
 use sqlrecord::SlotPage;
 use std::alloc::{AllocError, Global};
 

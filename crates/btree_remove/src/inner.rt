@@ -17,7 +17,7 @@ use crate::outcome::Removed;
 use crate::pair::Pair;
 use btree::{cells_with, write_inner};
 use btree_read::{Branch, read_node};
-use page_space::{SpaceError, PAGE_SIZE, PageSpace};
+use page_space::{PAGE_SIZE, PageSpace, SpaceError};
 use sqlrecord::{MAXIMUM_KEY, PageKind, SlotPage, are_cells, inner_cell};
 use std::alloc::Global;
 

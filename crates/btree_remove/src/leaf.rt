@@ -14,7 +14,7 @@ use crate::cells::write_without;
 use crate::outcome::Removed;
 use crate::pair::Pair;
 use btree_read::{Start, first_place, is_before, read_node};
-use page_space::{SpaceError, PAGE_SIZE, PageSpace};
+use page_space::{PAGE_SIZE, PageSpace, SpaceError};
 use sqlrecord::{PageKind, SlotPage};
 use std::alloc::Global;
 

@@ -12,7 +12,7 @@ use crate::outcome::Removed;
 use crate::settling::settle;
 use btree::write_page;
 use btree_read::{Branch, MAXIMUM_LEVELS, Start, child_at, first_place, read_node};
-use page_space::{SpaceError, PAGE_SIZE, PageSpace};
+use page_space::{PAGE_SIZE, PageSpace, SpaceError};
 use sqlrecord::{PageKind, inner_cell};
 use std::alloc::Global;
 

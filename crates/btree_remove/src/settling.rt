@@ -12,7 +12,7 @@ use crate::inner::{exchange_branches, join_inners};
 use crate::leaf::join_leaves;
 use crate::outcome::Removed;
 use crate::pair::pair_at;
-use page_space::{SpaceError, PageSpace};
+use page_space::{PageSpace, SpaceError};
 use sqlrecord::SlotPage;
 use std::alloc::Global;
 

@@ -6,7 +6,7 @@ ghost use Rattle.btree.specs.Overfull.{IsNoTreeIn};
 ghost use Rattle.btree_remove.specs.Dropped.{DropsBelow, Drops, HasNoTreeIn};
 
 use btree_read::{MAXIMUM_LEVELS, child_at, read_node};
-use page_space::{SpaceError, PAGE_SIZE, PageSpace};
+use page_space::{PAGE_SIZE, PageSpace, SpaceError};
 use sqlrecord::PageKind;
 
 /// Gives back all pages of the tree under a page.

@@ -19,7 +19,7 @@ use crate::ChangeError;
 use btree::insert;
 use catalog_records::{Record, WriteError, records_of_table, table_record};
 use items::{Items, Text};
-use page_space::{SpaceError, PageSpace};
+use page_space::{PageSpace, SpaceError};
 use sqlrecord::{EncodeError, MAXIMUM_KEY, encode_key, encode_row};
 use sqlval::{Table, Value};
 use std::alloc::Global;

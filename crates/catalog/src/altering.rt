@@ -7,8 +7,8 @@ ghost use Rattle.catalog.specs.Held.{HoldsSchema};
 ghost use Rattle.catalog.specs.Changed.{MayRefuse, SchemaWritten};
 ghost use Rattle.catalog.specs.Left.{HoldsNoneWith};
 
-use crate::drop_table;
 use crate::adding::add_table;
+use crate::drop_table;
 use crate::error::ChangeError;
 use page_space::PageSpace;
 use sqlval::Table;

@@ -11,8 +11,7 @@ ghost use Rattle.sqlrecord.specs.Row.{IsCodeOf};
 ghost use Rattle.catalog.specs.Held.{entry_of, entries_of, IsCoded, AreCoded};
 
 use btree_read::Entry;
-use catalog_records::{ReadError, schema_of_records};
-use catalog_records::Record;
+use catalog_records::{ReadError, Record, schema_of_records};
 use items::Items;
 use sqlrecord::{DecodeError, decode_key, decode_row};
 use sqlval::{Schema, Value};

@@ -11,11 +11,11 @@ ghost use Rattle.catalog.specs.Held.{HoldsSchema, entries_of};
 ghost use Rattle.catalog.specs.Changed.{MayRefuse, HoldsNoSchemaIn, IsOfRecord};
 ghost use Rattle.catalog.specs.Left.{EntriesLeft, HasTree, SchemaLeft};
 
-use btree_remove::remove;
 use crate::error::ChangeError;
+use btree_remove::remove;
 use catalog_records::{Record, WriteError, records_of_table};
 use items::Items;
-use page_space::{SpaceError, PageSpace};
+use page_space::{PageSpace, SpaceError};
 use sqlrecord::{EncodeError, encode_key};
 use sqlval::{Table, Value};
 use std::alloc::Global;

@@ -7,7 +7,7 @@ ghost use Rattle.catalog.specs.Held.{HoldsSchema, HoldsNoSchema};
 use crate::decoding::schema_of_entries;
 use btree_read::scan;
 use catalog_records::ReadError;
-use page_space::{SpaceError, PageReader};
+use page_space::{PageReader, SpaceError};
 use sqlval::Schema;
 use std::alloc::Global;
 
@@ -15,7 +15,11 @@ use std::alloc::Global;
 ///
 /// Refused for want of memory, where the device refuses a call, and as damaged only where no schema is held
 /// there.
-pub fn read_schema<R: PageReader>(space: &mut R, alloc: Global, root: u32) -> Result<Schema, SpaceError>
+pub fn read_schema<R: PageReader>(
+    space: &mut R,
+    alloc: Global,
+    root: u32,
+) -> Result<Schema, SpaceError>
     ensures found { (owned : List ℕ) (tables : List AnyTable) → HoldsSchema (R.pages space.old) root owned tables → IfOk result (λ schema. schema.tables ≡ tables) }
     ensures same { R.pages space.new ≡ R.pages space.old }
     ensures whole { R.is_whole space.old → R.is_whole space.new }

@@ -6,8 +6,8 @@ ghost use Rattle.catalog_records.specs.Given.{Gives, GivesFront};
 ghost use Rattle.catalog_records.specs.Keepable.{ArePlaces};
 ghost use Rattle.catalog_records.specs.Cuts.{IsCut, IsAtComma};
 
-use crate::read_error::ReadError;
 use crate::numbers::number_of;
+use crate::read_error::ReadError;
 use items::Items;
 use std::alloc::Global;
 

@@ -10,9 +10,9 @@ ghost use Rattle.catalog_records.specs.Given.{GivesFront};
 ghost use Rattle.catalog_records.specs.Keepable.{IsColumn, IsConstraint, IsIndex};
 ghost use Rattle.catalog_records.specs.Rows.{EndsAt};
 
-use crate::read_error::ReadError;
 use crate::key::is_key;
 use crate::parts::{column_in, constraint_in, index_in};
+use crate::read_error::ReadError;
 use crate::record::Record;
 use items::{Items, Text};
 use sqlval::{Column, Constraint, Index};

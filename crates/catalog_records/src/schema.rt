@@ -8,12 +8,12 @@ ghost use Rattle.catalog_records.specs.Keepable.{IsTable, AreTables};
 ghost use Rattle.catalog_records.specs.Rows.{EndsTable, IsNoSchema};
 
 use crate::columns::{are_constraints_over, are_indexes_over};
-use crate::read_error::ReadError;
 use crate::key::key_in;
 use crate::parts::page_of;
+use crate::read_error::ReadError;
 use crate::reading::{columns_first, constraints_first, indexes_first};
-use crate::values::{nothing_left, number_first};
 use crate::record::Record;
+use crate::values::{nothing_left, number_first};
 use items::{Items, Text};
 use sqlval::{Schema, Table};
 use std::alloc::Global;

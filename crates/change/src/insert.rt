@@ -19,13 +19,13 @@ ghost use Rattle.change.specs.Reached.{ChangeReaches};
 use crate::named_checks::named_checks;
 use crate::query_rows::query_rows;
 use crate::value_rows::value_rows;
+use check_constraints::TableChecks;
 use denote::Rows;
 use refusals::Refusal;
 use replies::Reply;
 use std::alloc::Global;
 use store::Store;
 use table_changes::insert_rows;
-use check_constraints::TableChecks;
 use typing::{Insert, InsertSource};
 
 /// INSERT of VALUES or of a query. All its rows are evaluated before the first is stored. A name that does not stand, which the rules of names exclude, is refused as for want of

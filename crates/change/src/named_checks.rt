@@ -10,12 +10,12 @@ ghost use Rattle.check_constraints.specs.Conditions.{AreOfSome};
 ghost use Rattle.check_constraints.specs.declared.reading.CheckFault.TheVariants as fault_of_checks;
 ghost use Rattle.update_delete.specs.Checked.{AreChecksFor};
 
+use check_constraints::{CheckFault, TableChecks, table_checks};
 use constraints::table_named;
 use items::Text;
 use refusals::Refusal;
 use sqlval::Schema;
 use std::alloc::Global;
-use check_constraints::{CheckFault, TableChecks, table_checks};
 
 /// The CHECKs of the table of this name. Refuses for want of memory; a name that no table has is refused as for that. A text that cannot be
 /// read is `Damaged`: a good database has none.

@@ -23,6 +23,7 @@ ghost use Rattle.change.specs.Listed.{constants, constants_of};
 use crate::value_rows::stored_rows;
 use algebra::{Expression, Tree};
 use algebra_laws::{listings_answer_outcomes, translation_keeps_the_meaning};
+use check_constraints::TableChecks;
 use constraints::refusal_of_stop;
 use denote::{Row, Rows, Stop};
 use executor::Listed;
@@ -31,7 +32,6 @@ use query_answers::{LentTables, run_all};
 use refusals::Refusal;
 use std::alloc::{AllocError, Global};
 use store::{Seen, Store, View};
-use check_constraints::TableChecks;
 use translation::translate_query;
 use typing::{Insert, Query};
 

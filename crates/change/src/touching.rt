@@ -16,10 +16,10 @@ ghost use Rattle.update_delete.specs.Reached.{IsNumberedOut, ReplacingReaches};
 use crate::named_checks::named_checks;
 use refusals::Refusal;
 use replies::Reply;
-use update_delete::{delete_rows, update_rows};
 use std::alloc::Global;
 use store::Store;
 use typing::{Delete, Update};
+use update_delete::{delete_rows, update_rows};
 
 /// UPDATE. A name that does not stand, which the rules of names exclude, is refused as for want of memory; a CHECK whose text cannot be read is `Damaged`.
 pub(crate) fn update<S: Store>(

@@ -21,6 +21,7 @@ ghost use Rattle.check_constraints.specs.Conditions.{AreOfSome};
 ghost use Rattle.change.specs.Sources.{stored_of};
 
 use algebra::Expression;
+use check_constraints::TableChecks;
 use constraints::table_named;
 use denote::Rows;
 use items::Items;
@@ -29,7 +30,6 @@ use refusals::Refusal;
 use sqlval::Schema;
 use std::alloc::Global;
 use store::{Seen, Store, View};
-use check_constraints::TableChecks;
 use typing::Insert;
 
 /// The rows of VALUES as the table is to hold them. The tables that the sources name are read, and the store is left as it was.

@@ -11,13 +11,12 @@ ghost use Rattle.change_types.specs.Parts.{IndexParts, index_of, place_named, pl
 
 use crate::drops::has_index;
 use crate::names::distinct_names;
-use type_rules::both;
 use items::{Items, Text};
 use lexer::Name;
 use refusals::{Limit, Reason, Refusal};
 use sqlval::{Schema, Table};
 use std::alloc::Global;
-use type_rules::table_named;
+use type_rules::{both, table_named};
 use typing::CreateIndex;
 
 /// The greatest number of columns of an index.

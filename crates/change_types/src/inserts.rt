@@ -14,7 +14,6 @@ use crate::names::distinct_names;
 use crate::sources::{stored, typed_source};
 use crate::targets::targets_in;
 use ast::{InsertRows, StoredSource};
-use type_rules::both;
 use items::Items;
 use lexer::Name;
 use query_types::typed_query_expression;
@@ -22,6 +21,7 @@ use refusals::{Reason, Refusal};
 use scopes::Scope;
 use sqlval::{Schema, ValueType};
 use std::alloc::{AllocError, Global};
+use type_rules::both;
 use typing::{Expression, Insert, InsertSource, Query, ResultColumn, TypedQuery};
 
 /// What an INSERT stands for over a schema.

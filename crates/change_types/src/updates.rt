@@ -13,14 +13,13 @@ ghost use Rattle.change_types.specs.Parts.{assigned, assignment_of, changes_in, 
 use crate::names::distinct_texts;
 use crate::sources::{stored, typed_filter, typed_source};
 use crate::targets::target_named;
-use type_rules::{both, second};
 use items::{Items, Text};
 use lexer::Name;
 use refusals::Refusal;
 use scopes::Scope;
 use sqlval::{Schema, Table, ValueType};
 use std::alloc::{AllocError, Global};
-use type_rules::{frame_of, table_named};
+use type_rules::{both, frame_of, second, table_named};
 use typing::{Assignment, Condition, Delete, Expression, Frame, TypedExpression, Update};
 
 /// What a DELETE stands for over a schema.

@@ -21,8 +21,7 @@ ghost use Rattle.typing.specs.CreateTable.{create_found};
 ghost use Rattle.typing.specs.Index.{index_found};
 ghost use Rattle.typing.specs.Known.{Known, known};
 
-use syntax_laws::a_text_has_tokens_or_a_fault;
-use syntax_laws::tokens_have_at_most_one_tree;
+use syntax_laws::{a_text_has_tokens_or_a_fault, tokens_have_at_most_one_tree};
 use typing::laws::checks_are_kept;
 
 /// The text that is kept of a CHECK stands for one condition at most, in a table of given columns.

@@ -7,9 +7,9 @@ ghost use Rattle.denote.specs.Database.{Name, CheckReading, table_of, has_null, 
 ghost use Rattle.denote.specs.Expression.{cell};
 ghost use Rattle.constraints.specs.Rules.{breaks_rule, broken, is_check_rule, has_checks, broken_checks};
 
+use crate::twins::any_twins;
 use denote::Row;
 use items::Text;
-use crate::twins::any_twins;
 use sqlval::{Constraint, Rule, Table, Value};
 use std::alloc::{AllocError, Global};
 

@@ -14,7 +14,7 @@ use crate::error::of_change;
 use crate::naming::find_table;
 use btree_remove::drop_tree;
 use items::{Items, Text};
-use page_space::{SpaceError, PageSpace};
+use page_space::{PageSpace, SpaceError};
 use sqlval::{Index, Table};
 use std::alloc::Global;
 

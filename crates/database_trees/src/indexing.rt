@@ -20,7 +20,7 @@ use crate::naming::find_table;
 use crate::settling::put_table;
 use catalog_records::are_among;
 use items::Text;
-use page_space::{SpaceError, PageSpace};
+use page_space::{PageSpace, SpaceError};
 use sqlval::{Index, Table};
 use std::alloc::Global;
 use tablestore::scan;

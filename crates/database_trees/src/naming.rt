@@ -7,7 +7,7 @@ ghost use Rattle.database_trees.specs.Named.{table_named};
 
 use catalog::read_schema;
 use items::Text;
-use page_space::{SpaceError, PageReader};
+use page_space::{PageReader, SpaceError};
 use sqlval::{Schema, Table};
 use std::alloc::Global;
 

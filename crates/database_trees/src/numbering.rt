@@ -12,7 +12,7 @@ ghost use Rattle.database_trees.specs.Named.{row_numbered, one_before, if_number
 use crate::DatabaseError;
 use denote::Row;
 use items::Items;
-use page_space::{SpaceError, PageReader};
+use page_space::{PageReader, SpaceError};
 use std::alloc::Global;
 use store::NumberedRow;
 use tablestore::next;

@@ -13,7 +13,7 @@ use crate::indexes::exchange_each;
 use crate::naming::find_table;
 use catalog::alter_table;
 use items::Items;
-use page_space::{SpaceError, PageSpace};
+use page_space::{PageSpace, SpaceError};
 use sqlval::{Index, Table};
 use std::alloc::Global;
 

@@ -17,7 +17,7 @@ use crate::settling::put_table;
 use btree_remove::drop_tree;
 use catalog::read_schema;
 use items::{Items, Text};
-use page_space::{SpaceError, PageSpace};
+use page_space::{PageSpace, SpaceError};
 use sqlval::{Index, Table};
 use std::alloc::Global;
 
@@ -82,7 +82,11 @@ fn drop_if_named<S: PageSpace>(space: &mut S, index: &Index, name: &Text) -> Res
 }
 
 /// Gives back the trees of those of these indexes that have a name.
-fn drop_named<S: PageSpace>(space: &mut S, indexes: &Items<Index>, name: &Text) -> Result<(), SpaceError>
+fn drop_named<S: PageSpace>(
+    space: &mut S,
+    indexes: &Items<Index>,
+    name: &Text,
+) -> Result<(), SpaceError>
     ensures left { (alone : Bool) (h : AreIndexes alone (S.pages space.old) indexes.now) → OnOk result (IndexesLeft alone (S.pages space.new) name.now h.before h.its h.behind h.rows) }
     ensures whole { OnOk result (S.is_whole space.old → S.is_whole space.new) }
     ensures refusal { IfErr result (ChangeRefused (S.at_limit space.new) (AreIndexes false (S.pages space.old) indexes.now → S.is_whole space.old → ⊥) (S.refused space.old) (S.refused space.new)) }

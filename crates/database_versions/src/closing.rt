@@ -7,11 +7,10 @@ ghost use Rattle.pool.specs.Versions.{versions_of, device_of};
 ghost use Rattle.database_versions.specs.Databases.{nothing, contents_in, IsDatabase, IsOwned};
 ghost use Rattle.database_versions.specs.Saved.{HoldsDatabase};
 
-use disk::Disk;
-use stored_tables::contents_are_read;
 use database_trees::database_stays;
-use stored_tables::numbers_rise;
+use disk::Disk;
 use pool::{CloseRefused, Pool};
+use stored_tables::{contents_are_read, numbers_rise};
 
 /// Writes all that is committed, waits until it is on the medium, and hands the device back. A refusal is that of the device, and hands the pool back with all versions as they were.
 pub fn close_pool<D: Disk>(pool: Pool<D>) -> Result<D, CloseRefused<D>>

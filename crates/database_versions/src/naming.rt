@@ -12,13 +12,12 @@ ghost use Rattle.database_trees.specs.Changed.{DatabaseWritten, DatabaseOwned};
 ghost use Rattle.database_versions.specs.Changed.{IsNow};
 ghost use Rattle.database_versions.specs.Databases.{IsOwned};
 
+use database_trees::database_stays;
 use disk::Disk;
 use overlay::{WriteSet, set_catalog_root};
-use stored_tables::contents_are_read;
-use database_trees::database_stays;
 use page_space::SpaceError;
-use stored_tables::numbers_rise;
 use pool::Pool;
+use stored_tables::{contents_are_read, numbers_rise};
 
 /// Lets page 0 name the root at which the pages hold a database.
 pub(crate) fn put_root<D: Disk>(

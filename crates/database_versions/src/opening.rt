@@ -7,14 +7,13 @@ ghost use Rattle.database_versions.specs.Opened.{Begins, BeginsOwned, IsReadable
 ghost use Rattle.database_versions.specs.Refusals.{of_open};
 ghost use Rattle.database_versions.specs.Saved.{IsSaved};
 
-use disk::Disk;
-use stored_tables::contents_are_read;
 use database_trees::no_database_at_first;
-use stored_tables::numbers_rise;
+use disk::Disk;
 use pagefile::{FileHeader, OpenError, PageFile};
 use pool::Pool;
 use std::alloc::Global;
 use store::{Returned, StoreError};
+use stored_tables::{contents_are_read, numbers_rise};
 
 /// A new database over an empty device, on which nothing is written yet. Refuses for want of memory alone.
 fn new_pool<D: Disk>(alloc: Global, device: D, frames: u32) -> Result<Pool<D>, Returned<D>>

@@ -17,11 +17,11 @@ ghost use Rattle.database_versions.specs.Refusals.{IsCounted, RowsReach, Numbers
 
 use crate::causes::{of_change, of_fault, of_rows};
 use crate::naming::put_root;
+use database_trees::DatabaseError;
 use denote::{Row, Rows};
 use disk::Disk;
 use items::Text;
-use overlay::{WriteSet, Overlay, read_header};
-use database_trees::DatabaseError;
+use overlay::{Overlay, WriteSet, read_header};
 use pool::Pool;
 use std::alloc::Global;
 use store::StoreError;

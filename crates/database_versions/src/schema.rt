@@ -18,10 +18,10 @@ ghost use Rattle.database_versions.specs.Refusals.{IsCounted};
 
 use crate::causes::{of_change, of_fault};
 use crate::naming::put_root;
+use database_trees::DatabaseError;
 use disk::Disk;
 use items::Text;
-use overlay::{WriteSet, Overlay, read_header};
-use database_trees::DatabaseError;
+use overlay::{Overlay, WriteSet, read_header};
 use pool::Pool;
 use sqlval::{Index, Table};
 use std::alloc::Global;

@@ -18,7 +18,7 @@ use crate::sought::Sought;
 use crate::walking::{row_found, rows_from};
 use btree_read::next;
 use items::{Items, Text};
-use page_space::{SpaceError, PageReader};
+use page_space::{PageReader, SpaceError};
 use sqlrecord::{EncodeError, encode_index_key, encode_key};
 use sqlval::Value;
 use std::alloc::Global;

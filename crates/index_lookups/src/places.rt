@@ -6,9 +6,9 @@ ghost use Rattle.page_space.specs.Space.{ReadRefused};
 ghost use Rattle.database_trees.specs.Held.{TableAt, HoldsDatabase, HoldsNoDatabase, contents_of};
 ghost use Rattle.index_lookups.specs.Walked.{place_of, IsPlaceOf};
 
-use items::{Items, Text};
 use database_trees::find_table;
-use page_space::{SpaceError, PageReader};
+use items::{Items, Text};
+use page_space::{PageReader, SpaceError};
 use sqlval::{Index, Table};
 use std::alloc::Global;
 

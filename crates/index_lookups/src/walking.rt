@@ -12,9 +12,9 @@ ghost use Rattle.index_lookups.specs.Walked.{HoldsIndexed, StandsAt, StandsNowhe
 use crate::places::Place;
 use crate::sought::{Sought, is_past, is_wanted};
 use btree_read::{Entry, next};
-use items::Items;
 use database_trees::row_of;
-use page_space::{SpaceError, PageReader};
+use items::Items;
+use page_space::{PageReader, SpaceError};
 use sqlrecord::row_number_of;
 use std::alloc::{AllocError, Global};
 use store::{Numbered, NumberedRow};

@@ -14,7 +14,7 @@ use btree::insert;
 use btree_remove::remove;
 use denote::Row;
 use items::Items;
-use page_space::{SpaceError, PageSpace};
+use page_space::{PageSpace, SpaceError};
 use sqlrecord::{EncodeError, encode_index_key};
 use sqlval::Value;
 use std::alloc::{AllocError, Global};

@@ -9,11 +9,10 @@ ghost use Rattle.shell.specs.Runs.{HandsBack, Leaves};
 ghost use Rattle.lives.specs.Twice.{EndTwice, RunsTwice, calls_from};
 
 use disk::Disk;
-use sqlcore::Core;
-use session_laws::reopened_runs_are_runs;
 use paged_store::Paged;
-use session_laws::databases_stay_good;
+use session_laws::{databases_stay_good, reopened_runs_are_runs};
 use shell::{EndedRun, Settings, run_to_end};
+use sqlcore::Core;
 use std::alloc::Global;
 use std::io::{Read, Write};
 use store::Store;

@@ -2,7 +2,7 @@ ghost use Rattle.std.specs.Prelude.{◌≡◌, ℕ, None};
 ghost use Rattle.memory_space.specs.Pages.{pages_of};
 
 use items::{Boxed, Items};
-use page_space::{SpaceError, Page, PageReader, PageSpace};
+use page_space::{Page, PageReader, PageSpace, SpaceError};
 use std::alloc::Global;
 
 /// Pages in memory, for tests. A page that was taken out of use is not used again.

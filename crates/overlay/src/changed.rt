@@ -1,9 +1,9 @@
 ghost use Rattle.std.specs.Prelude.{◌≡◌};
 
-use crate::write_set::WriteSet;
 use crate::version::read_changed;
+use crate::write_set::WriteSet;
 use disk::Disk;
-use page_space::{SpaceError, Page, PageReader};
+use page_space::{Page, PageReader, SpaceError};
 use pool::Pool;
 
 /// A version of a pool, of the commit of this number, with pages that a transaction has written over it, to be read alone.

@@ -8,8 +8,8 @@ ghost use Rattle.pool.specs.Versions.{versions_of, device_of};
 ghost use Rattle.overlay.specs.WriteSet.{private_of};
 ghost use Rattle.overlay.specs.Whole.{IsSaid};
 
-use crate::write_set::WriteSet;
 use crate::version::read_changed;
+use crate::write_set::WriteSet;
 use disk::Disk;
 use page_space::SpaceError;
 use pagefile::{FileHeader, PAGE_SIZE, Page};

@@ -10,9 +10,9 @@ ghost use Rattle.overlay.specs.InUse.{in_use};
 ghost use Rattle.overlay.specs.Whole.{IsWhole, IsFull, AtLimit, IsFirstFree};
 ghost use Rattle.overlay.specs.Puts.{PutsBoth, PutsAtMost, Freed, Frees, WritesAtMost};
 
-use crate::write_set::WriteSet;
 use crate::first_page::read_header;
 use crate::uses::is_in_use;
+use crate::write_set::WriteSet;
 use disk::Disk;
 use page_space::SpaceError;
 use pagefile::{FileHeader, FreePage, Page};

@@ -2,7 +2,6 @@
 #![tactic(auto)]
 
 mod changed;
-mod write_set;
 mod commits;
 mod first_page;
 mod frees;
@@ -13,10 +12,10 @@ mod space;
 mod takes;
 mod uses;
 mod version;
+mod write_set;
 mod writes;
 
 pub use changed::Changed;
-pub use write_set::WriteSet;
 pub use commits::commit;
 pub use first_page::read_header;
 pub use frees::free_page;
@@ -24,6 +23,7 @@ pub use roots::set_catalog_root;
 pub use snapshot::Snapshot;
 pub use space::Overlay;
 pub use takes::allocate_page;
+pub use write_set::WriteSet;
 pub use writes::replace_page;
 
 /// How many pages a transaction may have written, page 0 among them.

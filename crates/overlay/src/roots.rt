@@ -10,8 +10,8 @@ ghost use Rattle.overlay.specs.Layers.{size_of, IsNotKept};
 ghost use Rattle.overlay.specs.Whole.{IsWhole, IsFull, AtLimit, HasRoot};
 ghost use Rattle.overlay.specs.Puts.{PutsHeader, Rooted, with_root};
 
-use crate::write_set::WriteSet;
 use crate::first_page::read_header;
+use crate::write_set::WriteSet;
 use disk::Disk;
 use page_space::SpaceError;
 use pagefile::FileHeader;

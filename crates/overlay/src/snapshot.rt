@@ -2,7 +2,7 @@ ghost use Rattle.std.specs.Prelude.{◌≡◌};
 
 use crate::version::read_version;
 use disk::Disk;
-use page_space::{SpaceError, Page, PageReader};
+use page_space::{Page, PageReader, SpaceError};
 use pool::Pool;
 
 /// A version of a pool, to be read: the pages in use at the commit of this number.

@@ -1,12 +1,12 @@
 ghost use Rattle.std.specs.Prelude.{◌≡◌};
 
-use crate::write_set::WriteSet;
 use crate::frees::free_page;
 use crate::takes::allocate_page;
 use crate::version::read_changed;
+use crate::write_set::WriteSet;
 use crate::writes::replace_page;
 use disk::Disk;
-use page_space::{SpaceError, Page, PageReader, PageSpace};
+use page_space::{Page, PageReader, PageSpace, SpaceError};
 use pool::Pool;
 
 /// A version of a pool, of the commit of this number, with the pages that a transaction has written over it.

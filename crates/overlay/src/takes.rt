@@ -11,11 +11,11 @@ ghost use Rattle.overlay.specs.InUse.{in_use};
 ghost use Rattle.overlay.specs.Whole.{IsWhole, IsFull, AtLimit, IsNext, NamesRest};
 ghost use Rattle.overlay.specs.Puts.{PutsLeaf, PutsLeafAtMost, Takes, Took, TookAtMost};
 
-use crate::write_set::WriteSet;
 use crate::first_page::read_header;
 use crate::frees::put_with_header;
 use crate::uses::MOST_PAGES;
 use crate::version::read_changed;
+use crate::write_set::WriteSet;
 use disk::Disk;
 use page_space::SpaceError;
 use pagefile::{FileHeader, FreePage, PAGE_SIZE, Page};
@@ -152,7 +152,11 @@ fn take_by<D: Disk>(
 }
 
 /// Takes a page that is not in use.
-fn take_page<D: Disk>(pool: &mut Pool<D>, changes: &mut WriteSet, at: u64) -> Result<u32, SpaceError>
+fn take_page<D: Disk>(
+    pool: &mut Pool<D>,
+    changes: &mut WriteSet,
+    at: u64,
+) -> Result<u32, SpaceError>
     ensures taken { IfOk result (λ page. Took ((versions_of pool.old).pages at) (private_of changes.old) page (private_of changes.new)) }
     ensures left { OnErr result (TookAtMost ((versions_of pool.old).pages at) (private_of changes.old) (private_of changes.new)) }
     ensures settled { settled_of changes.new ≡ settled_of changes.old }

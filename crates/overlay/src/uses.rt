@@ -9,8 +9,8 @@ ghost use Rattle.overlay.specs.InUse.{in_use};
 ghost use Rattle.overlay.specs.Layers.{size_of};
 ghost use Rattle.overlay.specs.Whole.{IsWritable, AtLimit};
 
-use crate::write_set::WriteSet;
 use crate::version::{read_changed, read_version};
+use crate::write_set::WriteSet;
 use byteorder::{BigEndian, ByteOrder};
 use disk::Disk;
 use page_space::SpaceError;

@@ -8,8 +8,8 @@ ghost use Rattle.overlay.specs.InUse.{in_use};
 ghost use Rattle.overlay.specs.Layers.{size_of};
 ghost use Rattle.overlay.specs.Whole.{IsWhole, IsFull, AtLimit};
 
-use crate::write_set::WriteSet;
 use crate::uses::write_page;
+use crate::write_set::WriteSet;
 use disk::Disk;
 use page_space::SpaceError;
 use pagefile::Page;

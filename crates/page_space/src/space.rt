@@ -2,7 +2,7 @@ ghost use Rattle.std.specs.Prelude.{◌≡◌, ◌≢◌, ◌<◌, ◌≤◌, �
 ghost use Rattle.page_space.specs.declared.error.SpaceError.{SpaceError};
 ghost use Rattle.page_space.specs.Space.{PageMap, IsFresh, ReadRefused, ChangeRefused};
 
-use crate::{SpaceError, Page};
+use crate::{Page, SpaceError};
 
 /// A space of numbered pages that can be read.
 ///

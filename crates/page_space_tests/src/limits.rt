@@ -1,7 +1,7 @@
 //! The limits `pages` and `private`, reached page by page over a first page that says how many pages there are.
 use disk::MemDisk;
-use overlay::{WriteSet, Overlay};
-use page_space::{SpaceError, PAGE_SIZE, PageSpace};
+use overlay::{Overlay, WriteSet};
+use page_space::{PAGE_SIZE, PageSpace, SpaceError};
 use pagefile::{FileHeader, PageFile};
 use pool::Pool;
 use std::alloc::Global;

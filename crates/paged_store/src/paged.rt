@@ -9,16 +9,16 @@ use crate::keeping::{are_places, is_kept};
 use crate::seen::{beyond_seen, next_seen, ranged_seen, rows_seen, schema_seen, sought_seen};
 use crate::undoing::undo_refused;
 use crate::writing::write_some;
-use denote::{Row, Rows};
-use disk::Disk;
-use items::{Items, Text};
-use overlay::WriteSet;
-use snapshot_pins::{Readers, found_is_pinned};
 use database_versions::{
     append_rows, close_pool, create_index, create_table, delete_row, drop_index, drop_table,
     of_pool, pool_over, replace_row,
 };
+use denote::{Row, Rows};
+use disk::Disk;
+use items::{Items, Text};
+use overlay::WriteSet;
 use pool::Pool;
+use snapshot_pins::{Readers, found_is_pinned};
 use sqlval::{Index, Schema, Table, Value};
 use std::alloc::Global;
 use std::ops::Bound;

@@ -14,12 +14,12 @@ ghost use Rattle.snapshot_pins.specs.Pinned.{numbers_of};
 ghost use Rattle.paged_store.specs.Shown.{stored};
 ghost use Rattle.paged_store.specs.Sound.{IsSound};
 
+use database_versions::{row_after, row_beyond, rows_of, rows_sought, rows_within, schema_of};
 use disk::Disk;
 use items::Text;
 use overlay::WriteSet;
-use snapshot_pins::Readers;
-use database_versions::{row_after, row_beyond, rows_of, rows_sought, rows_within, schema_of};
 use pool::Pool;
+use snapshot_pins::Readers;
 use sqlval::{Schema, Value};
 use std::alloc::Global;
 use std::ops::Bound;

@@ -11,8 +11,8 @@ use crate::ending::say_unless_closed;
 use crate::handed::{HandedBack, Printed};
 use crate::part::Part;
 use crate::show::show_all;
-use sqlcore::Core;
 use shared::Answers;
+use sqlcore::Core;
 use std::io::Write;
 use store::Store;
 

@@ -13,11 +13,11 @@ use ast::{
 };
 use items::Items;
 use lexer::{Token, Word};
-use std::alloc::Global;
 use parse_terminals::{
     ParseError, after_word, boxed, comparison, eat_word, listed, literal, many, opens_condition,
     opens_subquery, paired, parenthesized, truth_test, word,
 };
+use std::alloc::Global;
 
 /// `[NOT] NULL`
 #[tactic(auto, unfolding(parse_terminals::specs::Readers::word))]

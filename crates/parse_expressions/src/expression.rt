@@ -11,12 +11,12 @@ use ast::{
 };
 use items::{Boxed, Items};
 use lexer::{Symbol, Token};
-use std::alloc::Global;
 use parse_terminals::{
     ParseError, add_operator, boxed, column, count_rows, many, may_quantifier, may_sign,
     multiply_operator, next_is_number, next_is_string, next_is_symbol, number, opens_query, paired,
     parenthesized, set_function, string, symbol,
 };
+use std::alloc::Global;
 
 impl<
     E: Fn(Global, Option<usize>, usize, &[Token]) -> Result<(Expression, &[Token]), ParseError>,

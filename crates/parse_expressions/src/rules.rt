@@ -7,8 +7,8 @@ ghost use Rattle.parse_expressions.specs.Levels.{inner_at, Nests};
 use ast::{Condition, Expression, Query};
 use items::Boxed;
 use lexer::Token;
-use std::alloc::Global;
 use parse_terminals::{ParseError, boxed, parenthesized};
+use std::alloc::Global;
 
 /// The rules, where the function values read what stands between parentheses: that is nested less than `depth` deep,
 /// and no chain in it has more than `limit` operands. So all recursion goes through these three.

@@ -5,10 +5,10 @@ ghost use Rattle.parse_expressions.specs.Levels.{inner_at};
 
 use crate::query::Queries;
 use ast::{Condition, Expression, Query};
-use parse_expressions::Rules;
 use lexer::Token;
-use std::alloc::Global;
+use parse_expressions::Rules;
 use parse_terminals::ParseError;
+use std::alloc::Global;
 
 /// An expression with parentheses nested less than `depth` deep, and at most `limit` operands in a chain. Refuses
 /// tokens that begin with none such, and for want of memory.

@@ -13,14 +13,14 @@ use ast::{
     Addend, Column, Condition, Expression, Operand, Query, Select, SelectItem, SetOperator,
     TableReference,
 };
-use parse_expressions::{Clauses, Rules};
 use items::{Boxed, Items};
 use lexer::{Symbol, Token, Word};
-use std::alloc::Global;
+use parse_expressions::{Clauses, Rules};
 use parse_terminals::{
     ParseError, after_word, boxed, column, intersect, listed, many, may_quantifier, next_is_symbol,
     paired, set_operator, word,
 };
+use std::alloc::Global;
 
 fn is_grouped(operand: &Operand) -> bool
     ensures { result ≡ is_grouped operand.now }

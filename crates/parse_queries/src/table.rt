@@ -9,11 +9,11 @@ use crate::query::Queries;
 use ast::{Condition, Expression, Join, Query, SelectItem, TableReference, TableSource};
 use items::{Boxed, Items};
 use lexer::{Symbol, Token, Word};
-use std::alloc::Global;
 use parse_terminals::{
     ParseError, after_symbol, after_word, alias, boxed, eat_word, listed, many, may_alias, name,
     next_is_symbol, next_is_word, paired, word,
 };
+use std::alloc::Global;
 
 fn begins_join(tokens: &[Token]) -> bool
     ensures { result ≡ queries.begins_join (kinds tokens.now) }

@@ -13,11 +13,11 @@ use ast::{
 };
 use items::{Boxed, Items};
 use lexer::{Name, Token, Word};
-use std::alloc::Global;
 use parse_terminals::{
     ParseError, after_word, listed, many, name, names, next_is_name, next_is_word, number,
     parenthesized, word,
 };
+use std::alloc::Global;
 
 /// `VARYING ( number )`
 #[tactic(auto, unfolding(crate::specs::ReadStatements::varying))]

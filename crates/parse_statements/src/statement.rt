@@ -12,11 +12,11 @@ use ast::{
 use items::{Boxed, Items};
 use lexer::{Symbol, Token, Word};
 use parse_queries::entry;
-use std::alloc::Global;
 use parse_terminals::{
     ParseError, after_word, eat_word, is_symbol, listed, name, next_is_word, only_if, paired,
     sort_key, word,
 };
+use std::alloc::Global;
 
 /// The rules of statements, over parentheses nested less than `depth` deep and chains of at most `limit` operands.
 #[derive(Clone, Copy)]

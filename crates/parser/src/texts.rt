@@ -16,10 +16,10 @@ ghost use Rattle.parse_expressions.specs.Levels.{inner_at};
 
 use ast::{Condition, Statement};
 use lexer::{Symbol, Token};
-use refusals::{Limit, Reason, Refusal};
 use parse_statements::Statements;
-use std::alloc::Global;
 use parse_terminals::{ParseError, is_symbol};
+use refusals::{Limit, Reason, Refusal};
+use std::alloc::Global;
 
 /// How many parentheses may be open at once.
 pub const MAXIMUM_NESTING: usize = 64;

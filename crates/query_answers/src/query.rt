@@ -24,7 +24,6 @@ use algebra::Tree;
 use algebra_laws::listings_answer_queries;
 use denote::{Rows, Stop};
 use executor::Listed;
-use uncorrelated_subqueries::listed_once;
 use refusals::Refusal;
 use sqlval::Schema;
 use std::alloc::{AllocError, Global};
@@ -32,6 +31,7 @@ use store::Reading;
 use translation::translate;
 use tree_tables::{listings_read_their_tables, tables_in_tree};
 use typing::OrderedQuery;
+use uncorrelated_subqueries::listed_once;
 
 /// The tree of a query that was typed over this schema; it knows of each table that it names what the schema does. Refuses for want of memory alone.
 pub fn query_tree(alloc: Global, schema: &Schema, query: &OrderedQuery) -> Result<Tree, AllocError>

@@ -18,13 +18,12 @@ ghost use Rattle.query_types.specs.Parts.{appended, function_of, functions_in, n
 ghost use Rattle.query_types.specs.Selects.{clauses_of, groups_of, join_of, keyed, select_from, select_over, with_key};
 
 use ast::{Column, Quantifier, SelectItem, TruthTest};
-use type_rules::both;
 use items::{Items, Text};
 use refusals::{Limit, Reason, Refusal};
 use scopes::{Clause, Scope, are_distinct, count_in_items};
 use sqlval::ValueType;
 use std::alloc::Global;
-use type_rules::{Joined, column_name, inner, left, negated, tested};
+use type_rules::{Joined, both, column_name, inner, left, negated, tested};
 use typing::{
     Condition, Frame, Groups, SetFunction, Settled, ShownItem, Sides, Source, TypedFrom, TypedQuery,
 };

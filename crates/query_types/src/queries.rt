@@ -15,14 +15,13 @@ use crate::functions::shown_functions;
 use crate::parts::{grouped, groups_of, inside, is_grouped, item_name, select_over, width_of};
 use crate::tables::typed_from;
 use ast::{Addend, Operand, SelectItem, SetOperator};
-use type_rules::both;
 use items::{Boxed, Items};
 use refusals::{Limit, Refusal};
 use scopes::{Clause, Scope, View, after_expression, after_items};
 use sqlval::Schema;
 use std::alloc::Global;
 use type_rules::{
-    MAXIMUM_RESULT_COLUMNS, all_columns, combinable, combined, copied_name, intersection,
+    MAXIMUM_RESULT_COLUMNS, all_columns, both, combinable, combined, copied_name, intersection,
     key_found, named, operation, settled,
 };
 use typing::{Query, SetOperation, Settled, ShownItem, TypedQuery};

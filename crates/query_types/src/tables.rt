@@ -11,12 +11,11 @@ use crate::conditions::typed_condition;
 use crate::parts::{inner_join, inside, left_join};
 use crate::queries::typed_query_expression;
 use ast::{Join, TableReference, TableSource};
-use type_rules::both;
 use refusals::{Reason, Refusal};
 use scopes::{Clause, Scope, View};
 use sqlval::Schema;
 use std::alloc::Global;
-use type_rules::{crossed, derived, join_sides, stored};
+use type_rules::{both, crossed, derived, join_sides, stored};
 use typing::TypedFrom;
 
 /// What a FROM shows, and what gives its rows.

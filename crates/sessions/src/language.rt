@@ -11,8 +11,8 @@ use ast::Statement;
 use refusals::Refusal;
 use sqlval::Schema;
 use std::alloc::Global;
-use typing_laws::refusals_have_reasons;
 use typing::Typed;
+use typing_laws::refusals_have_reasons;
 
 /// What reads and types statements.
 pub trait Language: Drop {

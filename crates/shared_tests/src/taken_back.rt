@@ -6,9 +6,9 @@ ghost use Rattle.sessions.specs.OfCore.{IsSound, world_of};
 ghost use Rattle.shared.specs.Scripts.{store_of};
 ghost use Rattle.shared.specs.Views.{keeper as keeper_of};
 
-use sqlcore::{Core, Sql};
 use replies::{Reply, print_reply};
 use shared::{Cell, Client, Room, Shared, Token, new_cell};
+use sqlcore::{Core, Sql};
 use std::alloc::Global;
 use std::marker::Brand;
 use std::sync::Wait;

@@ -9,7 +9,7 @@ mod telling;
 mod words;
 
 pub use command_line::settings;
-pub use options::Settings;
 pub use frame_count::{DEFAULT_FRAMES, Frames, GREATEST_FRAMES, LEAST_FRAMES};
+pub use options::Settings;
 pub use program::{run_over_pages, sqlsh};
 pub use run::{EndedRun, run_to_end};

@@ -14,12 +14,11 @@ ghost use Rattle.shell.specs.Runs.{CarriesOutOver, Ends, HasRefused, IsNotOpened
 
 use crate::options::Settings;
 use crate::telling::tell;
-use sqlcore::{Core, Sql};
-use session_laws::no_reply_is_damaged;
 use refusals::Refusal;
 use scripts::{ScriptFault, run};
-use session_laws::databases_stay_good;
+use session_laws::{databases_stay_good, no_reply_is_damaged};
 use sessions::Refused;
+use sqlcore::{Core, Sql};
 use std::alloc::Global;
 use std::io::{Read, Write};
 use store::Store;

@@ -2,9 +2,9 @@
 
 use crate::trees::{Tree, is_printed, read};
 use ast::{Condition, Expression, OrderedQuery, Predicate, Primary, Query, Statement};
+use ast_copies::{copy_expression, copy_query};
 use items::{Boxed, Items};
 use std::alloc::{AllocError, Global};
-use ast_copies::{copy_expression, copy_query};
 
 const STATEMENTS: [&str; 9] = [
     "COMMIT WORK",

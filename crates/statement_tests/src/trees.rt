@@ -1,13 +1,13 @@
 //! What the tests do alike with statements and with conditions.
 
 use ast::{Condition, Statement};
+use ast_copies::{copy_condition, copy_statement};
 use items::Items;
 use lexer::{Kind, Token, tokens};
 use parser::{parse, parse_condition};
 use printer::{print, print_condition, print_condition_tokens, print_tokens};
 use refusals::Refusal;
 use std::alloc::{AllocError, Global};
-use ast_copies::{copy_condition, copy_statement};
 
 /// A tree that has a text of its own.
 pub(crate) trait Tree: Drop {

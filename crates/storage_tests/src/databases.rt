@@ -2,16 +2,16 @@
 ghost use Rattle.std.specs.Prelude.{◌≡◌, IfOk};
 ghost use Rattle.std.specs.List.{AllByRecursion};
 
-use denote::{Row, Rows};
-use items::{Items, Text};
-use memory_space::MemorySpace;
 use database_trees::{
     DatabaseError, append, create_index, create_table, delete, drop_index, drop_table, replace,
 };
+use denote::{Row, Rows};
+use items::{Items, Text};
+use memory_space::MemorySpace;
 use page_space::SpaceError;
-use stored_tables::{read_schema, scan};
 use sqlval::{Column, ColumnType, Index, Table, Value};
 use std::alloc::{AllocError, Global};
+use stored_tables::{read_schema, scan};
 
 fn text(alloc: Global, codes: &[u8]) -> Result<Text, DatabaseError> {
     match Text::from_items(Items::from_slice(alloc, codes)?) {

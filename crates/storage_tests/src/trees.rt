@@ -1,9 +1,8 @@
 //! Trees over pages in memory.
 
 use btree::{insert, insert_all};
-use btree_read::{Entry, get, next, seek};
+use btree_read::{Entry, get, next, scan, seek};
 use btree_remove::drop_tree;
-use btree_read::scan;
 use items::Items;
 use memory_space::MemorySpace;
 use page_space::SpaceError;
@@ -195,7 +194,10 @@ fn a_dropped_tree_is_gone(rt: HostRuntime) {
 fn is_no_tree(space: &mut MemorySpace, alloc: Global, root: u32) -> bool {
     matches!(scan(space, alloc, root), Err(SpaceError::Damaged))
         && matches!(get(space, alloc, root, b"a"), Err(SpaceError::Damaged))
-        && matches!(insert(space, alloc, root, b"a", b"b"), Err(SpaceError::Damaged))
+        && matches!(
+            insert(space, alloc, root, b"a", b"b"),
+            Err(SpaceError::Damaged)
+        )
 }
 
 #[test]

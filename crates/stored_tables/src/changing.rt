@@ -16,7 +16,7 @@ use crate::naming::table_root;
 use catalog::{ChangeError, add_table, set_root};
 use denote::Row;
 use items::Text;
-use page_space::{SpaceError, PageSpace};
+use page_space::{PageSpace, SpaceError};
 use sqlval::Table;
 use std::alloc::Global;
 use tablestore::AppendError;

@@ -5,7 +5,7 @@ ghost use Rattle.stored_tables.specs.Held.{TableAt, declared_of, HoldsTables, Ho
 ghost use Rattle.stored_tables.specs.Named.{root_named, or_none};
 
 use items::Text;
-use page_space::{SpaceError, PageReader};
+use page_space::{PageReader, SpaceError};
 use sqlval::Table;
 use std::alloc::Global;
 

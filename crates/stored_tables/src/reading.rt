@@ -10,7 +10,7 @@ ghost use Rattle.stored_tables.specs.Held.{TableAt, HoldsTables, HoldsNoTables, 
 
 use crate::naming::{or_none, table_root};
 use items::Text;
-use page_space::{SpaceError, PageReader};
+use page_space::{PageReader, SpaceError};
 use sqlval::Schema;
 use std::alloc::Global;
 use store::{Numbered, NumberedRow};
@@ -18,7 +18,11 @@ use store::{Numbered, NumberedRow};
 /// The schema of the tables that lie at a root; root 0 is the schema without tables.
 ///
 /// Refused for want of memory, where the device refuses a call, and as damaged only where no tables are held there.
-pub fn read_schema<R: PageReader>(space: &mut R, alloc: Global, root: u32) -> Result<Schema, SpaceError>
+pub fn read_schema<R: PageReader>(
+    space: &mut R,
+    alloc: Global,
+    root: u32,
+) -> Result<Schema, SpaceError>
     ensures found { (tables : List TableAt) → HoldsTables (R.pages space.old) root tables → IfOk result (λ schema. IsSchemaOf schema (database_of (contents_of tables))) }
     ensures same { R.pages space.new ≡ R.pages space.old }
     ensures whole { R.is_whole space.old → R.is_whole space.new }

@@ -10,12 +10,12 @@ ghost use Rattle.table_types.specs.Tables.{column_of, columns_of, defined, eleme
 
 use crate::names::distinct_texts;
 use ast::{TableElement, TypeName};
-use type_rules::{both, second};
 use items::{Items, Text};
 use lexer::Number;
 use refusals::{Limit, Reason, Refusal};
 use sqlval::{Column, ColumnType, ValueType};
 use std::alloc::{AllocError, Global};
+use type_rules::{both, second};
 use typing::{Frame, Offer};
 
 /// The greatest number of columns of a table.

@@ -9,11 +9,11 @@ ghost use Rattle.table_types.specs.Tables.{constraints_in, constraints_of, defin
 use crate::columns::{Definition, defined_frame};
 use crate::headings::names_in;
 use crate::rules::rules_in;
-use type_rules::both;
 use items::{Items, Text};
 use refusals::Refusal;
 use sqlval::{Constraint, Rule};
 use std::alloc::{AllocError, Global};
+use type_rules::both;
 
 /// The constraints that are written in a CREATE TABLE with these columns, in the order of the text.
 pub fn typed_constraints(

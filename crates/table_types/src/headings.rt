@@ -11,11 +11,11 @@ ghost use Rattle.table_types.specs.Tables.{Counts, column_heading, element_headi
 
 use crate::names::distinct_texts;
 use ast::{ColumnConstraint, ColumnRule, TableElement, TableRule};
-use type_rules::both;
 use items::{Items, Text};
 use lexer::Name;
 use refusals::{Limit, Reason, Refusal};
 use std::alloc::{AllocError, Global};
+use type_rules::both;
 
 /// The greatest number of constraints of a table.
 const MAXIMUM_CONSTRAINTS: usize = 32;

@@ -15,12 +15,12 @@ use crate::columns::Definition;
 use crate::names::distinct_names;
 use ast::{ColumnConstraint, ColumnRule, TableElement, TableRule};
 use condition_printer::text_of_condition;
-use type_rules::{both, second};
 use items::{Items, Text};
 use lexer::Name;
 use refusals::{Limit, Reason, Refusal};
 use sqlval::Rule;
 use std::alloc::{AllocError, Global};
+use type_rules::{both, second};
 use typing::{Condition, Frame};
 
 /// The greatest number of columns of a key.

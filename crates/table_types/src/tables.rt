@@ -12,12 +12,12 @@ ghost use Rattle.table_types.specs.Tables.{has_table, made_table};
 
 use crate::columns::{definitions_of, typed_columns};
 use crate::constraints::typed_constraints;
-use type_rules::both;
 use items::{Items, Text};
 use lexer::Name;
 use refusals::{Reason, Refusal};
 use sqlval::{Column, Constraint, Schema};
 use std::alloc::Global;
+use type_rules::both;
 use typing::CreateTable;
 
 /// What a CREATE TABLE stands for over a schema. A CHECK is kept as its printed text.

@@ -19,7 +19,7 @@ use crate::number::{NUMBERS, next_number};
 use btree::insert;
 use denote::Row;
 use items::Items;
-use page_space::{SpaceError, PageSpace};
+use page_space::{PageSpace, SpaceError};
 use sqlrecord::{EncodeError, encode_row};
 use std::alloc::Global;
 

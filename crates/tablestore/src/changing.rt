@@ -14,15 +14,15 @@ ghost use Rattle.tablestore.specs.Held.{HoldsRows};
 ghost use Rattle.tablestore.specs.Appended.{RowsWritten, HoldsNoRowsIn, MayRefuseRow, IsOfRow};
 ghost use Rattle.tablestore.specs.Rows.{RowsLeft, without_number, with_number};
 
+use crate::error::AppendError;
 use btree::insert;
 use btree_read::get;
 use btree_remove::remove;
 use denote::Row;
 use items::Items;
-use page_space::{SpaceError, PageSpace};
+use page_space::{PageSpace, SpaceError};
 use sqlrecord::{EncodeError, encode_row};
 use std::alloc::Global;
-use crate::error::AppendError;
 
 /// Takes the row of a number out of the tree at a root, and answers the root; where no row has the
 /// number, all stays. Root 0 is the table without rows.

@@ -7,7 +7,7 @@ ghost use Rattle.btree_read.specs.Tree.{IsTree};
 ghost use Rattle.tablestore.specs.Held.{HoldsRows, HoldsNoRows, ArePast};
 
 use btree_read::{Entry, seek};
-use page_space::{SpaceError, PageReader};
+use page_space::{PageReader, SpaceError};
 use std::alloc::Global;
 
 /// The least number that no row may have.
@@ -72,7 +72,11 @@ fn number_behind<R: PageReader>(space: &mut R, alloc: Global, root: u32) -> Resu
 /// tree lies there, no key is the code of this number, or comes behind it.
 ///
 /// Refused as `scan` is.
-pub fn next_number<R: PageReader>(space: &mut R, alloc: Global, root: u32) -> Result<u64, SpaceError>
+pub fn next_number<R: PageReader>(
+    space: &mut R,
+    alloc: Global,
+    root: u32,
+) -> Result<u64, SpaceError>
     ensures found { (owned : List ℕ) (rows : List stored.Entry) → HoldsRows (R.pages space.old) root owned rows → IfOk result (λ number. number ≡ stored.next_number rows) }
     ensures past { (owned : List ℕ) (entries : List AnyEntry) → IsTree (R.pages space.old) root owned entries → IfOk result (ArePast entries) }
     ensures same { R.pages space.new ≡ R.pages space.old }

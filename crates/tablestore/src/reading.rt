@@ -9,7 +9,7 @@ ghost use Rattle.tablestore.specs.Held.{row_entry, HoldsRows, HoldsNoRows};
 
 use crate::decoding::{row_found, rows_of_entries};
 use btree_read::{Entry, seek};
-use page_space::{SpaceError, PageReader};
+use page_space::{PageReader, SpaceError};
 use sqlrecord::DecodeError;
 use std::alloc::Global;
 use store::{Numbered, NumberedRow};

@@ -8,8 +8,8 @@ ghost use Rattle.typing.specs.SetOperator.{exists, in_query};
 ghost use Rattle.type_rules.specs.Parts.{between_of, compare_of, like_of, list_of, queried, query_of};
 
 use crate::expressions::{of_type, with_sign};
-use ast::{Comparison, Literal, TruthTest, TruthValue};
 use crate::findings::{both, boxed};
+use ast::{Comparison, Literal, TruthTest, TruthValue};
 use items::{Boxed, Items};
 use refusals::{Reason, Refusal};
 use sqlval::{CompOp, Truth, Value, ValueType};

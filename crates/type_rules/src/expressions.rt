@@ -6,8 +6,8 @@ ghost use Rattle.typing.specs.Finding.{Finding};
 ghost use Rattle.typing.specs.Finds.{Finds};
 ghost use Rattle.type_rules.specs.Parts.{after_sign, calculation_of, concatenation_of, number_of, of_type};
 
-use ast::{AddOperator, MultiplyOperator, Sign, Term};
 use crate::findings::{both, boxed, second};
+use ast::{AddOperator, MultiplyOperator, Sign, Term};
 use items::{Boxed, Items, Text};
 use lexer::Number;
 use refusals::{Reason, Refusal};

@@ -9,8 +9,8 @@ ghost use Rattle.typing.specs.Scope.{Scope as Frames};
 ghost use Rattle.typing.specs.Table.{frame_of, offer_of, table_found, type_in};
 ghost use Rattle.type_rules.specs.Tables.{CrossedFinds, DerivedFinds, join_sides, product, side_by_side, stored_columns};
 
-use ast::Alias;
 use crate::findings::both;
+use ast::Alias;
 use items::{Boxed, Items, Text};
 use lexer::Name;
 use refusals::{Reason, Refusal};

@@ -6,10 +6,9 @@ ghost use Rattle.denote.specs.Database.{Name, CheckReading, table_of};
 ghost use Rattle.update_delete.specs.Kept.{Keeps, KeepAll, KeepsBy, keep_keys, keeps_key};
 
 use crate::change::RowChange;
-use constraints::{Checks, key_columns, violation_in};
+use constraints::{Checks, compare_keys, key_columns, violation_in};
 use denote::{Row, Rows};
 use items::Items;
-use constraints::compare_keys;
 use refusals::Refusal;
 use sqlval::{Constraint, Rule, Table, Value};
 use std::alloc::Global;

@@ -7,9 +7,9 @@ ghost use Rattle.update_delete.specs.KeptChanges.{filter_kept, update_kept};
 use crate::change::RowUpdate;
 use algebra::{Condition, Expression};
 use items::Items;
-use uncorrelated_subqueries::{kept_condition, kept_expression};
 use query_answers::LentTables;
 use std::alloc::{AllocError, Global};
+use uncorrelated_subqueries::{kept_condition, kept_expression};
 
 /// A condition whose subqueries are listed once for all rows. Refuses for want of memory alone.
 pub(crate) fn kept_filter(

@@ -24,11 +24,11 @@ use algebra::Condition;
 use algebra_laws::evaluation_keeps_the_meaning;
 use denote::{Row, Stop};
 use items::Items;
-use uncorrelated_subqueries::kept_trees_mean_the_same;
 use query_answers::LentTables;
 use sqlval::{Table, Value};
 use std::alloc::Global;
 use tree_tables::{listings_read_their_tables, values_read_their_tables};
+use uncorrelated_subqueries::kept_trees_mean_the_same;
 
 /// What becomes of each of these rows by an UPDATE: they are the rows of a table that pass a test, at no other of which the condition is true or raises a fault, so that the others stay; or one of the
 /// faults of all rows: of the condition, of a source, of storing, of a CHECK that cannot be evaluated at the new row, or of

@@ -4,8 +4,8 @@ use super::Memory;
 use super::given_again::{Lives, Refusals, hold};
 use super::worked::{CHANGED, MANY_ROWS, MANY_ROWS_PRINTED, OVER_MANY_ROWS, WORKED, Worked};
 use disk::{FaultyDisk, MemDisk};
-use sqlcore::Sql;
 use paged_store::Paged;
+use sqlcore::Sql;
 use std::alloc::Global;
 use std::test::Fail;
 

@@ -1,9 +1,9 @@
 //! Scripts side by side over no tables.
 
-use sqlcore::{Core, Sql};
 use list_store::{ListStore, Lists};
 use replies::print_reply;
 use shared::{Answers, Gate, run_scripts};
+use sqlcore::{Core, Sql};
 use std::alloc::{AllocError, Global};
 use std::sync::Wait;
 use std::thread::Threads;

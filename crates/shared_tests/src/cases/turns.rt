@@ -1,10 +1,10 @@
 //! Turns of several sessions over no tables.
 
-use sqlcore::{Core, Sql};
 use list_store::{ListStore, Lists};
 use refusals::{Limit, Refusal};
 use replies::{Reply, print_reply};
 use sessions::{Refused, SessionId};
+use sqlcore::{Core, Sql};
 use std::alloc::{AllocError, Global};
 use store::Store;
 
