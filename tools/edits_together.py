@@ -12,7 +12,8 @@
 its function stays open whose line does not only say that a proof file names what the edit took away. What is not told
 apart in a group (a function that calls another edited one, an edit of no function) is tried again with the rest, and at
 last by itself. Each check works over a copy of its own of what was kept; nothing counts where the crate as it stands is
-not proved over such a copy. After each crate its line for docs/WRONG_BODIES.md is printed.
+not proved over such a copy. After each crate its line for docs/WRONG_BODIES.md is printed, with the
+two digests of what was tried.
 GROUP=N in the environment tries N edits at a time, 16 where it is not given.
 """
 import contextlib
@@ -25,7 +26,10 @@ import tempfile
 import time
 
 TOP = os.path.dirname(os.path.dirname(os.path.realpath(__file__)))
-FOLDERS = ("must-fail", "wrong-bodies")
+sys.dont_write_bytecode = True
+sys.path.insert(0, TOP + "/tools")
+from edit_record import FOLDERS, Checkout, Line  # noqa: E402
+
 FUNCTION = re.compile(r"^(\s*)(?:pub(?:\([a-z]+\))? )?(?:const )?(?:unsafe )?fn (\w+)")
 # What the toolchain says where an edit took away what a proof file names, and of what rests on such a proof; and what it says of an edit that is tried by itself, which is
 # cut short: where no more than a name can be read, the edit counts as not refused, and somebody has to look.
@@ -128,7 +132,8 @@ class Trial:
 
     def __init__(self, toolchain, crate, folders, wanted):
         self.toolchain, self.crate, self.verdicts = toolchain, crate, {}
-        self.folder = crate.folder
+        self.folder, checkout = crate.folder, Checkout(TOP)
+        self.digests = checkout.own(crate.name), checkout.below(crate.name)
         paths = ("%s/%s" % (crate.folder, it) for it in folders)
         files = ("%s/%s" % (at, name) for at in paths if os.path.isdir(at) for name in sorted(os.listdir(at)) if name.endswith(".edit"))
         self.edits = [Edit(it, crate.folder) for it in files if not wanted or os.path.basename(it)[:-len(".edit")] in wanted]
@@ -186,9 +191,10 @@ class Trial:
             self.verdicts = {name: False for name in self.verdicts}
 
     def line(self, seconds):
-        """The crate's line in the table of wrong bodies."""
+        """The crate's line in the table of wrong bodies, with the digests of what was tried."""
         counts = [sum("/%s/" % folder in it.path for it in self.edits) for folder in FOLDERS]
-        return "| %s | %d | %d | %d | %s | %d |" % (self.crate.name, *counts, sum(self.verdicts.values()), time.strftime("%F"), round(seconds))
+        refused = sum(self.verdicts.values())
+        return Line(self.crate.name, *counts, refused, time.strftime("%F"), round(seconds), *self.digests)
 
     def try_edits(self, most):
         left = [it for it in self.edits if it.file]

@@ -21,14 +21,14 @@ TOP = os.path.dirname(os.path.dirname(os.path.realpath(__file__)))
 MEMORY_OF_A_CHECK = 4 * 1024 ** 3
 
 
-def libraries_of_crates():
+def libraries_of_crates(top=TOP):
     """Of each crate, in the order of crates.txt, the libraries that its line names."""
-    return {name: line.partition(":")[2].split() for name, line in lines_of_crates().items()}
+    return {name: line.partition(":")[2].split() for name, line in lines_of_crates(top).items()}
 
 
-def lines_of_crates():
+def lines_of_crates(top=TOP):
     """The line of each crate in crates.txt, in their order."""
-    with open(TOP + "/crates.txt", encoding="utf-8") as lines:
+    with open(top + "/crates.txt", encoding="utf-8") as lines:
         entries = (line.partition("#")[0].strip() for line in lines)
         return {re.match(r"\w+", line)[0]: line for line in entries if line}
 
