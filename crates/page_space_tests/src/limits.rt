@@ -1,4 +1,5 @@
-//! The limits `pages` and `private`, reached page by page over a first page that says how many pages there are.
+//! The limits `pages` and `private`, reached page by page over a first page that says how many
+//! pages there are.
 use disk::MemDisk;
 use overlay::{Overlay, WriteSet};
 use page_space::{PAGE_SIZE, PageSpace, SpaceError};
@@ -65,7 +66,8 @@ fn a_file_has_so_many_pages(rt: HostRuntime) -> Result<(), Fail> {
     Ok(())
 }
 
-/// A transaction writes 1,024 pages at most, page 0 among them. These may be written again; and once they are given back, as many may be written anew.
+/// A transaction writes 1,024 pages at most, page 0 among them. These may be written again; and
+/// once they are given back, as many may be written anew.
 #[test]
 fn a_transaction_has_so_many_pages(rt: HostRuntime) -> Result<(), Fail> {
     let mut changes = WriteSet::new(rt.alloc());

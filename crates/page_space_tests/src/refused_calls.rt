@@ -1,5 +1,7 @@
-//! A device that refuses one call of a pool, each in turn. A refused commit leaves its set and the versions, and the same commit is made when it is asked for again. After a refused writing of
-//! pages, half-way too, commits and reads of old versions go on, and the pages are written when the pool is closed, or closed again.
+//! A device that refuses one call of a pool, each in turn. A refused commit leaves its set and the
+//! versions, and the same commit is made when it is asked for again. After a refused writing of
+//! pages, half-way too, commits and reads of old versions go on, and the pages are written when the
+//! pool is closed, or closed again.
 use disk::{Disk, FaultyDisk, MemDisk};
 use pagefile::{FileHeader, PAGE_SIZE, PageFile};
 use pool::{CloseRefused, PageSet, Pool, PoolError};
@@ -72,7 +74,8 @@ fn set_of(alloc: Global, byte: u8) -> Option<PageSet> {
     Some(set)
 }
 
-/// The number of a commit of these pages, which is made again where the device refused it and left the set.
+/// The number of a commit of these pages, which is made again where the device refused it and left
+/// the set.
 fn commits(
     alloc: Global,
     pool: &mut Pool<FaultyDisk<MemDisk>>,
@@ -156,7 +159,8 @@ fn is_full_of(bytes: &[u8], byte: u8) -> bool {
     }
 }
 
-/// Whether all goes on where the call after so many is refused, and the last commit is on the device then.
+/// Whether all goes on where the call after so many is refused, and the last commit is on the
+/// device then.
 fn ends_well(alloc: Global, passed: u64, refused: &mut Refused) -> bool {
     let Some(mut pool) = opened(alloc, passed) else {
         return false;
@@ -173,8 +177,9 @@ fn ends_well(alloc: Global, passed: u64, refused: &mut Refused) -> bool {
     }
 }
 
-/// The first commit reads the five pages that it keeps for the first version, the flush writes four pages, and closing writes five and waits for the medium: each of these calls is refused in
-/// some run, and in the last run none is.
+/// The first commit reads the five pages that it keeps for the first version, the flush writes four
+/// pages, and closing writes five and waits for the medium: each of these calls is refused in some
+/// run, and in the last run none is.
 #[test]
 fn what_is_refused_is_done_later(rt: HostRuntime) -> Result<(), Fail> {
     let mut refused = Refused {

@@ -19,5 +19,6 @@ rises_on k l m x y z h g =
     let w = g.read in
     record { refused = omega (arith, p, q); read = omega (arith, v, w) }
 
-pub rises_keeps : (k l x y : ℕ) → CountsRise k l x y → Keeps (record { contents = empty; refused = k; read = x }) (record { contents = empty; refused = l; read = y })
+pub rises_keeps : (k l x y : ℕ) → CountsRise k l x y
+    → Keeps (record { contents = empty; refused = k; read = x }) (record { contents = empty; refused = l; read = y })
 rises_keeps k l x y h = record { contents = refl; refused = h.refused; read = h.read }

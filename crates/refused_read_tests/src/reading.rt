@@ -10,8 +10,8 @@ use std::alloc::{AllocError, Global};
 use std::ops::Bound;
 use store::{Numbered, NumberedRow, Position, Reading, StoreError};
 
-/// A reading of two tables of one column, T with the rows 1 and 2, and any other name with the row 1. Its device refuses one call.
-/// Nothing is promised of the rows: they are for tests.
+/// A reading of two tables of one column, T with the rows 1 and 2, and any other name with the
+/// row 1. Its device refuses one call. Nothing is promised of the rows: they are for tests.
 #[derive(Drop)]
 pub struct RefusingReading {
     /// How many calls there were.

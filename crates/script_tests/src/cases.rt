@@ -64,7 +64,8 @@ fn check<D: Disk + Drop>(
     Ok(())
 }
 
-/// The exit status of a script over an empty device; none where the command line without options is refused, for want of memory.
+/// The exit status of a script over an empty device; none where the command line without options is
+/// refused, for want of memory.
 fn status_over<R: Read, W: Write>(alloc: Global, reader: &mut R, writer: &mut W) -> Option<u8> {
     match settings(alloc, &PLAIN) {
         Ok(settings) => {

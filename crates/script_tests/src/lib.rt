@@ -1,4 +1,5 @@
-//! Tests of whole scripts over tables in the pages of a device, in memory and of a file, and of command lines.
+//! Tests of whole scripts over tables in the pages of a device, in memory and of a file, and of
+//! command lines.
 #![tactic(auto)]
 
 #[cfg(test)]

@@ -1,4 +1,5 @@
-//! Tests of several sessions of one core: in turns, side by side on threads, and of a core that is taken back.
+//! Tests of several sessions of one core: in turns, side by side on threads, and of a core that is
+//! taken back.
 #![tactic(auto)]
 
 #[cfg(test)]

@@ -28,7 +28,8 @@ const SECOND: [(&str, &str); 2] = [
     ("SELECT A FROM T", "5\n6\n(2 rows)\n"),
 ];
 
-/// Whether two callers over a device without tables are answered as they should be, and the core that is taken back from them has the row that was committed and no other.
+/// Whether two callers over a device without tables are answered as they should be, and the core
+/// that is taken back from them has the row that was committed and no other.
 pub(super) fn is_taken_back<S: Store, R: Wait>(rt: &R, alloc: Global, device: S::Device) -> bool {
     match Core::<S>::open(alloc, Sql, device, 256) {
         Ok(core) => match new_cell(alloc) {
@@ -69,7 +70,8 @@ fn is_shared<S: Store, J: Room, R: Wait>(
     }
 }
 
-/// The caller asks these texts in a session, which is then ended, and whether this is printed of the replies.
+/// The caller asks these texts in a session, which is then ended, and whether this is printed of
+/// the replies.
 fn asks<S: Store, J: Room, R: Wait>(
     rt: &R,
     alloc: Global,

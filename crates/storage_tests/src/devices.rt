@@ -123,7 +123,8 @@ fn a_full_device_refuses(rt: HostRuntime) {
     }
 }
 
-// POSIX lets `fsync` of a special file fail with EINVAL, and Linux does so. So the system was asked.
+// POSIX lets `fsync` of a special file fail with EINVAL, and Linux does so. So the system was
+// asked.
 #[test]
 fn a_sync_asks_the_system(rt: HostRuntime) {
     let refused = match File::open(&rt, "/dev/null") {
@@ -133,7 +134,8 @@ fn a_sync_asks_the_system(rt: HostRuntime) {
     assert!(rt; is_refused(&refused, ErrorKind::InvalidInput));
 }
 
-/// Whether the third call of a device that refuses it is refused, and tears what it was to write or not.
+/// Whether the third call of a device that refuses it is refused, and tears what it was to write or
+/// not.
 fn one_call_is_refused(disk: &mut impl Disk, kept: &[u8; 4]) -> Result<bool, DiskError> {
     disk.write_at(0, b"abcd")?;
     let len = disk.len()?;

@@ -1,4 +1,5 @@
-//! Tests of devices, of files of pages, of the codes of rows, keys and pages, of trees over pages, and of databases over these.
+//! Tests of devices, of files of pages, of the codes of rows, keys and pages, of trees over pages,
+//! and of databases over these.
 #![tactic(auto)]
 
 #[cfg(test)]

@@ -269,7 +269,8 @@ fn is_opened_again(disk: FaultyDisk<MemDisk>) -> bool {
     }
 }
 
-/// Whether no file is made on a device that refuses a call, and one is made on the device that is given back.
+/// Whether no file is made on a device that refuses a call, and one is made on the device that is
+/// given back.
 fn is_made_again(disk: FaultyDisk<MemDisk>) -> bool {
     match PageFile::create(disk) {
         Ok(_) => false,
@@ -277,7 +278,8 @@ fn is_made_again(disk: FaultyDisk<MemDisk>) -> bool {
     }
 }
 
-/// The same of a file that is there, and of a new one, where so many calls pass before one is refused.
+/// The same of a file that is there, and of a new one, where so many calls pass before one is
+/// refused.
 fn refusals_are_no_damage(alloc: Global, passed: u64) -> bool {
     let opened = match file(alloc, NEW.as_bytes(), 4096) {
         Ok(disk) => is_opened_again(FaultyDisk::new(disk, passed, false)),

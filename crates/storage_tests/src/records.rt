@@ -191,7 +191,8 @@ fn inner() -> [u8; PAGE_SIZE] {
     page
 }
 
-/// Whether the page is sound with these bytes at these places; `None` where one of these is behind the page.
+/// Whether the page is sound with these bytes at these places; `None` where one of these is behind
+/// the page.
 fn is_sound(mut page: [u8; PAGE_SIZE], changes: &[(usize, u8)]) -> Option<bool> {
     for (at, byte) in changes {
         if *at >= PAGE_SIZE {

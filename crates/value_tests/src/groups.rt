@@ -11,7 +11,8 @@ fn over(function: SetFunctionType, distinct: bool) -> Aggregate {
     Aggregate::Over { function, distinct }
 }
 
-/// The groups by the first column: how many rows each has, and the count, the sum and the average of its arguments.
+/// The groups by the first column: how many rows each has, and the count, the sum and the average
+/// of its arguments.
 fn groups(alloc: Global, list: &Rows, arguments: &Rows) -> Result<Rows, Stop> {
     let columns = Some(Items::from_slice(alloc, &[0])?);
     let aggregates = [
@@ -84,7 +85,8 @@ fn is_whole(
     Ok(are_column(&whole(alloc, aggregate, values)?, &[wanted]))
 }
 
-/// One group over no rows, distinct values, the least and the greatest, a whole sum of 64 bits, and an average that is cut toward zero.
+/// One group over no rows, distinct values, the least and the greatest, a whole sum of 64 bits, and
+/// an average that is cut toward zero.
 #[test]
 fn set_functions_of_one_group(rt: HostRuntime) {
     const GREATEST: i64 = 9_223_372_036_854_775_807;

@@ -1,4 +1,5 @@
-//! Tests of values and of their operations, of the work on lists of rows, and of stores of tables in lists.
+//! Tests of values and of their operations, of the work on lists of rows, and of stores of tables
+//! in lists.
 #![tactic(auto)]
 
 #[cfg(test)]

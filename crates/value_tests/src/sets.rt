@@ -1,4 +1,5 @@
-//! DISTINCT, set operators and sorts. The expected rows are written by hand from the rules of the language.
+//! DISTINCT, set operators and sorts. The expected rows are written by hand from the rules of the
+//! language.
 
 use super::made::{are, are_column, column, rows};
 use denote::Rows;

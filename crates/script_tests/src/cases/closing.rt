@@ -33,7 +33,8 @@ fn played(
     (writer, ended)
 }
 
-/// Whether a refusal of the device is told: by a reply and the status where the store was opened and closed, or else as the last line.
+/// Whether a refusal of the device is told: by a reply and the status where the store was opened
+/// and closed, or else as the last line.
 fn is_told(text: &str, status: u8) -> bool {
     match status {
         1 => text.contains("ERROR X0002\n"),
@@ -42,8 +43,9 @@ fn is_told(text: &str, status: u8) -> bool {
     }
 }
 
-/// Each call that a run makes is refused in turn, in a run of its own: the first when the store is opened, which reads nothing and hands the device back, the last one when
-/// it is closed, after all was printed.
+/// Each call that a run makes is refused in turn, in a run of its own: the first when the store is
+/// opened, which reads nothing and hands the device back, the last one when it is closed, after all
+/// was printed.
 #[test]
 fn each_refused_call_is_told(rt: HostRuntime) -> Result<(), Fail> {
     let settings = settings(rt.alloc(), &["sqlsh", "run"])?;

@@ -1,4 +1,5 @@
-//! The deepest texts that the limits allow: 64 parentheses, each at the first operand of a chain of 64 operands.
+//! The deepest texts that the limits allow: 64 parentheses, each at the first operand of a chain of
+//! 64 operands.
 
 use super::{prints, repeated};
 use std::alloc::{AllocError, Global};

@@ -30,7 +30,8 @@ fn run_over_file(
     )
 }
 
-/// A file that cannot be made is refused; one that is made keeps what was committed for the next run; and one that holds no database is damaged, and stays as it is.
+/// A file that cannot be made is refused; one that is made keeps what was committed for the next
+/// run; and one that holds no database is damaged, and stays as it is.
 #[test]
 fn a_file_keeps_its_tables(rt: HostRuntime) -> Result<(), Fail> {
     let _ = fs::remove_dir_all(&rt, FOLDER);

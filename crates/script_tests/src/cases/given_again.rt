@@ -1,4 +1,5 @@
-//! Runs over the device of a store in which each call is made again where it was refused for memory or by the device: what the last of these calls answer is that of a run without a refusal.
+//! Runs over the device of a store in which each call is made again where it was refused for memory
+//! or by the device: what the last of these calls answer is that of a run without a refusal.
 
 use refusals::Refusal;
 use replies::{Reply, print_reply};
@@ -9,7 +10,8 @@ use store::Store;
 /// More pieces than a script here has.
 const PIECES: u64 = 100;
 
-/// How many calls the device refused: openings, statements (a flush counts as one) and closings of the first two runs, and calls of the third.
+/// How many calls the device refused: openings, statements (a flush counts as one) and closings of
+/// the first two runs, and calls of the third.
 #[derive(Clone, Copy)]
 pub(super) struct Refusals {
     pub(super) openings: u64,
@@ -85,7 +87,8 @@ fn closed<S: Store, L: Language + Changes<S>>(
     }
 }
 
-/// What a call answers: pages are written where it is `@flush`, and else it is a statement of the session.
+/// What a call answers: pages are written where it is `@flush`, and else it is a statement of the
+/// session.
 fn reply_to<S: Store, L: Language + Changes<S>>(
     core: &mut Core<S, L>,
     session: SessionId,
@@ -100,7 +103,8 @@ fn reply_to<S: Store, L: Language + Changes<S>>(
     }
 }
 
-/// What a call answers, or, where it was refused for memory or by the device, the same call made again.
+/// What a call answers, or, where it was refused for memory or by the device, the same call made
+/// again.
 fn reply_again<S: Store, L: Language + Changes<S>>(
     core: &mut Core<S, L>,
     session: SessionId,

@@ -1,7 +1,9 @@
-//! The sample file with some bytes exchanged: the statement that comes across the damage is X0004 and changes nothing, and all others are answered as ever.
+//! The sample file with some bytes exchanged: the statement that comes across the damage is X0004
+//! and changes nothing, and all others are answered as ever.
 //!
-//! Its pages: 1 the catalogue; 2 and 3 the four rows of READERS and their key; 4 and 8 the leaves of BOOKS, of 44 rows, under page 9; 5, 6 and 7 the indexes of BOOKS, the last one LENT_TO;
-//! 11 and then 10 are free.
+//! Its pages: 1 the catalogue; 2 and 3 the four rows of READERS and their key; 4 and 8 the leaves
+//! of BOOKS, of 44 rows, under page 9; 5, 6 and 7 the indexes of BOOKS, the last one LENT_TO; 11
+//! and then 10 are free.
 use super::sample::sample_device;
 use super::{Memory, steady};
 use disk::MemDisk;

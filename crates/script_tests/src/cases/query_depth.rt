@@ -1,5 +1,6 @@
-//! Deep and wide queries, on the main thread and on a spawned one. The deepest chain of set operators that 65,536 bytes allow is run by
-//! `bench/command_line.sh`: the frames of a test that is not optimized are larger.
+//! Deep and wide queries, on the main thread and on a spawned one. The deepest chain of set
+//! operators that 65,536 bytes allow is run by `bench/command_line.sh`: the frames of a test that
+//! is not optimized are larger.
 
 use super::{prints, repeated};
 use std::alloc::{AllocError, Global};
@@ -42,7 +43,8 @@ fn eight_tables(alloc: Global) -> Result<String, AllocError> {
     format!(in alloc; "{TABLE} SELECT {sums} FROM {tables} WHERE {conditions};")
 }
 
-/// Runs a script on this thread and on a spawned one, and compares what it prints after making the table.
+/// Runs a script on this thread and on a spawned one, and compares what it prints after making the
+/// table.
 fn check_twice(
     rt: &(impl Abort + AllocGlobal + Threads),
     script: String,

@@ -1,4 +1,5 @@
-//! Devices that refuse one call of a run, each in turn: what is printed, and what the next run finds.
+//! Devices that refuse one call of a run, each in turn: what is printed, and what the next run
+//! finds.
 use super::sample::sample_device;
 use super::{Memory, steady};
 use disk::{FaultyDisk, MemDisk};
@@ -10,7 +11,8 @@ use std::test::Fail;
 /// More calls of the device than a script here makes.
 const CALLS: u64 = 60;
 
-/// A script, what the next run is asked, and what the script may print where one call is refused, each with what the next run prints. The first of these is that of a run without a refusal.
+/// A script, what the next run is asked, and what the script may print where one call is refused,
+/// each with what the next run prints. The first of these is that of a run without a refusal.
 #[derive(Drop)]
 struct Swept {
     script: &'static str,
@@ -18,8 +20,9 @@ struct Swept {
     outcomes: &'static [(&'static str, &'static str)],
 }
 
-/// Three commits, with pages that are written before the last one, while session 2 reads the first. Where that is refused half-way, all goes on as before, and the pages are written when the
-/// store is closed.
+/// Three commits, with pages that are written before the last one, while session 2 reads the first.
+/// Where that is refused half-way, all goes on as before, and the pages are written when the store
+/// is closed.
 const FLUSHED: Swept = Swept {
     script: "CREATE TABLE T (A INTEGER); INSERT INTO T VALUES (1); COMMIT; @2 SELECT A FROM T; @1 INSERT INTO T VALUES (2); COMMIT; @flush; @2 SELECT A FROM T; @1 INSERT INTO T VALUES (3); COMMIT; @2 SELECT A FROM T;",
     query: "SELECT A FROM T;",
@@ -36,7 +39,8 @@ const FLUSHED: Swept = Swept {
     ],
 };
 
-/// Changes over the rows 1, 2 and 3 of a file. A change that is refused leaves its transaction open, and may be given again.
+/// Changes over the rows 1, 2 and 3 of a file. A change that is refused leaves its transaction
+/// open, and may be given again.
 const CHANGED: Swept = Swept {
     script: "UPDATE T SET A = A + 10 WHERE A = 3; UPDATE T SET A = A + 20 WHERE A = 2; COMMIT; INSERT INTO T VALUES (4); COMMIT;",
     query: "SELECT A FROM T;",
@@ -53,7 +57,8 @@ const CHANGED: Swept = Swept {
     ],
 };
 
-/// A change of a row in a table that was read, with three indexes that were not: a call that is refused after its first write undoes that.
+/// A change of a row in a table that was read, with three indexes that were not: a call that is
+/// refused after its first write undoes that.
 const INDEXED: Swept = Swept {
     script: "SELECT COUNT(*) FROM BOOKS; UPDATE BOOKS SET READER = 'BERT' WHERE ID = 1; SELECT READER FROM BOOKS WHERE ID = 1; COMMIT;",
     query: "SELECT ID, READER FROM BOOKS WHERE ID < 2 ORDER BY ID;",
@@ -74,7 +79,8 @@ const INDEXED: Swept = Swept {
     ],
 };
 
-/// What a run over a device with these bytes prints, which refuses the call after so many; and what the next run finds there, none where the device is not handed back.
+/// What a run over a device with these bytes prints, which refuses the call after so many; and what
+/// the next run finds there, none where the device is not handed back.
 fn played(
     alloc: Global,
     settings: &Settings<'_>,
@@ -124,7 +130,8 @@ fn left_by(alloc: Global, settings: &Settings<'_>, script: &str) -> Option<MemDi
     Some(ended.device?.into_inner())
 }
 
-/// Whether this was printed and these rows found; or, where the device is not handed back, this was printed and then that the device had refused.
+/// Whether this was printed and these rows found; or, where the device is not handed back, this was
+/// printed and then that the device had refused.
 fn is_as(printed: &[u8], found: &Option<Vec<u8>>, text: &str, rows: &str) -> bool {
     match found {
         Some(found) => printed == text.as_bytes() && found.as_slice() == rows.as_bytes(),

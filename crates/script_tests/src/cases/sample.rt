@@ -1,5 +1,6 @@
-//! The sample file of the folder `examples`: its script, and the digest of the file that the script has to leave, byte for byte. `./test` looks whether both files there have these
-//! digests. `tools/pages`, which is written by the page on the format alone, prints the file.
+//! The sample file of the folder `examples`: its script, and the digest of the file that the script
+//! has to leave, byte for byte. `./test` looks whether both files there have these digests.
+//! `tools/pages`, which is written by the page on the format alone, prints the file.
 use super::{Memory, steady};
 use disk::MemDisk;
 use hex::encode;

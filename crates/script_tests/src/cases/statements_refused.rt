@@ -1,4 +1,5 @@
-//! A device that refuses one call, each in turn: a refused statement changes nothing, and prints what it has to when it is given again; a refused opening or closing is made when it is asked for
+//! A device that refuses one call, each in turn: a refused statement changes nothing, and prints
+//! what it has to when it is given again; a refused opening or closing is made when it is asked for
 //! again; and what is committed is there in the next run.
 use super::Memory;
 use super::given_again::{Lives, Refusals, hold};
@@ -12,14 +13,16 @@ use std::test::Fail;
 /// More calls of the device than three runs here make.
 const CALLS: u64 = 500;
 
-/// Whether the runs hold over an empty device that refuses the call after so many, a write half done.
+/// Whether the runs hold over an empty device that refuses the call after so many, a write half
+/// done.
 fn hold_over(alloc: Global, passed: u64, lives: &Lives<'_>, refusals: &mut Refusals) -> bool {
     let device = FaultyDisk::new(MemDisk::new(alloc), passed, true);
     hold::<Paged<Memory>, Sql>(alloc, Sql, device, lives, refusals)
 }
 
-/// Whether the runs hold whichever call is refused, up to those in which none is; each call was told as refused once, and among them were an opening, a closing and so many statements
-/// of the first two runs, and some of the third.
+/// Whether the runs hold whichever call is refused, up to those in which none is; each call was
+/// told as refused once, and among them were an opening, a closing and so many statements of the
+/// first two runs, and some of the third.
 fn sweep(alloc: Global, lives: &Lives<'_>, least: u64) -> bool {
     let mut refusals = Refusals::none();
     for passed in 0..CALLS {

@@ -1,6 +1,8 @@
-//! Scripts over no tables, each with what it prints: one for each rule that is easily broken. They were computed by hand from the rules.
+//! Scripts over no tables, each with what it prints: one for each rule that is easily broken. They
+//! were computed by hand from the rules.
 
-/// A script, what it prints, what the next run is asked once the script's last transaction is committed, and what that prints.
+/// A script, what it prints, what the next run is asked once the script's last transaction is
+/// committed, and what that prints.
 pub(super) type Worked = (&'static str, &'static str, &'static str, &'static str);
 
 /// Scripts of queries, INSERT and sessions.

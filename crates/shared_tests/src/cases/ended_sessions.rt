@@ -1,4 +1,5 @@
-//! What a session that has ended leaves: it is refused, its number is the next session's, and the others go on.
+//! What a session that has ended leaves: it is refused, its number is the next session's, and the
+//! others go on.
 
 use super::turns::{Turn, go};
 

@@ -1,6 +1,7 @@
 //! Statements that are refused for want of memory, and given again.
 //!
-//! With ample memory these tests compare replies. `rt try --test --fail-alloc N` has the Nth allocation fail.
+//! With ample memory these tests compare replies. `rt try --test --fail-alloc N` has the Nth
+//! allocation fail.
 
 use super::turns::{Turn, go};
 

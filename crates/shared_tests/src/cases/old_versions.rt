@@ -5,7 +5,8 @@ use list_store::{ListStore, Lists};
 use std::alloc::Global;
 use store::Store;
 
-/// Whether a store has room for 64 sessions and no more, and the others read what they found while the first commits a row a thousand times.
+/// Whether a store has room for 64 sessions and no more, and the others read what they found while
+/// the first commits a row a thousand times.
 fn reads_on<S: Store>(alloc: Global, device: S::Device) -> bool {
     match Seats::<S>::new(alloc, device) {
         Some(mut seats) => {

@@ -16,7 +16,8 @@ const FIRST: [&str; 5] = [
 /// The texts of the second script.
 const SECOND: [&str; 2] = ["INSERT INTO T VALUES (6)", "INSERT INTO T VALUES (6)"];
 
-/// Lets the calls come in the order of their places. A call has ended when its script comes to its next one, so the first script has one more behind these.
+/// Lets the calls come in the order of their places. A call has ended when its script comes to its
+/// next one, so the first script has one more behind these.
 #[derive(Drop)]
 struct InOrder<'a, R: Wait> {
     rt: &'a R,
@@ -71,7 +72,8 @@ fn place_of(script: usize, call: usize) -> usize {
     }
 }
 
-/// The second script may not store a row while the first has one that is not committed, and may once it is rolled back.
+/// The second script may not store a row while the first has one that is not committed, and may
+/// once it is rolled back.
 #[test]
 fn one_script_writes_at_a_time(rt: HostRuntime) {
     let scripts: [&[&str]; 2] = [&FIRST, &SECOND];

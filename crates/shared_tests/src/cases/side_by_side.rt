@@ -9,7 +9,8 @@ use std::sync::Wait;
 use std::thread::Threads;
 use store::Store;
 
-/// Whether two scripts that run side by side are answered so: this is printed of the answers to each.
+/// Whether two scripts that run side by side are answered so: this is printed of the answers to
+/// each.
 pub(super) fn answer<G: Gate + Sync, R: Threads + Wait + Sync>(
     rt: &R,
     alloc: Global,

@@ -11,7 +11,8 @@ use store::Store;
 /// What is done next. A session is named by the place at which it began, from 0.
 #[derive(Clone, Copy)]
 pub(super) enum Turn {
-    /// A session begins at the next place, or at one where a session has ended: it is the same again then.
+    /// A session begins at the next place, or at one where a session has ended: it is the same
+    /// again then.
     Begins(usize),
     /// The session ends.
     Ends(usize),
