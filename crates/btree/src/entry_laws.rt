@@ -1,4 +1,4 @@
-//! What callers may rely on beside the calls.
+//! What a tree's entries are known by.
 ghost use Rattle.std.specs.Prelude.{◌≡◌, ℕ, List};
 ghost use Rattle.page_space.specs.Space.{PageMap};
 ghost use Rattle.btree_read.specs.declared.entry.Entry.{Entry};

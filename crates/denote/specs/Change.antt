@@ -135,7 +135,7 @@ changed reading db (does.Insert i) = on_table db (get db i.table) (insert_into r
 changed reading db (does.Update u) = on_table db (get db u.table) (update_in reading db u)
 changed reading db (does.Delete d) = on_table db (get db d.table) (delete_from reading db d)
 
--- ---- `change`
+-- ---- `changes`
 
 -- a statement is accepted with this database, up to the order of rows, and this count
 abbrev pub IsAccepted : Changed → Database → Option ℕ → Type 0

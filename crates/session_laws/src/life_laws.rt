@@ -1,4 +1,4 @@
-//! What follows from the definitions of scripts and runs. These functions do nothing: their
+//! Scripts over a device that is closed and opened again. These functions do nothing: their
 //! contracts are the laws.
 
 ghost use Rattle.std.specs.Prelude.{◌≡◌, ℕ, false, List, ◌∷◌, ◌++◌, Option};

@@ -34,7 +34,7 @@ pub fn set_functions_are_listed()
 /// HAVING of a SELECT with groups name the columns behind the key of a group's row in order, from
 /// left to right, each once and as many as there are set functions (`placed`); what an expression
 /// or a condition inside stands for names those of the set functions that are written in it, and no
-/// others (`parse_expressions`, `conditions`). And the k-th of these columns has the value of the
+/// others (`expressions`, `conditions`). And the k-th of these columns has the value of the
 /// k-th set function over the rows of the group (`valued`).
 pub fn set_functions_stand_in_place()
     ensures placed { (known : Known) (tree : Select) (outer : Scope) (found : TypedQuery)
