@@ -1,6 +1,7 @@
--- The listing of a tree: its rows in the order in which they come, ended by at most one fault.
--- It is written as an outcome in which the order of rows counts, and of the faults there is at most one. That rows without ORDER BY come in this
--- order, and that of several faults this one is shown, is our own choice (ISO/IEC 9075:1992, 13.1, 22.1, leave both open).
+-- The listing of a tree: its rows in the order in which they come, ended by at most one fault. It
+-- is written as an outcome in which the order of rows counts, and of the faults there is at most
+-- one. That rows without ORDER BY come in this order, and that of several faults this one is shown,
+-- is our own choice (ISO/IEC 9075:1992, 13.1, 22.1, leave both open).
 use Rattle.std.specs.Prelude.{ℕ, nat_lt, Bool, true, false, if◌then◌else◌, List, [], ◌∷◌, ◌++◌, map, flat_map, Option, Result, Ok, Err}
 use Rattle.sqlval.specs.Value.{Row}
 use Rattle.sqlval.specs.Matching.{rows_matching}
@@ -101,8 +102,8 @@ argument_faults (Argument function is_distinct argument) env = faults_in (argume
 abbrev pub all_argument_faults : List MeantFunction → Env → List Row → List Fault
 all_argument_faults functions env rows = flat_map (λ row. flat_map (λ function. argument_faults function (row ∷ env)) functions) rows
 
--- The groups by their first rows. Before all of them a fault of an argument, by rows and then functions; else one of a set function's range, by
--- groups and then functions.
+-- The groups by their first rows. Before all of them a fault of an argument, by rows and then
+-- functions; else one of a set function's range, by groups and then functions.
 abbrev pub groups_listed : Option (List ℕ) → List MeantFunction → Env → List Row → Outcome
 groups_listed columns functions env rows =
     unless_ended (all_argument_faults functions env rows)
@@ -122,7 +123,8 @@ sides Union left right = left ++ right
 sides Except left right = left
 sides Intersect left right = left
 
--- the rows of the left side and for UNION then the right's, of alike rows the first, as many as the operator says
+-- the rows of the left side and for UNION then the right's, of alike rows the first, as many as the
+-- operator says
 abbrev pub combined_in_order : SetOperation → List Row → List Row → List Row
 combined_in_order op left right = firsts (λ row. multiplicity op.operator op.all (times row left) (times row right)) [] (sides op.operator left right)
 

@@ -1,5 +1,6 @@
--- What expressions, conditions and trees mean, whatever it is that trees give: a step for each kind of node, in which each part stands as
--- what it means, and the folds of these steps. The step of trees is a parameter: one gives outcomes, another listings.
+-- What expressions, conditions and trees mean, whatever it is that trees give: a step for each kind
+-- of node, in which each part stands as what it means, and the folds of these steps. The step of
+-- trees is a parameter: one gives outcomes, another listings.
 use Rattle.std.specs.Prelude.{Bool, Ok}
 use Rattle.sqlval.specs.Truth.{truth_not, truth_is, truth_of}
 use Rattle.sqlval.specs.Like.{like_of}

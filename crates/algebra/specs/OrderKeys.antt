@@ -11,7 +11,8 @@ use Rattle.algebra.specs.TreeOutcome.{tree_outcome}
 use Rattle.denote.specs.Meaning.{Tables}
 use Rattle.denote.specs.Outcome.{OrderedOutcome}
 
--- A node: of an expression stands here which column of the row it is, if it is one; of a tree its keys.
+-- A node: of an expression stands here which column of the row it is, if it is one; of a tree its
+-- keys.
 abbrev pub KeyLayer : ((A B C D : Type 0) → Type 0) → Type 0
 KeyLayer T = T (Unit {0}) (Option ℕ) (Unit {0}) (List OrderKey)
 
@@ -39,7 +40,8 @@ abbrev pub key_at : OrderKey → Option ℕ → List OrderKey → List OrderKey
 key_at key None others = []
 key_at key (Some place) others = record { place = place; descending = key.descending } ∷ others
 
--- the keys as far as their columns are among these; a column that is there twice, at its first place
+-- the keys as far as their columns are among these; a column that is there twice, at its first
+-- place
 abbrev pub handed_on : List (Option ℕ) → List OrderKey → List OrderKey
 handed_on items [] = []
 handed_on items (key ∷ keys) = key_at key (position_from (is_column key.place) 0 items) (handed_on items keys)

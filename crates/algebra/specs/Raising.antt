@@ -1,5 +1,6 @@
--- Which parts of trees may raise a fault, told by what stands in them: a fold with a truth value in each place. A no is certain; a yes is not.
--- And plain conditions, which have no subquery, no `||`, and no arithmetic but a sign directly before a number, which is a part of that number.
+-- Which parts of trees may raise a fault, told by what stands in them: a fold with a truth value in
+-- each place. A no is certain; a yes is not. And plain conditions, which have no subquery, no `||`,
+-- and no arithmetic but a sign directly before a number, which is a part of that number.
 use Rattle.std.specs.Prelude.{◌≡◌, Bool, true, false, ◌||◌, ◌&&◌, List, Ok}
 use Rattle.std.specs.List.{list_any, list_all}
 use Rattle.algebra.specs.declared.tree.Expression.{Expression, Expression-F, fold-Expression}

@@ -1,4 +1,5 @@
-//! Operator trees: what they are, their outcome, their listing and their order keys. Types and definitions alone.
+//! Operator trees: what they are, their outcome, their listing and their order keys. Types and
+//! definitions alone.
 #![tactic(auto)]
 
 mod tree;

@@ -1,7 +1,8 @@
 //! Operator trees. A plan is such a tree too: the nodes from `Seek` on come of rules alone.
 //!
-//! They have expressions and conditions of their own, which hold trees where typed ones hold queries.
-//! A column is named as in typed trees: by how many rows outwards its row stands, and its place there.
+//! They have expressions and conditions of their own, which hold trees where typed ones hold
+//! queries. A column is named as in typed trees: by how many rows outwards its row stands, and its
+//! place there.
 
 use items::{Boxed, Items, Text};
 use sqlval::{CompOp, Truth, Value};
@@ -83,9 +84,11 @@ pub enum Tree {
     Filter(Boxed<Condition>, Boxed<Tree>),
     /// All pairs of a left and a right row.
     Product(Boxed<Tree>, Boxed<Tree>),
-    /// The pairs at which a condition is true. It sees the left row and then the right one as one row.
+    /// The pairs at which a condition is true. It sees the left row and then the right one as one
+    /// row.
     Inner(Boxed<Condition>, Boxed<Tree>, Boxed<Tree>),
-    /// As `Inner`, and with nulls beside it each left row without a match. `width` is the number of the right side's columns.
+    /// As `Inner`, and with nulls beside it each left row without a match. `width` is the number of
+    /// the right side's columns.
     Left {
         on: Boxed<Condition>,
         left: Boxed<Tree>,
@@ -96,7 +99,8 @@ pub enum Tree {
     Half(Boxed<Condition>, Boxed<Tree>, Boxed<Tree>),
     /// The left rows for which no pair is true.
     OppositeHalf(Boxed<Condition>, Boxed<Tree>, Boxed<Tree>),
-    /// A row for each group: its key, and then the values of its set functions. Without columns all rows are one group.
+    /// A row for each group: its key, and then the values of its set functions. Without columns all
+    /// rows are one group.
     Group {
         columns: Option<Items<usize>>,
         functions: Items<SetFunction>,
@@ -108,20 +112,23 @@ pub enum Tree {
     Distinct(Boxed<Tree>),
     Set(SetOperation, Boxed<Tree>, Boxed<Tree>),
     Sort(Items<OrderKey>, Boxed<Tree>),
-    /// The rows of a table whose columns equal a key: an equality `Filter` of a `Scan`, by an index.
+    /// The rows of a table whose columns equal a key: an equality `Filter` of a `Scan`, by an
+    /// index.
     Seek {
         table: StoredTable,
         columns: Items<usize>,
         key: Items<Value>,
     },
-    /// The rows of a table in the order of an index. Those whose first of its columns meets the bounds, if there are any.
+    /// The rows of a table in the order of an index. Those whose first of its columns meets the
+    /// bounds, if there are any.
     Range {
         table: StoredTable,
         columns: Items<usize>,
         low: Option<Bound>,
         high: Option<Bound>,
     },
-    /// An `Inner` whose right side is a `Scan`, by an index: of the table's rows those whose `columns` equal the left row's `places`.
+    /// An `Inner` whose right side is a `Scan`, by an index: of the table's rows those whose
+    /// `columns` equal the left row's `places`.
     IndexLoop {
         on: Boxed<Condition>,
         left: Boxed<Tree>,
@@ -129,7 +136,8 @@ pub enum Tree {
         table: StoredTable,
         columns: Items<usize>,
     },
-    /// An `Inner` by equal columns: of the right rows those whose `right_places` equal the left row's `left_places`.
+    /// An `Inner` by equal columns: of the right rows those whose `right_places` equal the left
+    /// row's `left_places`.
     HashJoin {
         on: Boxed<Condition>,
         left: Boxed<Tree>,
@@ -137,7 +145,8 @@ pub enum Tree {
         left_places: Items<usize>,
         right_places: Items<usize>,
     },
-    /// The rows at which the operand is IN, or with `negated` NOT IN, the first column of `members`, which sees the rows outside alone.
+    /// The rows at which the operand is IN, or with `negated` NOT IN, the first column of
+    /// `members`, which sees the rows outside alone.
     Member {
         operand: Boxed<Expression>,
         negated: bool,

@@ -1,4 +1,5 @@
--- What cannot raise has a value in all rows, and a tree that cannot has no fault: by induction over the trees.
+-- What cannot raise has a value in all rows, and a tree that cannot has no fault: by induction over
+-- the trees.
 use Rattle.std.proofs.Common.{◌≡◌, refl, sym, ◌∙◌, ap, subst, ℕ, Bool, true, false, if◌then◌else◌, ◌||◌, List, [], ◌∷◌, ◌++◌, map, append-nil, Option, Ok, Err}
 use Rattle.std.specs.Prelude.{flat_map}
 use Rattle.sqlval.specs.declared.comparison.CompOp.{CompOp}

@@ -1,4 +1,5 @@
--- Set operators, DISTINCT and sorts: what they list are the rows of their outcomes in another order.
+-- Set operators, DISTINCT and sorts: what they list are the rows of their outcomes in another
+-- order.
 use Rattle.std.proofs.Common.{◌≡◌, refl, ap, sym, ◌∙◌, subst, ℕ, suc, zero, ◌+◌, ◌-◌, ◌<◌, ◌≤◌, Bool, true, false, cond, not, if◌then◌else◌, List, [], ◌∷◌, ◌++◌, append_assoc, append-nil, arith, inl, inr, ◌⊎◌}
 use Rattle.std.specs.Prelude.{Contains, filter, min, nat_lt, count_by}
 use Rattle.std.specs.Ordering.{is_lt}

@@ -1,4 +1,5 @@
--- What goes by left rows, the right side being taken whole: half joins, left joins and joins by equal columns.
+-- What goes by left rows, the right side being taken whole: half joins, left joins and joins by
+-- equal columns.
 use Rattle.std.proofs.Common.{◌≡◌, refl, ap, sym, ◌∙◌, subst, ℕ, Bool, true, false, if◌then◌else◌, List, [], ◌∷◌, ◌++◌, map, append_assoc, append-nil, Ok, Err, arith}
 use Rattle.std.specs.Prelude.{Contains, flat_map}
 use Rattle.std.specs.List.{list_all, list_any}

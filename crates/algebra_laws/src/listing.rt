@@ -14,13 +14,18 @@ ghost use Rattle.denote.specs.Database.{Database, rows_in};
 ghost use Rattle.denote.specs.Query.{denotes};
 ghost use Rattle.algebra_laws.specs.Shown.{Lists};
 
-/// The rows of a listing come no more often than in its tree's outcome, and its fault is one of the outcome's. Without a fault the rows are
-/// those of the outcome, which then has none. So it is of every tree, in whatever rows stand outside it.
+/// The rows of a listing come no more often than in its tree's outcome, and its fault is one of the
+/// outcome's. Without a fault the rows are those of the outcome, which then has none. So it is of
+/// every tree, in whatever rows stand outside it.
 pub fn listings_answer_outcomes()
-    ensures { (tables : Tables) (tree : Tree) (env : Env) → Lists (tree_listing tables tree env) (tree_outcome tables tree env) }
+    ensures { (tables : Tables) (tree : Tree) (env : Env)
+        → Lists (tree_listing tables tree env) (tree_outcome tables tree env) }
 {}
 
-/// The listing of a query's tree, over the rows of a database in whatever order, answers the query: its rows, sorted by ORDER BY, or one of its faults.
+/// The listing of a query's tree, over the rows of a database in whatever order, answers the query:
+/// its rows, sorted by ORDER BY, or one of its faults.
 pub fn listings_answer_queries()
-    ensures { (described : List ℕ → StoredTable) → ((name : List ℕ) → (described name).name ≡ name) → (db : Database) (ordered : OrderedQuery) → Answers (reply_of (tree_listing (rows_in db) (tree_of_ordered described ordered) [])) (denotes db ordered) }
+    ensures { (described : List ℕ → StoredTable) → ((name : List ℕ) → (described name).name ≡ name)
+        → (db : Database) (ordered : OrderedQuery)
+        → Answers (reply_of (tree_listing (rows_in db) (tree_of_ordered described ordered) [])) (denotes db ordered) }
 {}

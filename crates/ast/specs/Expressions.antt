@@ -1,7 +1,8 @@
 -- The grammar of expressions and conditions.
--- ISO/IEC 9075:1992, 6.5 <set function specification>, 6.11 to 6.13 <value expression>, 7.11 <scalar subquery>, 8.1 to 8.6 and 8.8
--- <predicate>, 8.12 <search condition>. Our own choices: `+ - ||` are one level, the chains have a limit, IN has literals or a query, a row
--- has one value, and there is no ESCAPE, CASE, CAST, function, ANY and ALL, UNIQUE, MATCH and OVERLAPS.
+-- ISO/IEC 9075:1992, 6.5 <set function specification>, 6.11 to 6.13 <value expression>, 7.11
+-- <scalar subquery>, 8.1 to 8.6 and 8.8 <predicate>, 8.12 <search condition>. Our own choices:
+-- `+ - ||` are one level, the chains have a limit, IN has literals or a query, a row has one value,
+-- and there is no ESCAPE, CASE, CAST, function, ANY and ALL, UNIQUE, MATCH and OVERLAPS.
 use Rattle.std.specs.Prelude.{◌≡◌, ℕ, ◌<◌, List, ◌∷◌, length, Option, Some, None}
 use Rattle.ast.specs.declared.tree.Condition.{Condition, out-Condition}
 use Rattle.ast.specs.declared.tree.Conjunction.{Conjunction, out-Conjunction}
@@ -33,7 +34,8 @@ pub record Nested : Type 1 where
   pub condition : Rule Condition
   pub query : Rule Query
 
--- over the greatest number of operands in a chain, if there is one, and the rules of what stands between parentheses
+-- over the greatest number of operands in a chain, if there is one, and the rules of what stands
+-- between parentheses
 module _ (limit : Option ℕ) (inner : Nested) where
   -- primary = number | string | column | setfn | ( expr ) | ( query )
   -- setfn   = COUNT ( * ) | (COUNT|SUM|AVG|MIN|MAX) ( [ALL | DISTINCT] expr )

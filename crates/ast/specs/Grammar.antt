@@ -8,7 +8,8 @@ use Rattle.ast.specs.Statements.{IsStatement}
 use Rattle.ast.specs.Notation.{Tokens}
 use Rattle.ast.specs.Words.{SEMICOLON}
 
--- the rules of expressions, conditions and queries in which parentheses stand less than so deep, and chains are within the limit
+-- the rules of expressions, conditions and queries in which parentheses stand less than so deep,
+-- and chains are within the limit
 abbrev pub nested_at : Option ℕ → ℕ → Nested
 nested_at limit zero = record { expression = λ _ _ _. ⊥; condition = λ _ _ _. ⊥; query = λ _ _ _. ⊥ }
 nested_at limit (suc depth) = record {

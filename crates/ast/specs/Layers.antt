@@ -1,4 +1,5 @@
--- One level of a tree, as its `out-` function opens it: what each part that is a tree of this cycle stands for.
+-- One level of a tree, as its `out-` function opens it: what each part that is a tree of this cycle
+-- stands for.
 use Rattle.ast.specs.declared.tree.Join.{Join, Join-F}
 use Rattle.ast.specs.declared.tree.Operand.{Operand, Operand-F}
 use Rattle.ast.specs.declared.tree.Predicate.{Predicate, Predicate-F}

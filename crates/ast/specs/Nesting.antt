@@ -25,6 +25,7 @@ abbrev pub rights : Tokens → ℕ
 rights [] = 0
 rights (t ∷ ts) = right_of t + rights ts
 
--- In no front of the tokens do the left parentheses outnumber the right ones by more than the limit.
+-- In no front of the tokens do the left parentheses outnumber the right ones by more than the
+-- limit.
 abbrev pub IsNestedWithin : ℕ → Tokens → Type 0
 IsNestedWithin limit ts = (front back : Tokens) → ts ≡ front ++ back → lefts front ≤ rights front + limit

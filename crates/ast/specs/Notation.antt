@@ -1,5 +1,6 @@
--- How the grammar is written. A rule says of a list of tokens that it begins with a part of the language,
--- of a part's tree that these tokens have it, and of a second list that it is what is left after them.
+-- How the grammar is written. A rule says of a list of tokens that it begins with a part of the
+-- language, of a part's tree that these tokens have it, and of a second list that it is what is
+-- left after them.
 use Rattle.std.specs.Prelude.{◌≡◌, Bool, true, false, List, [], ◌∷◌, Option, Some, None}
 use Rattle.lexer.specs.declared.kinds.Kind.{Kind}
 use Rattle.ast.specs.Words.{LEFT_PARENTHESIS, RIGHT_PARENTHESIS, COMMA}

@@ -149,6 +149,7 @@ pub data Inside (y : Node) : Node → Type 0 where
   itself : Inside y y
   deeper : {x part : Node} → Contains (parts x) part → Inside y part → Inside y x
 
--- The condition stands in the statement: after WHERE, HAVING or ON, in a CHECK or in parentheses, in subqueries too.
+-- The condition stands in the statement: after WHERE, HAVING or ON, in a CHECK or in parentheses,
+-- in subqueries too.
 abbrev pub StandsIn : Condition → Statement → Type 0
 StandsIn x y = Inside (condition x) (statement y)

@@ -1,7 +1,8 @@
 -- The grammar of queries.
--- ISO/IEC 9075:1992, 6.3 <table reference>, 7.3 to 7.9 up to <query specification>, 7.10 <query expression> and 7.11 <subquery>. Our own
--- choices: no VALUES, TABLE, NATURAL, USING, RIGHT, FULL and CORRESPONDING, no list of columns after an alias, no `table.*`, no
--- parentheses round joins; chains have a limit.
+-- ISO/IEC 9075:1992, 6.3 <table reference>, 7.3 to 7.9 up to <query specification>, 7.10
+-- <query expression> and 7.11 <subquery>. Our own choices: no VALUES, TABLE, NATURAL, USING, RIGHT,
+-- FULL and CORRESPONDING, no list of columns after an alias, no `table.*`, no parentheses round
+-- joins; chains have a limit.
 use Rattle.std.specs.Prelude.{◌≡◌, ℕ, Bool, true, false, List, [], ◌∷◌, Option, Some, None}
 use Rattle.ast.specs.declared.operator.Column.{Column}
 use Rattle.ast.specs.declared.tree.Condition.{Condition}
@@ -32,7 +33,8 @@ abbrev pub is_lone : {A B : Type 0} → Operand → List A → List B → Bool
 is_lone x [] [] = is_grouped x
 is_lone x _ _ = false
 
--- over the greatest number of operands in a chain, if there is one, and the rules of what stands between parentheses
+-- over the greatest number of operands in a chain, if there is one, and the rules of what stands
+-- between parentheses
 module _ (limit : Option ℕ) (inner : Nested) where
   -- source1 = name [[AS] name] | ( query ) [AS] name
   abbrev pub IsTableSourceLayer : Rule TableSourceLayer
@@ -78,7 +80,8 @@ module _ (limit : Option ℕ) (inner : Nested) where
   abbrev pub IsHaving : Rule (Option Condition)
   IsHaving = Maybe (HAVING ⊳ IsCondition limit inner)
 
-  -- select = SELECT [ALL | DISTINCT] ( * | item {, item} ) FROM ref {, ref} [WHERE cond] [GROUP BY column {, column}] [HAVING cond]
+  -- select = SELECT [ALL | DISTINCT] ( * | item {, item} ) FROM ref {, ref} [WHERE cond] [GROUP BY
+  -- column {, column}] [HAVING cond]
   pub record IsSelect (ts : Tokens) (x : Select) (rest : Tokens) : Type 0 where
     pub is : (SELECT ⊳ Maybe IsQuantifier ⨾ AreSelectItems ⨾ FROM ⊳ Listed IsTableReference ⨾ IsFilter ⨾ AreGroups ⨾ IsHaving)
         ts ((out-Select x).quantifier, ((out-Select x).items, ((out-Select x).from, ((out-Select x).filter, ((out-Select x).groups, (out-Select x).having))))) rest
@@ -95,7 +98,8 @@ module _ (limit : Option ℕ) (inner : Nested) where
   pub record IsAddend (ts : Tokens) (x : Addend) (rest : Tokens) : Type 0 where
     pub is : Chain limit IsOperand (INTERSECT ⊳ Written ALL ⨾ IsOperand) ts ((out-Addend x).first, (out-Addend x).others) rest
 
-  -- query = select | sum, where sum = addend {(UNION | EXCEPT) [ALL] addend} has a set operator in it
+  -- query = select | sum, where sum = addend {(UNION | EXCEPT) [ALL] addend} has a set operator in
+  -- it
   pub record IsQuery (ts : Tokens) (x : Query) (rest : Tokens) : Type 0 where
     pub is : Chain limit IsAddend (IsSetOperator ⨾ IsAddend) ts ((out-Query x).first, (out-Query x).others) rest
     pub not_lone : is_lone (out-Addend (out-Query x).first).first (out-Addend (out-Query x).first).others (out-Query x).others ≡ false

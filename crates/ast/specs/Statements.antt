@@ -1,8 +1,10 @@
 -- The grammar of statements.
--- ISO/IEC 9075:1992, 6.1 <data type>, 11.3 <table definition>, 11.4 <column definition>, 11.6, 11.7 and 11.9 constraints, 11.18 <drop table
--- statement>, 13.1 to 13.4 cursors and <order by clause>, 13.7 <delete>, 13.8 <insert>, 13.10 <update>, 14.1 <set transaction>, 14.3 <commit>,
--- 14.4 <rollback>. Our own choices: the types are INTEGER and VARCHAR, a source of VALUES and SET is an expression or NULL, SET TRANSACTION says
--- READ ONLY or READ WRITE alone, DROP has no behaviour, FETCH no target; CREATE INDEX, DROP INDEX and EXPLAIN are our own.
+-- ISO/IEC 9075:1992, 6.1 <data type>, 11.3 <table definition>, 11.4 <column definition>, 11.6, 11.7
+-- and 11.9 constraints, 11.18 <drop table statement>, 13.1 to 13.4 cursors and <order by clause>,
+-- 13.7 <delete>, 13.8 <insert>, 13.10 <update>, 14.1 <set transaction>, 14.3 <commit>, 14.4
+-- <rollback>. Our own choices: the types are INTEGER and VARCHAR, a source of VALUES and SET is an
+-- expression or NULL, SET TRANSACTION says READ ONLY or READ WRITE alone, DROP has no behaviour,
+-- FETCH no target; CREATE INDEX, DROP INDEX and EXPLAIN are our own.
 use Rattle.std.specs.Prelude.{◌≡◌, ℕ, List, ◌∷◌, Option}
 use Rattle.ast.specs.declared.operator.Direction.{Direction}
 use Rattle.ast.specs.declared.operator.Direction.TheVariants as direction

@@ -1,6 +1,7 @@
 -- The parts of the grammar that hold no other part.
--- ISO/IEC 9075:1992, 5.3 <literal>, 5.4 <identifier>, 6.3 <correlation name>, 6.4 <column reference>, 6.5 <set function type>, 6.11 to 6.13
--- the operators, 7.10 UNION and EXCEPT, 8.2 <comp op>, 8.12 <truth value>. Our own choice: a name has at most one name before it.
+-- ISO/IEC 9075:1992, 5.3 <literal>, 5.4 <identifier>, 6.3 <correlation name>, 6.4
+-- <column reference>, 6.5 <set function type>, 6.11 to 6.13 the operators, 7.10 UNION and EXCEPT,
+-- 8.2 <comp op>, 8.12 <truth value>. Our own choice: a name has at most one name before it.
 use Rattle.std.specs.Prelude.{◌≡◌, ℕ, List, ◌∷◌}
 use Rattle.lexer.specs.declared.kinds.Kind.TheVariants as kind
 use Rattle.ast.specs.declared.operator.AddOperator.{AddOperator}

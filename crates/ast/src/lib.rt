@@ -1,8 +1,8 @@
 //! Syntax trees of the whole language, and its grammar.
 //!
-//! The trees are concrete: each says which of the words that may be left out were written, where parentheses and signs
-//! stand, and in which order the parts of a chain follow one another. So the tokens of a statement have one tree, and a
-//! tree has one list of tokens.
+//! The trees are concrete: each says which of the words that may be left out were written, where
+//! parentheses and signs stand, and in which order the parts of a chain follow one another. So the
+//! tokens of a statement have one tree, and a tree has one list of tokens.
 #![tactic(auto)]
 
 mod operator;

@@ -54,7 +54,8 @@ pub enum SetFunction {
     Max,
 }
 
-/// An operator between the addends of a query. (INTERSECT, which binds tighter, is a level of its own.)
+/// An operator between the addends of a query. (INTERSECT, which binds tighter, is a level of its
+/// own.)
 #[derive(Clone, Copy, PartialEq, Eq)]
 pub enum SetOperator {
     Union,

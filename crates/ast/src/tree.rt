@@ -92,8 +92,8 @@ pub enum Predicate {
     Exists(Boxed<Query>),
 }
 
-/// Addends joined by UNION or EXCEPT, grouping to the left; a SELECT alone is one addend of one operand.
-/// Where there is one addend with one operand, that is no query in parentheses.
+/// Addends joined by UNION or EXCEPT, grouping to the left; a SELECT alone is one addend of one
+/// operand. Where there is one addend with one operand, that is no query in parentheses.
 #[cycle(ast)]
 #[derive(Drop)]
 pub struct Query {

@@ -1,7 +1,8 @@
 //! Copies of syntax trees. Each equals what it copies, and is refused for want of memory alone.
 //!
-//! A tree is no `Clone`: its copy may be refused. `ast` has the trees alone, and is read by all crates above it; their copies stand here,
-//! since they take longer to prove than the trees to declare.
+//! A tree is no `Clone`: its copy may be refused. `ast` has the trees alone, and is read by all
+//! crates above it; their copies stand here, since they take longer to prove than the trees to
+//! declare.
 #![tactic(auto)]
 
 mod conditions;

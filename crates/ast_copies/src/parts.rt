@@ -1,5 +1,5 @@
-//! Copies of parts, put together. They are taken with their refusals: a caller that took them out by `?` would drop, at
-//! each, all that it owns, and be slow to prove.
+//! Copies of parts, put together. They are taken with their refusals: a caller that took them out
+//! by `?` would drop, at each, all that it owns, and be slow to prove.
 
 ghost use Rattle.std.specs.Prelude.{◌≡◌, [], ◌∷◌, ◌++◌, IfOk, Some};
 

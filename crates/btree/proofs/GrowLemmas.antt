@@ -1,4 +1,5 @@
--- An inner page grown: one of its children is exchanged for one or two, and the page is written whole or cut in two.
+-- An inner page grown: one of its children is exchanged for one or two, and the page is written
+-- whole or cut in two.
 use Rattle.std.proofs.Common.{◌≡◌, ℕ, suc, List, [], ◌∷◌, ◌++◌, map, ◌⊎◌, inl, inr, refl, sym, ap, ◌∙◌, subst, Option, Some, None, IsSome, Bool, true, false, nat_eq, ⊎_elim, take, drop}
 use Rattle.std.specs.List.{flat_map}
 use Rattle.std.specs.Option.{option_to_list}

@@ -1,4 +1,5 @@
--- No page is lost: of pages in a list of nodes in which a part is exchanged, and of a tree that is one.
+-- No page is lost: of pages in a list of nodes in which a part is exchanged, and of a tree that is
+-- one.
 use Rattle.std.proofs.Common.{◌≡◌, ℕ, zero, suc, List, [], ◌∷◌, ◌++◌, map, ◌⊎◌, inl, inr, refl, sym, ap, ◌∙◌, subst}
 use Rattle.std.specs.List.{flat_map}
 use Rattle.page_space.specs.Space.{PageMap}

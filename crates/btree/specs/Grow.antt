@@ -36,7 +36,8 @@ abbrev pub LeafWritten : PageMap → PageMap → ℕ → ℕ → List Entry → 
 LeafWritten old new page next es None = HasNode new page (LeafNode next es) × SamePages old new (λ n. n ≡ page)
 LeafWritten old new page next es (Some b) = IsLeafCut old new page next es b
 
--- an inner page's branches are now in two inner pages, but for one between them, whose child is the second one's leftmost
+-- an inner page's branches are now in two inner pages, but for one between them, whose child is the
+-- second one's leftmost
 pub record IsInnerCut (old new : PageMap) (page first : ℕ) (bs : List Branch) (b : Branch) : Type 0 where
   pub xs : List Branch
   pub y : Branch
@@ -54,7 +55,8 @@ InnerWritten old new page first bs (Some b) = IsInnerCut old new page first bs b
 
 -- ---- the tree under a page
 
--- pages that were owned are owned still, and a page that is not owned now is as it was: none is lost
+-- pages that were owned are owned still, and a page that is not owned now is as it was: none is
+-- lost
 pub record AreKept (old new : PageMap) (owned now_owned : List ℕ) : Type 0 where
   pub still : (n : ℕ) → Has n owned → Has n now_owned
   pub rest : (n : ℕ) → (Has n now_owned → ⊥) → new n ≡ old n
@@ -65,8 +67,9 @@ flat_nodes d first rest = flat_map (nodes_of d) (kids first rest)
 abbrev pub flat_leaves : (d : ℕ) → Tree d → List (Key × Tree d) → List (ℕ × ℕ)
 flat_leaves d first rest = flat_map (leaves_of d) (kids first rest)
 
--- a tree is now one tree or two, with these entries, in its own pages and fresh ones; it is in order within bounds that fit what was put in,
--- and its leaves are linked from and to where they were
+-- a tree is now one tree or two, with these entries, in its own pages and fresh ones; it is in
+-- order within bounds that fit what was put in, and its leaves are linked from and to where they
+-- were
 pub record IsGrown (old new : PageMap) (d : ℕ) (t : Tree d) (Fits : Key → Option Key → Type 0) (now : List Entry) (split : Option Branch) : Type 0 where
   pub tree : Tree d
   pub more : List (Key × Tree d)

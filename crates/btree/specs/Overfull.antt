@@ -17,7 +17,8 @@ size_of cells = 4 * length cells + total_of cells
 abbrev pub AreSmall : List (List ℕ) → Type 0
 AreSmall cells = AllByRecursion (λ (cell : List ℕ). 4 + length cell ≤ 1014) cells
 
--- cells none of which takes more than 1,014 bytes, together more than a page holds, by one cell at most
+-- cells none of which takes more than 1,014 bytes, together more than a page holds, by one cell at
+-- most
 pub record IsOverfull (cells : List (List ℕ)) : Type 0 where
   pub small : AreSmall cells
   pub over : 4080 < size_of cells
@@ -28,9 +29,11 @@ abbrev pub RisesBehind : Key → List Branch → Type 0
 RisesBehind lo [] = ⊤
 RisesBehind lo (b ∷ bs) = (precedes lo b.key ≡ true) × RisesBehind b.key bs
 
--- where the space is whole, no tree of at most so many levels is under the page that may hold the key
+-- where the space is whole, no tree of at most so many levels is under the page that may hold the
+-- key
 abbrev pub HasNoTreeFor : PageMap → ℕ → ℕ → Key → Type 0 → Type 0
-HasNoTreeFor pages page levels k Whole = (d : ℕ) (t : Tree d) (lo : Key) (hi : Option Key) → d ≤ levels → IsUnder pages page d t lo hi → IsWithin lo hi k → Whole → ⊥
+HasNoTreeFor pages page levels k Whole = (d : ℕ) (t : Tree d) (lo : Key) (hi : Option Key) → d ≤ levels
+    → IsUnder pages page d t lo hi → IsWithin lo hi k → Whole → ⊥
 
 -- no tree is at the root, or the space is not whole
 abbrev pub IsNoTreeIn : PageMap → ℕ → Type 0 → Type 0

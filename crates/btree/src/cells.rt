@@ -36,14 +36,16 @@ pub fn cells_with<'a>(
     Ok(cells)
 }
 
-/// Where a key's entry goes among a leaf's: in place of the cells from the first place up to the second.
+/// Where a key's entry goes among a leaf's: in place of the cells from the first place up to the
+/// second.
 pub(crate) fn place_of(leaf: &SlotPage<'_>, key: &[u8]) -> (usize, usize)
     ensures order { result.0 ≤ result.1 }
     ensures within { result.1 ≤ length leaf.now.cells }
     ensures put { (value cell : List ℕ) → entry_of cell ≡ record { key = key.now; value = value }
         → put key.now value (map entry_of leaf.now.cells) ≡ map entry_of (take result.0 leaf.now.cells ++ cell ∷ drop result.1 leaf.now.cells) }
     ensures before { (i : ℕ) → i < result.0 → precedes (key_of (slice_index_or leaf.now.cells i [])) key.now ≡ true }
-    ensures behind { (i : ℕ) → result.1 ≤ i → i < length leaf.now.cells → precedes key.now (key_of (slice_index_or leaf.now.cells i [])) ≡ true }
+    ensures behind { (i : ℕ) → result.1 ≤ i → i < length leaf.now.cells
+        → precedes key.now (key_of (slice_index_or leaf.now.cells i [])) ≡ true }
 {
     let at = first_place(leaf, Start::At, key);
     if at == leaf.len() {
@@ -92,12 +94,13 @@ fn middle_of(cells: &[&[u8]]) -> usize
     cells.len()
 }
 
-/// Where to cut cells so that at most so many are in the first part. At the right edge of a tree the
-/// first part keeps all that fits.
+/// Where to cut cells so that at most so many are in the first part. At the right edge of a tree
+/// the first part keeps all that fits.
 fn place_to_cut(cells: &[&[u8]], is_last: bool, most: usize) -> usize
     requires { most < length cells.now }
     ensures within { result ≤ most }
-    ensures fits { length cells.now ≤ most + 2 → IsOverfull (lent cells.now) → (0 < result) × Fits (take result (lent cells.now)) × Fits (drop result (lent cells.now)) }
+    ensures fits { length cells.now ≤ most + 2 → IsOverfull (lent cells.now)
+        → (0 < result) × Fits (take result (lent cells.now)) × Fits (drop result (lent cells.now)) }
 {
     let middle = middle_of(cells);
     if most < middle {
@@ -109,10 +112,11 @@ fn place_to_cut(cells: &[&[u8]], is_last: bool, most: usize) -> usize
     middle
 }
 
-/// Where cells that are too many for a page are cut in two parts that fit, of which the second has at
-/// least so many cells.
+/// Where cells that are too many for a page are cut in two parts that fit, of which the second has
+/// at least so many cells.
 pub(crate) fn cut_of(cells: &[&[u8]], is_last: bool, least: usize) -> Option<usize>
-    ensures cut { IfSome result (λ at. (0 < at) × (at + least ≤ length cells.now) × (0 < least) × Fits (take at (lent cells.now)) × Fits (drop at (lent cells.now))) }
+    ensures cut { IfSome result (λ at. (0 < at) × (at + least ≤ length cells.now) × (0 < least)
+        × Fits (take at (lent cells.now)) × Fits (drop at (lent cells.now))) }
     ensures found { 0 < least → least ≤ 2 → IsOverfull (lent cells.now) → IsSome result }
 {
     if least == 0 || cells.len() <= least {

@@ -17,10 +17,10 @@ use page_space::{PageSpace, SpaceError};
 use sqlrecord::{MAXIMUM_KEY, PageKind, SlotPage, are_cells, fits};
 use std::alloc::Global;
 
-/// Writes an inner page of these cells, in two pages where they are too many for one; a branch in the
-/// answer is to the second one. Refused for memory, where the device refuses a call, at a limit where
-/// the space is at it, and as damaged only where the page is not in use, the list of free pages is
-/// none, a key has more than 600 bytes, or the cells are too many for two pages.
+/// Writes an inner page of these cells, in two pages where they are too many for one; a branch in
+/// the answer is to the second one. Refused for memory, where the device refuses a call, at a limit
+/// where the space is at it, and as damaged only where the page is not in use, the list of free
+/// pages is none, a key has more than 600 bytes, or the cells are too many for two pages.
 pub fn write_inner<S: PageSpace>(
     space: &mut S,
     alloc: Global,
@@ -35,7 +35,9 @@ pub fn write_inner<S: PageSpace>(
     ensures small { IfOk result (λ split. IfSome split IsSmallBranch) }
     ensures whole { OnOk result (S.is_whole space.old → S.is_whole space.new) }
     ensures refusal { IfErr result (ChangeRefused (S.at_limit space.new)
-        (IsSome (S.pages space.old page) → S.is_whole space.old → IsStocked (InnerNode first (map branch_of (lent cells.now))) → size_of (lent cells.now) ≤ 5094 → ⊥) (S.refused space.old) (S.refused space.new)) }
+        (IsSome (S.pages space.old page) → S.is_whole space.old
+        → IsStocked (InnerNode first (map branch_of (lent cells.now))) → size_of (lent cells.now) ≤ 5094
+        → ⊥) (S.refused space.old) (S.refused space.new)) }
     ensures rising { S.refused space.old ≤ S.refused space.new }
     ensures follows { S.follows space.old space.new }
 {
@@ -73,13 +75,16 @@ pub(crate) fn put_in_inner<'a, S: PageSpace>(
     requires inner { node.now.kind ≡ Inner }
     requires fits { Fits node.now.cells }
     requires cell { IsCell Inner cell.now }
-    ensures written { IsSmallBranch (branch_of cell.now) → IsSome (S.pages space.old page) → IsStocked (InnerNode node.now.link (map branch_of node.now.cells))
+    ensures written { IsSmallBranch (branch_of cell.now) → IsSome (S.pages space.old page)
+        → IsStocked (InnerNode node.now.link (map branch_of node.now.cells))
         → IfOk result (InnerWritten (S.pages space.old) (S.pages space.new) page node.now.link (take at (map branch_of node.now.cells) ++ branch_of cell.now ∷ drop at (map branch_of node.now.cells))) }
     ensures small { IfOk result (λ split. IfSome split IsSmallBranch) }
     ensures whole { OnOk result (S.is_whole space.old → S.is_whole space.new) }
     ensures refusal { IfErr result (ChangeRefused (S.at_limit space.new)
-        ((lo : Key) → IsSmallBranch (branch_of cell.now) → IsSome (S.pages space.old page) → S.is_whole space.old → IsStocked (InnerNode node.now.link (map branch_of node.now.cells))
-        → RisesBehind lo (take at (map branch_of node.now.cells) ++ branch_of cell.now ∷ drop at (map branch_of node.now.cells)) → ⊥) (S.refused space.old) (S.refused space.new)) }
+        ((lo : Key) → IsSmallBranch (branch_of cell.now) → IsSome (S.pages space.old page) → S.is_whole space.old
+        → IsStocked (InnerNode node.now.link (map branch_of node.now.cells))
+        → RisesBehind lo (take at (map branch_of node.now.cells) ++ branch_of cell.now ∷ drop at (map branch_of node.now.cells))
+        → ⊥) (S.refused space.old) (S.refused space.new)) }
     ensures rising { S.refused space.old ≤ S.refused space.new }
     ensures follows { S.follows space.old space.new }
 {

@@ -56,10 +56,10 @@ fn insert_below<S: PageSpace>(
     }
 }
 
-/// Puts an entry into a tree, in place of one with its key, and answers the root; root 0 is the tree
-/// without entries. A key has at most 600 bytes, and an entry takes at most 1,014 bytes of a page.
-/// Refused for memory, where the device refuses a call, at a limit where the space is at it, and as
-/// damaged only where no tree is at the root or the list of free pages is none.
+/// Puts an entry into a tree, in place of one with its key, and answers the root; root 0 is the
+/// tree without entries. A key has at most 600 bytes, and an entry takes at most 1,014 bytes of a
+/// page. Refused for memory, where the device refuses a call, at a limit where the space is at it,
+/// and as damaged only where no tree is at the root or the list of free pages is none.
 pub fn insert<S: PageSpace>(
     space: &mut S,
     alloc: Global,

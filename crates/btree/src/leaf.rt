@@ -34,7 +34,9 @@ fn write_leaf<S: PageSpace>(
     ensures small { IfOk result (λ split. IfSome split IsSmallBranch) }
     ensures whole { OnOk result (S.is_whole space.old → S.is_whole space.new) }
     ensures refusal { IfErr result (ChangeRefused (S.at_limit space.new)
-        (IsSome (S.pages space.old page) → S.is_whole space.old → IsStocked (LeafNode next (map entry_of (lent cells.now))) → size_of (lent cells.now) ≤ 5094 → ⊥) (S.refused space.old) (S.refused space.new)) }
+        (IsSome (S.pages space.old page) → S.is_whole space.old
+        → IsStocked (LeafNode next (map entry_of (lent cells.now))) → size_of (lent cells.now) ≤ 5094
+        → ⊥) (S.refused space.old) (S.refused space.new)) }
     ensures rising { S.refused space.old ≤ S.refused space.new }
     ensures follows { S.follows space.old space.new }
 {
@@ -70,14 +72,17 @@ pub(crate) fn put_in_leaf<'a, S: PageSpace>(
     requires fits { Fits leaf.now.cells }
     requires cell { IsCell Leaf cell.now }
     requires key { key_of cell.now ≡ key.now }
-    ensures written { (value : List ℕ) → IsLeafCell cell.now key.now value → IsSmall (record { key = key.now; value = value })
+    ensures written { (value : List ℕ) → IsLeafCell cell.now key.now value
+        → IsSmall (record { key = key.now; value = value })
         → IsSome (S.pages space.old page) → IsStocked (LeafNode leaf.now.link (map entry_of leaf.now.cells))
         → IfOk result (LeafWritten (S.pages space.old) (S.pages space.new) page leaf.now.link (put key.now value (map entry_of leaf.now.cells))) }
     ensures small { IfOk result (λ split. IfSome split IsSmallBranch) }
     ensures whole { OnOk result (S.is_whole space.old → S.is_whole space.new) }
     ensures refusal { IfErr result (ChangeRefused (S.at_limit space.new)
         ((value : List ℕ) → IsLeafCell cell.now key.now value → IsSmall (record { key = key.now; value = value })
-        → IsSome (S.pages space.old page) → S.is_whole space.old → IsStocked (LeafNode leaf.now.link (map entry_of leaf.now.cells)) → ⊥) (S.refused space.old) (S.refused space.new)) }
+        → IsSome (S.pages space.old page) → S.is_whole space.old
+        → IsStocked (LeafNode leaf.now.link (map entry_of leaf.now.cells))
+        → ⊥) (S.refused space.old) (S.refused space.new)) }
     ensures rising { S.refused space.old ≤ S.refused space.new }
     ensures follows { S.follows space.old space.new }
 {

@@ -1,4 +1,4 @@
-//! Insertion into B+trees over pages.
+//! Insertion into B+trees over pages, and what the entries of trees are known by.
 #![tactic(auto)]
 
 mod append;

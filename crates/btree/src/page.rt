@@ -20,7 +20,8 @@ pub fn write_page<S: PageSpace>(
 ) -> Result<(), SpaceError>
     requires fits { Fits (lent cells.now) }
     requires cells { AreCells kind (lent cells.now) }
-    ensures node { OnOk result (IsSome (S.pages space.old page) → IsStocked (node_of kind link (lent cells.now)) → HasNode (S.pages space.new) page (node_of kind link (lent cells.now))) }
+    ensures node { OnOk result (IsSome (S.pages space.old page) → IsStocked (node_of kind link (lent cells.now))
+        → HasNode (S.pages space.new) page (node_of kind link (lent cells.now))) }
     ensures others { (n : ℕ) → n ≢ page → S.pages space.new n ≡ S.pages space.old n }
     ensures whole { OnOk result (S.is_whole space.old → S.is_whole space.new) }
     ensures refusal { IfErr result (ChangeRefused (S.at_limit space.new) (S.pages space.old page ≡ None) (S.refused space.old) (S.refused space.new)) }

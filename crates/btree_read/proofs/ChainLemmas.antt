@@ -115,7 +115,8 @@ module _ (d : ℕ) where
       by true e next = record { low = w.low; high = sym e }
       by false e next = next (record { low = sym e; high = w.high })
 
-  -- the entries beside those of the child on a key's way: before it all stand before the key, behind it all behind the key
+  -- the entries beside those of the child on a key's way: before it all stand before the key,
+  -- behind it all behind the key
   pub record Beside (k : Key) (first : Tree d) (rest : List (Key × Tree d)) (at : ℕ) : Type 0 where
     pub before : List Entry
     pub after : List Entry

@@ -1,4 +1,5 @@
--- Lists: what holds of each element, numbers that a list has, lists that have none twice, links over a list.
+-- Lists: what holds of each element, numbers that a list has, lists that have none twice, links
+-- over a list.
 use Rattle.std.proofs.Common.{◌≡◌, ℕ, List, [], ◌∷◌, ◌++◌, ◌⊎◌, inl, inr, refl, sym, subst}
 use Rattle.std.specs.List.{AllByRecursion}
 use Rattle.btree_read.specs.Lists.{Has, Apart, Leads}

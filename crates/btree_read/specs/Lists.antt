@@ -10,7 +10,8 @@ abbrev pub Apart : List ℕ → Type 0
 Apart [] = ⊤
 Apart (x ∷ xs) = (Has x xs → ⊥) × Apart xs
 
--- links lead from a number over these places, each a page with the page that it names, to another number
+-- links lead from a number over these places, each a page with the page that it names, to another
+-- number
 abbrev pub Leads : ℕ → List (ℕ × ℕ) → ℕ → Type 0
 Leads from [] to = from ≡ to
 Leads from (leaf ∷ leaves) to = (from ≡ leaf.0) × Leads leaf.1 leaves to

@@ -24,7 +24,8 @@ pub record IsUnder (pages : PageMap) (page : ℕ) (d : ℕ) (t : Tree d) (lo : K
 
 -- no tree of at most so many levels above its leaves is under the page
 abbrev pub HasNoTree : PageMap → ℕ → ℕ → Type 0
-HasNoTree pages page levels = (d : ℕ) (t : Tree d) (lo : Key) (hi : Option Key) → d ≤ levels → IsUnder pages page d t lo hi → ⊥
+HasNoTree pages page levels = (d : ℕ) (t : Tree d) (lo : Key) (hi : Option Key) → d ≤ levels
+    → IsUnder pages page d t lo hi → ⊥
 
 -- how many branches begin at the key or before it, up to the first that does not
 abbrev pub route_of : Key → List Branch → ℕ
@@ -39,11 +40,13 @@ child_at first (b ∷ bs) (suc at) = child_at b.child bs at
 
 -- whatever tree is under the page, the answer is so of its entries
 abbrev pub Answers : {A : Type 0} → PageMap → ℕ → (List Entry → A) → Result A SpaceError → Type 0
-Answers pages page f result = (d : ℕ) (t : Tree d) (lo : Key) (hi : Option Key) → IsUnder pages page d t lo hi → IfOk result (λ a. a ≡ f (entries_of d t))
+Answers pages page f result = (d : ℕ) (t : Tree d) (lo : Key) (hi : Option Key) → IsUnder pages page d t lo hi
+    → IfOk result (λ a. a ≡ f (entries_of d t))
 
 -- whatever tree is at the root, the answer is so of its entries
 abbrev pub AnswersAt : {A : Type 0} → PageMap → ℕ → (List Entry → A) → Result A SpaceError → Type 0
-AnswersAt pages root f result = (owned : List ℕ) (entries : List Entry) → IsTree pages root owned entries → IfOk result (λ a. a ≡ f entries)
+AnswersAt pages root f result = (owned : List ℕ) (entries : List Entry) → IsTree pages root owned entries
+    → IfOk result (λ a. a ≡ f entries)
 
 -- no tree is at the root
 abbrev pub IsNoTree : PageMap → ℕ → Type 0

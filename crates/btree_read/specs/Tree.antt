@@ -85,7 +85,8 @@ Ordered (suc d) lo hi t = Chain (Ordered d) lo hi t.first t.rest
 
 -- ---- the tree at a root
 
--- the pages under `root` are a tree of these entries, in just the owned pages; the leaves name one another in order, the last one names 0
+-- the pages under `root` are a tree of these entries, in just the owned pages; the leaves name one
+-- another in order, the last one names 0
 pub record IsTreeOf (pages : PageMap) (root : ℕ) (owned : List ℕ) (entries : List Entry) : Type 0 where
   pub depth : ℕ
   pub tree : Tree depth

@@ -55,8 +55,8 @@ fn is_named(named: Option<u32>, page: u32) -> bool
     }
 }
 
-/// Puts the entries of a leaf behind those of the leaves before it. Refused for memory, and as damaged
-/// where the leaf before names another page.
+/// Puts the entries of a leaf behind those of the leaves before it. Refused for memory, and as
+/// damaged where the leaf before names another page.
 pub(crate) fn see_leaf(
     alloc: Global,
     page: u32,

@@ -1,4 +1,4 @@
-//! Search in B+trees over pages.
+//! Search in B+trees over pages, and all entries of one.
 #![tactic(auto)]
 
 mod entry;

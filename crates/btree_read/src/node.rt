@@ -9,7 +9,8 @@ ghost use Rattle.btree_read.specs.Search.{Sees};
 use page_space::{Page, PageReader, SpaceError};
 use sqlrecord::SlotPage;
 
-/// Reads a page of a tree into a buffer. Refused where the read is, and as damaged only where the page has no node.
+/// Reads a page of a tree into a buffer. Refused where the read is, and as damaged only where the
+/// page has no node.
 pub fn read_node<'a, R: PageReader>(
     space: &mut R,
     page: u32,
@@ -20,7 +21,8 @@ pub fn read_node<'a, R: PageReader>(
     ensures fits { IfOk result (λ view. Fits view.cells) }
     ensures same { R.pages space.new ≡ R.pages space.old }
     ensures whole { R.is_whole space.old → R.is_whole space.new }
-    ensures refusal { IfErr result (ReadRefused ((node : Node) → HasNode (R.pages space.old) page node → ⊥) (R.refused space.old) (R.refused space.new)) }
+    ensures refusal { IfErr result (ReadRefused ((node : Node) → HasNode (R.pages space.old) page node
+        → ⊥) (R.refused space.old) (R.refused space.new)) }
     ensures rising { R.refused space.old ≤ R.refused space.new }
     ensures follows { R.follows space.old space.new }
 {

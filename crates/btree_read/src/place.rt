@@ -31,8 +31,10 @@ fn is_from(start: Start, key: &[u8], other: &[u8]) -> bool
 /// The place of a page's first cell from there on; the number of its cells where there is none.
 pub fn first_place(page: &SlotPage<'_>, start: Start, key: &[u8]) -> usize
     ensures within { result ≤ length page.now.cells }
-    ensures before { (i : ℕ) → i < result → is_from_lem start key.now (key_of (slice_index_or page.now.cells i [])) ≡ false }
-    ensures behind { (i : ℕ) → result ≤ i → i < length page.now.cells → is_from_lem start key.now (key_of (slice_index_or page.now.cells i [])) ≡ true }
+    ensures before { (i : ℕ) → i < result
+        → is_from_lem start key.now (key_of (slice_index_or page.now.cells i [])) ≡ false }
+    ensures behind { (i : ℕ) → result ≤ i → i < length page.now.cells
+        → is_from_lem start key.now (key_of (slice_index_or page.now.cells i [])) ≡ true }
 {
     let mut low = 0;
     let mut high = page.len();

@@ -58,8 +58,8 @@ fn get_below<R: PageReader>(
     }
 }
 
-/// The value of a key in the tree at a root; root 0 is the tree without entries. Refused for memory,
-/// where the device refuses a call, and as damaged only where no tree is at the root.
+/// The value of a key in the tree at a root; root 0 is the tree without entries. Refused for
+/// memory, where the device refuses a call, and as damaged only where no tree is at the root.
 pub fn get<R: PageReader>(
     space: &mut R,
     alloc: Global,

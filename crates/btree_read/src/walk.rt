@@ -38,7 +38,8 @@ fn entry_in(
 fn sibling_of(page: &SlotPage<'_>, at: usize) -> Option<u32>
     requires inner { page.now.kind ≡ Inner }
     requires place { at ≤ length page.now.cells }
-    ensures { MatchOption result (length page.now.cells ≤ at) (λ child. (at < length page.now.cells) × (child ≡ child_of page.now.link (map branch_of page.now.cells) (at + 1))) }
+    ensures { MatchOption result (length page.now.cells ≤ at) (λ child. (at < length page.now.cells)
+        × (child ≡ child_of page.now.link (map branch_of page.now.cells) (at + 1))) }
 {
     if at < page.len() {
         Some(child_at(page, at + 1))

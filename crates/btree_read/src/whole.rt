@@ -1,5 +1,5 @@
-//! All entries of a tree: each page of it is read, and the link of each leaf is compared with the leaf
-//! that follows.
+//! All entries of a tree: each page of it is read, and the link of each leaf is compared with the
+//! leaf that follows.
 
 ghost use Rattle.std.specs.Prelude.{◌≡◌, ◌≤◌, Some, true, false, IfErr};
 ghost use Rattle.page_space.specs.Space.{ReadRefused};
@@ -61,9 +61,10 @@ fn has_ended(named: Option<u32>) -> bool
     }
 }
 
-/// All entries of the tree at a root, in order; root 0 is the tree without entries. Each page of the
-/// tree is read once. Refused for memory, where the device refuses a call, and as damaged only where no
-/// tree is at the root; so it is where a leaf does not name the leaf that follows. Returns on any pages.
+/// All entries of the tree at a root, in order; root 0 is the tree without entries. Each page of
+/// the tree is read once. Refused for memory, where the device refuses a call, and as damaged only
+/// where no tree is at the root; so it is where a leaf does not name the leaf that follows. Returns
+/// on any pages.
 pub fn scan<R: PageReader>(
     space: &mut R,
     alloc: Global,

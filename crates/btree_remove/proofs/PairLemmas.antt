@@ -1,4 +1,5 @@
--- Two neighbouring children of an inner page, of which one has too little left, over plain variables.
+-- Two neighbouring children of an inner page, of which one has too little left, over plain
+-- variables.
 use Rattle.std.proofs.Common.{◌≡◌, ◌≢◌, ℕ, zero, suc, ◌+◌, ◌<◌, ◌≤◌, List, [], ◌∷◌, ◌++◌, map, length, ◌⊎◌, inl, inr, refl, sym, ap, ◌∙◌, subst, Option, Some, None, IsSome, Result, Ok, Err, IfOk, OnOk, arith, add-one}
 use Rattle.std.specs.Prelude.{⊤, slice_index_or}
 use Rattle.std.proofs.lemmas.List.{append-nil as append_nil, map-append, length-map}

@@ -108,7 +108,8 @@ JoinedBehind old low pair divider only split =
     (first : ℕ) (bs : List Branch) → pair.kept ≢ pair.right → HasNode old pair.kept (InnerNode first bs) → IsSome (old pair.left) → pair.left ≢ pair.right
     → AreInnersJoined old low pair.left pair.right first (bs ++ record { key = divider; child = only } ∷ []) split
 
--- what the code needs to know of two inner pages of which one keeps but one child, and what is then there
+-- what the code needs to know of two inner pages of which one keeps but one child, and what is then
+-- there
 record AreReady (before old : PageMap) (d : ℕ) (t : Tree (suc (suc d))) (pair : Pair) (divider : Key) (only : ℕ) (k : Key) (s : Key) (r : Tree (suc d)) : Type 0 where
   pub first : ℕ
   pub bs : List Branch

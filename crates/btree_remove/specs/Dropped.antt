@@ -15,12 +15,15 @@ pub record AreDropped (old new : PageMap) (owned : List ℕ) : Type 0 where
 
 -- whatever tree is under the page, its pages are dropped
 abbrev pub DropsBelow : PageMap → PageMap → ℕ → Result ⊤ SpaceError → Type 0
-DropsBelow old new page result = (d : ℕ) (t : Tree d) (lo : Key) (hi : Option Key) → IsUnder old page d t lo hi → OnOk result (AreDropped old new (pages_in (nodes_of d t)))
+DropsBelow old new page result = (d : ℕ) (t : Tree d) (lo : Key) (hi : Option Key) → IsUnder old page d t lo hi
+    → OnOk result (AreDropped old new (pages_in (nodes_of d t)))
 
 -- whatever tree is at the root, its pages are dropped
 abbrev pub Drops : PageMap → PageMap → ℕ → Result ⊤ SpaceError → Type 0
-Drops old new root result = (owned : List ℕ) (entries : List Entry) → IsTree old root owned entries → OnOk result (AreDropped old new owned)
+Drops old new root result = (owned : List ℕ) (entries : List Entry) → IsTree old root owned entries
+    → OnOk result (AreDropped old new owned)
 
 -- no tree of at most so many levels is under the page, or the space is not whole
 abbrev pub HasNoTreeIn : PageMap → ℕ → ℕ → Type 0 → Type 0
-HasNoTreeIn pages page levels Whole = (d : ℕ) (t : Tree d) (lo : Key) (hi : Option Key) → d ≤ levels → IsUnder pages page d t lo hi → Whole → ⊥
+HasNoTreeIn pages page levels Whole = (d : ℕ) (t : Tree d) (lo : Key) (hi : Option Key) → d ≤ levels
+    → IsUnder pages page d t lo hi → Whole → ⊥

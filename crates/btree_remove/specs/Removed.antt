@@ -30,7 +30,8 @@ pub record IsLess (k : Key) (was now : List Entry) : Type 0 where
 -- the entries of a leaf without the one of a key; of its last one the leaf keeps what it had
 abbrev pub LeafLess : PageMap → PageMap → ℕ → ℕ → List Entry → Key → Removed → Type 0
 LeafLess old new page next es k Absent = (get_of k es ≡ None) × (new ≡ old)
-LeafLess old new page next es k (Done None) = (left : List Entry) × IsLess k es left × HasNode new page (LeafNode next left) × SamePages old new (λ n. n ≡ page)
+LeafLess old new page next es k (Done None) = (left : List Entry) × IsLess k es left
+    × HasNode new page (LeafNode next left) × SamePages old new (λ n. n ≡ page)
 LeafLess old new page next es k (Done (Some b)) = ⊥
 LeafLess old new page next es k Emptied = IsLess k es [] × (new ≡ old)
 LeafLess old new page next es k (Lone only) = ⊥
@@ -41,12 +42,15 @@ pub record AreLeavesJoined (old new : PageMap) (left right next : ℕ) (es : Lis
   pub gone : new right ≡ None
   pub others : SamePages old new (λ n. (n ≡ left) ⊎ (n ≡ right))
 
--- an inner page has these branches, alone or with a second page; where it would have none it is as it was, and keeps but its leftmost child
+-- an inner page has these branches, alone or with a second page; where it would have none it is as
+-- it was, and keeps but its leftmost child
 abbrev pub Rewritten : PageMap → PageMap → ℕ → ℕ → List Branch → Removed → Type 0
 Rewritten old new page first [] removed = (removed ≡ Lone first) × (new ≡ old)
-Rewritten old new page first (b ∷ bs) removed = (split : Option Branch) × (removed ≡ Done split) × InnerWritten old new page first (b ∷ bs) split
+Rewritten old new page first (b ∷ bs) removed = (split : Option Branch) × (removed ≡ Done split)
+    × InnerWritten old new page first (b ∷ bs) split
 
--- the second page is given back, and the first one then has these branches, alone or with another page
+-- the second page is given back, and the first one then has these branches, alone or with another
+-- page
 pub record AreInnersJoined (old new : PageMap) (left right first : ℕ) (bs : List Branch) (split : Option Branch) : Type 0 where
   pub mid : PageMap
   pub freed : mid right ≡ None
@@ -62,7 +66,8 @@ pub record IsPairAt (first : ℕ) (bs : List Branch) (at : ℕ) (pair : Pair) : 
 
 -- ---- neighbouring trees
 
--- the pages of one list of nodes are now those of another one: its own, fresh ones, and what is left of the first list is free; no other page has changed
+-- the pages of one list of nodes are now those of another one: its own, fresh ones, and what is
+-- left of the first list is free; no other page has changed
 pub record AreExchanged (old new : PageMap) (was now : List (ℕ × Node)) : Type 0 where
   pub holds : Holds new now
   pub apart : Apart (pages_in now)
@@ -73,7 +78,8 @@ pub record AreExchanged (old new : PageMap) (was now : List (ℕ × Node)) : Typ
 abbrev pub flat_entries : (d : ℕ) → Tree d → List (Key × Tree d) → List Entry
 flat_entries d first rest = flat_map (entries_of d) (kids first rest)
 
--- neighbouring trees are now others, without the entry of a key, with the first one's page, in order and linked as those were
+-- neighbouring trees are now others, without the entry of a key, with the first one's page, in
+-- order and linked as those were
 pub record AreChanged (old new : PageMap) (d : ℕ) (first : Tree d) (rest : List (Key × Tree d)) (tree : Tree d) (more : List (Key × Tree d)) (k : Key) : Type 0 where
   pub same : page_of d tree ≡ page_of d first
   pub pages : AreExchanged old new (flat_nodes d first rest) (flat_nodes d tree more)
@@ -113,7 +119,8 @@ IsTaken old new d t k (Lone only) = IsLone old new d t k only
 
 -- whatever tree is under the page, the entry is taken out of it
 abbrev pub TakesBelow : PageMap → PageMap → ℕ → Key → Result Removed SpaceError → Type 0
-TakesBelow old new page k result = (d : ℕ) (t : Tree d) (lo : Key) (hi : Option Key) → IsUnder old page d t lo hi → IfOk result (IsTaken old new d t k)
+TakesBelow old new page k result = (d : ℕ) (t : Tree d) (lo : Key) (hi : Option Key) → IsUnder old page d t lo hi
+    → IfOk result (IsTaken old new d t k)
 
 -- the key of a second tree is a small one
 abbrev pub IsSmallOutcome : Removed → Type 0
@@ -137,7 +144,8 @@ pub record IsLeftBelow (before old : PageMap) (page : ℕ) (view : PageView) (at
   pub way : route_of k (map branch_of view.cells) ≡ at
   pub taken : IsTaken before old d (kid t.first t.rest at) k below
 
--- whatever tree was under the page before the removal under the child, the entry is now taken out of it
+-- whatever tree was under the page before the removal under the child, the entry is now taken out
+-- of it
 abbrev pub Settles : PageMap → PageMap → ℕ → PageView → ℕ → Removed → Result Removed SpaceError → Type 0
 Settles old new page view at below result =
     (before : PageMap) (k : Key) (d : ℕ) (t : Tree (suc d)) (lo : Key) (hi : Option Key)
@@ -146,7 +154,8 @@ Settles old new page view at below result =
 -- no tree was under the page from which this is left below it, or the space is not whole
 abbrev pub CannotSettle : PageMap → ℕ → PageView → ℕ → Removed → Type 0 → Type 0
 CannotSettle old page view at below Whole =
-    (before : PageMap) (k : Key) (d : ℕ) (t : Tree (suc d)) (lo : Key) (hi : Option Key) → IsLeftBelow before old page view at below k d t lo hi → Whole → ⊥
+    (before : PageMap) (k : Key) (d : ℕ) (t : Tree (suc d)) (lo : Key) (hi : Option Key)
+    → IsLeftBelow before old page view at below k d t lo hi → Whole → ⊥
 
 -- ---- the tree at a root
 
@@ -157,8 +166,8 @@ pub record IsRootOver (old new : PageMap) (first : ℕ) (b : Branch) (page : ℕ
   pub node : HasNode new page (InnerNode first (b ∷ []))
   pub others : SamePages old new (λ n. n ≡ page)
 
--- at the root is now a tree without the entry of a key, in pages that the tree owned before or that were not in use; those that it owns no more are
--- free, and no other page has changed
+-- at the root is now a tree without the entry of a key, in pages that the tree owned before or that
+-- were not in use; those that it owns no more are free, and no other page has changed
 pub record IsRemoved (old new : PageMap) (owned : List ℕ) (entries : List Entry) (k : Key) (root : ℕ) : Type 0 where
   pub now_owned : List ℕ
   pub now_entries : List Entry
@@ -175,4 +184,5 @@ Outcome old new owned entries k (Some root) = IsRemoved old new owned entries k 
 
 -- whatever tree is at the root, the entry is taken out of it
 abbrev pub Removes : PageMap → PageMap → ℕ → Key → Result (Option ℕ) SpaceError → Type 0
-Removes old new root k result = (owned : List ℕ) (entries : List Entry) → IsTree old root owned entries → IfOk result (Outcome old new owned entries k)
+Removes old new root k result = (owned : List ℕ) (entries : List Entry) → IsTree old root owned entries
+    → IfOk result (Outcome old new owned entries k)

@@ -46,7 +46,8 @@ pub(crate) fn write_without<S: PageSpace>(
     requires order { at ≤ behind }
     requires within { behind ≤ length node.now.cells }
     requires fits { Fits node.now.cells }
-    ensures written { IsSome (S.pages space.old page) → IsStocked (node_of node.now.kind link (take at node.now.cells ++ drop behind node.now.cells))
+    ensures written { IsSome (S.pages space.old page)
+        → IsStocked (node_of node.now.kind link (take at node.now.cells ++ drop behind node.now.cells))
         → OnOk result (HasNode (S.pages space.new) page (node_of node.now.kind link (take at node.now.cells ++ drop behind node.now.cells))) }
     ensures others { (n : ℕ) → n ≢ page → S.pages space.new n ≡ S.pages space.old n }
     ensures whole { OnOk result (S.is_whole space.old → S.is_whole space.new) }

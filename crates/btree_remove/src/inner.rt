@@ -32,8 +32,8 @@ fn has_branches(node: &SlotPage<'_>, count: usize) -> bool
     }
 }
 
-/// Writes an inner page of this leftmost child, with the cell of a branch in place of those of `node`
-/// from `at` up to `behind`.
+/// Writes an inner page of this leftmost child, with the cell of a branch in place of those of
+/// `node` from `at` up to `behind`.
 fn put_cell<'a, S: PageSpace>(
     space: &mut S,
     alloc: Global,
@@ -50,13 +50,16 @@ fn put_cell<'a, S: PageSpace>(
     requires fits { Fits node.now.cells }
     requires cell { IsCell Inner cell.now }
     requires small { IsSmallBranch (branch_of cell.now) }
-    ensures written { IsSome (S.pages space.old page) → IsStocked (InnerNode node.now.link (map branch_of node.now.cells))
+    ensures written { IsSome (S.pages space.old page)
+        → IsStocked (InnerNode node.now.link (map branch_of node.now.cells))
         → IfOk result (InnerWritten (S.pages space.old) (S.pages space.new) page first (take at (map branch_of node.now.cells) ++ branch_of cell.now ∷ drop behind (map branch_of node.now.cells))) }
     ensures small { IfOk result (λ split. IfSome split IsSmallBranch) }
     ensures whole { OnOk result (S.is_whole space.old → S.is_whole space.new) }
     ensures refusal { IfErr result (ChangeRefused (S.at_limit space.new)
-        ((lo : Key) → IsSome (S.pages space.old page) → S.is_whole space.old → IsStocked (InnerNode node.now.link (map branch_of node.now.cells))
-        → RisesBehind lo (take at (map branch_of node.now.cells) ++ branch_of cell.now ∷ drop behind (map branch_of node.now.cells)) → ⊥) (S.refused space.old) (S.refused space.new)) }
+        ((lo : Key) → IsSome (S.pages space.old page) → S.is_whole space.old
+        → IsStocked (InnerNode node.now.link (map branch_of node.now.cells))
+        → RisesBehind lo (take at (map branch_of node.now.cells) ++ branch_of cell.now ∷ drop behind (map branch_of node.now.cells))
+        → ⊥) (S.refused space.old) (S.refused space.new)) }
     ensures rising { S.refused space.old ≤ S.refused space.new }
     ensures follows { S.follows space.old space.new }
 {
@@ -81,7 +84,8 @@ fn leave_out<S: PageSpace>(
     requires within { behind ≤ length node.now.cells }
     requires inner { node.now.kind ≡ Inner }
     requires fits { Fits node.now.cells }
-    ensures written { IsSome (S.pages space.old page) → IsStocked (InnerNode node.now.link (map branch_of node.now.cells))
+    ensures written { IsSome (S.pages space.old page)
+        → IsStocked (InnerNode node.now.link (map branch_of node.now.cells))
         → IfOk result (Rewritten (S.pages space.old) (S.pages space.new) page node.now.link (take at (map branch_of node.now.cells) ++ drop behind (map branch_of node.now.cells))) }
     ensures small { IfOk result IsSmallOutcome }
     ensures whole { OnOk result (S.is_whole space.old → S.is_whole space.new) }
@@ -97,8 +101,8 @@ fn leave_out<S: PageSpace>(
     Ok(Removed::Done(None))
 }
 
-/// Exchanges the branches of an inner page from `at` up to `behind` for this one, if any. A page that
-/// would keep no branch is left as it is.
+/// Exchanges the branches of an inner page from `at` up to `behind` for this one, if any. A page
+/// that would keep no branch is left as it is.
 pub(crate) fn exchange_branches<S: PageSpace>(
     space: &mut S,
     alloc: Global,
@@ -109,13 +113,16 @@ pub(crate) fn exchange_branches<S: PageSpace>(
 ) -> Result<Removed, SpaceError>
     requires order { at ≤ behind }
     requires small { IfSome branch IsSmallBranch }
-    ensures written { (first : ℕ) (bs : List Branch) → HasNode (S.pages space.old) page (InnerNode first bs) → behind ≤ length bs
+    ensures written { (first : ℕ) (bs : List Branch) → HasNode (S.pages space.old) page (InnerNode first bs)
+        → behind ≤ length bs
         → IfOk result (Rewritten (S.pages space.old) (S.pages space.new) page first (take at bs ++ (option_to_list branch ++ drop behind bs))) }
     ensures small { IfOk result IsSmallOutcome }
     ensures whole { OnOk result (S.is_whole space.old → S.is_whole space.new) }
     ensures refusal { IfErr result (ChangeRefused (S.at_limit space.new)
-        ((lo : Key) (first : ℕ) (bs : List Branch) → HasNode (S.pages space.old) page (InnerNode first bs) → behind ≤ length bs → S.is_whole space.old
-        → RisesBehind lo (take at bs ++ (option_to_list branch ++ drop behind bs)) → ⊥) (S.refused space.old) (S.refused space.new)) }
+        ((lo : Key) (first : ℕ) (bs : List Branch) → HasNode (S.pages space.old) page (InnerNode first bs)
+        → behind ≤ length bs → S.is_whole space.old
+        → RisesBehind lo (take at bs ++ (option_to_list branch ++ drop behind bs))
+        → ⊥) (S.refused space.old) (S.refused space.new)) }
     ensures rising { S.refused space.old ≤ S.refused space.new }
     ensures follows { S.follows space.old space.new }
 {
@@ -141,9 +148,9 @@ pub(crate) fn exchange_branches<S: PageSpace>(
     Ok(Removed::Done(split))
 }
 
-/// Gives back the second one of two neighbouring inner pages, and writes at the first one's page what
-/// the kept one has, with the cell of one more branch: before its own where that is the second one,
-/// and `only` is then the leftmost child; behind them where it is the first one.
+/// Gives back the second one of two neighbouring inner pages, and writes at the first one's page
+/// what the kept one has, with the cell of one more branch: before its own where that is the second
+/// one, and `only` is then the leftmost child; behind them where it is the first one.
 fn add_child<'a, S: PageSpace>(
     space: &mut S,
     alloc: Global,
@@ -156,17 +163,21 @@ fn add_child<'a, S: PageSpace>(
     requires fits { Fits node.now.cells }
     requires cell { IsCell Inner cell.now }
     requires small { IsSmallBranch (branch_of cell.now) }
-    ensures before { pair.now.kept ≡ pair.now.right → IsSome (S.pages space.old pair.now.left) → pair.now.left ≢ pair.now.right → IsStocked (InnerNode node.now.link (map branch_of node.now.cells))
+    ensures before { pair.now.kept ≡ pair.now.right → IsSome (S.pages space.old pair.now.left)
+        → pair.now.left ≢ pair.now.right → IsStocked (InnerNode node.now.link (map branch_of node.now.cells))
         → IfOk result (AreInnersJoined (S.pages space.old) (S.pages space.new) pair.now.left pair.now.right only (branch_of cell.now ∷ map branch_of node.now.cells)) }
-    ensures behind { pair.now.kept ≢ pair.now.right → IsSome (S.pages space.old pair.now.left) → pair.now.left ≢ pair.now.right → IsStocked (InnerNode node.now.link (map branch_of node.now.cells))
+    ensures behind { pair.now.kept ≢ pair.now.right → IsSome (S.pages space.old pair.now.left)
+        → pair.now.left ≢ pair.now.right → IsStocked (InnerNode node.now.link (map branch_of node.now.cells))
         → IfOk result (AreInnersJoined (S.pages space.old) (S.pages space.new) pair.now.left pair.now.right node.now.link (map branch_of node.now.cells ++ branch_of cell.now ∷ [])) }
     ensures small { IfOk result (λ split. IfSome split IsSmallBranch) }
     ensures whole { OnOk result (S.is_whole space.old → S.is_whole space.new) }
     ensures refusal { IfErr result (ChangeRefused (S.at_limit space.new)
-        ((lo : Key) → IsSome (S.pages space.old pair.now.left) → IsSome (S.pages space.old pair.now.right) → pair.now.left ≢ pair.now.right → S.is_whole space.old
+        ((lo : Key) → IsSome (S.pages space.old pair.now.left) → IsSome (S.pages space.old pair.now.right)
+        → pair.now.left ≢ pair.now.right → S.is_whole space.old
         → IsStocked (InnerNode node.now.link (map branch_of node.now.cells))
         → (pair.now.kept ≡ pair.now.right → RisesBehind lo (branch_of cell.now ∷ map branch_of node.now.cells))
-        → (pair.now.kept ≢ pair.now.right → RisesBehind lo (map branch_of node.now.cells ++ branch_of cell.now ∷ [])) → ⊥)
+        → (pair.now.kept ≢ pair.now.right
+        → RisesBehind lo (map branch_of node.now.cells ++ branch_of cell.now ∷ [])) → ⊥)
         (S.refused space.old) (S.refused space.new)) }
     ensures rising { S.refused space.old ≤ S.refused space.new }
     ensures follows { S.follows space.old space.new }
@@ -180,8 +191,8 @@ fn add_child<'a, S: PageSpace>(
     }
 }
 
-/// The child of the branch that joins two pages: the leftmost one of the kept page where that is the
-/// second one, else the only one of the other.
+/// The child of the branch that joins two pages: the leftmost one of the kept page where that is
+/// the second one, else the only one of the other.
 fn child_between(pair: &Pair, node: &SlotPage<'_>, only: u32) -> u32
     ensures before { pair.now.kept ≡ pair.now.right → result ≡ node.now.link }
     ensures behind { pair.now.kept ≢ pair.now.right → result ≡ only }
@@ -203,17 +214,20 @@ pub(crate) fn join_inners<S: PageSpace>(
     divider: &[u8],
     only: u32,
 ) -> Result<Option<Branch>, SpaceError>
-    ensures before { (first : ℕ) (bs : List Branch) → pair.now.kept ≡ pair.now.right → HasNode (S.pages space.old) pair.now.kept (InnerNode first bs)
+    ensures before { (first : ℕ) (bs : List Branch) → pair.now.kept ≡ pair.now.right
+        → HasNode (S.pages space.old) pair.now.kept (InnerNode first bs)
         → IsSome (S.pages space.old pair.now.left) → pair.now.left ≢ pair.now.right
         → IfOk result (AreInnersJoined (S.pages space.old) (S.pages space.new) pair.now.left pair.now.right only (record { key = divider.now; child = first } ∷ bs)) }
-    ensures behind { (first : ℕ) (bs : List Branch) → pair.now.kept ≢ pair.now.right → HasNode (S.pages space.old) pair.now.kept (InnerNode first bs)
+    ensures behind { (first : ℕ) (bs : List Branch) → pair.now.kept ≢ pair.now.right
+        → HasNode (S.pages space.old) pair.now.kept (InnerNode first bs)
         → IsSome (S.pages space.old pair.now.left) → pair.now.left ≢ pair.now.right
         → IfOk result (AreInnersJoined (S.pages space.old) (S.pages space.new) pair.now.left pair.now.right first (bs ++ record { key = divider.now; child = only } ∷ [])) }
     ensures small { IfOk result (λ split. IfSome split IsSmallBranch) }
     ensures whole { OnOk result (S.is_whole space.old → S.is_whole space.new) }
     ensures refusal { IfErr result (ChangeRefused (S.at_limit space.new)
         ((lo : Key) (first : ℕ) (bs : List Branch) → HasNode (S.pages space.old) pair.now.kept (InnerNode first bs)
-        → IsSome (S.pages space.old pair.now.left) → IsSome (S.pages space.old pair.now.right) → pair.now.left ≢ pair.now.right → length divider.now ≤ 600 → S.is_whole space.old
+        → IsSome (S.pages space.old pair.now.left) → IsSome (S.pages space.old pair.now.right)
+        → pair.now.left ≢ pair.now.right → length divider.now ≤ 600 → S.is_whole space.old
         → (pair.now.kept ≡ pair.now.right → RisesBehind lo (record { key = divider.now; child = first } ∷ bs))
         → (pair.now.kept ≢ pair.now.right → RisesBehind lo (bs ++ record { key = divider.now; child = only } ∷ [])) → ⊥)
         (S.refused space.old) (S.refused space.new)) }

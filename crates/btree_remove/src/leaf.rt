@@ -63,10 +63,12 @@ pub(crate) fn take_from_leaf<S: PageSpace>(
 
 /// The page that a leaf names as the next one.
 fn next_leaf<S: PageSpace>(space: &mut S, page: u32) -> Result<u32, SpaceError>
-    ensures next { (next : ℕ) (es : List Entry) → HasNode (S.pages space.old) page (LeafNode next es) → IfOk result (λ link. link ≡ next) }
+    ensures next { (next : ℕ) (es : List Entry) → HasNode (S.pages space.old) page (LeafNode next es)
+        → IfOk result (λ link. link ≡ next) }
     ensures same { S.pages space.new ≡ S.pages space.old }
     ensures whole { S.is_whole space.old → S.is_whole space.new }
-    ensures refusal { IfErr result (ReadRefused ((node : Node) → HasNode (S.pages space.old) page node → ⊥) (S.refused space.old) (S.refused space.new)) }
+    ensures refusal { IfErr result (ReadRefused ((node : Node) → HasNode (S.pages space.old) page node
+        → ⊥) (S.refused space.old) (S.refused space.new)) }
     ensures rising { S.refused space.old ≤ S.refused space.new }
     ensures follows { S.follows space.old space.new }
 {
@@ -75,19 +77,23 @@ fn next_leaf<S: PageSpace>(space: &mut S, page: u32) -> Result<u32, SpaceError>
     Ok(leaf.link())
 }
 
-/// Joins two neighbouring leaves, of which one alone keeps entries, at the first one's page, and gives
-/// back the second one's.
+/// Joins two neighbouring leaves, of which one alone keeps entries, at the first one's page, and
+/// gives back the second one's.
 pub(crate) fn join_leaves<S: PageSpace>(
     space: &mut S,
     alloc: Global,
     pair: &Pair,
 ) -> Result<(), SpaceError>
-    ensures joined { (a b : ℕ) (es ys : List Entry) → HasNode (S.pages space.old) pair.now.kept (LeafNode a es) → HasNode (S.pages space.old) pair.now.right (LeafNode b ys)
-        → IsSome (S.pages space.old pair.now.left) → pair.now.left ≢ pair.now.right → OnOk result (AreLeavesJoined (S.pages space.old) (S.pages space.new) pair.now.left pair.now.right b es) }
+    ensures joined { (a b : ℕ) (es ys : List Entry) → HasNode (S.pages space.old) pair.now.kept (LeafNode a es)
+        → HasNode (S.pages space.old) pair.now.right (LeafNode b ys)
+        → IsSome (S.pages space.old pair.now.left) → pair.now.left ≢ pair.now.right
+        → OnOk result (AreLeavesJoined (S.pages space.old) (S.pages space.new) pair.now.left pair.now.right b es) }
     ensures whole { OnOk result (S.is_whole space.old → S.is_whole space.new) }
     ensures refusal { IfErr result (ChangeRefused (S.at_limit space.new)
-        ((a b : ℕ) (es ys : List Entry) → HasNode (S.pages space.old) pair.now.kept (LeafNode a es) → HasNode (S.pages space.old) pair.now.right (LeafNode b ys)
-        → IsSome (S.pages space.old pair.now.left) → pair.now.left ≢ pair.now.right → S.is_whole space.old → ⊥) (S.refused space.old) (S.refused space.new)) }
+        ((a b : ℕ) (es ys : List Entry) → HasNode (S.pages space.old) pair.now.kept (LeafNode a es)
+        → HasNode (S.pages space.old) pair.now.right (LeafNode b ys)
+        → IsSome (S.pages space.old pair.now.left) → pair.now.left ≢ pair.now.right → S.is_whole space.old
+        → ⊥) (S.refused space.old) (S.refused space.new)) }
     ensures rising { S.refused space.old ≤ S.refused space.new }
     ensures follows { S.follows space.old space.new }
 {

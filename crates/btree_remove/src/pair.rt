@@ -21,7 +21,8 @@ pub(crate) struct Pair {
     pub kept: u32,
 }
 
-/// The child at a place with the one before it; with the one behind it where it is the leftmost one.
+/// The child at a place with the one before it; with the one behind it where it is the leftmost
+/// one.
 pub(crate) fn pair_at(node: &SlotPage<'_>, at: usize) -> Pair
     requires inner { node.now.kind ≡ Inner }
     requires some { 0 < length node.now.cells }

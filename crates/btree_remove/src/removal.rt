@@ -57,7 +57,8 @@ fn root_over<S: PageSpace>(
     requires { IsSmallBranch branch.now }
     ensures over { IfOk result (IsRootOver (S.pages space.old) (S.pages space.new) first branch.now) }
     ensures whole { OnOk result (S.is_whole space.old → S.is_whole space.new) }
-    ensures refusal { IfErr result (ChangeRefused (S.at_limit space.new) (S.is_whole space.old → ⊥) (S.refused space.old) (S.refused space.new)) }
+    ensures refusal { IfErr result (ChangeRefused (S.at_limit space.new) (S.is_whole space.old
+        → ⊥) (S.refused space.old) (S.refused space.new)) }
     ensures rising { S.refused space.old ≤ S.refused space.new }
     ensures follows { S.follows space.old space.new }
 {
@@ -68,10 +69,10 @@ fn root_over<S: PageSpace>(
 }
 
 /// Takes a key's entry out of a tree, and answers the root of the tree without it; `None` where the
-/// tree has no entry with this key, and nothing has then changed. Root 0 is the tree without entries.
-/// Pages that the tree no longer needs are given back. Refused for memory, where the device refuses a
-/// call, at a limit where the space is at it, and as damaged only where no tree is at the root or the
-/// list of free pages is none.
+/// tree has no entry with this key, and nothing has then changed. Root 0 is the tree without
+/// entries. Pages that the tree no longer needs are given back. Refused for memory, where the
+/// device refuses a call, at a limit where the space is at it, and as damaged only where no tree is
+/// at the root or the list of free pages is none.
 pub fn remove<S: PageSpace>(
     space: &mut S,
     alloc: Global,

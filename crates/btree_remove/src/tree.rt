@@ -36,10 +36,10 @@ fn drop_below<S: PageSpace>(space: &mut S, page: u32, levels: u32) -> Result<(),
     }
 }
 
-/// Gives back all pages of the tree at a root, and changes no other page; root 0 is the tree without
-/// entries, in no page. Refused for memory, where the device refuses a call, at a limit where the
-/// space is at it, and as damaged only where no tree is at the root or the list of free pages is
-/// none.
+/// Gives back all pages of the tree at a root, and changes no other page; root 0 is the tree
+/// without entries, in no page. Refused for memory, where the device refuses a call, at a limit
+/// where the space is at it, and as damaged only where no tree is at the root or the list of free
+/// pages is none.
 pub fn drop_tree<S: PageSpace>(space: &mut S, root: u32) -> Result<(), SpaceError>
     ensures dropped { Drops (S.pages space.old) (S.pages space.new) root result }
     ensures whole { OnOk result (S.is_whole space.old → S.is_whole space.new) }

@@ -35,7 +35,8 @@ abbrev pub put_all : List catalogued.Record → List Entry → List Entry
 put_all [] entries = entries
 put_all (r ∷ records) entries = put_all records (put (key_code r.key) (row_code r.row) entries)
 
--- The tree at the root now holds these tables, in pages that it owned before or that were not in use; no other page in use has changed.
+-- The tree at the root now holds these tables, in pages that it owned before or that were not in
+-- use; no other page in use has changed.
 pub record SchemaWritten (old new : PageMap) (owned : List ℕ) (tables : List Table) (root : ℕ) : Type 0 where
   pub now_owned : List ℕ
   pub holds : HoldsSchema new root now_owned tables
@@ -44,10 +45,12 @@ pub record SchemaWritten (old new : PageMap) (owned : List ℕ) (tables : List T
 
 -- no tables are held there in a space whose list of free pages is one
 abbrev pub HoldsNoSchemaIn : PageMap → ℕ → Type 0 → Type 0
-HoldsNoSchemaIn pages root Whole = (owned : List ℕ) (tables : List Table) → HoldsSchema pages root owned tables → Whole → ⊥
+HoldsNoSchemaIn pages root Whole = (owned : List ℕ) (tables : List Table) → HoldsSchema pages root owned tables
+    → Whole → ⊥
 
--- Why a change of a schema may be refused, with what is known where it was for damage and with the counts of refused device calls before and after: as a
--- change of pages is, and where a record is too long.
+-- Why a change of a schema may be refused, with what is known where it was for damage and with the
+-- counts of refused device calls before and after: as a change of pages is, and where a record is
+-- too long.
 abbrev pub MayRefuse : (SpaceError → Type 0) → Type 0 → ℕ → ℕ → ChangeError → Type 0
 MayRefuse AtLimit Harm before after (Space fault) = ChangeRefused AtLimit Harm before after fault
 MayRefuse AtLimit Harm before after Record = ⊤

@@ -7,7 +7,8 @@ use Rattle.btree_read.specs.Lists.{Has}
 use Rattle.btree_read.specs.Tree.{IsTree}
 use Rattle.catalog.specs.Held.{HoldsSchema}
 
--- The tree at the root now has these entries, in pages that it owned before or that were not in use; those that it owns no more are free, and no other page has changed.
+-- The tree at the root now has these entries, in pages that it owned before or that were not in
+-- use; those that it owns no more are free, and no other page has changed.
 pub record EntriesLeft (old new : PageMap) (owned : List ℕ) (entries : List Entry) (root : ℕ) : Type 0 where
   pub now_owned : List ℕ
   pub stored : IsTree new root now_owned entries
@@ -31,4 +32,5 @@ pub record SchemaLeft (old new : PageMap) (owned : List ℕ) (tables : List Tabl
 
 -- no schema with this table is held there in a space whose list of free pages is one
 abbrev pub HoldsNoneWith : PageMap → ℕ → Table → Type 0 → Type 0
-HoldsNoneWith pages root table Whole = (owned : List ℕ) (before behind : List Table) → HoldsSchema pages root owned (before ++ table ∷ behind) → Whole → ⊥
+HoldsNoneWith pages root table Whole = (owned : List ℕ) (before behind : List Table)
+    → HoldsSchema pages root owned (before ++ table ∷ behind) → Whole → ⊥

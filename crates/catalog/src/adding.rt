@@ -24,7 +24,8 @@ use sqlrecord::{EncodeError, MAXIMUM_KEY, encode_key, encode_row};
 use sqlval::{Table, Value};
 use std::alloc::Global;
 
-/// The most bytes of a record's key and row together: with the cell's and the slot's own 6 bytes a quarter of a page.
+/// The most bytes of a record's key and row together: with the cell's and the slot's own 6 bytes a
+/// quarter of a page.
 const MAXIMUM_RECORD: usize = 1008;
 
 /// The code of a record's key.
@@ -122,18 +123,21 @@ fn records_of(alloc: Global, table: &Table) -> Result<Items<Record>, ChangeError
     }
 }
 
-/// Puts a table whose name is free into the schema that the tree at a root holds, and answers the root; root 0 is the
-/// schema without tables.
+/// Puts a table whose name is free into the schema that the tree at a root holds, and answers the
+/// root; root 0 is the schema without tables.
 ///
-/// Refused for want of memory, where the device refuses a call, at the limits of pages, as damaged only where no schema is
-/// held there or the list of free pages is none, and where one of the table's records is too long. After a refusal nothing is said of the pages but what every call of the space keeps.
+/// Refused for want of memory, where the device refuses a call, at the limits of pages, as damaged
+/// only where no schema is held there or the list of free pages is none, and where one of the
+/// table's records is too long. After a refusal nothing is said of the pages but what every call of
+/// the space keeps.
 pub fn add_table<S: PageSpace>(
     space: &mut S,
     alloc: Global,
     root: u32,
     table: &Table,
 ) -> Result<u32, ChangeError>
-    ensures added { (owned : List ℕ) (tables : List AnyTable) → HoldsSchema (S.pages space.old) root owned tables → IsTable table.now → IsFree table.now.name tables
+    ensures added { (owned : List ℕ) (tables : List AnyTable) → HoldsSchema (S.pages space.old) root owned tables
+        → IsTable table.now → IsFree table.now.name tables
         → IfOk result (SchemaWritten (S.pages space.old) (S.pages space.new) owned (with_table table.now tables)) }
     ensures keeps { IfOk result (LosesNoPage (S.pages space.old) (S.pages space.new) root) }
     ensures whole { OnOk result (S.is_whole space.old → S.is_whole space.new) }
@@ -145,7 +149,8 @@ pub fn add_table<S: PageSpace>(
     put_records(space, alloc, root, records.as_slice())
 }
 
-/// Puts the root of a table's tree of rows into the schema that the tree at a root holds, and answers the root.
+/// Puts the root of a table's tree of rows into the schema that the tree at a root holds, and
+/// answers the root.
 ///
 /// Refused as `add_table` is.
 pub fn set_root<S: PageSpace>(
@@ -155,7 +160,8 @@ pub fn set_root<S: PageSpace>(
     name: &Text,
     rows: u32,
 ) -> Result<u32, ChangeError>
-    ensures set { (owned : List ℕ) (before behind : List AnyTable) (table : AnyTable) → HoldsSchema (S.pages space.old) root owned (before ++ table ∷ behind) → table.name ≡ name.now
+    ensures set { (owned : List ℕ) (before behind : List AnyTable) (table : AnyTable)
+        → HoldsSchema (S.pages space.old) root owned (before ++ table ∷ behind) → table.name ≡ name.now
         → IfOk result (SchemaWritten (S.pages space.old) (S.pages space.new) owned (before ++ with_root rows table ∷ behind)) }
     ensures keeps { IfOk result (LosesNoPage (S.pages space.old) (S.pages space.new) root) }
     ensures whole { OnOk result (S.is_whole space.old → S.is_whole space.new) }

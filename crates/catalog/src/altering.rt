@@ -14,11 +14,12 @@ use page_space::PageSpace;
 use sqlval::Table;
 use std::alloc::Global;
 
-/// Exchanges a table, as `read_schema` gave it, for another of its name in the schema that the tree at
-/// a root holds, and answers the root: with an index more or without one, say, or with other roots.
+/// Exchanges a table, as `read_schema` gave it, for another of its name in the schema that the tree
+/// at a root holds, and answers the root: with an index more or without one, say, or with other
+/// roots.
 ///
-/// Refused as `add_table` of `catalog` is, and as damaged only where no schema with this table is held
-/// there or the list of free pages is none.
+/// Refused as `add_table` of `catalog` is, and as damaged only where no schema with this table is
+/// held there or the list of free pages is none.
 pub fn alter_table<S: PageSpace>(
     space: &mut S,
     alloc: Global,
@@ -26,7 +27,9 @@ pub fn alter_table<S: PageSpace>(
     table: &Table,
     changed: &Table,
 ) -> Result<u32, ChangeError>
-    ensures altered { (owned : List ℕ) (before behind : List AnyTable) → HoldsSchema (S.pages space.old) root owned (before ++ table.now ∷ behind) → changed.now.name ≡ table.now.name → IsTable changed.now
+    ensures altered { (owned : List ℕ) (before behind : List AnyTable)
+        → HoldsSchema (S.pages space.old) root owned (before ++ table.now ∷ behind) → changed.now.name ≡ table.now.name
+        → IsTable changed.now
         → IfOk result (SchemaWritten (S.pages space.old) (S.pages space.new) owned (before ++ changed.now ∷ behind)) }
     ensures keeps { IfOk result (LosesNoPage (S.pages space.old) (S.pages space.new) root) }
     ensures whole { OnOk result (S.is_whole space.old → S.is_whole space.new) }

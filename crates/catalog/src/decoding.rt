@@ -62,7 +62,8 @@ fn records_of(alloc: Global, entries: &[Entry]) -> Result<Items<Record>, ReadErr
 
 /// The schema whose records these entries are.
 pub(crate) fn schema_of_entries(alloc: Global, entries: &[Entry]) -> Result<Schema, ReadError>
-    ensures { (tables : List AnyTable) → AreTables tables → AreCoded (schema_records tables) → entries.now ≡ entries_of (schema_records tables)
+    ensures { (tables : List AnyTable) → AreTables tables → AreCoded (schema_records tables)
+        → entries.now ≡ entries_of (schema_records tables)
         → Gives result (record { tables = tables }) }
 {
     let records = records_of(alloc, entries)?;

@@ -8,7 +8,8 @@ pub enum ChangeError {
     /// The space of pages refused a call, or memory was wanting.
     #[error("{0}")]
     Space(SpaceError),
-    /// The limit `record`: a record's row takes more than 1,000 bytes, or its key and row together more than 1,008.
+    /// The limit `record`: a record's row takes more than 1,000 bytes, or its key and row together
+    /// more than 1,008.
     #[error("a record is too long")]
     Record,
     /// The limit `key`: a record's key takes more than 600 bytes.

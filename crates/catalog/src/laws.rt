@@ -7,11 +7,15 @@ ghost use Rattle.catalog.specs.Held.{HoldsSchema};
 
 /// The tables whose schema pages hold at a root are one list.
 pub fn tables_are_one()
-    ensures { (pages : PageMap) (root : ℕ) (owned also : List ℕ) (tables others : List Table) → HoldsSchema pages root owned tables → HoldsSchema pages root also others → tables ≡ others }
+    ensures { (pages : PageMap) (root : ℕ) (owned also : List ℕ) (tables others : List Table)
+        → HoldsSchema pages root owned tables → HoldsSchema pages root also others → tables ≡ others }
 {}
 
 /// A schema stays where no page that its tree owns changes; these pages are in use.
 pub fn schemas_stay()
-    ensures stays { (old new : PageMap) (root : ℕ) (owned : List ℕ) (tables : List Table) → ((n : ℕ) → Has n owned → new n ≡ old n) → HoldsSchema old root owned tables → HoldsSchema new root owned tables }
-    ensures used { (pages : PageMap) (root : ℕ) (owned : List ℕ) (tables : List Table) → HoldsSchema pages root owned tables → (n : ℕ) → Has n owned → IsSome (pages n) }
+    ensures stays { (old new : PageMap) (root : ℕ) (owned : List ℕ) (tables : List Table)
+        → ((n : ℕ) → Has n owned → new n ≡ old n) → HoldsSchema old root owned tables
+        → HoldsSchema new root owned tables }
+    ensures used { (pages : PageMap) (root : ℕ) (owned : List ℕ) (tables : List Table)
+        → HoldsSchema pages root owned tables → (n : ℕ) → Has n owned → IsSome (pages n) }
 {}

@@ -1,4 +1,4 @@
-//! The schema of a database in a tree over pages.
+//! The schema of a database in a tree over pages: read, and its tables added, changed and dropped.
 #![tactic(auto)]
 
 mod adding;

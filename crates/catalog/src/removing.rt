@@ -32,14 +32,16 @@ fn code_of_key(alloc: Global, key: &[Value]) -> Result<Items<u8>, ChangeError>
     }
 }
 
-/// Takes a record out of the tree at a root, and answers the root; where it is not there, all stays.
+/// Takes a record out of the tree at a root, and answers the root; where it is not there, all
+/// stays.
 fn remove_record<S: PageSpace>(
     space: &mut S,
     alloc: Global,
     root: u32,
     r: &Record,
 ) -> Result<u32, ChangeError>
-    ensures removed { (owned : List ℕ) (before behind : List Entry) (value : List ℕ) → IsTree (S.pages space.old) root owned (before ++ record { key = key_code r.now.key; value = value } ∷ behind)
+    ensures removed { (owned : List ℕ) (before behind : List Entry) (value : List ℕ)
+        → IsTree (S.pages space.old) root owned (before ++ record { key = key_code r.now.key; value = value } ∷ behind)
         → IfOk result (EntriesLeft (S.pages space.old) (S.pages space.new) owned (before ++ behind)) }
     ensures tree { HasTree (S.pages space.old) root → IfOk result (HasTree (S.pages space.new)) }
     ensures keeps { IfOk result (LosesNoPage (S.pages space.old) (S.pages space.new) root) }
@@ -63,7 +65,8 @@ fn remove_records<S: PageSpace>(
     root: u32,
     records: &[Record],
 ) -> Result<u32, ChangeError>
-    ensures removed { (owned : List ℕ) (before behind : List Entry) → IsTree (S.pages space.old) root owned (before ++ (entries_of records.now ++ behind))
+    ensures removed { (owned : List ℕ) (before behind : List Entry)
+        → IsTree (S.pages space.old) root owned (before ++ (entries_of records.now ++ behind))
         → IfOk result (EntriesLeft (S.pages space.old) (S.pages space.new) owned (before ++ behind)) }
     ensures keeps { IfOk result (LosesNoPage (S.pages space.old) (S.pages space.new) root) }
     ensures whole { OnOk result (S.is_whole space.old → S.is_whole space.new) }
@@ -91,7 +94,8 @@ fn records_of(alloc: Global, table: &Table) -> Result<Items<Record>, ChangeError
 }
 
 /// Takes a table, as `read_schema` gave it, out of the schema that the tree at a root holds, and
-/// answers the root; 0 where that was its only one. The trees of its rows and indexes stay as they are.
+/// answers the root; 0 where that was its only one. The trees of its rows and indexes stay as they
+/// are.
 ///
 /// Refused as `add_table` of `catalog` is.
 pub fn drop_table<S: PageSpace>(
@@ -100,7 +104,8 @@ pub fn drop_table<S: PageSpace>(
     root: u32,
     table: &Table,
 ) -> Result<u32, ChangeError>
-    ensures dropped { (owned : List ℕ) (before behind : List AnyTable) → HoldsSchema (S.pages space.old) root owned (before ++ table.now ∷ behind)
+    ensures dropped { (owned : List ℕ) (before behind : List AnyTable)
+        → HoldsSchema (S.pages space.old) root owned (before ++ table.now ∷ behind)
         → IfOk result (SchemaLeft (S.pages space.old) (S.pages space.new) owned (before ++ behind)) }
     ensures keeps { IfOk result (LosesNoPage (S.pages space.old) (S.pages space.new) root) }
     ensures whole { OnOk result (S.is_whole space.old → S.is_whole space.new) }

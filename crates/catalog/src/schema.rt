@@ -13,14 +13,15 @@ use std::alloc::Global;
 
 /// The schema that the tree at a root holds; root 0 is the schema without tables.
 ///
-/// Refused for want of memory, where the device refuses a call, and as damaged only where no schema is held
-/// there.
+/// Refused for want of memory, where the device refuses a call, and as damaged only where no schema
+/// is held there.
 pub fn read_schema<R: PageReader>(
     space: &mut R,
     alloc: Global,
     root: u32,
 ) -> Result<Schema, SpaceError>
-    ensures found { (owned : List ℕ) (tables : List AnyTable) → HoldsSchema (R.pages space.old) root owned tables → IfOk result (λ schema. schema.tables ≡ tables) }
+    ensures found { (owned : List ℕ) (tables : List AnyTable) → HoldsSchema (R.pages space.old) root owned tables
+        → IfOk result (λ schema. schema.tables ≡ tables) }
     ensures same { R.pages space.new ≡ R.pages space.old }
     ensures whole { R.is_whole space.old → R.is_whole space.new }
     ensures refusal { IfErr result (ReadRefused (HoldsNoSchema (R.pages space.old) root) (R.refused space.old) (R.refused space.new)) }

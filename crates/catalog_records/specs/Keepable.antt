@@ -1,5 +1,6 @@
--- Schemas that the program can hold: its numbers have their types' ranges, the n of VARCHAR(n) is not 0, and the places of a table's constraints and indexes are
--- those of its columns. Our own choice.
+-- Schemas that the program can hold: its numbers have their types' ranges, the n of VARCHAR(n) is
+-- not 0, and the places of a table's constraints and indexes are those of its columns. Our own
+-- choice.
 use Rattle.std.specs.Prelude.{ℕ, ◌<◌, ◌^◌, List, [], ◌∷◌, length}
 use Rattle.std.specs.List.{AllByRecursion}
 use Rattle.sqlval.specs.declared.storing.ColumnType.{ColumnType}

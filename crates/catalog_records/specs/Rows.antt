@@ -20,7 +20,8 @@ index_row index = (index_record [] 0 index).row
 
 -- the first of these records has no key of this kind
 abbrev pub EndsAt : (ℕ → List Value) → List Record → Type 0
-EndsAt key records = (number : ℕ) (first : Record) (others : List Record) → records ≡ first ∷ others → first.key ≡ key number → ⊥
+EndsAt key records = (number : ℕ) (first : Record) (others : List Record) → records ≡ first ∷ others
+    → first.key ≡ key number → ⊥
 
 -- the first of these records belongs to no table before it: it is no column, constraint or index
 abbrev pub EndsTable : List Record → Type 0

@@ -6,5 +6,6 @@ ghost use Rattle.catalog_records.specs.Keepable.{AreTables};
 
 /// Different schemas that the program can hold have different records.
 pub fn records_tell_apart()
-    ensures { (tables others : List Table) → AreTables tables → AreTables others → schema_records tables ≡ schema_records others → tables ≡ others }
+    ensures { (tables others : List Table) → AreTables tables → AreTables others
+        → schema_records tables ≡ schema_records others → tables ≡ others }
 {}

@@ -1,4 +1,4 @@
-//! The schema of a database as records of values: what a store keeps of it.
+//! The schema of a database as records of values: what a store keeps of it, written and read back.
 #![tactic(auto)]
 
 mod columns;

@@ -54,7 +54,8 @@ fn rule_in(alloc: Global, sort: usize, detail: &Text) -> Result<Rule, ReadError>
     ensures sort { IfOk result (λ rule. sort_of rule ≡ sort) }
     ensures detail { IfOk result (λ rule. detail_of rule ≡ detail.now) }
     ensures kept { IfOk result IsRule }
-    ensures again { (rule : AnyRule) → IsRule rule → sort_of rule ≡ sort → detail_of rule ≡ detail.now → Gives result rule }
+    ensures again { (rule : AnyRule) → IsRule rule → sort_of rule ≡ sort → detail_of rule ≡ detail.now
+        → Gives result rule }
 {
     match sort {
         1 => not_null_in(alloc, detail),
@@ -79,7 +80,8 @@ fn not_null_in(alloc: Global, detail: &Text) -> Result<Rule, ReadError>
     ensures sort { IfOk result (λ rule. sort_of rule ≡ 1) }
     ensures detail { IfOk result (λ rule. detail_of rule ≡ detail.now) }
     ensures kept { IfOk result IsRule }
-    ensures again { (rule : AnyRule) → IsRule rule → sort_of rule ≡ 1 → detail_of rule ≡ detail.now → Gives result rule }
+    ensures again { (rule : AnyRule) → IsRule rule → sort_of rule ≡ 1 → detail_of rule ≡ detail.now
+        → Gives result rule }
 {
     let places = places_of_text(alloc, detail.as_slice())?;
     if places.len() != 1 {
@@ -94,7 +96,8 @@ fn not_null_in(alloc: Global, detail: &Text) -> Result<Rule, ReadError>
 pub(crate) fn constraint_in(alloc: Global, row: &[Value]) -> Result<Constraint, ReadError>
     ensures sound { IfOk result (λ constraint. constraint_row constraint ≡ row.now) }
     ensures kept { IfOk result IsConstraint }
-    ensures again { (constraint : AnyConstraint) → IsConstraint constraint → constraint_row constraint ≡ row.now → Gives result constraint }
+    ensures again { (constraint : AnyConstraint) → IsConstraint constraint → constraint_row constraint ≡ row.now
+        → Gives result constraint }
 {
     let (name, rest) = text_first(row)?;
     let (sort, rest) = number_first(rest)?;
@@ -108,7 +111,8 @@ pub(crate) fn constraint_in(alloc: Global, row: &[Value]) -> Result<Constraint, 
 /// The name that stands first, null where there is none, and the values behind it.
 fn name_first(alloc: Global, values: &[Value]) -> Result<(Option<Text>, &[Value]), ReadError>
     ensures sound { IfOk result (λ given. name_value given.0 ∷ given.1.now ≡ values.now) }
-    ensures again { (name : Option (List ℕ)) (rest : List AnyValue) → name_value name ∷ rest ≡ values.now → GivesFront result name rest }
+    ensures again { (name : Option (List ℕ)) (rest : List AnyValue) → name_value name ∷ rest ≡ values.now
+        → GivesFront result name rest }
 {
     match values.split_first() {
         Some((Value::Null, rest)) => Ok((None, rest)),

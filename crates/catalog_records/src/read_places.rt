@@ -27,7 +27,8 @@ fn cut_at_comma(text: &[u8]) -> (&[u8], &[u8])
 fn first_place(text: &[u8]) -> Result<(usize, &[u8]), ReadError>
     ensures sound { IfOk result (λ given. decimal given.0 ++ given.1.now ≡ text.now) }
     ensures kept { IfOk result (λ given. given.0 < 2 ^ 64) }
-    ensures again { (place : ℕ) (rest : List ℕ) → place < 2 ^ 64 → IsAtComma rest → decimal place ++ rest ≡ text.now → GivesFront result place rest }
+    ensures again { (place : ℕ) (rest : List ℕ) → place < 2 ^ 64 → IsAtComma rest → decimal place ++ rest ≡ text.now
+        → GivesFront result place rest }
 {
     let (digits, rest) = cut_at_comma(text);
     match number_of(digits) {

@@ -26,7 +26,8 @@ pub(crate) fn columns_first<'a>(
 ) -> Result<(Items<Column>, &'a [Record]), ReadError>
     ensures sound { IfOk result (λ given. column_records name.now 0 given.0 ++ given.1.now ≡ records.now) }
     ensures kept { IfOk result (λ given. AllByRecursion IsColumn given.0) }
-    ensures again { (all : List AnyColumn) (more : List AnyRecord) → AllByRecursion IsColumn all → EndsAt (key_of name.now 1) more
+    ensures again { (all : List AnyColumn) (more : List AnyRecord) → AllByRecursion IsColumn all
+        → EndsAt (key_of name.now 1) more
         → column_records name.now 0 all ++ more ≡ records.now → GivesFront result all more }
 {
     let mut columns = Items::new(alloc);
@@ -49,7 +50,8 @@ pub(crate) fn constraints_first<'a>(
 ) -> Result<(Items<Constraint>, &'a [Record]), ReadError>
     ensures sound { IfOk result (λ given. constraint_records name.now 1 given.0 ++ given.1.now ≡ records.now) }
     ensures kept { IfOk result (λ given. AllByRecursion IsConstraint given.0) }
-    ensures again { (all : List AnyConstraint) (more : List AnyRecord) → AllByRecursion IsConstraint all → EndsAt (key_of name.now 2) more
+    ensures again { (all : List AnyConstraint) (more : List AnyRecord) → AllByRecursion IsConstraint all
+        → EndsAt (key_of name.now 2) more
         → constraint_records name.now 1 all ++ more ≡ records.now → GivesFront result all more }
 {
     let mut constraints = Items::new(alloc);
@@ -72,7 +74,8 @@ pub(crate) fn indexes_first<'a>(
 ) -> Result<(Items<Index>, &'a [Record]), ReadError>
     ensures sound { IfOk result (λ given. index_records name.now 1 given.0 ++ given.1.now ≡ records.now) }
     ensures kept { IfOk result (λ given. AllByRecursion IsIndex given.0) }
-    ensures again { (all : List AnyIndex) (more : List AnyRecord) → AllByRecursion IsIndex all → EndsAt (key_of name.now 3) more
+    ensures again { (all : List AnyIndex) (more : List AnyRecord) → AllByRecursion IsIndex all
+        → EndsAt (key_of name.now 3) more
         → index_records name.now 1 all ++ more ≡ records.now → GivesFront result all more }
 {
     let mut indexes = Items::new(alloc);

@@ -18,11 +18,13 @@ use items::{Items, Text};
 use sqlval::{Schema, Table};
 use std::alloc::Global;
 
-/// The name of the table whose record this is, and the root of its tree. Refused where it is no table's.
+/// The name of the table whose record this is, and the root of its tree. Refused where it is no
+/// table's.
 fn table_in(record: &Record) -> Result<(&Text, u32), ReadError>
     ensures sound { IfOk result (λ given. kept.table_record given.0.now given.1 ≡ record.now) }
     ensures range { IfOk result (λ given. given.1 < 2 ^ 32) }
-    ensures again { (name : List ℕ) (root : ℕ) → root < 2 ^ 32 → kept.table_record name root ≡ record.now → IsOk result }
+    ensures again { (name : List ℕ) (root : ℕ) → root < 2 ^ 32 → kept.table_record name root ≡ record.now
+        → IsOk result }
 {
     let key = key_in(record.key.as_slice())?;
     if key.kind != 0 || key.number != 0 {
@@ -71,7 +73,8 @@ fn table_first<'a>(
 fn tables_in(alloc: Global, records: &[Record]) -> Result<Items<Table>, ReadError>
     ensures sound { IfOk result (λ tables. kept.schema_records tables ≡ records.now) }
     ensures range { IfOk result AreTables }
-    ensures again { (tables : List AnyTable) → AreTables tables → kept.schema_records tables ≡ records.now → Gives result tables }
+    ensures again { (tables : List AnyTable) → AreTables tables → kept.schema_records tables ≡ records.now
+        → Gives result tables }
 {
     let mut tables = Items::new(alloc);
     let mut rest = records;
@@ -85,12 +88,13 @@ fn tables_in(alloc: Global, records: &[Record]) -> Result<Items<Table>, ReadErro
 
 /// The schema whose records these are, in the order of their keys.
 ///
-/// Refused for want of memory, and as damaged just where they are the records of no schema that the program
-/// can hold.
+/// Refused for want of memory, and as damaged just where they are the records of no schema that the
+/// program can hold.
 pub fn schema_of_records(alloc: Global, records: &[Record]) -> Result<Schema, ReadError>
     ensures sound { IfOk result (λ schema. kept.schema_records schema.tables ≡ records.now) }
     ensures range { IfOk result (λ schema. AreTables schema.tables) }
-    ensures again { (tables : List AnyTable) → AreTables tables → kept.schema_records tables ≡ records.now → Gives result (record { tables = tables }) }
+    ensures again { (tables : List AnyTable) → AreTables tables → kept.schema_records tables ≡ records.now
+        → Gives result (record { tables = tables }) }
     ensures damaged { IsNoSchema records.now → IsErr result }
 {
     let tables = tables_in(alloc, records)?;

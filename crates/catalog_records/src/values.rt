@@ -18,7 +18,8 @@ pub(crate) fn text_first(values: &[Value]) -> Result<(&Text, &[Value]), ReadErro
     }
 }
 
-/// The number that stands first, which is not negative, and the values behind it. Refused where none does.
+/// The number that stands first, which is not negative, and the values behind it. Refused where
+/// none does.
 pub(crate) fn number_first(values: &[Value]) -> Result<(usize, &[Value]), ReadError>
     ensures sound { IfOk result (λ given. counted given.0 ∷ given.1.now ≡ values.now) }
     ensures again { (number : ℕ) (rest : List AnyValue) → counted number ∷ rest ≡ values.now → IsOk result }

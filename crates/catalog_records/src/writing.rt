@@ -105,7 +105,8 @@ fn detail_of(alloc: Global, rule: &Rule) -> Result<Text, WriteError>
 
 /// The record of a constraint at this place of a table, from 1.
 ///
-/// Refused for want of memory, and where its columns' places make a text of more than 1,000 characters.
+/// Refused for want of memory, and where its columns' places make a text of more than 1,000
+/// characters.
 pub fn constraint_record(
     alloc: Global,
     name: &Text,
@@ -146,7 +147,8 @@ fn owner_number(owner: Option<usize>) -> Result<Value, WriteError>
 
 /// The record of an index at this place of a table, from 1.
 ///
-/// Refused for want of memory, and where its columns' places make a text of more than 1,000 characters.
+/// Refused for want of memory, and where its columns' places make a text of more than 1,000
+/// characters.
 pub fn index_record(
     alloc: Global,
     name: &Text,
@@ -210,7 +212,8 @@ fn put_indexes(
 
 /// All records of a table, in the order of their keys.
 ///
-/// Refused for want of memory, and where the columns' places of a constraint or an index make a text of more than 1,000 characters.
+/// Refused for want of memory, and where the columns' places of a constraint or an index make a
+/// text of more than 1,000 characters.
 pub fn records_of_table(alloc: Global, table: &Table) -> Result<Items<Record>, WriteError>
     ensures { IfOk result (λ records. records ≡ kept.table_records table.now) }
 {

@@ -17,9 +17,11 @@ use Rattle.store.specs.Indexes.{entries_of}
 use Rattle.table_changes.specs.Given.{AreGiven}
 use Rattle.update_delete.specs.Reached.{IsNumberedOut, ReplacingReaches}
 
--- These rows are given for an INSERT, as far as is known of a store that holds this: they are where the store is sound, its schema is the one that is ready, and its database is good.
+-- These rows are given for an INSERT, as far as is known of a store that holds this: they are where
+-- the store is sound, its schema is the one that is ready, and its database is good.
 abbrev pub MayBeGiven : Type 0 → Schema → Contents → typed.Insert → List Row → Type 0
-MayBeGiven sound schema c insert rows = (reading : CheckReading) → IsCheckReading reading → sound → IsSchemaOf schema (database_of c) → IsGood reading (database_of c) → AreGiven reading (database_of c) insert rows
+MayBeGiven sound schema c insert rows = (reading : CheckReading) → IsCheckReading reading → sound
+    → IsSchemaOf schema (database_of c) → IsGood reading (database_of c) → AreGiven reading (database_of c) insert rows
 
 -- some such rows would get numbers past the greatest, which is 2^63 - 1
 pub record AreNumberedOut (given : List Row → Type 0) (entries : List Entry) : Type 0 where
@@ -27,9 +29,12 @@ pub record AreNumberedOut (given : List Row → Type 0) (entries : List Entry) :
   pub are_given : given rows
   pub past : 2 ^ 63 < next_number entries + length rows
 
--- What the store counts; of an INSERT also row numbers, by the rows that are given for it; and of an UPDATE, which puts rows in the place of others, where its table has none left.
+-- What the store counts; of an INSERT also row numbers, by the rows that are given for it; and of
+-- an UPDATE, which puts rows in the place of others, where its table has none left.
 abbrev pub ChangeReaches : (StoreLimit → Type 0) → Type 0 → Schema → Contents → Change → StoreLimit → Type 0
 ChangeReaches counted sound schema c (Insert insert) =
-    λ which. ChangingReaches counted which ⊎ ((which ≡ limit.Pages) × AreNumberedOut (MayBeGiven sound schema c insert) (entries_of (get c insert.table)))
-ChangeReaches counted sound schema c (Update update) = ReplacingReaches counted (sound → IsNumberedOut (get c update.table))
+    λ which. ChangingReaches counted which
+    ⊎ ((which ≡ limit.Pages) × AreNumberedOut (MayBeGiven sound schema c insert) (entries_of (get c insert.table)))
+ChangeReaches counted sound schema c (Update update) = ReplacingReaches counted (sound
+    → IsNumberedOut (get c update.table))
 ChangeReaches counted sound schema c change = ChangingReaches counted

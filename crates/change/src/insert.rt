@@ -28,17 +28,22 @@ use store::Store;
 use table_changes::insert_rows;
 use typing::{Insert, InsertSource};
 
-/// INSERT of VALUES or of a query. All its rows are evaluated before the first is stored. A name that does not stand, which the rules of names exclude, is refused as for want of
-/// memory; a CHECK whose text cannot be read is `Damaged`.
+/// INSERT of VALUES or of a query. All its rows are evaluated before the first is stored. A name
+/// that does not stand, which the rules of names exclude, is refused as for want of memory; a CHECK
+/// whose text cannot be read is `Damaged`.
 pub(crate) fn insert<S: Store>(
     alloc: Global,
     store: &mut S,
     insert: &Insert,
 ) -> Result<Reply, Refusal>
-    ensures changes { IfOk result (λ reply. (reading : CheckReading) → IsCheckReading reading → S.is_sound store.old → IsSchemaOf (S.prepared store.old) (database_of (S.shows store.old).working)
-        → IsGood reading (database_of (S.shows store.old).working) → HasAccepted reading (S.shows store.old) (does.Insert insert.now) reply (S.shows store.new)) }
-    ensures refused { IfErr result (λ refusal. (reading : CheckReading) → IsCheckReading reading → S.is_sound store.old → IsSchemaOf (S.prepared store.old) (database_of (S.shows store.old).working)
-        → IsGood reading (database_of (S.shows store.old).working) → RefusesChange reading (database_of (S.shows store.old).working) (does.Insert insert.now) refusal) }
+    ensures changes { IfOk result (λ reply. (reading : CheckReading) → IsCheckReading reading → S.is_sound store.old
+        → IsSchemaOf (S.prepared store.old) (database_of (S.shows store.old).working)
+        → IsGood reading (database_of (S.shows store.old).working)
+        → HasAccepted reading (S.shows store.old) (does.Insert insert.now) reply (S.shows store.new)) }
+    ensures refused { IfErr result (λ refusal. (reading : CheckReading) → IsCheckReading reading → S.is_sound store.old
+        → IsSchemaOf (S.prepared store.old) (database_of (S.shows store.old).working)
+        → IsGood reading (database_of (S.shows store.old).working)
+        → RefusesChange reading (database_of (S.shows store.old).working) (does.Insert insert.now) refusal) }
     ensures accepted { IfOk result (λ reply. IfRefused reply (λ refusal. ⊥)) }
     ensures limits { IfErr result (TellsReached (ChangeReaches (S.counted store.new) (S.is_sound store.old) (S.prepared store.old) (S.shows store.old).working (does.Insert insert.now))) }
     ensures device { IfErr result (λ refusal. refusal ≡ Disk → HasRisen (S.refused store.old) (S.refused store.new)) }
@@ -63,14 +68,19 @@ fn rows_of<S: Store>(
     insert: &Insert,
     checks: &TableChecks,
 ) -> Result<Rows, Refusal>
-    ensures gives { IfOk result (λ rows. (reading : CheckReading) (table : Table) → S.is_sound store.old → IsSchemaOf (S.prepared store.old) (database_of (S.shows store.old).working)
-        → get (database_of (S.shows store.old).working) insert.now.table ≡ Some table → AreChecksOf (checks_of reading insert.now.table table) checks.now.conditions
+    ensures gives { IfOk result (λ rows. (reading : CheckReading) (table : Table) → S.is_sound store.old
+        → IsSchemaOf (S.prepared store.old) (database_of (S.shows store.old).working)
+        → get (database_of (S.shows store.old).working) insert.now.table ≡ Some table
+        → AreChecksOf (checks_of reading insert.now.table table) checks.now.conditions
         → AreGiven reading (database_of (S.shows store.old).working) insert.now rows) }
-    ensures refused { IfErr result (λ refusal. (reading : CheckReading) (table : Table) → S.is_sound store.old → IsSchemaOf (S.prepared store.old) (database_of (S.shows store.old).working)
-        → get (database_of (S.shows store.old).working) insert.now.table ≡ Some table → AreChecksOf (checks_of reading insert.now.table table) checks.now.conditions
+    ensures refused { IfErr result (λ refusal. (reading : CheckReading) (table : Table) → S.is_sound store.old
+        → IsSchemaOf (S.prepared store.old) (database_of (S.shows store.old).working)
+        → get (database_of (S.shows store.old).working) insert.now.table ≡ Some table
+        → AreChecksOf (checks_of reading insert.now.table table) checks.now.conditions
         → RefusesChange reading (database_of (S.shows store.old).working) (does.Insert insert.now) refusal) }
     ensures limits { IfErr result TellsNoLimit }
-    ensures device { IfErr result (λ refusal. AreOfSome checks.now.conditions → refusal ≡ Disk → HasRisen (S.refused store.old) (S.refused store.new)) }
+    ensures device { IfErr result (λ refusal. AreOfSome checks.now.conditions → refusal ≡ Disk
+        → HasRisen (S.refused store.old) (S.refused store.new)) }
     ensures shows { S.shows store.new ≡ S.shows store.old }
     ensures sound { S.is_sound store.old → S.is_sound store.new }
     ensures counts { S.refused store.old ≤ S.refused store.new }

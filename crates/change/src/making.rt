@@ -21,12 +21,18 @@ use store::Store;
 use table_changes::{create_index, create_table, drop_index, drop_table};
 use typing::Change;
 
-/// Carries out a change of the newest version, whose schema is the one that is ready and whose database is good: so keys may be looked up where few rows come. It sets the mark, and a refusal leaves all as it was, but for the mark.
+/// Carries out a change of the newest version, whose schema is the one that is ready and whose
+/// database is good: so keys may be looked up where few rows come. It sets the mark, and a refusal
+/// leaves all as it was, but for the mark.
 pub fn make<S: Store>(alloc: Global, store: &mut S, change: Change) -> Result<Reply, Refusal>
-    ensures changes { IfOk result (λ reply. (reading : CheckReading) → IsCheckReading reading → S.is_sound store.old → IsSchemaOf (S.prepared store.old) (database_of (S.shows store.old).working)
-        → IsGood reading (database_of (S.shows store.old).working) → HasAccepted reading (S.shows store.old) change reply (S.shows store.new)) }
-    ensures refused { IfErr result (λ refusal. (reading : CheckReading) → IsCheckReading reading → S.is_sound store.old → IsSchemaOf (S.prepared store.old) (database_of (S.shows store.old).working)
-        → IsGood reading (database_of (S.shows store.old).working) → RefusesChange reading (database_of (S.shows store.old).working) change refusal) }
+    ensures changes { IfOk result (λ reply. (reading : CheckReading) → IsCheckReading reading → S.is_sound store.old
+        → IsSchemaOf (S.prepared store.old) (database_of (S.shows store.old).working)
+        → IsGood reading (database_of (S.shows store.old).working)
+        → HasAccepted reading (S.shows store.old) change reply (S.shows store.new)) }
+    ensures refused { IfErr result (λ refusal. (reading : CheckReading) → IsCheckReading reading → S.is_sound store.old
+        → IsSchemaOf (S.prepared store.old) (database_of (S.shows store.old).working)
+        → IsGood reading (database_of (S.shows store.old).working)
+        → RefusesChange reading (database_of (S.shows store.old).working) change refusal) }
     ensures accepted { IfOk result (λ reply. IfRefused reply (λ refusal. ⊥)) }
     ensures limits { IfErr result (TellsReached (ChangeReaches (S.counted store.new) (S.is_sound store.old) (S.prepared store.old) (S.shows store.old).working change)) }
     ensures device { IfErr result (λ refusal. refusal ≡ Disk → HasRisen (S.refused store.old) (S.refused store.new)) }

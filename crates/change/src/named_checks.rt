@@ -17,19 +17,22 @@ use refusals::Refusal;
 use sqlval::Schema;
 use std::alloc::Global;
 
-/// The CHECKs of the table of this name. Refuses for want of memory; a name that no table has is refused as for that. A text that cannot be
-/// read is `Damaged`: a good database has none.
+/// The CHECKs of the table of this name. Refuses for want of memory; a name that no table has is
+/// refused as for that. A text that cannot be read is `Damaged`: a good database has none.
 pub(crate) fn named_checks(
     alloc: Global,
     schema: &Schema,
     name: &Text,
 ) -> Result<TableChecks, Refusal>
-    ensures there { IfOk result (λ _. (db : Database) → IsSchemaOf schema.now db → (table : Table) × (get db name.now ≡ Some table)) }
+    ensures there { IfOk result (λ _. (db : Database) → IsSchemaOf schema.now db
+        → (table : Table) × (get db name.now ≡ Some table)) }
     ensures some { IfOk result (λ checks. AreOfSome checks.conditions) }
-    ensures decides { IfOk result (λ checks. (reading : CheckReading) (db : Database) → IsCheckReading reading → IsSchemaOf schema.now db → AreChecksFor reading db name.now checks.conditions) }
+    ensures decides { IfOk result (λ checks. (reading : CheckReading) (db : Database) → IsCheckReading reading
+        → IsSchemaOf schema.now db → AreChecksFor reading db name.now checks.conditions) }
     ensures refused { IfErr result (λ refusal. (refusal ≡ Memory) ⊎ (refusal ≡ Damaged)) }
     ensures limits { IfErr result TellsNoLimit }
-    ensures good { IfErr result (λ refusal. (reading : CheckReading) (db : Database) → IsSchemaOf schema.now db → IsGood reading db → refusal ≡ Memory) }
+    ensures good { IfErr result (λ refusal. (reading : CheckReading) (db : Database) → IsSchemaOf schema.now db
+        → IsGood reading db → refusal ≡ Memory) }
 {
     match table_named(schema, name) {
         Some(table) => match table_checks(alloc, schema, table) {

@@ -35,7 +35,8 @@ use store::{Seen, Store, View};
 use translation::translate_query;
 use typing::{Insert, Query};
 
-/// The rows of a query as the table is to hold them. The tables that the query names are read, and the store is left as it was.
+/// The rows of a query as the table is to hold them. The tables that the query names are read, and
+/// the store is left as it was.
 pub(crate) fn query_rows<S: Store>(
     alloc: Global,
     store: &mut S,
@@ -43,14 +44,21 @@ pub(crate) fn query_rows<S: Store>(
     query: &Query,
     checks: &TableChecks,
 ) -> Result<Rows, Refusal>
-    ensures gives { IfOk result (λ rows. (reading : CheckReading) (table : Table) → S.is_sound store.old → IsSchemaOf (S.prepared store.old) (database_of (S.shows store.old).working)
-        → get (database_of (S.shows store.old).working) insert.now.table ≡ Some table → AreChecksOf (checks_of reading insert.now.table table) checks.now.conditions
-        → insert.now.source ≡ from.Query query.now → AreGiven reading (database_of (S.shows store.old).working) insert.now rows) }
-    ensures refused { IfErr result (λ refusal. (reading : CheckReading) (table : Table) → S.is_sound store.old → IsSchemaOf (S.prepared store.old) (database_of (S.shows store.old).working)
-        → get (database_of (S.shows store.old).working) insert.now.table ≡ Some table → AreChecksOf (checks_of reading insert.now.table table) checks.now.conditions
-        → insert.now.source ≡ from.Query query.now → RefusesChange reading (database_of (S.shows store.old).working) (does.Insert insert.now) refusal) }
+    ensures gives { IfOk result (λ rows. (reading : CheckReading) (table : Table) → S.is_sound store.old
+        → IsSchemaOf (S.prepared store.old) (database_of (S.shows store.old).working)
+        → get (database_of (S.shows store.old).working) insert.now.table ≡ Some table
+        → AreChecksOf (checks_of reading insert.now.table table) checks.now.conditions
+        → insert.now.source ≡ from.Query query.now
+        → AreGiven reading (database_of (S.shows store.old).working) insert.now rows) }
+    ensures refused { IfErr result (λ refusal. (reading : CheckReading) (table : Table) → S.is_sound store.old
+        → IsSchemaOf (S.prepared store.old) (database_of (S.shows store.old).working)
+        → get (database_of (S.shows store.old).working) insert.now.table ≡ Some table
+        → AreChecksOf (checks_of reading insert.now.table table) checks.now.conditions
+        → insert.now.source ≡ from.Query query.now
+        → RefusesChange reading (database_of (S.shows store.old).working) (does.Insert insert.now) refusal) }
     ensures limits { IfErr result TellsNoLimit }
-    ensures device { IfErr result (λ refusal. AreOfSome checks.now.conditions → refusal ≡ Disk → HasRisen (S.refused store.old) (S.refused store.new)) }
+    ensures device { IfErr result (λ refusal. AreOfSome checks.now.conditions → refusal ≡ Disk
+        → HasRisen (S.refused store.old) (S.refused store.new)) }
     ensures shows { S.shows store.new ≡ S.shows store.old }
     ensures sound { S.is_sound store.old → S.is_sound store.new }
     ensures counts { S.refused store.old ≤ S.refused store.new }
@@ -86,8 +94,10 @@ fn sources_of<S: Store>(
     tree: &Tree,
 ) -> Result<Items<Items<Expression>>, Refusal>
     ensures lists { IfOk result (λ sources. (rows : List Given) × (sources ≡ constants rows)
-        × (S.is_sound store.old → tree_listing (rows_in (database_of (S.shows store.old).working)) tree.now [] ≡ record { rows = rows; faults = [] })) }
-    ensures refused { S.is_sound store.old → IfErr result (MayRefuse (tree_listing (rows_in (database_of (S.shows store.old).working)) tree.now []).faults) }
+        × (S.is_sound store.old
+        → tree_listing (rows_in (database_of (S.shows store.old).working)) tree.now [] ≡ record { rows = rows; faults = [] })) }
+    ensures refused { S.is_sound store.old
+        → IfErr result (MayRefuse (tree_listing (rows_in (database_of (S.shows store.old).working)) tree.now []).faults) }
     ensures limits { IfErr result TellsNoLimit }
     ensures device { IfErr result (λ refusal. refusal ≡ Disk → HasRisen (S.refused store.old) (S.refused store.new)) }
     ensures prepared { S.prepared store.new ≡ S.prepared store.old }
@@ -109,7 +119,8 @@ fn sources_of<S: Store>(
 fn listed_sources(alloc: Global, listed: Listed) -> Result<Items<Items<Expression>>, Refusal>
     ensures whole { IfOk result (λ _. listed.fault ≡ None) }
     ensures sources { IfOk result (λ sources. sources ≡ constants listed.rows) }
-    ensures refused { IfErr result (λ refusal. (refusal ≡ Memory) ⊎ ((fault : Fault) × (refusal ≡ refusal_of fault) × (listed.fault ≡ Some fault))) }
+    ensures refused { IfErr result (λ refusal. (refusal ≡ Memory)
+        ⊎ ((fault : Fault) × (refusal ≡ refusal_of fault) × (listed.fault ≡ Some fault))) }
     ensures limits { IfErr result TellsNoLimit }
     ensures device { IfErr result (λ refusal. refusal ≢ Disk) }
 {

@@ -21,18 +21,24 @@ use store::Store;
 use typing::{Delete, Update};
 use update_delete::{delete_rows, update_rows};
 
-/// UPDATE. A name that does not stand, which the rules of names exclude, is refused as for want of memory; a CHECK whose text cannot be read is `Damaged`.
+/// UPDATE. A name that does not stand, which the rules of names exclude, is refused as for want of
+/// memory; a CHECK whose text cannot be read is `Damaged`.
 pub(crate) fn update<S: Store>(
     alloc: Global,
     store: &mut S,
     update: &Update,
 ) -> Result<Reply, Refusal>
-    ensures changes { IfOk result (λ reply. (reading : CheckReading) → IsCheckReading reading → S.is_sound store.old → IsSchemaOf (S.prepared store.old) (database_of (S.shows store.old).working)
-        → IsGood reading (database_of (S.shows store.old).working) → HasChanged reading (S.shows store.old) (does.Update update.now) reply (S.shows store.new)) }
-    ensures refused { IfErr result (λ refusal. (reading : CheckReading) → IsCheckReading reading → S.is_sound store.old → IsSchemaOf (S.prepared store.old) (database_of (S.shows store.old).working)
-        → IsGood reading (database_of (S.shows store.old).working) → RefusesChange reading (database_of (S.shows store.old).working) (does.Update update.now) refusal) }
+    ensures changes { IfOk result (λ reply. (reading : CheckReading) → IsCheckReading reading → S.is_sound store.old
+        → IsSchemaOf (S.prepared store.old) (database_of (S.shows store.old).working)
+        → IsGood reading (database_of (S.shows store.old).working)
+        → HasChanged reading (S.shows store.old) (does.Update update.now) reply (S.shows store.new)) }
+    ensures refused { IfErr result (λ refusal. (reading : CheckReading) → IsCheckReading reading → S.is_sound store.old
+        → IsSchemaOf (S.prepared store.old) (database_of (S.shows store.old).working)
+        → IsGood reading (database_of (S.shows store.old).working)
+        → RefusesChange reading (database_of (S.shows store.old).working) (does.Update update.now) refusal) }
     ensures accepted { IfOk result (λ reply. IfRefused reply (λ refusal. ⊥)) }
-    ensures limits { IfErr result (TellsReached (ReplacingReaches (S.counted store.new) (S.is_sound store.old → IsNumberedOut (get (S.shows store.old).working update.now.table)))) }
+    ensures limits { IfErr result (TellsReached (ReplacingReaches (S.counted store.new) (S.is_sound store.old
+        → IsNumberedOut (get (S.shows store.old).working update.now.table)))) }
     ensures device { IfErr result (λ refusal. refusal ≡ Disk → HasRisen (S.refused store.old) (S.refused store.new)) }
     ensures same { S.is_sound store.old → OnErr result (SameButMark (S.shows store.old) (S.shows store.new)) }
     ensures sound { S.is_sound store.old → S.is_sound store.new }
@@ -44,16 +50,21 @@ pub(crate) fn update<S: Store>(
     }
 }
 
-/// DELETE. A name that does not stand, which the rules of names exclude, is refused as for want of memory; a CHECK whose text cannot be read is `Damaged`.
+/// DELETE. A name that does not stand, which the rules of names exclude, is refused as for want of
+/// memory; a CHECK whose text cannot be read is `Damaged`.
 pub(crate) fn delete<S: Store>(
     alloc: Global,
     store: &mut S,
     delete: &Delete,
 ) -> Result<Reply, Refusal>
-    ensures changes { IfOk result (λ reply. (reading : CheckReading) → IsCheckReading reading → S.is_sound store.old → IsSchemaOf (S.prepared store.old) (database_of (S.shows store.old).working)
-        → IsGood reading (database_of (S.shows store.old).working) → HasChanged reading (S.shows store.old) (does.Delete delete.now) reply (S.shows store.new)) }
-    ensures refused { IfErr result (λ refusal. (reading : CheckReading) → IsCheckReading reading → S.is_sound store.old → IsSchemaOf (S.prepared store.old) (database_of (S.shows store.old).working)
-        → IsGood reading (database_of (S.shows store.old).working) → RefusesChange reading (database_of (S.shows store.old).working) (does.Delete delete.now) refusal) }
+    ensures changes { IfOk result (λ reply. (reading : CheckReading) → IsCheckReading reading → S.is_sound store.old
+        → IsSchemaOf (S.prepared store.old) (database_of (S.shows store.old).working)
+        → IsGood reading (database_of (S.shows store.old).working)
+        → HasChanged reading (S.shows store.old) (does.Delete delete.now) reply (S.shows store.new)) }
+    ensures refused { IfErr result (λ refusal. (reading : CheckReading) → IsCheckReading reading → S.is_sound store.old
+        → IsSchemaOf (S.prepared store.old) (database_of (S.shows store.old).working)
+        → IsGood reading (database_of (S.shows store.old).working)
+        → RefusesChange reading (database_of (S.shows store.old).working) (does.Delete delete.now) refusal) }
     ensures accepted { IfOk result (λ reply. IfRefused reply (λ refusal. ⊥)) }
     ensures limits { IfErr result (TellsReached (ChangingReaches (S.counted store.new))) }
     ensures device { IfErr result (λ refusal. refusal ≡ Disk → HasRisen (S.refused store.old) (S.refused store.new)) }

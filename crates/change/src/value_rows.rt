@@ -32,7 +32,8 @@ use std::alloc::Global;
 use store::{Seen, Store, View};
 use typing::Insert;
 
-/// The rows of VALUES as the table is to hold them. The tables that the sources name are read, and the store is left as it was.
+/// The rows of VALUES as the table is to hold them. The tables that the sources name are read, and
+/// the store is left as it was.
 pub(crate) fn value_rows<S: Store>(
     alloc: Global,
     store: &mut S,
@@ -40,14 +41,21 @@ pub(crate) fn value_rows<S: Store>(
     values: &[Items<typing::Expression>],
     checks: &TableChecks,
 ) -> Result<Rows, Refusal>
-    ensures gives { IfOk result (λ rows. (reading : CheckReading) (table : Table) → S.is_sound store.old → IsSchemaOf (S.prepared store.old) (database_of (S.shows store.old).working)
-        → get (database_of (S.shows store.old).working) insert.now.table ≡ Some table → AreChecksOf (checks_of reading insert.now.table table) checks.now.conditions
-        → insert.now.source ≡ from.Values values.now → AreGiven reading (database_of (S.shows store.old).working) insert.now rows) }
-    ensures refused { IfErr result (λ refusal. (reading : CheckReading) (table : Table) → S.is_sound store.old → IsSchemaOf (S.prepared store.old) (database_of (S.shows store.old).working)
-        → get (database_of (S.shows store.old).working) insert.now.table ≡ Some table → AreChecksOf (checks_of reading insert.now.table table) checks.now.conditions
-        → insert.now.source ≡ from.Values values.now → RefusesChange reading (database_of (S.shows store.old).working) (does.Insert insert.now) refusal) }
+    ensures gives { IfOk result (λ rows. (reading : CheckReading) (table : Table) → S.is_sound store.old
+        → IsSchemaOf (S.prepared store.old) (database_of (S.shows store.old).working)
+        → get (database_of (S.shows store.old).working) insert.now.table ≡ Some table
+        → AreChecksOf (checks_of reading insert.now.table table) checks.now.conditions
+        → insert.now.source ≡ from.Values values.now
+        → AreGiven reading (database_of (S.shows store.old).working) insert.now rows) }
+    ensures refused { IfErr result (λ refusal. (reading : CheckReading) (table : Table) → S.is_sound store.old
+        → IsSchemaOf (S.prepared store.old) (database_of (S.shows store.old).working)
+        → get (database_of (S.shows store.old).working) insert.now.table ≡ Some table
+        → AreChecksOf (checks_of reading insert.now.table table) checks.now.conditions
+        → insert.now.source ≡ from.Values values.now
+        → RefusesChange reading (database_of (S.shows store.old).working) (does.Insert insert.now) refusal) }
     ensures limits { IfErr result TellsNoLimit }
-    ensures device { IfErr result (λ refusal. AreOfSome checks.now.conditions → refusal ≡ Disk → HasRisen (S.refused store.old) (S.refused store.new)) }
+    ensures device { IfErr result (λ refusal. AreOfSome checks.now.conditions → refusal ≡ Disk
+        → HasRisen (S.refused store.old) (S.refused store.new)) }
     ensures shows { S.shows store.new ≡ S.shows store.old }
     ensures sound { S.is_sound store.old → S.is_sound store.new }
     ensures counts { S.refused store.old ≤ S.refused store.new }
@@ -75,7 +83,8 @@ fn tables_named<S: Store>(
     store: &mut S,
     trees: &[Items<Expression>],
 ) -> Result<LentTables, Refusal>
-    ensures lent { S.is_sound store.old → IfOk result (λ lent. Agree (rows_lent lent.tables) (rows_in (database_of (S.shows store.old).working)) (tables_in_rows trees.now)) }
+    ensures lent { S.is_sound store.old
+        → IfOk result (λ lent. Agree (rows_lent lent.tables) (rows_in (database_of (S.shows store.old).working)) (tables_in_rows trees.now)) }
     ensures refused { IfErr result (λ refusal. S.is_sound store.old → IsReserved refusal) }
     ensures limits { IfErr result TellsNoLimit }
     ensures device { IfErr result (λ refusal. refusal ≡ Disk → HasRisen (S.refused store.old) (S.refused store.new)) }
@@ -91,7 +100,8 @@ fn tables_named<S: Store>(
     tables_for_sources(alloc, &mut seen, trees)
 }
 
-/// The rows of sources, of which these are the trees, as the table is to hold them; or one of the faults.
+/// The rows of sources, of which these are the trees, as the table is to hold them; or one of the
+/// faults.
 pub(crate) fn stored_rows(
     alloc: Global,
     schema: &Schema,
@@ -100,14 +110,19 @@ pub(crate) fn stored_rows(
     lent: &LentTables,
     trees: &[Items<Expression>],
 ) -> Result<Rows, Refusal>
-    ensures gives { IfOk result (λ rows. (reading : CheckReading) (db : Database) (table : Table) (values : List (List Typed)) → IsSchemaOf schema.now db → get db insert.now.table ≡ Some table
-        → AreChecksOf (checks_of reading insert.now.table table) checks.now.conditions → AreTreesOf values trees.now → Agree (rows_lent lent.now.tables) (rows_in db) (tables_in_rows trees.now)
+    ensures gives { IfOk result (λ rows. (reading : CheckReading) (db : Database) (table : Table) (values : List (List Typed))
+        → IsSchemaOf schema.now db → get db insert.now.table ≡ Some table
+        → AreChecksOf (checks_of reading insert.now.table table) checks.now.conditions → AreTreesOf values trees.now
+        → Agree (rows_lent lent.now.tables) (rows_in db) (tables_in_rows trees.now)
         → Stores rows (stored_of reading db insert.now table (from.Values values))) }
-    ensures refused { IfErr result (λ refusal. (reading : CheckReading) (db : Database) (table : Table) (values : List (List Typed)) → IsSchemaOf schema.now db → get db insert.now.table ≡ Some table
-        → AreChecksOf (checks_of reading insert.now.table table) checks.now.conditions → AreTreesOf values trees.now → Agree (rows_lent lent.now.tables) (rows_in db) (tables_in_rows trees.now)
+    ensures refused { IfErr result (λ refusal. (reading : CheckReading) (db : Database) (table : Table) (values : List (List Typed))
+        → IsSchemaOf schema.now db → get db insert.now.table ≡ Some table
+        → AreChecksOf (checks_of reading insert.now.table table) checks.now.conditions → AreTreesOf values trees.now
+        → Agree (rows_lent lent.now.tables) (rows_in db) (tables_in_rows trees.now)
         → RefusesRows refusal (stored_of reading db insert.now table (from.Values values))) }
     ensures limits { IfErr result TellsNoLimit }
-    ensures device { IfErr result (λ refusal. (values : List (List Typed)) → AreTreesOf values trees.now → AreOfSome checks.now.conditions → refusal ≢ Disk) }
+    ensures device { IfErr result (λ refusal. (values : List (List Typed)) → AreTreesOf values trees.now
+        → AreOfSome checks.now.conditions → refusal ≢ Disk) }
 {
     match table_named(schema, &insert.table) {
         Some(table) => rows_to_insert(

@@ -27,8 +27,8 @@ const MAXIMUM_INDEXES: usize = 8;
 
 /// What a CREATE INDEX stands for over a schema.
 ///
-/// Refused by a reason of names, or a limit of columns or indexes, that holds of it; where several hold, by any of these. Refuses
-/// for want of memory too.
+/// Refused by a reason of names, or a limit of columns or indexes, that holds of it; where several
+/// hold, by any of these. Refuses for want of memory too.
 pub fn typed_create_index(
     alloc: Global,
     tree: &ast::CreateIndex,

@@ -26,8 +26,8 @@ use typing::{Expression, Insert, InsertSource, Query, ResultColumn, TypedQuery};
 
 /// What an INSERT stands for over a schema.
 ///
-/// Refused by a reason of names or types, or a limit, that holds of it; where several hold, by any of these. Refuses for want of
-/// memory too.
+/// Refused by a reason of names or types, or a limit, that holds of it; where several hold, by any
+/// of these. Refuses for want of memory too.
 pub fn typed_insert(alloc: Global, tree: &ast::Insert, schema: &Schema) -> Result<Insert, Refusal>
     ensures { Finds result (insert_found (known schema.now) tree.now) }
 {
@@ -46,7 +46,8 @@ fn insert_of(
     table: &Name,
     parts: Result<((), (Items<(usize, ValueType)>, InsertSource)), Refusal>,
 ) -> Result<Insert, Refusal>
-    ensures { (x : Finding (Unit {0} × (List Target × InsertSource))) → Finds parts x → Finds result (insert_of table.now x) }
+    ensures { (x : Finding (Unit {0} × (List Target × InsertSource))) → Finds parts x
+        → Finds result (insert_of table.now x) }
 {
     let (_, (targets, source)) = parts?;
     inserted(alloc, table, targets.as_slice(), source)
@@ -104,7 +105,8 @@ fn values_stored(
     targets: Result<Items<(usize, ValueType)>, Refusal>,
     values: &[Items<StoredSource>],
 ) -> Result<(Items<(usize, ValueType)>, InsertSource), Refusal>
-    ensures { (x : Finding (List Target)) → Finds targets x → Finds result (values_stored (known schema.now) x values.now) }
+    ensures { (x : Finding (List Target)) → Finds targets x
+        → Finds result (values_stored (known schema.now) x values.now) }
 {
     let targets = targets?;
     let rows = typed_rows(alloc, schema, targets.as_slice(), values);

@@ -1,4 +1,5 @@
-//! Names and types of the statements that change rows or indexes: what each stands for over a schema.
+//! Names and types of the statements that change rows or indexes: what each stands for over a
+//! schema.
 #![tactic(auto)]
 
 mod drops;

@@ -24,8 +24,8 @@ use typing::{Assignment, Condition, Delete, Expression, Frame, TypedExpression, 
 
 /// What a DELETE stands for over a schema.
 ///
-/// Refused by a reason of names or types, or a limit, that holds of it; where several hold, by any of these. Refuses for want of
-/// memory too.
+/// Refused by a reason of names or types, or a limit, that holds of it; where several hold, by any
+/// of these. Refuses for want of memory too.
 pub fn typed_delete(alloc: Global, tree: &ast::Delete, schema: &Schema) -> Result<Delete, Refusal>
     ensures { Finds result (delete_found (known schema.now) tree.now) }
 {
@@ -64,8 +64,8 @@ fn filter_in(
 
 /// What an UPDATE stands for over a schema.
 ///
-/// Refused by a reason of names or types, or a limit, that holds of it; where several hold, by any of these. Refuses for want of
-/// memory too.
+/// Refused by a reason of names or types, or a limit, that holds of it; where several hold, by any
+/// of these. Refuses for want of memory too.
 pub fn typed_update(alloc: Global, tree: &ast::Update, schema: &Schema) -> Result<Update, Refusal>
     ensures { Finds result (update_found (known schema.now) tree.now) }
 {
@@ -106,7 +106,8 @@ fn update_of(
     table: &Name,
     parts: Result<(Items<Assignment>, Option<Condition>), Refusal>,
 ) -> Result<Update, Refusal>
-    ensures { (x : Finding (List Assignment × Option Condition)) → Finds parts x → Finds result (update_of table.now x) }
+    ensures { (x : Finding (List Assignment × Option Condition)) → Finds parts x
+        → Finds result (update_of table.now x) }
 {
     let (assignments, filter) = parts?;
     Ok(Update {

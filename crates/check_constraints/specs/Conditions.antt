@@ -1,4 +1,5 @@
--- The conditions of the CHECKs of a table, as a reading of their kept texts gives them (ISO/IEC 9075:1992, 11.9).
+-- The conditions of the CHECKs of a table, as a reading of their kept texts gives them (ISO/IEC
+-- 9075:1992, 11.9).
 use Rattle.std.specs.Prelude.{ℕ, List, map}
 use Rattle.std.specs.List.{All, filter_map}
 use Rattle.sqlval.specs.declared.schema.Column.{Column}

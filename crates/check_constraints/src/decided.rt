@@ -54,14 +54,16 @@ impl Tables for NoTables {
     }
 }
 
-/// The name of a CHECK of a table that is false at one of these rows. The conditions are those of its CHECKs, in their order.
+/// The name of a CHECK of a table that is false at one of these rows. The conditions are those of
+/// its CHECKs, in their order.
 fn violated_check<'a>(
     alloc: Global,
     table: &'a Table,
     conditions: &[Condition],
     rows: &[Row],
 ) -> Result<Option<&'a Text>, Refusal>
-    ensures found { IfOk result (λ found. (reading : CheckReading) (name : Name) → AreChecksOf (conditions_of reading name table.now.columns table.now.constraints) conditions.now
+    ensures found { IfOk result (λ found. (reading : CheckReading) (name : Name)
+        → AreChecksOf (conditions_of reading name table.now.columns table.now.constraints) conditions.now
         → MatchOption found (broken_checks reading name (table_of table.now rows.now) ≡ []) (λ constraint. Contains (broken_checks reading name (table_of table.now rows.now)) constraint.now)) }
     ensures refused { IfErr result (λ refusal. refusal ≡ Memory) }
 {
@@ -94,7 +96,8 @@ fn is_false_somewhere(alloc: Global, condition: &Condition, rows: &[Row]) -> Res
     Ok(false)
 }
 
-/// Whether a CHECK is false at a row, which is all that it sees. Where it cannot be evaluated it is not.
+/// Whether a CHECK is false at a row, which is all that it sees. Where it cannot be evaluated it is
+/// not.
 fn is_false_at(alloc: Global, condition: &Condition, row: &[Value]) -> Result<bool, Refusal>
     ensures found { IfOk result (λ found. found ≡ is_false (check_truth row.now condition.now)) }
     ensures refused { IfErr result (λ refusal. refusal ≡ Memory) }

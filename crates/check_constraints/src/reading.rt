@@ -25,7 +25,8 @@ pub enum CheckFault {
     /// Memory was wanting.
     #[error("out of memory")]
     Memory,
-    /// The kept text of a CHECK stands for no condition of the table's rows, or nests too deep. No statement keeps one.
+    /// The kept text of a CHECK stands for no condition of the table's rows, or nests too deep. No
+    /// statement keeps one.
     #[error("the text of a CHECK cannot be read")]
     Unreadable,
 }
@@ -41,7 +42,8 @@ impl From<AllocError> for CheckFault {
     }
 }
 
-/// The CHECKs of a table of this schema, each read once from its text. Refuses for want of memory, and where a text cannot be read.
+/// The CHECKs of a table of this schema, each read once from its text. Refuses for want of memory,
+/// and where a text cannot be read.
 pub fn table_checks(
     alloc: Global,
     schema: &Schema,
@@ -53,7 +55,8 @@ pub fn table_checks(
     // Where a text stands for no condition nothing is given.
     ensures stand { IfOk result (λ _. AllStand table.now.name table.now.columns table.now.constraints) }
     // Where all can be read, none is said to be unreadable.
-    ensures unreadable { IfErr result (λ fault. fault ≡ Unreadable → AreReadable table.now.name table.now.columns table.now.constraints → ⊥) }
+    ensures unreadable { IfErr result (λ fault. fault ≡ Unreadable
+        → AreReadable table.now.name table.now.columns table.now.constraints → ⊥) }
 {
     let conditions = read_checks(alloc, table)?;
     let trees = trees_of(alloc, schema, conditions.as_slice())?;
@@ -65,7 +68,8 @@ fn read_checks(alloc: Global, table: &Table) -> Result<Items<typing::Condition>,
     ensures rules { IfOk result (λ conditions. (reading : CheckReading) → IsCheckReading reading
         → conditions ≡ conditions_of reading table.now.name table.now.columns table.now.constraints) }
     ensures stand { IfOk result (λ _. AllStand table.now.name table.now.columns table.now.constraints) }
-    ensures unreadable { IfErr result (λ fault. fault ≡ Unreadable → AreReadable table.now.name table.now.columns table.now.constraints → ⊥) }
+    ensures unreadable { IfErr result (λ fault. fault ≡ Unreadable
+        → AreReadable table.now.name table.now.columns table.now.constraints → ⊥) }
 {
     let mut conditions = Items::new(alloc);
     for constraint in table.constraints.as_slice() {
@@ -80,9 +84,11 @@ fn read_checks(alloc: Global, table: &Table) -> Result<Items<typing::Condition>,
 }
 
 fn read(alloc: Global, table: &Table, text: &Text) -> Result<typing::Condition, CheckFault>
-    ensures rules { IfOk result (λ condition. (reading : CheckReading) → IsCheckReading reading → condition ≡ reading table.now.name table.now.columns text.now) }
+    ensures rules { IfOk result (λ condition. (reading : CheckReading) → IsCheckReading reading
+        → condition ≡ reading table.now.name table.now.columns text.now) }
     ensures stands { IfOk result (λ _. Stands table.now.name table.now.columns text.now) }
-    ensures unreadable { IfErr result (λ fault. fault ≡ Unreadable → IsReadable table.now.name table.now.columns text.now → ⊥) }
+    ensures unreadable { IfErr result (λ fault. fault ≡ Unreadable
+        → IsReadable table.now.name table.now.columns text.now → ⊥) }
 {
     match read_check(alloc, table, text) {
         Ok(condition) => Ok(condition),

@@ -1,4 +1,5 @@
--- The text of a CHECK has one list of tokens, these one tree, and that is found to be one condition.
+-- The text of a CHECK has one list of tokens, these one tree, and that is found to be one
+-- condition.
 use Rattle.std.proofs.Common.{◌≡◌, sym, ap, ◌∙◌, subst, ℕ, List, Option, Some, Ok, Err}
 use Rattle.sqlval.specs.declared.schema.Column.{Column}
 use Rattle.lexer.specs.declared.kinds.Token.{Token}

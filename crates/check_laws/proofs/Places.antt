@@ -1,4 +1,5 @@
--- The columns that constraints and indexes of typed statements name by their places are columns of their table.
+-- The columns that constraints and indexes of typed statements name by their places are columns of
+-- their table.
 use Rattle.std.proofs.Common.{◌≡◌, ℕ, suc, ◌+◌, ◌<◌, ◌≤◌, refl, sym, ap, ◌∙◌, subst, Bool, true, false, List, [], ◌∷◌, ◌++◌, map, length, Ok, Err, Option, Some, None, arith, lt-ltb, le_refl}
 use Rattle.std.specs.Prelude.{Contains, slice_get, not, is_none, cond, nat_lt}
 use Rattle.std.specs.List.{position_from, zip}

@@ -76,7 +76,8 @@ inside tree =
 
 -- ---- what is kept of them
 
--- A condition that stands in the text, nests within the limit and is found, can be read from what is printed of it.
+-- A condition that stands in the text, nests within the limit and is found, can be read from what
+-- is printed of it.
 readable : (text : List ℕ) (kinds : Tokens) (table : CreateTable) (x : Condition) → HasKinds text kinds → Stands (Some 64) kinds x → IsNestedWithin 64 (condition_tokens x)
     → IsKept table x → IsReadable table.name table.columns (printed x)
 readable text kinds table x spelled s nested kept = record {
@@ -91,7 +92,8 @@ readable text kinds table x spelled s nested kept = record {
   nested = nested;
 }
 
--- The texts that are kept of the CHECKs of a statement whose tokens nest within the limit can be read.
+-- The texts that are kept of the CHECKs of a statement whose tokens nest within the limit can be
+-- read.
 pub kept_readable : NestsInside → (tree : Tree) (table : CreateTable) (text : List ℕ) (kinds : Tokens) → HasKinds text kinds → IsNestedWithin 64 kinds
     → IsText (Some 64) kinds (statement.CreateTable tree) → AreChecksKept tree table → AreReadable table.name table.columns table.constraints
 kept_readable nests tree table text kinds spelled nested parsed keeps =

@@ -1,4 +1,5 @@
-//! That the text of a CHECK stands for one condition, that the text that a CREATE TABLE keeps can be read, and that what is declared of columns is declared of those that are there.
+//! That the text of a CHECK stands for one condition, that the text that a CREATE TABLE keeps can
+//! be read, and that what is declared of columns is declared of those that are there.
 
 ghost use Rattle.std.specs.Prelude.{◌≡◌, true, List, ℕ, length, Ok, Some};
 ghost use Rattle.std.specs.FinMap.{get};
@@ -26,25 +27,30 @@ use typing::laws::checks_are_kept;
 
 /// The text that is kept of a CHECK stands for one condition at most, in a table of given columns.
 pub fn a_check_is_one_condition()
-    ensures { (name : List ℕ) (columns : List Column) (text : List ℕ) (one other : Condition) → ReadsCheck name columns text one → ReadsCheck name columns text other → one ≡ other }
+    ensures { (name : List ℕ) (columns : List Column) (text : List ℕ) (one other : Condition)
+        → ReadsCheck name columns text one → ReadsCheck name columns text other → one ≡ other }
 {
     a_text_has_tokens_or_a_fault();
     tokens_have_at_most_one_tree();
 }
 
-/// The texts that a CREATE TABLE keeps of its CHECKs can be read, where its own text is within the limits: of the parentheses that are open
-/// at once, and of the operands of a chain.
+/// The texts that a CREATE TABLE keeps of its CHECKs can be read, where its own text is within the
+/// limits: of the parentheses that are open at once, and of the operands of a chain.
 pub fn kept_checks_can_be_read()
-    ensures { (known : Known) (tree : Tree) (table : CreateTable) (text : List ℕ) (kinds : Tokens) → HasKinds text kinds → IsNestedWithin 64 kinds
-        → IsText (Some 64) kinds (Statement.CreateTable tree) → create_found known tree ≡ Ok table → AreReadable table.name table.columns table.constraints }
+    ensures { (known : Known) (tree : Tree) (table : CreateTable) (text : List ℕ) (kinds : Tokens) → HasKinds text kinds
+        → IsNestedWithin 64 kinds
+        → IsText (Some 64) kinds (Statement.CreateTable tree) → create_found known tree ≡ Ok table
+        → AreReadable table.name table.columns table.constraints }
 {
     checks_are_kept();
 }
 
-/// What a CREATE TABLE declares of columns by their places it declares of its own, and so does a CREATE INDEX of those of its table.
+/// What a CREATE TABLE declares of columns by their places it declares of its own, and so does a
+/// CREATE INDEX of those of its table.
 pub fn declared_columns_are_there()
     ensures created { (known : Known) (tree : Tree) (table : CreateTable) → create_found known tree ≡ Ok table
         → are_places (length table.columns) (constraint_columns table.constraints) ≡ true }
-    ensures indexed { (schema : Schema) (db : Database) (tree : IndexTree) (index : CreateIndex) (table : Table) → IsSchemaOf schema db → index_found (known schema) tree ≡ Ok index
+    ensures indexed { (schema : Schema) (db : Database) (tree : IndexTree) (index : CreateIndex) (table : Table)
+        → IsSchemaOf schema db → index_found (known schema) tree ≡ Ok index
         → get db index.table ≡ Some table → are_places (length table.columns) index.columns ≡ true }
 {}

@@ -1,4 +1,5 @@
-//! Laws of what a CREATE TABLE or a CREATE INDEX keeps: texts of CHECKs, and places of columns. Nothing of it runs.
+//! Laws of what a CREATE TABLE or a CREATE INDEX keeps: texts of CHECKs, and places of columns.
+//! Nothing of it runs.
 #![tactic(auto)]
 
 mod laws;

@@ -26,15 +26,17 @@ use typing::Condition;
 
 /// The condition that the kept text of a CHECK stands for, over the rows of its table.
 ///
-/// A text that is no condition, whose parentheses stand more than 64 deep, or that the rules of names and types refuse, is `Damaged`:
-/// no statement keeps one. Refuses for want of memory too.
+/// A text that is no condition, whose parentheses stand more than 64 deep, or that the rules of
+/// names and types refuse, is `Damaged`: no statement keeps one. Refuses for want of memory too.
 pub fn read_check(alloc: Global, table: &Table, text: &Text) -> Result<Condition, Refusal>
     // What is read is what the text stands for.
     ensures reads { IfOk result (λ condition. ReadsCheck table.now.name table.now.columns text.now condition) }
     // It is what any rules read that read the texts of CHECKs as they are.
-    ensures rules { (reading : List ℕ → List Column → List ℕ → Typed) → IsCheckReading reading → IfOk result (λ condition. reading table.now.name table.now.columns text.now ≡ condition) }
+    ensures rules { (reading : List ℕ → List Column → List ℕ → Typed) → IsCheckReading reading
+        → IfOk result (λ condition. reading table.now.name table.now.columns text.now ≡ condition) }
     // A text that stands for a condition is read.
-    ensures only { (condition : Typed) (read : ReadsCheck table.now.name table.now.columns text.now condition) → IsNestedWithin 64 read.kinds
+    ensures only { (condition : Typed) (read : ReadsCheck table.now.name table.now.columns text.now condition)
+        → IsNestedWithin 64 read.kinds
         → MatchResult result (λ found. found ≡ condition) (λ refusal. refusal ≡ Memory) }
     ensures refused { IfErr result (λ refusal. (refusal ≡ Memory) ⊎ (refusal ≡ Damaged)) }
 {
@@ -57,7 +59,8 @@ fn as_damage(refusal: Refusal) -> Refusal
 
 fn condition_of(alloc: Global, table: &Table, text: &Text) -> Result<Condition, Refusal>
     ensures reads { IfOk result (λ condition. ReadsCheck table.now.name table.now.columns text.now condition) }
-    ensures only { (condition : Typed) (read : ReadsCheck table.now.name table.now.columns text.now condition) → IsNestedWithin 64 read.kinds
+    ensures only { (condition : Typed) (read : ReadsCheck table.now.name table.now.columns text.now condition)
+        → IsNestedWithin 64 read.kinds
         → MatchResult result (λ found. found ≡ condition) (λ refusal. refusal ≡ Memory) }
 {
     match tree_of(alloc, text.as_slice()) {
@@ -69,7 +72,8 @@ fn condition_of(alloc: Global, table: &Table, text: &Text) -> Result<Condition, 
 /// The tree of a text.
 fn tree_of(alloc: Global, text: &[u8]) -> Result<ast::Condition, Refusal>
     ensures found { IfOk result (λ tree. HasTree text.now tree) }
-    ensures only { (kinds : Tokens) (tree : Tree) → HasKinds text.now kinds → IsConditionText (Some 64) kinds tree → IsNestedWithin 64 kinds
+    ensures only { (kinds : Tokens) (tree : Tree) → HasKinds text.now kinds → IsConditionText (Some 64) kinds tree
+        → IsNestedWithin 64 kinds
         → MatchResult result (λ found. found ≡ tree) (λ refusal. refusal ≡ Memory) }
 {
     match tokens(alloc, text) {

@@ -1,5 +1,6 @@
--- Which rows outside itself a tree looks at: for each column that it names there, how far outwards its row stands, 0 for the innermost.
--- A fold with a list of depths in each place (ISO/IEC 9075:1992, 6.4: an outer reference names a column of a FROM outside the subquery).
+-- Which rows outside itself a tree looks at: for each column that it names there, how far outwards
+-- its row stands, 0 for the innermost. A fold with a list of depths in each place (ISO/IEC
+-- 9075:1992, 6.4: an outer reference names a column of a FROM outside the subquery).
 use Rattle.std.specs.Prelude.{◌≡◌, ℕ, zero, suc, List, [], ◌∷◌, ◌++◌, flat_map, slice_index_or}
 use Rattle.algebra.specs.declared.tree.Expression.{Expression, Expression-F, fold-Expression}
 use Rattle.algebra.specs.declared.tree.Condition.{Condition, Condition-F, fold-Condition}
@@ -82,4 +83,5 @@ depths_in_tree = fold-Tree _ _ _ _ depths_of_condition depths_of_expression dept
 -- the same row at each of these depths
 abbrev pub SeeAlike : Env → Env → Depths → Type 0
 SeeAlike env others [] = Unit {0}
-SeeAlike env others (depth ∷ depths) = (slice_index_or env depth [] ≡ slice_index_or others depth []) × SeeAlike env others depths
+SeeAlike env others (depth ∷ depths) = (slice_index_or env depth [] ≡ slice_index_or others depth [])
+    × SeeAlike env others depths

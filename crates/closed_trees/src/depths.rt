@@ -9,7 +9,8 @@ use items::Items;
 use std::alloc::{AllocError, Global};
 use typing::Arithmetic;
 
-/// How far outwards the rows stand that a tree looks at outside itself, 0 for the innermost: in the order of the tree, once for each column. Refuses for want of memory alone.
+/// How far outwards the rows stand that a tree looks at outside itself, 0 for the innermost: in the
+/// order of the tree, once for each column. Refuses for want of memory alone.
 #[cycle(depths)]
 #[tactic(auto, using(crate::proofs::Nodes::depth_nodes))]
 pub fn depths_in_tree(alloc: Global, tree: &Tree) -> Result<Items<usize>, AllocError>

@@ -1,4 +1,5 @@
-//! Which rows outside itself an operator tree looks at. A tree that looks at none lists the same wherever it stands.
+//! Which rows outside itself an operator tree looks at. A tree that looks at none lists the same
+//! wherever it stands.
 #![tactic(auto)]
 
 mod closed;

@@ -20,7 +20,8 @@ pub fn joined(
     first: Result<Items<usize>, AllocError>,
     second: Result<Items<usize>, AllocError>,
 ) -> Result<Items<usize>, AllocError>
-    ensures { (a b : Depths) → IfOk first (λ x. x ≡ a) → IfOk second (λ y. y ≡ b) → IfOk result (λ depths. depths ≡ a ++ b) }
+    ensures { (a b : Depths) → IfOk first (λ x. x ≡ a) → IfOk second (λ y. y ≡ b)
+        → IfOk result (λ depths. depths ≡ a ++ b) }
 {
     let mut depths = first?;
     depths.append(second?)?;

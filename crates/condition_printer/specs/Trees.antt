@@ -1,4 +1,5 @@
--- The tokens of each kind of tree: the folds of the steps that say them of conditions. And what it is to put tokens at the end of a list.
+-- The tokens of each kind of tree: the folds of the steps that say them of conditions. And what it
+-- is to put tokens at the end of a list.
 use Rattle.std.specs.Prelude.{◌≡◌, ◌++◌}
 use Rattle.ast.specs.declared.tree.Join.{Join, fold-Join}
 use Rattle.ast.specs.declared.tree.Operand.{Operand, fold-Operand}

@@ -9,8 +9,8 @@ use items::Items;
 use lexer::{Kind, print_kinds};
 use std::alloc::{AllocError, Global};
 
-/// The text of a condition: its tokens with one space between two, words and names in upper case. Refuses for want of
-/// memory alone.
+/// The text of a condition: its tokens with one space between two, words and names in upper case.
+/// Refuses for want of memory alone.
 pub fn text_of_condition(alloc: Global, condition: &Condition) -> Result<Items<u8>, AllocError>
     ensures { IfOk result (λ text. text ≡ printed condition.now) }
 {

@@ -9,8 +9,8 @@ use lexer::{Kind, Name, Number, Symbol, Word};
 use std::alloc::{AllocError, Global};
 use std::marker::Model;
 
-/// Writes tokens at the end of a list. Contracts see it as that list. After a refusal, which is for want of memory alone,
-/// some tokens of the part may be in it.
+/// Writes tokens at the end of a list. Contracts see it as that list. After a refusal, which is for
+/// want of memory alone, some tokens of the part may be in it.
 #[derive(Drop)]
 pub struct Writer {
     alloc: Global,

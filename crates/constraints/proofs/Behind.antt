@@ -1,4 +1,5 @@
--- The rules that rows violate with more rows behind them: those that either violate alone, and the keys that both have.
+-- The rules that rows violate with more rows behind them: those that either violate alone, and the
+-- keys that both have.
 use Rattle.std.proofs.Common.{◌≡◌, ◌∙◌, refl, sym, ap, ℕ, ◌<◌, Bool, true, false, ◌&&◌, ◌||◌, List, [], ◌∷◌, ◌++◌, Option, Some, None, arith}
 use Rattle.std.specs.Prelude.{nat_lt}
 use Rattle.std.specs.List.{list_any}

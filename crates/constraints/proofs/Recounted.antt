@@ -1,4 +1,5 @@
--- What keys that are looked up say of the constraints of a table, once the rows have come to others: a row is found by its own key, and a second one is its twin.
+-- What keys that are looked up say of the constraints of a table, once the rows have come to
+-- others: a row is found by its own key, and a second one is its twin.
 use Rattle.std.proofs.Common.{◌≡◌, ◌∙◌, refl, sym, ap, subst, ℕ, zero, suc, ◌+◌, ◌<◌, Bool, true, false, cond, ◌||◌, List, [], ◌∷◌, ◌++◌, map, length, Option, Some, None, arith}
 use Rattle.std.specs.Prelude.{Contains, filter, nat_lt}
 use Rattle.std.specs.List.{list_any}

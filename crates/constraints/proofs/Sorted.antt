@@ -1,4 +1,5 @@
--- In rows that ascend by a key those of one key are neighbours; and rows in another order, those of each key in theirs, have twins alike.
+-- In rows that ascend by a key those of one key are neighbours; and rows in another order, those of
+-- each key in theirs, have twins alike.
 use Rattle.std.proofs.Common.{◌≡◌, refl, ap, sym, ◌∙◌, subst, ℕ, suc, ◌+◌, ◌<◌, Bool, true, false, not, ◌&&◌, ◌||◌, if◌then◌else◌, List, [], ◌∷◌, map, length, slice_index_or, arith}
 use Rattle.std.specs.Prelude.{filter}
 use Rattle.std.specs.List.{list_any}

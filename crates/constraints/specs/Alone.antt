@@ -9,7 +9,8 @@ use Rattle.constraints.specs.Foreseen.{keys_asked}
 
 abbrev pub IsAlone : CheckReading → Name → Table → List Row → Alone → Type 0
 IsAlone reading name table rows (Violates constraint) = Contains (violated_by reading name (table_of table rows)) constraint
-IsAlone reading name table rows (Keys keys) = (keys ≡ keys_asked table.indexes table.constraints) × (violated_by reading name (table_of table rows) ≡ [])
+IsAlone reading name table rows (Keys keys) = (keys ≡ keys_asked table.indexes table.constraints)
+    × (violated_by reading name (table_of table rows) ≡ [])
 
 -- what is to be looked up are the keys of the table
 abbrev pub HasKeys : Table → Alone → Type 0

@@ -1,4 +1,5 @@
--- What a change leaves of a store, and what it may be refused for (ISO/IEC 9075:1992, 11.3, 11.18, 13.7, 13.8, 13.10).
+-- What a change leaves of a store, and what it may be refused for (ISO/IEC 9075:1992, 11.3, 11.18,
+-- 13.7, 13.8, 13.10).
 use Rattle.std.specs.Prelude.{◌≡◌, ℕ, Option}
 use Rattle.refusals.specs.declared.refusal.Refusal.{Refusal}
 use Rattle.refusals.specs.declared.refusal.Refusal.TheVariants.{Violated}
@@ -25,5 +26,7 @@ pub record HasChanged (reading : CheckReading) (old : Stored) (change : Change) 
 -- what may stand in place of any reply; a fault; or a constraint that is violated
 pub data RefusesChange (reading : CheckReading) (db : Database) (change : Change) (refusal : Refusal) : Type 0 where
   withheld : IsReserved refusal → RefusesChange reading db change refusal
-  raises : (fault : Fault) → refusal ≡ refusal_of fault → IsRaised (changed reading db change) fault → RefusesChange reading db change refusal
-  violates : (name : Name) → refusal ≡ Violated name → IsNamed (changed reading db change) name → RefusesChange reading db change refusal
+  raises : (fault : Fault) → refusal ≡ refusal_of fault → IsRaised (changed reading db change) fault
+      → RefusesChange reading db change refusal
+  violates : (name : Name) → refusal ≡ Violated name → IsNamed (changed reading db change) name
+      → RefusesChange reading db change refusal

@@ -1,5 +1,7 @@
--- What can be said of a table to which rows come or have come, where it violates nothing without them: that it still violates nothing, or that it violates a constraint (ISO/IEC 9075:1992, 11.7).
--- That the keys of these rows are looked up in indexes is our own choice, and so is how few rows there have to be for it.
+-- What can be said of a table to which rows come or have come, where it violates nothing without
+-- them: that it still violates nothing, or that it violates a constraint (ISO/IEC 9075:1992, 11.7).
+-- That the keys of these rows are looked up in indexes is our own choice, and so is how few rows
+-- there have to be for it.
 use Rattle.std.specs.Prelude.{◌≡◌, ℕ, ◌*◌, Bool, true, false, nat_eq, nat_lt, List, [], ◌∷◌, ◌++◌, length, Option, Some, None}
 use Rattle.std.specs.List.{list_any, list_all, filter_map, position_from}
 use Rattle.std.specs.Option.{option_map}
@@ -22,11 +24,13 @@ use Rattle.constraints.specs.declared.keys.Key.{Key}
 abbrev pub with_more : Table → List Row → Table
 with_more table rows = record table { rows = table.rows ++ rows }
 
--- A table to which these rows come, before it and as a whole. They come to the end of the table that is there, and none of them is found in it by its key; or they have come already, in any order,
--- so that each of them is found in the table that is there, once, by its own key.
+-- A table to which these rows come, before it and as a whole. They come to the end of the table
+-- that is there, and none of them is found in it by its key; or they have come already, in any
+-- order, so that each of them is found in the table that is there, once, by its own key.
 pub data Comes (table : Table) (rows : List Row) (own : ℕ) (before whole : Table) : Type 0 where
   later : own ≡ 0 → before ≡ table → whole ≡ with_more table rows → Comes table rows own before whole
-  already : (others : List Row) → own ≡ 1 → Permutes (others ++ rows) table.rows → before ≡ record table { rows = others } → whole ≡ table → Comes table rows own before whole
+  already : (others : List Row) → own ≡ 1 → Permutes (others ++ rows) table.rows
+      → before ≡ record table { rows = others } → whole ≡ table → Comes table rows own before whole
 
 -- ---- keys
 
@@ -64,7 +68,8 @@ meets columns old new = list_any (λ row. list_any (matches columns (key_of colu
 abbrev pub are_more : {A : Type 0} → ℕ → List A → Bool
 are_more own found = nat_lt own (length found)
 
--- whether more rows of a table than so many are found by the key of one of these rows in the index at this place
+-- whether more rows of a table than so many are found by the key of one of these rows in the index
+-- at this place
 abbrev pub is_met : ℕ → Option StoredTable → ℕ → List ℕ → List Row → Bool
 is_met own table place columns rows = list_any (λ row. are_more own (sought table place (key_of columns row))) rows
 

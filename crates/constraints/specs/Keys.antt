@@ -1,4 +1,5 @@
--- Rows in the order of a key, and neighbours of one key. ISO/IEC 9075:1992, 4.10.2 and 11.7, says what rows of one key are; the order is our own choice.
+-- Rows in the order of a key, and neighbours of one key. ISO/IEC 9075:1992, 4.10.2 and 11.7, says
+-- what rows of one key are; the order is our own choice.
 use Rattle.std.specs.Prelude.{ℕ, Bool, false, ◌||◌, List, [], ◌∷◌, map}
 use Rattle.std.specs.Borrow.{Bor}
 use Rattle.std.specs.Cmp.Lexicographic.{slice_cmp}

@@ -1,4 +1,5 @@
--- The constraints that a table violates: its CHECKs, and the others (ISO/IEC 9075:1992, 11.4, 11.7; that PRIMARY KEY is UNIQUE and NOT NULL in one is our own choice).
+-- The constraints that a table violates: its CHECKs, and the others (ISO/IEC 9075:1992, 11.4, 11.7;
+-- that PRIMARY KEY is UNIQUE and NOT NULL in one is our own choice).
 use Rattle.std.specs.Prelude.{Bool, true, false, ◌&&◌, ◌||◌, List, [], ◌∷◌, map, filter}
 use Rattle.std.specs.List.{list_any}
 use Rattle.sqlval.specs.declared.schema.Constraint.{Constraint}

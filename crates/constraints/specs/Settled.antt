@@ -1,4 +1,5 @@
--- What is said of a table of a database that would be: that it violates no constraint, or why the database is not made (ISO/IEC 9075:1992, 4.10; 11.4 to 11.9).
+-- What is said of a table of a database that would be: that it violates no constraint, or why the
+-- database is not made (ISO/IEC 9075:1992, 4.10; 11.4 to 11.9).
 use Rattle.std.specs.Prelude.{◌≡◌, List, [], ◌++◌, Some, Contains}
 use Rattle.std.specs.FinMap.{get}
 use Rattle.refusals.specs.declared.refusal.Refusal.{Refusal}
@@ -28,10 +29,13 @@ pub record AreAmong (db : Database) (name : Name) (rows : List Row) : Type 0 whe
 -- these rows are some of its own, if it is there, and the others violate nothing
 abbrev pub OthersHold : CheckReading → Database → Name → List Row → Type 0
 OthersHold reading db name rows =
-    (table : Table) → get db name ≡ Some table → (others : List Row) × Permutes (others ++ rows) table.rows × (violated_by reading name (record table { rows = others }) ≡ [])
+    (table : Table) → get db name ≡ Some table
+    → (others : List Row) × Permutes (others ++ rows) table.rows
+    × (violated_by reading name (record table { rows = others }) ≡ [])
 
 -- what may stand in place of any reply, or a constraint that the table violates
 pub data Breaks (reading : CheckReading) (db : Database) (name : Name) (refusal : Refusal) : Type 0 where
   withheld : IsReserved refusal → Breaks reading db name refusal
-  violates : (table : Table) (constraint : Name) → get db name ≡ Some table → refusal ≡ Violated constraint → Contains (violated_by reading name table) constraint
+  violates : (table : Table) (constraint : Name) → get db name ≡ Some table → refusal ≡ Violated constraint
+      → Contains (violated_by reading name table) constraint
       → Breaks reading db name refusal

@@ -15,12 +15,15 @@ use std::alloc::Global;
 
 /// What decides whether rows violate the CHECKs of a table.
 pub trait Checks {
-    /// That it decides by this reading of their texts, in the table of this name with these columns and constraints.
+    /// That it decides by this reading of their texts, in the table of this name with these columns
+    /// and constraints.
     ghost decides: { Self → CheckReading → Name → List Column → List Declared → Type 0 };
 
-    /// The name of a CHECK of a table that is false at one of these rows. It is refused for want of memory alone.
+    /// The name of a CHECK of a table that is false at one of these rows. It is refused for want of
+    /// memory alone.
     fn violated(&self, alloc: Global, table: &Table, rows: &[Row]) -> Result<Option<Text>, Refusal>
-        ensures found { IfOk result (λ found. (reading : CheckReading) (name : Name) → decides self.now reading name table.now.columns table.now.constraints
+        ensures found { IfOk result (λ found. (reading : CheckReading) (name : Name)
+            → decides self.now reading name table.now.columns table.now.constraints
             → MatchOption found (broken_checks reading name (table_of table.now rows.now) ≡ []) (λ constraint. Contains (broken_checks reading name (table_of table.now rows.now)) constraint)) }
         ensures refused { IfErr result (λ refusal. refusal ≡ Memory) };
 }

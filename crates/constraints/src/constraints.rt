@@ -13,14 +13,18 @@ use items::Text;
 use sqlval::{Constraint, Rule, Table, Value};
 use std::alloc::{AllocError, Global};
 
-/// The name of a constraint that a table with these rows violates: of a NOT NULL, a PRIMARY KEY or a UNIQUE. CHECKs are not looked at. Keys are sorted, which takes memory.
+/// The name of a constraint that a table with these rows violates: of a NOT NULL, a PRIMARY KEY or
+/// a UNIQUE. CHECKs are not looked at. Keys are sorted, which takes memory.
 pub fn violated_constraint<'a>(
     alloc: Global,
     table: &'a Table,
     rows: &[Row],
 ) -> Result<Option<&'a Text>, AllocError>
-    ensures found { IfOk result (λ found. IfSome found (λ constraint. (reading : CheckReading) (name : Name) → Contains (violated_by reading name (table_of table.now rows.now)) constraint.now)) }
-    ensures none { IfOk result (λ found. IfNone found ((reading : CheckReading) (name : Name) → broken_checks reading name (table_of table.now rows.now) ≡ [] → violated_by reading name (table_of table.now rows.now) ≡ [])) }
+    ensures found { IfOk result (λ found. IfSome found (λ constraint. (reading : CheckReading) (name : Name)
+        → Contains (violated_by reading name (table_of table.now rows.now)) constraint.now)) }
+    ensures none { IfOk result (λ found. IfNone found ((reading : CheckReading) (name : Name)
+        → broken_checks reading name (table_of table.now rows.now) ≡ []
+        → violated_by reading name (table_of table.now rows.now) ≡ [])) }
 {
     broken_constraint(alloc, table, rows)
 }

@@ -29,12 +29,16 @@ use std::alloc::Global;
 use store::{Reading, Seen, Store, View};
 use transactions::refusal_of;
 
-/// How many times as many rows as are put into it a table has to have, or more, for keys to be looked up: of fewer rows all are read sooner.
+/// How many times as many rows as are put into it a table has to have, or more, for keys to be
+/// looked up: of fewer rows all are read sooner.
 const MANY_TIMES: u64 = 8;
 
-/// What can be said of the table of this name with these rows at its end, where it violates no constraint in the newest version with its changes. Each of the rows is looked at alone, then all
-/// of them for keys that they share, and each key is looked up in the index of its columns. Where the rows are not few beside those of the table, or a key has no index, nothing is said; else
-/// something is. The store is left as it was. It is refused for want of memory or by the device. CHECKs are decided by what is given for them.
+/// What can be said of the table of this name with these rows at its end, where it violates no
+/// constraint in the newest version with its changes. Each of the rows is looked at alone, then all
+/// of them for keys that they share, and each key is looked up in the index of its columns. Where
+/// the rows are not few beside those of the table, or a key has no index, nothing is said; else
+/// something is. The store is left as it was. It is refused for want of memory or by the device.
+/// CHECKs are decided by what is given for them.
 pub fn foresee<S: Store, C: Checks>(
     alloc: Global,
     store: &mut S,
@@ -42,10 +46,13 @@ pub fn foresee<S: Store, C: Checks>(
     rows: &[Row],
     checks: &C,
 ) -> Result<Foreseen, Refusal>
-    ensures found { IfOk result (λ foreseen. (reading : CheckReading) (table : TableOf) → S.is_sound store.old → get (database_of (S.shows store.old).working) name.now ≡ Some table
-        → C.decides checks.now reading name.now table.columns table.constraints → violated_by reading name.now table ≡ []
+    ensures found { IfOk result (λ foreseen. (reading : CheckReading) (table : TableOf) → S.is_sound store.old
+        → get (database_of (S.shows store.old).working) name.now ≡ Some table
+        → C.decides checks.now reading name.now table.columns table.constraints
+        → violated_by reading name.now table ≡ []
         → Foretells foreseen (violated_by reading name.now (with_more table rows.now) ≡ []) (λ constraint. Contains (violated_by reading name.now (with_more table rows.now)) constraint)) }
-    ensures said { IfOk result (λ foreseen. (table : StoredTable) → S.is_sound store.old → get (S.shows store.old).working name.now ≡ Some table → has_many_more (length rows.now) table.entries ≡ true
+    ensures said { IfOk result (λ foreseen. (table : StoredTable) → S.is_sound store.old
+        → get (S.shows store.old).working name.now ≡ Some table → has_many_more (length rows.now) table.entries ≡ true
         → has_key_indexes table ≡ true → IsSaid foreseen) }
     ensures shows { S.shows store.new ≡ S.shows store.old }
     ensures refused { IfErr result (λ refusal. S.is_sound store.old → IsReserved refusal) }
@@ -61,9 +68,12 @@ pub fn foresee<S: Store, C: Checks>(
     }
 }
 
-/// What can be said of the table of this name in the newest version with its changes, where these rows are some of its own and the others violate no constraint. Each of the rows is looked at alone,
-/// then all of them for keys that they share, and each key is looked up in the index of its columns, where it finds its own row. Where a key has no index, nothing is said; else something is. The
-/// store is left as it was. It is refused for want of memory or by the device. CHECKs are decided by what is given for them.
+/// What can be said of the table of this name in the newest version with its changes, where these
+/// rows are some of its own and the others violate no constraint. Each of the rows is looked at
+/// alone, then all of them for keys that they share, and each key is looked up in the index of its
+/// columns, where it finds its own row. Where a key has no index, nothing is said; else something
+/// is. The store is left as it was. It is refused for want of memory or by the device. CHECKs are
+/// decided by what is given for them.
 pub fn look_again<S: Store, C: Checks>(
     alloc: Global,
     store: &mut S,
@@ -71,11 +81,16 @@ pub fn look_again<S: Store, C: Checks>(
     rows: &[Row],
     checks: &C,
 ) -> Result<Foreseen, Refusal>
-    ensures found { IfOk result (λ foreseen. (reading : CheckReading) (table : TableOf) (others : List AnyRow) → S.is_sound store.old
-        → get (database_of (S.shows store.old).working) name.now ≡ Some table → C.decides checks.now reading name.now table.columns table.constraints → Permutes (others ++ rows.now) table.rows
-        → Foretells foreseen (violated_by reading name.now (record table { rows = others }) ≡ [] → violated_by reading name.now table ≡ [])
+    ensures found { IfOk result (λ foreseen. (reading : CheckReading) (table : TableOf) (others : List AnyRow)
+        → S.is_sound store.old
+        → get (database_of (S.shows store.old).working) name.now ≡ Some table
+        → C.decides checks.now reading name.now table.columns table.constraints
+        → Permutes (others ++ rows.now) table.rows
+        → Foretells foreseen (violated_by reading name.now (record table { rows = others }) ≡ []
+        → violated_by reading name.now table ≡ [])
         (λ constraint. Contains (violated_by reading name.now table) constraint)) }
-    ensures said { IfOk result (λ foreseen. (table : StoredTable) → S.is_sound store.old → get (S.shows store.old).working name.now ≡ Some table → has_key_indexes table ≡ true → IsSaid foreseen) }
+    ensures said { IfOk result (λ foreseen. (table : StoredTable) → S.is_sound store.old
+        → get (S.shows store.old).working name.now ≡ Some table → has_key_indexes table ≡ true → IsSaid foreseen) }
     ensures shows { S.shows store.new ≡ S.shows store.old }
     ensures refused { IfErr result (λ refusal. S.is_sound store.old → IsReserved refusal) }
     ensures limits { IfErr result TellsNoLimit }
@@ -86,14 +101,16 @@ pub fn look_again<S: Store, C: Checks>(
     look_up(alloc, store, name, rows, checks, 1)
 }
 
-/// Whether so many rows are few beside those of the table, as its row numbers let suppose: they are where some number is above eight times as much.
+/// Whether so many rows are few beside those of the table, as its row numbers let suppose: they are
+/// where some number is above eight times as much.
 pub fn are_few<S: Store>(
     alloc: Global,
     store: &mut S,
     name: &Text,
     count: usize,
 ) -> Result<bool, Refusal>
-    ensures few { S.is_sound store.old → IfOk result (λ few. few ≡ has_many_more count (entries_of (get (S.shows store.old).working name.now))) }
+    ensures few { S.is_sound store.old
+        → IfOk result (λ few. few ≡ has_many_more count (entries_of (get (S.shows store.old).working name.now))) }
     ensures shows { S.shows store.new ≡ S.shows store.old }
     ensures refused { IfErr result (λ refusal. S.is_sound store.old → IsReserved refusal) }
     ensures limits { IfErr result TellsNoLimit }
@@ -117,7 +134,8 @@ fn is_above(number: u64, bound: u64) -> bool
     bound < number
 }
 
-/// What can be said of a table to which few rows come or have come: `own` is how many of the rows that a key finds are the row itself, none before it comes and one after.
+/// What can be said of a table to which few rows come or have come: `own` is how many of the rows
+/// that a key finds are the row itself, none before it comes and one after.
 fn look_up<S: Store, C: Checks>(
     alloc: Global,
     store: &mut S,
@@ -126,10 +144,13 @@ fn look_up<S: Store, C: Checks>(
     checks: &C,
     own: usize,
 ) -> Result<Foreseen, Refusal>
-    ensures found { IfOk result (λ foreseen. (reading : CheckReading) (table before whole : TableOf) → S.is_sound store.old → get (database_of (S.shows store.old).working) name.now ≡ Some table
+    ensures found { IfOk result (λ foreseen. (reading : CheckReading) (table before whole : TableOf)
+        → S.is_sound store.old → get (database_of (S.shows store.old).working) name.now ≡ Some table
         → C.decides checks.now reading name.now table.columns table.constraints → Comes table rows.now own before whole
-        → Foretells foreseen (violated_by reading name.now before ≡ [] → violated_by reading name.now whole ≡ []) (λ constraint. Contains (violated_by reading name.now whole) constraint)) }
-    ensures said { IfOk result (λ foreseen. (table : StoredTable) → S.is_sound store.old → get (S.shows store.old).working name.now ≡ Some table → has_key_indexes table ≡ true → IsSaid foreseen) }
+        → Foretells foreseen (violated_by reading name.now before ≡ []
+        → violated_by reading name.now whole ≡ []) (λ constraint. Contains (violated_by reading name.now whole) constraint)) }
+    ensures said { IfOk result (λ foreseen. (table : StoredTable) → S.is_sound store.old
+        → get (S.shows store.old).working name.now ≡ Some table → has_key_indexes table ≡ true → IsSaid foreseen) }
     ensures shows { S.shows store.new ≡ S.shows store.old }
     ensures refused { IfErr result (λ refusal. S.is_sound store.old → IsReserved refusal) }
     ensures limits { IfErr result TellsNoLimit }
@@ -150,7 +171,8 @@ fn look_up<S: Store, C: Checks>(
     }
 }
 
-/// What is found at rows that come to a table without a look at the others: a constraint that they violate alone; else the keys that are to be looked up.
+/// What is found at rows that come to a table without a look at the others: a constraint that they
+/// violate alone; else the keys that are to be looked up.
 #[derive(Drop)]
 enum Alone {
     Violates(Text),
@@ -163,7 +185,9 @@ fn seen_alone<C: Checks>(
     rows: &[Row],
     checks: &C,
 ) -> Result<Alone, Refusal>
-    ensures found { IfOk result (λ found. (reading : CheckReading) (name : Name) → C.decides checks.now reading name table.now.columns table.now.constraints → IsAlone reading name table.now rows.now found) }
+    ensures found { IfOk result (λ found. (reading : CheckReading) (name : Name)
+        → C.decides checks.now reading name table.now.columns table.now.constraints
+        → IsAlone reading name table.now rows.now found) }
     ensures keys { IfOk result (λ found. HasKeys table.now found) }
     ensures refused { IfErr result (λ refusal. refusal ≡ Memory) }
 {
@@ -190,7 +214,8 @@ fn looked_up<S: Store>(
     rows: &[Row],
     own: usize,
 ) -> Result<Foreseen, Refusal>
-    ensures found { S.is_sound store.old → IfOk result (λ foreseen. foreseen ≡ foreseen_by (met_in own (get (S.shows store.old).working name.now) rows.now) keys) }
+    ensures found { S.is_sound store.old
+        → IfOk result (λ foreseen. foreseen ≡ foreseen_by (met_in own (get (S.shows store.old).working name.now) rows.now) keys) }
     ensures shows { S.shows store.new ≡ S.shows store.old }
     ensures refused { IfErr result (λ refusal. S.is_sound store.old → IsReserved refusal) }
     ensures limits { IfErr result TellsNoLimit }
@@ -214,10 +239,12 @@ fn first_met<R: Reading>(
     rows: &[Row],
     own: usize,
 ) -> Result<Foreseen, Refusal>
-    ensures found { R.is_sound reading.old → IfOk result (λ foreseen. foreseen ≡ foreseen_by (met_in own (found_as (R.shows reading.old) name.now) rows.now) keys) }
+    ensures found { R.is_sound reading.old
+        → IfOk result (λ foreseen. foreseen ≡ foreseen_by (met_in own (found_as (R.shows reading.old) name.now) rows.now) keys) }
     ensures refused { IfErr result (λ refusal. R.is_sound reading.old → IsReserved refusal) }
     ensures limits { IfErr result TellsNoLimit }
-    ensures counts { IfErr result (λ refusal. refusal ≡ Disk → HasRisen (R.shows reading.old).refused (R.shows reading.new).refused) }
+    ensures counts { IfErr result (λ refusal. refusal ≡ Disk
+        → HasRisen (R.shows reading.old).refused (R.shows reading.new).refused) }
     ensures follows { R.follows reading.old reading.new }
 {
     for key in keys.into_vec() {
@@ -238,7 +265,8 @@ fn first_met<R: Reading>(
     Ok(Foreseen::Fits)
 }
 
-/// Whether the key of one of these rows, none of it null, finds more rows of the table than `own` in the index at this place, which is over these columns.
+/// Whether the key of one of these rows, none of it null, finds more rows of the table than `own`
+/// in the index at this place, which is over these columns.
 fn is_met<R: Reading>(
     alloc: Global,
     reading: &mut R,
@@ -248,10 +276,12 @@ fn is_met<R: Reading>(
     rows: &[Row],
     own: usize,
 ) -> Result<bool, Refusal>
-    ensures found { R.is_sound reading.old → IfOk result (λ met. met ≡ is_met own (found_as (R.shows reading.old) name.now) place columns.now rows.now) }
+    ensures found { R.is_sound reading.old
+        → IfOk result (λ met. met ≡ is_met own (found_as (R.shows reading.old) name.now) place columns.now rows.now) }
     ensures refused { IfErr result (λ refusal. R.is_sound reading.old → IsReserved refusal) }
     ensures limits { IfErr result TellsNoLimit }
-    ensures counts { IfErr result (λ refusal. refusal ≡ Disk → HasRisen (R.shows reading.old).refused (R.shows reading.new).refused) }
+    ensures counts { IfErr result (λ refusal. refusal ≡ Disk
+        → HasRisen (R.shows reading.old).refused (R.shows reading.new).refused) }
     ensures follows { R.follows reading.old reading.new }
 {
     for row in rows {
@@ -273,10 +303,12 @@ fn has_twin<R: Reading>(
     row: &[Value],
     own: usize,
 ) -> Result<bool, Refusal>
-    ensures found { R.is_sound reading.old → IfOk result (λ found. found ≡ are_more own (sought (found_as (R.shows reading.old) name.now) place (key_of columns.now row.now))) }
+    ensures found { R.is_sound reading.old
+        → IfOk result (λ found. found ≡ are_more own (sought (found_as (R.shows reading.old) name.now) place (key_of columns.now row.now))) }
     ensures refused { IfErr result (λ refusal. R.is_sound reading.old → IsReserved refusal) }
     ensures limits { IfErr result TellsNoLimit }
-    ensures counts { IfErr result (λ refusal. refusal ≡ Disk → HasRisen (R.shows reading.old).refused (R.shows reading.new).refused) }
+    ensures counts { IfErr result (λ refusal. refusal ≡ Disk
+        → HasRisen (R.shows reading.old).refused (R.shows reading.new).refused) }
     ensures follows { R.follows reading.old reading.new }
 {
     let key = match copied_key(alloc, columns, row) {

@@ -2,7 +2,8 @@
 
 use items::Text;
 
-/// What can be said of a table to which rows come, or have come, and which violates no constraint without them.
+/// What can be said of a table to which rows come, or have come, and which violates no constraint
+/// without them.
 #[derive(Drop)]
 pub enum Foreseen {
     /// It violates none with them.

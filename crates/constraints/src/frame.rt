@@ -21,7 +21,8 @@ use std::alloc::Global;
 use store::{Store, View};
 use transactions::refusal_of;
 
-/// Sets the mark, to which goes back whatever is refused from now on. It is refused for want of memory or by the device; all is then as it was, but for the mark.
+/// Sets the mark, to which goes back whatever is refused from now on. It is refused for want of
+/// memory or by the device; all is then as it was, but for the mark.
 pub fn begin<S: Store>(store: &mut S) -> Result<(), Refusal>
     ensures shows { OnOk result (S.shows store.new ≡ marked_now (S.shows store.old)) }
     ensures same { OnErr result (SameButMark (S.shows store.old) (S.shows store.new)) }
@@ -38,8 +39,9 @@ pub fn begin<S: Store>(store: &mut S) -> Result<(), Refusal>
     }
 }
 
-/// Keeps what was changed since the mark, where the table of this name now violates no constraint; else goes back to the mark. It is refused by a constraint that the table violates
-/// (23000), for want of memory or by the device. CHECKs are decided by what is given for them.
+/// Keeps what was changed since the mark, where the table of this name now violates no constraint;
+/// else goes back to the mark. It is refused by a constraint that the table violates (23000), for
+/// want of memory or by the device. CHECKs are decided by what is given for them.
 pub fn settle<S: Store, C: Checks>(
     alloc: Global,
     store: &mut S,
@@ -47,10 +49,12 @@ pub fn settle<S: Store, C: Checks>(
     checks: &C,
 ) -> Result<(), Refusal>
     ensures kept { OnOk result (S.shows store.new ≡ S.shows store.old) }
-    ensures holds { OnOk result ((reading : CheckReading) → S.is_sound store.old → Decided (C.decides checks.now reading) (database_of (S.shows store.old).working) name.now
+    ensures holds { OnOk result ((reading : CheckReading) → S.is_sound store.old
+        → Decided (C.decides checks.now reading) (database_of (S.shows store.old).working) name.now
         → Holds reading (database_of (S.shows store.old).working) name.now) }
     ensures undone { OnErr result (S.shows store.new ≡ undone (S.shows store.old)) }
-    ensures refused { IfErr result (λ refusal. (reading : CheckReading) → S.is_sound store.old → Decided (C.decides checks.now reading) (database_of (S.shows store.old).working) name.now
+    ensures refused { IfErr result (λ refusal. (reading : CheckReading) → S.is_sound store.old
+        → Decided (C.decides checks.now reading) (database_of (S.shows store.old).working) name.now
         → Breaks reading (database_of (S.shows store.old).working) name.now refusal) }
     ensures limits { IfErr result TellsNoLimit }
     ensures device { IfErr result (λ refusal. refusal ≡ Disk → HasRisen (S.refused store.old) (S.refused store.new)) }
@@ -70,8 +74,9 @@ pub fn settle<S: Store, C: Checks>(
     }
 }
 
-/// Keeps what was changed since the mark, where the table of this name now violates no constraint; else goes back to the mark. The table is looked at unless it is known to violate none. It
-/// is refused by a constraint that the table violates (23000), for want of memory or by the device.
+/// Keeps what was changed since the mark, where the table of this name now violates no constraint;
+/// else goes back to the mark. The table is looked at unless it is known to violate none. It is
+/// refused by a constraint that the table violates (23000), for want of memory or by the device.
 pub fn settle_unless<S: Store, C: Checks>(
     alloc: Global,
     store: &mut S,
@@ -80,10 +85,13 @@ pub fn settle_unless<S: Store, C: Checks>(
     known: bool,
 ) -> Result<(), Refusal>
     ensures kept { OnOk result (S.shows store.new ≡ S.shows store.old) }
-    ensures holds { OnOk result ((reading : CheckReading) → S.is_sound store.old → Decided (C.decides checks.now reading) (database_of (S.shows store.old).working) name.now
-        → (known ≡ true → Holds reading (database_of (S.shows store.old).working) name.now) → Holds reading (database_of (S.shows store.old).working) name.now) }
+    ensures holds { OnOk result ((reading : CheckReading) → S.is_sound store.old
+        → Decided (C.decides checks.now reading) (database_of (S.shows store.old).working) name.now
+        → (known ≡ true → Holds reading (database_of (S.shows store.old).working) name.now)
+        → Holds reading (database_of (S.shows store.old).working) name.now) }
     ensures undone { OnErr result (S.shows store.new ≡ undone (S.shows store.old)) }
-    ensures refused { IfErr result (λ refusal. (reading : CheckReading) → S.is_sound store.old → Decided (C.decides checks.now reading) (database_of (S.shows store.old).working) name.now
+    ensures refused { IfErr result (λ refusal. (reading : CheckReading) → S.is_sound store.old
+        → Decided (C.decides checks.now reading) (database_of (S.shows store.old).working) name.now
         → Breaks reading (database_of (S.shows store.old).working) name.now refusal) }
     ensures limits { IfErr result TellsNoLimit }
     ensures device { IfErr result (λ refusal. refusal ≡ Disk → HasRisen (S.refused store.old) (S.refused store.new)) }
@@ -99,16 +107,19 @@ pub fn settle_unless<S: Store, C: Checks>(
     }
 }
 
-/// The name of a constraint that the table of this name violates in the newest version with its changes.
+/// The name of a constraint that the table of this name violates in the newest version with its
+/// changes.
 fn violation<S: Store, C: Checks>(
     alloc: Global,
     store: &mut S,
     name: &Text,
     checks: &C,
 ) -> Result<Option<Text>, Refusal>
-    ensures found { IfOk result (λ found. (reading : CheckReading) → S.is_sound store.old → Decided (C.decides checks.now reading) (database_of (S.shows store.old).working) name.now
+    ensures found { IfOk result (λ found. (reading : CheckReading) → S.is_sound store.old
+        → Decided (C.decides checks.now reading) (database_of (S.shows store.old).working) name.now
         → MatchOption found (Holds reading (database_of (S.shows store.old).working) name.now)
-        (λ constraint. (table : TableOf) × (get (database_of (S.shows store.old).working) name.now ≡ Some table) × Contains (violated_by reading name.now table) constraint)) }
+        (λ constraint. (table : TableOf) × (get (database_of (S.shows store.old).working) name.now ≡ Some table)
+        × Contains (violated_by reading name.now table) constraint)) }
     ensures shows { S.shows store.new ≡ S.shows store.old }
     ensures refused { IfErr result (λ refusal. S.is_sound store.old → IsReserved refusal) }
     ensures limits { IfErr result TellsNoLimit }
@@ -129,14 +140,16 @@ fn violation<S: Store, C: Checks>(
     }
 }
 
-/// The name of a constraint that a table with these rows violates. It is refused for want of memory alone.
+/// The name of a constraint that a table with these rows violates. It is refused for want of memory
+/// alone.
 pub fn violation_in<C: Checks>(
     alloc: Global,
     table: &Table,
     rows: &[Row],
     checks: &C,
 ) -> Result<Option<Text>, Refusal>
-    ensures found { IfOk result (λ found. (reading : CheckReading) (name : Name) → C.decides checks.now reading name table.now.columns table.now.constraints
+    ensures found { IfOk result (λ found. (reading : CheckReading) (name : Name)
+        → C.decides checks.now reading name table.now.columns table.now.constraints
         → MatchOption found (violated_by reading name (table_of table.now rows.now) ≡ []) (λ constraint. Contains (violated_by reading name (table_of table.now rows.now)) constraint)) }
     ensures refused { IfErr result (λ refusal. refusal ≡ Memory) }
 {

@@ -7,7 +7,8 @@ use items::{Items, Text};
 use sqlval::{Constraint, Index, Rule};
 use std::alloc::{AllocError, Global};
 
-/// A key that no two rows of a table may share: the name of the PRIMARY KEY or UNIQUE that asks for it, its columns, and the place in the table of an index over just these, if there is one.
+/// A key that no two rows of a table may share: the name of the PRIMARY KEY or UNIQUE that asks for
+/// it, its columns, and the place in the table of an index over just these, if there is one.
 #[derive(Drop)]
 pub(crate) struct Key {
     pub(crate) constraint: Text,

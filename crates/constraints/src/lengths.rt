@@ -16,7 +16,8 @@ const LONGEST_RECORD: usize = 1_000;
 /// The most bytes that a key takes, coded with its row number.
 const LONGEST_KEY: usize = 600;
 
-/// Whether a table without CHECKs may hold a row, but for its constraints: the row and its keys are short enough, or one of the faults `record` and `key` is raised. Takes memory.
+/// Whether a table without CHECKs may hold a row, but for its constraints: the row and its keys are
+/// short enough, or one of the faults `record` and `key` is raised. Takes memory.
 pub fn admit(alloc: Global, table: &Table, row: &[Value]) -> Result<(), Stop>
     ensures passes { Passes result (row_faults [] (table_of table.now []) row.now) }
 {
@@ -46,7 +47,8 @@ pub fn rows_fit_key(alloc: Global, columns: &[usize], rows: &[Row]) -> Result<()
     Ok(())
 }
 
-/// Whether the key of a row is short enough for an index of these columns: 600 bytes with its row number. Takes memory.
+/// Whether the key of a row is short enough for an index of these columns: 600 bytes with its row
+/// number. Takes memory.
 pub fn fits_key(alloc: Global, columns: &[usize], row: &[Value]) -> Result<(), Stop>
     ensures passes { Passes result (key_faults row.now columns.now) }
 {

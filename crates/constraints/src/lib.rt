@@ -1,4 +1,5 @@
-//! What stands round a change of tables: the mark before it, the lengths of rows and keys, and the constraints of the table after it.
+//! What stands round a change of tables: the mark before it, the lengths of rows and keys, and the
+//! constraints of the table after it, with keys decided by sorting or by look-ups.
 #![tactic(auto)]
 
 mod checks;

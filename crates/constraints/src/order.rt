@@ -8,7 +8,8 @@ ghost use Rattle.constraints.specs.Keys.{by_key};
 use sqlval::{Value, sort_order};
 use std::cmp::Ordering;
 
-/// The order of two rows by the values of some columns: by the first, and where that ties by the others. Null is lowest.
+/// The order of two rows by the values of some columns: by the first, and where that ties by the
+/// others. Null is lowest.
 pub fn compare_keys(columns: &[usize], one: &[Value], other: &[Value]) -> Ordering
     ensures { result ≡ by_key columns.now one.now other.now }
 {

@@ -18,8 +18,10 @@ use refusals::Refusal;
 use std::alloc::Global;
 use store::Store;
 
-/// Keeps what was changed since the mark, where the table of this name now violates no constraint; else goes back to the mark. These rows are some of its own, and the others violate none: so the
-/// keys of these alone are looked up, and the table is looked at as a whole only where a key has no index. It is refused by a constraint that the table violates (23000), for want of memory or by
+/// Keeps what was changed since the mark, where the table of this name now violates no constraint;
+/// else goes back to the mark. These rows are some of its own, and the others violate none: so the
+/// keys of these alone are looked up, and the table is looked at as a whole only where a key has no
+/// index. It is refused by a constraint that the table violates (23000), for want of memory or by
 /// the device. CHECKs are decided by what is given for them.
 pub fn settle_rows<S: Store, C: Checks>(
     alloc: Global,
@@ -29,11 +31,15 @@ pub fn settle_rows<S: Store, C: Checks>(
     checks: &C,
 ) -> Result<(), Refusal>
     ensures kept { OnOk result (S.shows store.new ≡ S.shows store.old) }
-    ensures holds { OnOk result ((reading : CheckReading) → S.is_sound store.old → Decided (C.decides checks.now reading) (database_of (S.shows store.old).working) name.now
-        → OthersHold reading (database_of (S.shows store.old).working) name.now rows.now → Holds reading (database_of (S.shows store.old).working) name.now) }
+    ensures holds { OnOk result ((reading : CheckReading) → S.is_sound store.old
+        → Decided (C.decides checks.now reading) (database_of (S.shows store.old).working) name.now
+        → OthersHold reading (database_of (S.shows store.old).working) name.now rows.now
+        → Holds reading (database_of (S.shows store.old).working) name.now) }
     ensures undone { OnErr result (S.shows store.new ≡ undone (S.shows store.old)) }
-    ensures refused { IfErr result (λ refusal. (reading : CheckReading) → S.is_sound store.old → Decided (C.decides checks.now reading) (database_of (S.shows store.old).working) name.now
-        → AreAmong (database_of (S.shows store.old).working) name.now rows.now → Breaks reading (database_of (S.shows store.old).working) name.now refusal) }
+    ensures refused { IfErr result (λ refusal. (reading : CheckReading) → S.is_sound store.old
+        → Decided (C.decides checks.now reading) (database_of (S.shows store.old).working) name.now
+        → AreAmong (database_of (S.shows store.old).working) name.now rows.now
+        → Breaks reading (database_of (S.shows store.old).working) name.now refusal) }
     ensures limits { IfErr result TellsNoLimit }
     ensures device { IfErr result (λ refusal. refusal ≡ Disk → HasRisen (S.refused store.old) (S.refused store.new)) }
     ensures sound { S.is_sound store.old → S.is_sound store.new }

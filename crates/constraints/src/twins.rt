@@ -12,7 +12,8 @@ use sqlval::{CompOp, Value, compare};
 use std::alloc::{AllocError, Global};
 use std::cmp::Ordering;
 
-/// Whether two rows have equal and wholly non-null columns. Takes memory for a reference to each row, which it sorts.
+/// Whether two rows have equal and wholly non-null columns. Takes memory for a reference to each
+/// row, which it sorts.
 pub fn any_twins(alloc: Global, columns: &[usize], rows: &[Row]) -> Result<bool, AllocError>
     ensures { IfOk result (λ found. found ≡ has_twins columns.now rows.now) }
 {

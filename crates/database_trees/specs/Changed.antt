@@ -30,7 +30,8 @@ DatabaseOwned = WrittenFor true
 abbrev pub HoldsNoDatabaseIn : PageMap → ℕ → Type 0 → Type 0
 HoldsNoDatabaseIn pages root Whole = (tables : List TableAt) → HoldsDatabase pages root tables → Whole → ⊥
 
--- Why the space of pages may refuse a change, with what is known where it was for damage and with the counts of refused device calls before and after; of the other refusals nothing is said here.
+-- Why the space of pages may refuse a change, with what is known where it was for damage and with
+-- the counts of refused device calls before and after; of the other refusals nothing is said here.
 abbrev pub SpaceRefused : (SpaceError → Type 0) → Type 0 → ℕ → ℕ → DatabaseError → Type 0
 SpaceRefused AtLimit Harm before after (Space fault) = ChangeRefused AtLimit Harm before after fault
 SpaceRefused AtLimit Harm before after Record = ⊤
@@ -56,7 +57,8 @@ IsMemoryAlone Schema = ⊥
 
 -- ---- the other refusals
 
--- a row's code, its key in an index, or its number is too great only where it is so; that a record of the schema is too long may be at any time
+-- a row's code, its key in an index, or its number is too great only where it is so; that a record
+-- of the schema is too long may be at any time
 abbrev pub Reaches : (Long LongKey NoNumber : Type 0) → DatabaseError → Type 0
 Reaches Long LongKey NoNumber (Space fault) = ⊤
 Reaches Long LongKey NoNumber Record = Long
@@ -68,11 +70,14 @@ Reaches Long LongKey NoNumber Schema = ⊤
 abbrev pub ReachesNone : DatabaseError → Type 0
 ReachesNone = Reaches ⊥ ⊥ ⊥
 
--- Storing rows in the table of a name: the code of one of them, or its key in an index of the table, is too long; of the indexes this is said where a database is held.
+-- Storing rows in the table of a name: the code of one of them, or its key in an index of the
+-- table, is too long; of the indexes this is said where a database is held.
 abbrev pub StoringReaches : PageMap → ℕ → Name → List Row → DatabaseError → Type 0
-StoringReaches pages root name rows = Reaches (HasLongRow rows) ((tables : List TableAt) → HoldsDatabase pages root tables → HasLongKey (indexes_of (get (contents_of tables) name)) rows) ⊥
+StoringReaches pages root name rows = Reaches (HasLongRow rows) ((tables : List TableAt)
+    → HoldsDatabase pages root tables → HasLongKey (indexes_of (get (contents_of tables) name)) rows) ⊥
 
 -- the same, or the numbers end before all of the rows have one
 abbrev pub NumberingReaches : PageMap → ℕ → Name → List Row → DatabaseError → Type 0
-NumberingReaches pages root name rows = Reaches (HasLongRow rows) ((tables : List TableAt) → HoldsDatabase pages root tables → HasLongKey (indexes_of (get (contents_of tables) name)) rows)
+NumberingReaches pages root name rows = Reaches (HasLongRow rows) ((tables : List TableAt)
+    → HoldsDatabase pages root tables → HasLongKey (indexes_of (get (contents_of tables) name)) rows)
     ((tables : List TableAt) → HoldsDatabase pages root tables → 2 ^ 63 < next_number (entries_of (get (contents_of tables) name)) + length rows)

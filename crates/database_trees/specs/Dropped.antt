@@ -34,4 +34,5 @@ pub record TableGone (alone : Bool) (new : PageMap) (before : List TableAt) (was
 
 -- the pages of a table of this name are free
 abbrev pub AreFreed : PageMap → Name → List TableAt → Type 0
-AreFreed new name tables = AllByRecursion (λ (t : TableAt). t.name ≡ name → (n : ℕ) → Has n (pages_of (table_trees t)) → new n ≡ None) tables
+AreFreed new name tables = AllByRecursion (λ (t : TableAt). t.name ≡ name → (n : ℕ) → Has n (pages_of (table_trees t))
+    → new n ≡ None) tables

@@ -1,4 +1,5 @@
--- Indexes that lose a row and get others, and the roots of their trees in the schema. Our own choice.
+-- Indexes that lose a row and get others, and the roots of their trees in the schema. Our own
+-- choice.
 use Rattle.std.specs.Prelude.{◌≡◌, ℕ, zero, suc, ◌+◌, ◌<◌, List, [], ◌∷◌, ◌++◌, map, Contains, Option, None, Some, ⊤, Bool}
 use Rattle.sqlval.specs.declared.schema.Table.{Table}
 use Rattle.sqlval.specs.declared.schema.Index.{Index}

@@ -1,4 +1,5 @@
--- The database that pages hold: a schema, of each table its rows, and each index of it over just these rows. Our own choice.
+-- The database that pages hold: a schema, of each table its rows, and each index of it over just
+-- these rows. Our own choice.
 use Rattle.std.specs.Prelude.{◌≡◌, ℕ, List, ◌∷◌, map, Bool, true, false}
 use Rattle.std.specs.List.{flat_map}
 use Rattle.sqlval.specs.declared.schema.Table.{Table}
@@ -16,7 +17,8 @@ pub record IndexAt : Type 0 where
   pub declared : Index
   pub owned : List ℕ
 
--- a table: what the catalogue declares, its rows and the pages of their tree, and its indexes in the order of the declaration, those that constraints own among them
+-- a table: what the catalogue declares, its rows and the pages of their tree, and its indexes in
+-- the order of the declaration, those that constraints own among them
 pub record TableAt : Type 0 where
   pub name : Name
   pub columns : List Column
@@ -45,7 +47,8 @@ trees_of_indexes rows indexes = map (index_tree rows) indexes
 abbrev pub rows_tree : ℕ → List ℕ → List Entry → TreeAt
 rows_tree root owned rows = record { root = root; owned = owned; content = RowsOf rows }
 
--- the tree of a table's rows, and that of each of its indexes, which has all rows of the table and no others
+-- the tree of a table's rows, and that of each of its indexes, which has all rows of the table and
+-- no others
 abbrev pub table_trees : TableAt → List TreeAt
 table_trees t = rows_tree t.root t.owned t.rows ∷ trees_of_indexes t.rows t.indexes
 
@@ -55,7 +58,8 @@ trees_of tables = flat_map table_trees tables
 abbrev pub schema_tree : ℕ → List ℕ → List Table → TreeAt
 schema_tree root owned tables = record { root = root; owned = owned; content = SchemaOf tables }
 
--- the tree at the root has the schema, and no page belongs to two of the trees of the database; if it is alone there, each page in use belongs to one
+-- the tree at the root has the schema, and no page belongs to two of the trees of the database; if
+-- it is alone there, each page in use belongs to one
 pub record HoldsFor (alone : Bool) (pages : PageMap) (root : ℕ) (tables : List TableAt) : Type 0 where
   pub owned : List ℕ
   pub trees : HoldsTrees alone pages (schema_tree root owned (declared_of tables) ∷ trees_of tables)

@@ -9,7 +9,8 @@ use Rattle.catalog.specs.Held.{HoldsSchema}
 use Rattle.tablestore.specs.Held.{HoldsRows}
 use Rattle.index_trees.specs.Indexed.{HoldsIndex}
 
--- what a tree has: the schema of these tables, these rows, or an entry for each of these rows in an index over these columns
+-- what a tree has: the schema of these tables, these rows, or an entry for each of these rows in an
+-- index over these columns
 pub data Content : Type 0 where
   SchemaOf : (tables : List Table) → Content
   RowsOf : (rows : List Entry) → Content
@@ -37,7 +38,8 @@ pages_of trees = flat_map (λ (tree : TreeAt). tree.owned) trees
 abbrev pub OwnAll : PageMap → List TreeAt → Type 0
 OwnAll pages trees = (n : ℕ) → IsSome (pages n) → Has n (pages_of trees)
 
--- each of the trees lies in the pages, and no page belongs to two of them; if they are alone there, no other page is in use
+-- each of the trees lies in the pages, and no page belongs to two of them; if they are alone there,
+-- no other page is in use
 pub record HoldsTrees (alone : Bool) (pages : PageMap) (trees : List TreeAt) : Type 0 where
   pub each : AllByRecursion (Lies pages) trees
   pub apart : Apart (pages_of trees)

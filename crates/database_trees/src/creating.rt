@@ -25,7 +25,8 @@ fn add_new<S: PageSpace>(
     root: u32,
     table: &Table,
 ) -> Result<u32, DatabaseError>
-    ensures added { (owned : List ℕ) (tables : List AnyTable) → HoldsSchema (S.pages space.old) root owned tables → IsTable table.now → IsFree table.now.name tables
+    ensures added { (owned : List ℕ) (tables : List AnyTable) → HoldsSchema (S.pages space.old) root owned tables
+        → IsTable table.now → IsFree table.now.name tables
         → IfOk result (SchemaWritten (S.pages space.old) (S.pages space.new) owned (with_table table.now tables)) }
     ensures keeps { IfOk result (LosesNoPage (S.pages space.old) (S.pages space.new) root) }
     ensures limits { IfErr result ReachesNone }
@@ -40,12 +41,13 @@ fn add_new<S: PageSpace>(
     }
 }
 
-/// Puts a new table without rows, whose indexes have no entries, beside the others, and answers the root. Where a table has
-/// that name, all stays.
+/// Puts a new table without rows, whose indexes have no entries, beside the others, and answers the
+/// root. Where a table has that name, all stays.
 ///
-/// Refused for want of memory, where the device refuses a call, at the limits of pages, as damaged only where no database is
-/// held there or the list of free pages is none, and where a record of the schema is too long. After a refusal nothing is said
-/// of the pages but what every call of the space keeps.
+/// Refused for want of memory, where the device refuses a call, at the limits of pages, as damaged
+/// only where no database is held there or the list of free pages is none, and where a record of
+/// the schema is too long. After a refusal nothing is said of the pages but what every call of the
+/// space keeps.
 pub fn create_table<S: PageSpace>(
     space: &mut S,
     alloc: Global,
@@ -54,8 +56,10 @@ pub fn create_table<S: PageSpace>(
 ) -> Result<u32, DatabaseError>
     requires rows { table.now.root ≡ 0 }
     requires indexes { AllByRecursion (λ index. index.root ≡ 0) table.now.indexes }
-    ensures created { (tables : List TableAt) → HoldsDatabase (S.pages space.old) root tables → IsTable table.now → IfOk result (DatabaseWritten (S.pages space.new) (stored.with_table (contents_of tables) table.now)) }
-    ensures owned { (tables : List TableAt) → IsAllOwned (S.pages space.old) root tables → IsTable table.now → IfOk result (DatabaseOwned (S.pages space.new) (stored.with_table (contents_of tables) table.now)) }
+    ensures created { (tables : List TableAt) → HoldsDatabase (S.pages space.old) root tables → IsTable table.now
+        → IfOk result (DatabaseWritten (S.pages space.new) (stored.with_table (contents_of tables) table.now)) }
+    ensures owned { (tables : List TableAt) → IsAllOwned (S.pages space.old) root tables → IsTable table.now
+        → IfOk result (DatabaseOwned (S.pages space.new) (stored.with_table (contents_of tables) table.now)) }
     ensures limits { IfErr result ReachesNone }
     ensures whole { OnOk result (S.is_whole space.old → S.is_whole space.new) }
     ensures refusal { IfErr result (SpaceRefused (S.at_limit space.new) (HoldsNoDatabaseIn (S.pages space.old) root (S.is_whole space.old)) (S.refused space.old) (S.refused space.new)) }

@@ -20,9 +20,11 @@ use std::alloc::Global;
 
 /// Gives back the trees of these indexes.
 fn drop_indexes<S: PageSpace>(space: &mut S, indexes: &Items<Index>) -> Result<(), SpaceError>
-    ensures dropped { (alone : Bool) (h : AreIndexes alone (S.pages space.old) indexes.now) → OnOk result (AreDropped (S.pages space.old) (S.pages space.new) (pages_of (trees_of_indexes h.rows h.its))) }
+    ensures dropped { (alone : Bool) (h : AreIndexes alone (S.pages space.old) indexes.now)
+        → OnOk result (AreDropped (S.pages space.old) (S.pages space.new) (pages_of (trees_of_indexes h.rows h.its))) }
     ensures whole { OnOk result (S.is_whole space.old → S.is_whole space.new) }
-    ensures refusal { IfErr result (ChangeRefused (S.at_limit space.new) (AreIndexes false (S.pages space.old) indexes.now → S.is_whole space.old → ⊥) (S.refused space.old) (S.refused space.new)) }
+    ensures refusal { IfErr result (ChangeRefused (S.at_limit space.new) (AreIndexes false (S.pages space.old) indexes.now
+        → S.is_whole space.old → ⊥) (S.refused space.old) (S.refused space.new)) }
     ensures rising { S.refused space.old ≤ S.refused space.new }
     ensures follows { S.follows space.old space.new }
 {
@@ -34,9 +36,11 @@ fn drop_indexes<S: PageSpace>(space: &mut S, indexes: &Items<Index>) -> Result<(
 
 /// Gives back the trees of a table.
 fn drop_trees<S: PageSpace>(space: &mut S, table: &Table) -> Result<(), SpaceError>
-    ensures dropped { (alone : Bool) (h : AreTreesOf alone (S.pages space.old) table.now) → OnOk result (AreDropped (S.pages space.old) (S.pages space.new) (pages_of (table_trees h.at))) }
+    ensures dropped { (alone : Bool) (h : AreTreesOf alone (S.pages space.old) table.now)
+        → OnOk result (AreDropped (S.pages space.old) (S.pages space.new) (pages_of (table_trees h.at))) }
     ensures whole { OnOk result (S.is_whole space.old → S.is_whole space.new) }
-    ensures refusal { IfErr result (ChangeRefused (S.at_limit space.new) (AreTreesOf false (S.pages space.old) table.now → S.is_whole space.old → ⊥) (S.refused space.old) (S.refused space.new)) }
+    ensures refusal { IfErr result (ChangeRefused (S.at_limit space.new) (AreTreesOf false (S.pages space.old) table.now
+        → S.is_whole space.old → ⊥) (S.refused space.old) (S.refused space.new)) }
     ensures rising { S.refused space.old ≤ S.refused space.new }
     ensures follows { S.follows space.old space.new }
 {
@@ -53,10 +57,12 @@ fn drop_found<S: PageSpace>(
     root: u32,
     table: &Table,
 ) -> Result<u32, DatabaseError>
-    ensures dropped { (alone : Bool) (h : IsTableOf alone (S.pages space.old) root table.now) → IfOk result (TableGone alone (S.pages space.new) h.before h.at h.behind) }
+    ensures dropped { (alone : Bool) (h : IsTableOf alone (S.pages space.old) root table.now)
+        → IfOk result (TableGone alone (S.pages space.new) h.before h.at h.behind) }
     ensures limits { IfErr result ReachesNone }
     ensures whole { OnOk result (S.is_whole space.old → S.is_whole space.new) }
-    ensures refusal { IfErr result (SpaceRefused (S.at_limit space.new) (IsTableOf false (S.pages space.old) root table.now → S.is_whole space.old → ⊥) (S.refused space.old) (S.refused space.new)) }
+    ensures refusal { IfErr result (SpaceRefused (S.at_limit space.new) (IsTableOf false (S.pages space.old) root table.now
+        → S.is_whole space.old → ⊥) (S.refused space.old) (S.refused space.new)) }
     ensures rising { S.refused space.old ≤ S.refused space.new }
     ensures follows { S.follows space.old space.new }
 {
@@ -69,21 +75,25 @@ fn drop_found<S: PageSpace>(
     }
 }
 
-/// Takes the table of a name away, with its indexes, and answers the root. All pages of its trees are then free. Where no
-/// table has the name, all stays.
+/// Takes the table of a name away, with its indexes, and answers the root. All pages of its trees
+/// are then free. Where no table has the name, all stays.
 ///
-/// Refused for want of memory, where the device refuses a call, at the limits of pages, as damaged only where no database is
-/// held there or the list of free pages is none, and where a record of the schema is too long. After a refusal nothing is said
-/// of the pages but what every call of the space keeps.
+/// Refused for want of memory, where the device refuses a call, at the limits of pages, as damaged
+/// only where no database is held there or the list of free pages is none, and where a record of
+/// the schema is too long. After a refusal nothing is said of the pages but what every call of the
+/// space keeps.
 pub fn drop_table<S: PageSpace>(
     space: &mut S,
     alloc: Global,
     root: u32,
     name: &Text,
 ) -> Result<u32, DatabaseError>
-    ensures dropped { (tables : List TableAt) → HoldsDatabase (S.pages space.old) root tables → IfOk result (DatabaseWritten (S.pages space.new) (stored.without_table (contents_of tables) name.now)) }
-    ensures owned { (tables : List TableAt) → IsAllOwned (S.pages space.old) root tables → IfOk result (DatabaseOwned (S.pages space.new) (stored.without_table (contents_of tables) name.now)) }
-    ensures freed { (tables : List TableAt) → HoldsDatabase (S.pages space.old) root tables → OnOk result (AreFreed (S.pages space.new) name.now tables) }
+    ensures dropped { (tables : List TableAt) → HoldsDatabase (S.pages space.old) root tables
+        → IfOk result (DatabaseWritten (S.pages space.new) (stored.without_table (contents_of tables) name.now)) }
+    ensures owned { (tables : List TableAt) → IsAllOwned (S.pages space.old) root tables
+        → IfOk result (DatabaseOwned (S.pages space.new) (stored.without_table (contents_of tables) name.now)) }
+    ensures freed { (tables : List TableAt) → HoldsDatabase (S.pages space.old) root tables
+        → OnOk result (AreFreed (S.pages space.new) name.now tables) }
     ensures limits { IfErr result ReachesNone }
     ensures whole { OnOk result (S.is_whole space.old → S.is_whole space.new) }
     ensures refusal { IfErr result (SpaceRefused (S.at_limit space.new) (HoldsNoDatabaseIn (S.pages space.old) root (S.is_whole space.old)) (S.refused space.old) (S.refused space.new)) }

@@ -49,7 +49,8 @@ pub(crate) fn of_index(error: IndexError) -> DatabaseError
     }
 }
 
-/// A row that an index has is never too long for it, so a refused key says that the index does not have the row.
+/// A row that an index has is never too long for it, so a refused key says that the index does not
+/// have the row.
 pub(crate) fn of_removal(error: IndexError) -> DatabaseError
     ensures { result ≡ of_removal error }
 {

@@ -24,7 +24,8 @@ pub(crate) struct Exchange {
     pub put: Numbered,
 }
 
-/// Takes a row out of the index at a root over these columns, where one is to be taken, and answers the root.
+/// Takes a row out of the index at a root over these columns, where one is to be taken, and answers
+/// the root.
 fn take_row<S: PageSpace>(
     space: &mut S,
     alloc: Global,
@@ -32,11 +33,13 @@ fn take_row<S: PageSpace>(
     columns: &[usize],
     taken: &Option<NumberedRow>,
 ) -> Result<u32, DatabaseError>
-    ensures taken { (h : HasTaken (S.pages space.old) root columns.now taken.now) → IfOk result (IndexWritten (S.pages space.old) (S.pages space.new) h.owned columns.now h.left) }
+    ensures taken { (h : HasTaken (S.pages space.old) root columns.now taken.now)
+        → IfOk result (IndexWritten (S.pages space.old) (S.pages space.new) h.owned columns.now h.left) }
     ensures keeps { IfOk result (LosesNoPage (S.pages space.old) (S.pages space.new) root) }
     ensures limits { IfErr result ReachesNone }
     ensures whole { OnOk result (S.is_whole space.old → S.is_whole space.new) }
-    ensures refusal { IfErr result (SpaceRefused (S.at_limit space.new) (HasTaken (S.pages space.old) root columns.now taken.now → S.is_whole space.old → ⊥) (S.refused space.old) (S.refused space.new)) }
+    ensures refusal { IfErr result (SpaceRefused (S.at_limit space.new) (HasTaken (S.pages space.old) root columns.now taken.now
+        → S.is_whole space.old → ⊥) (S.refused space.old) (S.refused space.new)) }
     ensures rising { S.refused space.old ≤ S.refused space.new }
     ensures follows { S.follows space.old space.new }
 {
@@ -58,7 +61,8 @@ fn add_one<S: PageSpace>(
     number: u64,
     row: &Row,
 ) -> Result<u32, DatabaseError>
-    ensures added { (owned : List ℕ) (others rows : List stored.Entry) → HoldsIndex (S.pages space.old) root owned columns.now others → AreWith (number, row.now) others rows
+    ensures added { (owned : List ℕ) (others rows : List stored.Entry)
+        → HoldsIndex (S.pages space.old) root owned columns.now others → AreWith (number, row.now) others rows
         → IfOk result (IndexWritten (S.pages space.old) (S.pages space.new) owned columns.now rows) }
     ensures keeps { IfOk result (LosesNoPage (S.pages space.old) (S.pages space.new) root) }
     ensures limits { IfErr result (Reaches ⊥ (600 < key_length (key_of columns.now row.now) + 8) ⊥) }
@@ -91,11 +95,13 @@ fn add_rows<S: PageSpace>(
     columns: &[usize],
     put: &Numbered,
 ) -> Result<u32, DatabaseError>
-    ensures added { (h : IsOpen (S.pages space.old) root columns.now put.now) → IfOk result (IndexWritten (S.pages space.old) (S.pages space.new) h.owned columns.now (h.held ++ h.more)) }
+    ensures added { (h : IsOpen (S.pages space.old) root columns.now put.now)
+        → IfOk result (IndexWritten (S.pages space.old) (S.pages space.new) h.owned columns.now (h.held ++ h.more)) }
     ensures keeps { IfOk result (LosesNoPage (S.pages space.old) (S.pages space.new) root) }
     ensures limits { IfErr result (Reaches ⊥ (HasLongKeyIn columns.now put.now.rows) ⊥) }
     ensures whole { OnOk result (S.is_whole space.old → S.is_whole space.new) }
-    ensures refusal { IfErr result (SpaceRefused (S.at_limit space.new) (IsOpen (S.pages space.old) root columns.now put.now → S.is_whole space.old → ⊥) (S.refused space.old) (S.refused space.new)) }
+    ensures refusal { IfErr result (SpaceRefused (S.at_limit space.new) (IsOpen (S.pages space.old) root columns.now put.now
+        → S.is_whole space.old → ⊥) (S.refused space.old) (S.refused space.new)) }
     ensures rising { S.refused space.old ≤ S.refused space.new }
     ensures follows { S.follows space.old space.new }
 {
@@ -107,7 +113,8 @@ fn add_rows<S: PageSpace>(
     Ok(top)
 }
 
-/// Takes a row out of the index at a root over these columns, puts others into it, and answers the root.
+/// Takes a row out of the index at a root over these columns, puts others into it, and answers the
+/// root.
 fn take_and_put<S: PageSpace>(
     space: &mut S,
     alloc: Global,
@@ -115,11 +122,13 @@ fn take_and_put<S: PageSpace>(
     columns: &[usize],
     exchange: &Exchange,
 ) -> Result<u32, DatabaseError>
-    ensures exchanged { (h : IsExchangeable (S.pages space.old) root columns.now exchange.now) → IfOk result (IndexWritten (S.pages space.old) (S.pages space.new) h.owned columns.now (h.left ++ h.more)) }
+    ensures exchanged { (h : IsExchangeable (S.pages space.old) root columns.now exchange.now)
+        → IfOk result (IndexWritten (S.pages space.old) (S.pages space.new) h.owned columns.now (h.left ++ h.more)) }
     ensures keeps { IfOk result (LosesNoPage (S.pages space.old) (S.pages space.new) root) }
     ensures limits { IfErr result (Reaches ⊥ (HasLongKeyIn columns.now exchange.now.put.rows) ⊥) }
     ensures whole { OnOk result (S.is_whole space.old → S.is_whole space.new) }
-    ensures refusal { IfErr result (SpaceRefused (S.at_limit space.new) (IsExchangeable (S.pages space.old) root columns.now exchange.now → S.is_whole space.old → ⊥) (S.refused space.old) (S.refused space.new)) }
+    ensures refusal { IfErr result (SpaceRefused (S.at_limit space.new) (IsExchangeable (S.pages space.old) root columns.now exchange.now
+        → S.is_whole space.old → ⊥) (S.refused space.old) (S.refused space.new)) }
     ensures rising { S.refused space.old ≤ S.refused space.new }
     ensures follows { S.follows space.old space.new }
 {
@@ -129,8 +138,9 @@ fn take_and_put<S: PageSpace>(
     }
 }
 
-/// Exchanges rows in the index at a root over these columns, and answers the root. Where one row is put in place of one of its
-/// number that has the same values there, the index has its entry already.
+/// Exchanges rows in the index at a root over these columns, and answers the root. Where one row is
+/// put in place of one of its number that has the same values there, the index has its entry
+/// already.
 pub(crate) fn exchange_rows<S: PageSpace>(
     space: &mut S,
     alloc: Global,
@@ -138,11 +148,13 @@ pub(crate) fn exchange_rows<S: PageSpace>(
     columns: &[usize],
     exchange: &Exchange,
 ) -> Result<u32, DatabaseError>
-    ensures exchanged { (h : IsExchangeable (S.pages space.old) root columns.now exchange.now) → IfOk result (IndexWritten (S.pages space.old) (S.pages space.new) h.owned columns.now (h.left ++ h.more)) }
+    ensures exchanged { (h : IsExchangeable (S.pages space.old) root columns.now exchange.now)
+        → IfOk result (IndexWritten (S.pages space.old) (S.pages space.new) h.owned columns.now (h.left ++ h.more)) }
     ensures keeps { IfOk result (LosesNoPage (S.pages space.old) (S.pages space.new) root) }
     ensures limits { IfErr result (Reaches ⊥ (HasLongKeyIn columns.now exchange.now.put.rows) ⊥) }
     ensures whole { OnOk result (S.is_whole space.old → S.is_whole space.new) }
-    ensures refusal { IfErr result (SpaceRefused (S.at_limit space.new) (IsExchangeable (S.pages space.old) root columns.now exchange.now → S.is_whole space.old → ⊥) (S.refused space.old) (S.refused space.new)) }
+    ensures refusal { IfErr result (SpaceRefused (S.at_limit space.new) (IsExchangeable (S.pages space.old) root columns.now exchange.now
+        → S.is_whole space.old → ⊥) (S.refused space.old) (S.refused space.new)) }
     ensures rising { S.refused space.old ≤ S.refused space.new }
     ensures follows { S.follows space.old space.new }
 {

@@ -23,7 +23,8 @@ pub(crate) fn exchange_each<S: PageSpace>(
         → IfOk result (AreExchanged alone (S.pages space.new) h.before indexes.now h.behind (h.left ++ h.more)) }
     ensures limits { IfErr result (Reaches ⊥ (HasLongKey (map index_of indexes.now) exchange.now.put.rows) ⊥) }
     ensures whole { OnOk result (S.is_whole space.old → S.is_whole space.new) }
-    ensures refusal { IfErr result (SpaceRefused (S.at_limit space.new) (AreExchangeable false (S.pages space.old) indexes.now exchange.now → S.is_whole space.old → ⊥) (S.refused space.old) (S.refused space.new)) }
+    ensures refusal { IfErr result (SpaceRefused (S.at_limit space.new) (AreExchangeable false (S.pages space.old) indexes.now exchange.now
+        → S.is_whole space.old → ⊥) (S.refused space.old) (S.refused space.new)) }
     ensures rising { S.refused space.old ≤ S.refused space.new }
     ensures follows { S.follows space.old space.new }
 {

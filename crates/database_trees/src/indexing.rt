@@ -32,11 +32,15 @@ fn filled<S: PageSpace>(
     rows: u32,
     columns: &[usize],
 ) -> Result<u32, DatabaseError>
-    ensures filled { (owned : List ℕ) (held : List stored.Entry) → HoldsRows (S.pages space.old) rows owned held → IfOk result (IndexWritten (S.pages space.old) (S.pages space.new) [] columns.now held) }
+    ensures filled { (owned : List ℕ) (held : List stored.Entry) → HoldsRows (S.pages space.old) rows owned held
+        → IfOk result (IndexWritten (S.pages space.old) (S.pages space.new) [] columns.now held) }
     ensures keeps { IfOk result (LosesNoPage (S.pages space.old) (S.pages space.new) 0) }
-    ensures limits { (owned : List ℕ) (held : List stored.Entry) → HoldsRows (S.pages space.old) rows owned held → IfErr result (Reaches ⊥ (HasLongKeyIn columns.now (stored.rows_of held)) ⊥) }
+    ensures limits { (owned : List ℕ) (held : List stored.Entry) → HoldsRows (S.pages space.old) rows owned held
+        → IfErr result (Reaches ⊥ (HasLongKeyIn columns.now (stored.rows_of held)) ⊥) }
     ensures whole { OnOk result (S.is_whole space.old → S.is_whole space.new) }
-    ensures refusal { IfErr result (SpaceRefused (S.at_limit space.new) ((owned : List ℕ) (held : List stored.Entry) → HoldsRows (S.pages space.old) rows owned held → S.is_whole space.old → ⊥) (S.refused space.old) (S.refused space.new)) }
+    ensures refusal { IfErr result (SpaceRefused (S.at_limit space.new) ((owned : List ℕ) (held : List stored.Entry)
+        → HoldsRows (S.pages space.old) rows owned held → S.is_whole space.old
+        → ⊥) (S.refused space.old) (S.refused space.new)) }
     ensures rising { S.refused space.old ≤ S.refused space.new }
     ensures follows { S.follows space.old space.new }
 {
@@ -84,7 +88,8 @@ fn with_index(table: Table, index: Index, root: u32) -> Result<Table, DatabaseEr
     })
 }
 
-/// Lets the schema name one more index of a table, whose tree begins at `top`, and answers its own root.
+/// Lets the schema name one more index of a table, whose tree begins at `top`, and answers its own
+/// root.
 fn put_index<S: PageSpace>(
     space: &mut S,
     alloc: Global,
@@ -93,10 +98,13 @@ fn put_index<S: PageSpace>(
     index: Index,
     top: u32,
 ) -> Result<u32, DatabaseError>
-    ensures put { (alone : Bool) (h : HasTable alone (S.pages space.old) root table.now) → IsTable (table_indexed table.now index top) → IfOk result (TablePut alone (S.pages space.new) h.front (table_indexed table.now index top) h.back h.others) }
+    ensures put { (alone : Bool) (h : HasTable alone (S.pages space.old) root table.now)
+        → IsTable (table_indexed table.now index top)
+        → IfOk result (TablePut alone (S.pages space.new) h.front (table_indexed table.now index top) h.back h.others) }
     ensures limits { IfErr result ReachesNone }
     ensures whole { OnOk result (S.is_whole space.old → S.is_whole space.new) }
-    ensures refusal { IfErr result (SpaceRefused (S.at_limit space.new) (HasTable false (S.pages space.old) root table.now → S.is_whole space.old → ⊥) (S.refused space.old) (S.refused space.new)) }
+    ensures refusal { IfErr result (SpaceRefused (S.at_limit space.new) (HasTable false (S.pages space.old) root table.now
+        → S.is_whole space.old → ⊥) (S.refused space.old) (S.refused space.new)) }
     ensures rising { S.refused space.old ≤ S.refused space.new }
     ensures follows { S.follows space.old space.new }
 {
@@ -118,10 +126,14 @@ fn index_on<S: PageSpace>(
     table: &Table,
     index: Index,
 ) -> Result<u32, DatabaseError>
-    ensures indexed { (alone : Bool) (h : IsTableOf alone (S.pages space.old) root table.now) → ArePlaces index.columns → AreAmong (length table.now.columns) index.columns → IfOk result (IndexMade alone (S.pages space.new) h.before h.at h.behind index) }
-    ensures limits { (h : IsTableOf false (S.pages space.old) root table.now) → IfErr result (Reaches ⊥ (HasLongKey (index_of index ∷ []) (stored.rows_of h.at.rows)) ⊥) }
+    ensures indexed { (alone : Bool) (h : IsTableOf alone (S.pages space.old) root table.now) → ArePlaces index.columns
+        → AreAmong (length table.now.columns) index.columns
+        → IfOk result (IndexMade alone (S.pages space.new) h.before h.at h.behind index) }
+    ensures limits { (h : IsTableOf false (S.pages space.old) root table.now)
+        → IfErr result (Reaches ⊥ (HasLongKey (index_of index ∷ []) (stored.rows_of h.at.rows)) ⊥) }
     ensures whole { OnOk result (S.is_whole space.old → S.is_whole space.new) }
-    ensures refusal { IfErr result (SpaceRefused (S.at_limit space.new) (IsTableOf false (S.pages space.old) root table.now → S.is_whole space.old → ⊥) (S.refused space.old) (S.refused space.new)) }
+    ensures refusal { IfErr result (SpaceRefused (S.at_limit space.new) (IsTableOf false (S.pages space.old) root table.now
+        → S.is_whole space.old → ⊥) (S.refused space.old) (S.refused space.new)) }
     ensures rising { S.refused space.old ≤ S.refused space.new }
     ensures follows { S.follows space.old space.new }
 {
@@ -131,8 +143,8 @@ fn index_on<S: PageSpace>(
     }
 }
 
-/// Makes an index of a table, and answers the schema's root. Refused as want of memory where it names a place that is none of the
-/// table's columns: no typed statement does.
+/// Makes an index of a table, and answers the schema's root. Refused as want of memory where it
+/// names a place that is none of the table's columns: no typed statement does.
 fn create_on<S: PageSpace>(
     space: &mut S,
     alloc: Global,
@@ -140,11 +152,15 @@ fn create_on<S: PageSpace>(
     table: &Table,
     index: Index,
 ) -> Result<u32, DatabaseError>
-    ensures indexed { (alone : Bool) (h : IsTableOf alone (S.pages space.old) root table.now) → ArePlaces index.columns → IfOk result (IndexMade alone (S.pages space.new) h.before h.at h.behind index) }
-    ensures limits { (h : IsTableOf false (S.pages space.old) root table.now) → IfErr result (Reaches ⊥ (HasLongKey (index_of index ∷ []) (stored.rows_of h.at.rows)) ⊥) }
-    ensures places { (AreAmong (length table.now.columns) index.columns → ⊥) → result ≡ Err (DatabaseError.Space SpaceError.Memory) }
+    ensures indexed { (alone : Bool) (h : IsTableOf alone (S.pages space.old) root table.now) → ArePlaces index.columns
+        → IfOk result (IndexMade alone (S.pages space.new) h.before h.at h.behind index) }
+    ensures limits { (h : IsTableOf false (S.pages space.old) root table.now)
+        → IfErr result (Reaches ⊥ (HasLongKey (index_of index ∷ []) (stored.rows_of h.at.rows)) ⊥) }
+    ensures places { (AreAmong (length table.now.columns) index.columns → ⊥)
+        → result ≡ Err (DatabaseError.Space SpaceError.Memory) }
     ensures whole { OnOk result (S.is_whole space.old → S.is_whole space.new) }
-    ensures refusal { IfErr result (SpaceRefused (S.at_limit space.new) (IsTableOf false (S.pages space.old) root table.now → S.is_whole space.old → ⊥) (S.refused space.old) (S.refused space.new)) }
+    ensures refusal { IfErr result (SpaceRefused (S.at_limit space.new) (IsTableOf false (S.pages space.old) root table.now
+        → S.is_whole space.old → ⊥) (S.refused space.old) (S.refused space.new)) }
     ensures rising { S.refused space.old ≤ S.refused space.new }
     ensures follows { S.follows space.old space.new }
 {
@@ -154,13 +170,15 @@ fn create_on<S: PageSpace>(
     index_on(space, alloc, root, table, index)
 }
 
-/// Makes an index of the table of a name, over the rows that are there, and answers the root. Where no table has the name, all
-/// stays. Where the index says that its tree begins does not matter.
+/// Makes an index of the table of a name, over the rows that are there, and answers the root. Where
+/// no table has the name, all stays. Where the index says that its tree begins does not matter.
 ///
-/// Refused for want of memory, where the device refuses a call, at the limits of pages, as damaged only where no database is
-/// held there or the list of free pages is none, where a row's key takes more than 600 bytes with its number, and where a
-/// record of the schema is too long; as want of memory also where the index names a place that is none of the table's columns,
-/// which no typed statement does. After a refusal nothing is said of the pages but what every call of the space keeps.
+/// Refused for want of memory, where the device refuses a call, at the limits of pages, as damaged
+/// only where no database is held there or the list of free pages is none, where a row's key takes
+/// more than 600 bytes with its number, and where a record of the schema is too long; as want of
+/// memory also where the index names a place that is none of the table's columns, which no typed
+/// statement does. After a refusal nothing is said of the pages but what every call of the space
+/// keeps.
 pub fn create_index<S: PageSpace>(
     space: &mut S,
     alloc: Global,
@@ -168,9 +186,12 @@ pub fn create_index<S: PageSpace>(
     name: &Text,
     index: Index,
 ) -> Result<u32, DatabaseError>
-    ensures indexed { (tables : List TableAt) → HoldsDatabase (S.pages space.old) root tables → ArePlaces index.columns → IfOk result (DatabaseWritten (S.pages space.new) (stored.indexed (contents_of tables) name.now index)) }
-    ensures owned { (tables : List TableAt) → IsAllOwned (S.pages space.old) root tables → ArePlaces index.columns → IfOk result (DatabaseOwned (S.pages space.new) (stored.indexed (contents_of tables) name.now index)) }
-    ensures limits { (tables : List TableAt) → HoldsDatabase (S.pages space.old) root tables → IfErr result (Reaches ⊥ (HasLongKey (index_of index ∷ []) (stored.rows_of (entries_of (get (contents_of tables) name.now)))) ⊥) }
+    ensures indexed { (tables : List TableAt) → HoldsDatabase (S.pages space.old) root tables → ArePlaces index.columns
+        → IfOk result (DatabaseWritten (S.pages space.new) (stored.indexed (contents_of tables) name.now index)) }
+    ensures owned { (tables : List TableAt) → IsAllOwned (S.pages space.old) root tables → ArePlaces index.columns
+        → IfOk result (DatabaseOwned (S.pages space.new) (stored.indexed (contents_of tables) name.now index)) }
+    ensures limits { (tables : List TableAt) → HoldsDatabase (S.pages space.old) root tables
+        → IfErr result (Reaches ⊥ (HasLongKey (index_of index ∷ []) (stored.rows_of (entries_of (get (contents_of tables) name.now)))) ⊥) }
     ensures whole { OnOk result (S.is_whole space.old → S.is_whole space.new) }
     ensures refusal { IfErr result (SpaceRefused (S.at_limit space.new) (HoldsNoDatabaseIn (S.pages space.old) root (S.is_whole space.old)) (S.refused space.old) (S.refused space.new)) }
     ensures rising { S.refused space.old ≤ S.refused space.new }

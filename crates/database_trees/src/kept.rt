@@ -46,7 +46,8 @@ fn is_put_for(columns: &[usize], put: &Numbered, one: &NumberedRow) -> bool
     }
 }
 
-/// Whether an exchange puts one row in place of one of its number that has the same values at these columns.
+/// Whether an exchange puts one row in place of one of its number that has the same values at these
+/// columns.
 pub(crate) fn is_put_back(columns: &[usize], exchange: &Exchange) -> bool
     ensures { IsTrue result → IsPutBack columns.now exchange.now }
 {

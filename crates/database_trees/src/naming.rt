@@ -40,7 +40,8 @@ pub fn find_table<R: PageReader>(
     root: u32,
     name: &Text,
 ) -> Result<Option<Table>, SpaceError>
-    ensures found { (owned : List ℕ) (tables : List AnyTable) → HoldsSchema (R.pages space.old) root owned tables → IfOk result (λ found. found ≡ table_named name.now tables) }
+    ensures found { (owned : List ℕ) (tables : List AnyTable) → HoldsSchema (R.pages space.old) root owned tables
+        → IfOk result (λ found. found ≡ table_named name.now tables) }
     ensures same { R.pages space.new ≡ R.pages space.old }
     ensures whole { R.is_whole space.old → R.is_whole space.new }
     ensures refusal { IfErr result (ReadRefused (HoldsNoSchema (R.pages space.old) root) (R.refused space.old) (R.refused space.new)) }

@@ -72,7 +72,8 @@ pub fn row_of<R: PageReader>(
     root: u32,
     number: u64,
 ) -> Result<Option<NumberedRow>, SpaceError>
-    ensures found { (owned : List ℕ) (rows : List stored.Entry) → HoldsRows (R.pages space.old) root owned rows → IfOk result (λ found. IsEntry found (row_numbered number rows)) }
+    ensures found { (owned : List ℕ) (rows : List stored.Entry) → HoldsRows (R.pages space.old) root owned rows
+        → IfOk result (λ found. IsEntry found (row_numbered number rows)) }
     ensures same { R.pages space.new ≡ R.pages space.old }
     ensures whole { R.is_whole space.old → R.is_whole space.new }
     ensures refusal { IfErr result (ReadRefused (HoldsNoRows (R.pages space.old) root) (R.refused space.old) (R.refused space.new)) }

@@ -50,7 +50,8 @@ fn replace_row<S: PageSpace>(
         → IfOk result (RowsExchanged alone (S.pages space.new) h.its.before h.its.at h.its.behind (with_number found.number row h.its.at.rows)) }
     ensures limits { IfErr result (Reaches (HasLongRow (row ∷ [])) (HasLongKey (map index_of table.now.indexes) (row ∷ [])) ⊥) }
     ensures whole { OnOk result (S.is_whole space.old → S.is_whole space.new) }
-    ensures refusal { IfErr result (SpaceRefused (S.at_limit space.new) (HasRow false (S.pages space.old) root table.now found → S.is_whole space.old → ⊥) (S.refused space.old) (S.refused space.new)) }
+    ensures refusal { IfErr result (SpaceRefused (S.at_limit space.new) (HasRow false (S.pages space.old) root table.now found
+        → S.is_whole space.old → ⊥) (S.refused space.old) (S.refused space.new)) }
     ensures rising { S.refused space.old ≤ S.refused space.new }
     ensures follows { S.follows space.old space.new }
 {
@@ -78,10 +79,12 @@ fn replace_in<S: PageSpace>(
     number: u64,
     row: Row,
 ) -> Result<u32, DatabaseError>
-    ensures replaced { (alone : Bool) (h : IsTableOf alone (S.pages space.old) root table.now) → IfOk result (RowsExchanged alone (S.pages space.new) h.before h.at h.behind (with_number number row h.at.rows)) }
+    ensures replaced { (alone : Bool) (h : IsTableOf alone (S.pages space.old) root table.now)
+        → IfOk result (RowsExchanged alone (S.pages space.new) h.before h.at h.behind (with_number number row h.at.rows)) }
     ensures limits { IfErr result (Reaches (HasLongRow (row ∷ [])) (HasLongKey (map index_of table.now.indexes) (row ∷ [])) ⊥) }
     ensures whole { OnOk result (S.is_whole space.old → S.is_whole space.new) }
-    ensures refusal { IfErr result (SpaceRefused (S.at_limit space.new) (IsTableOf false (S.pages space.old) root table.now → S.is_whole space.old → ⊥) (S.refused space.old) (S.refused space.new)) }
+    ensures refusal { IfErr result (SpaceRefused (S.at_limit space.new) (IsTableOf false (S.pages space.old) root table.now
+        → S.is_whole space.old → ⊥) (S.refused space.old) (S.refused space.new)) }
     ensures rising { S.refused space.old ≤ S.refused space.new }
     ensures follows { S.follows space.old space.new }
 {
@@ -92,8 +95,8 @@ fn replace_in<S: PageSpace>(
     }
 }
 
-/// Puts a row in place of the one of a number in the table of a name, and in each of its indexes, and answers the root. Where
-/// there is none, all stays.
+/// Puts a row in place of the one of a number in the table of a name, and in each of its indexes,
+/// and answers the root. Where there is none, all stays.
 ///
 /// Refused as `append` is, but for the end of the row numbers.
 pub fn replace<S: PageSpace>(
@@ -104,8 +107,10 @@ pub fn replace<S: PageSpace>(
     number: u64,
     row: Row,
 ) -> Result<u32, DatabaseError>
-    ensures replaced { (tables : List TableAt) → HoldsDatabase (S.pages space.old) root tables → IfOk result (DatabaseWritten (S.pages space.new) (stored.replaced (contents_of tables) name.now number row)) }
-    ensures owned { (tables : List TableAt) → IsAllOwned (S.pages space.old) root tables → IfOk result (DatabaseOwned (S.pages space.new) (stored.replaced (contents_of tables) name.now number row)) }
+    ensures replaced { (tables : List TableAt) → HoldsDatabase (S.pages space.old) root tables
+        → IfOk result (DatabaseWritten (S.pages space.new) (stored.replaced (contents_of tables) name.now number row)) }
+    ensures owned { (tables : List TableAt) → IsAllOwned (S.pages space.old) root tables
+        → IfOk result (DatabaseOwned (S.pages space.new) (stored.replaced (contents_of tables) name.now number row)) }
     ensures limits { IfErr result (StoringReaches (S.pages space.old) root name.now (row ∷ [])) }
     ensures whole { OnOk result (S.is_whole space.old → S.is_whole space.new) }
     ensures refusal { IfErr result (SpaceRefused (S.at_limit space.new) (HoldsNoDatabaseIn (S.pages space.old) root (S.is_whole space.old)) (S.refused space.old) (S.refused space.new)) }

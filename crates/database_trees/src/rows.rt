@@ -36,9 +36,11 @@ fn put_rows<S: PageSpace>(
     ensures appended { (alone : Bool) (h : IsAppendable alone (S.pages space.old) root table.now exchange.now)
         → IfOk result (RowsExchanged alone (S.pages space.new) h.its.before h.its.at h.its.behind (h.its.at.rows ++ enumerate_from (stored.next_number h.its.at.rows) exchange.now.put.rows)) }
     ensures limits { IfErr result (Reaches (HasLongRow exchange.now.put.rows) (HasLongKey (map index_of table.now.indexes) exchange.now.put.rows)
-        ((h : IsAppendable false (S.pages space.old) root table.now exchange.now) → 2 ^ 63 < stored.next_number h.its.at.rows + length exchange.now.put.rows)) }
+        ((h : IsAppendable false (S.pages space.old) root table.now exchange.now)
+        → 2 ^ 63 < stored.next_number h.its.at.rows + length exchange.now.put.rows)) }
     ensures whole { OnOk result (S.is_whole space.old → S.is_whole space.new) }
-    ensures refusal { IfErr result (SpaceRefused (S.at_limit space.new) (IsAppendable false (S.pages space.old) root table.now exchange.now → S.is_whole space.old → ⊥) (S.refused space.old) (S.refused space.new)) }
+    ensures refusal { IfErr result (SpaceRefused (S.at_limit space.new) (IsAppendable false (S.pages space.old) root table.now exchange.now
+        → S.is_whole space.old → ⊥) (S.refused space.old) (S.refused space.new)) }
     ensures rising { S.refused space.old ≤ S.refused space.new }
     ensures follows { S.follows space.old space.new }
 {
@@ -59,9 +61,11 @@ fn append_to<S: PageSpace>(
     ensures appended { (alone : Bool) (h : IsTableOf alone (S.pages space.old) root table.now)
         → IfOk result (RowsExchanged alone (S.pages space.new) h.before h.at h.behind (h.at.rows ++ enumerate_from (stored.next_number h.at.rows) rows)) }
     ensures limits { IfErr result (Reaches (HasLongRow rows) (HasLongKey (map index_of table.now.indexes) rows)
-        ((h : IsTableOf false (S.pages space.old) root table.now) → 2 ^ 63 < stored.next_number h.at.rows + length rows)) }
+        ((h : IsTableOf false (S.pages space.old) root table.now)
+        → 2 ^ 63 < stored.next_number h.at.rows + length rows)) }
     ensures whole { OnOk result (S.is_whole space.old → S.is_whole space.new) }
-    ensures refusal { IfErr result (SpaceRefused (S.at_limit space.new) (IsTableOf false (S.pages space.old) root table.now → S.is_whole space.old → ⊥) (S.refused space.old) (S.refused space.new)) }
+    ensures refusal { IfErr result (SpaceRefused (S.at_limit space.new) (IsTableOf false (S.pages space.old) root table.now
+        → S.is_whole space.old → ⊥) (S.refused space.old) (S.refused space.new)) }
     ensures rising { S.refused space.old ≤ S.refused space.new }
     ensures follows { S.follows space.old space.new }
 {
@@ -80,13 +84,14 @@ fn append_to<S: PageSpace>(
     }
 }
 
-/// Puts rows behind those of the table of a name, numbered on, and into each of its indexes, and answers the root. Where no
-/// table has the name, all stays.
+/// Puts rows behind those of the table of a name, numbered on, and into each of its indexes, and
+/// answers the root. Where no table has the name, all stays.
 ///
-/// Refused for want of memory, where the device refuses a call, at the limits of pages, as damaged only where no database is
-/// held there or the list of free pages is none, where a row's code takes more than 1,000 bytes or its key in an index more
-/// than 600 with its number, where the row numbers end, at 2^63, and where the schema's record of a root is too long. After a
-/// refusal nothing is said of the pages but what every call of the space keeps.
+/// Refused for want of memory, where the device refuses a call, at the limits of pages, as damaged
+/// only where no database is held there or the list of free pages is none, where a row's code takes
+/// more than 1,000 bytes or its key in an index more than 600 with its number, where the row
+/// numbers end, at 2^63, and where the schema's record of a root is too long. After a refusal
+/// nothing is said of the pages but what every call of the space keeps.
 pub fn append<S: PageSpace>(
     space: &mut S,
     alloc: Global,
@@ -94,8 +99,10 @@ pub fn append<S: PageSpace>(
     name: &Text,
     rows: Rows,
 ) -> Result<u32, DatabaseError>
-    ensures appended { (tables : List TableAt) → HoldsDatabase (S.pages space.old) root tables → IfOk result (DatabaseWritten (S.pages space.new) (stored.appended (contents_of tables) name.now rows)) }
-    ensures owned { (tables : List TableAt) → IsAllOwned (S.pages space.old) root tables → IfOk result (DatabaseOwned (S.pages space.new) (stored.appended (contents_of tables) name.now rows)) }
+    ensures appended { (tables : List TableAt) → HoldsDatabase (S.pages space.old) root tables
+        → IfOk result (DatabaseWritten (S.pages space.new) (stored.appended (contents_of tables) name.now rows)) }
+    ensures owned { (tables : List TableAt) → IsAllOwned (S.pages space.old) root tables
+        → IfOk result (DatabaseOwned (S.pages space.new) (stored.appended (contents_of tables) name.now rows)) }
     ensures limits { IfErr result (NumberingReaches (S.pages space.old) root name.now rows) }
     ensures whole { OnOk result (S.is_whole space.old → S.is_whole space.new) }
     ensures refusal { IfErr result (SpaceRefused (S.at_limit space.new) (HoldsNoDatabaseIn (S.pages space.old) root (S.is_whole space.old)) (S.refused space.old) (S.refused space.new)) }
@@ -109,7 +116,8 @@ pub fn append<S: PageSpace>(
     }
 }
 
-/// Takes the row of a number, which the exchange takes from the indexes, out of a table, and answers the schema's root.
+/// Takes the row of a number, which the exchange takes from the indexes, out of a table, and
+/// answers the schema's root.
 fn delete_row<S: PageSpace>(
     space: &mut S,
     alloc: Global,
@@ -122,7 +130,8 @@ fn delete_row<S: PageSpace>(
         → IfOk result (RowsExchanged alone (S.pages space.new) h.its.before h.its.at h.its.behind (without_number number h.its.at.rows)) }
     ensures limits { AreEntries exchange.now.put [] → IfErr result ReachesNone }
     ensures whole { OnOk result (S.is_whole space.old → S.is_whole space.new) }
-    ensures refusal { IfErr result (SpaceRefused (S.at_limit space.new) (IsExchangeableAt false (S.pages space.old) root table.now number exchange.now [] → S.is_whole space.old → ⊥) (S.refused space.old) (S.refused space.new)) }
+    ensures refusal { IfErr result (SpaceRefused (S.at_limit space.new) (IsExchangeableAt false (S.pages space.old) root table.now number exchange.now []
+        → S.is_whole space.old → ⊥) (S.refused space.old) (S.refused space.new)) }
     ensures rising { S.refused space.old ≤ S.refused space.new }
     ensures follows { S.follows space.old space.new }
 {
@@ -154,10 +163,12 @@ fn delete_from<S: PageSpace>(
     table: &Table,
     number: u64,
 ) -> Result<u32, DatabaseError>
-    ensures deleted { (alone : Bool) (h : IsTableOf alone (S.pages space.old) root table.now) → IfOk result (RowsExchanged alone (S.pages space.new) h.before h.at h.behind (without_number number h.at.rows)) }
+    ensures deleted { (alone : Bool) (h : IsTableOf alone (S.pages space.old) root table.now)
+        → IfOk result (RowsExchanged alone (S.pages space.new) h.before h.at h.behind (without_number number h.at.rows)) }
     ensures limits { IfErr result ReachesNone }
     ensures whole { OnOk result (S.is_whole space.old → S.is_whole space.new) }
-    ensures refusal { IfErr result (SpaceRefused (S.at_limit space.new) (IsTableOf false (S.pages space.old) root table.now → S.is_whole space.old → ⊥) (S.refused space.old) (S.refused space.new)) }
+    ensures refusal { IfErr result (SpaceRefused (S.at_limit space.new) (IsTableOf false (S.pages space.old) root table.now
+        → S.is_whole space.old → ⊥) (S.refused space.old) (S.refused space.new)) }
     ensures rising { S.refused space.old ≤ S.refused space.new }
     ensures follows { S.follows space.old space.new }
 {
@@ -171,12 +182,13 @@ fn delete_from<S: PageSpace>(
     }
 }
 
-/// Takes the row of a number out of the table of a name, and out of each of its indexes, and answers the root. Where there
-/// is none, all stays.
+/// Takes the row of a number out of the table of a name, and out of each of its indexes, and
+/// answers the root. Where there is none, all stays.
 ///
-/// Refused for want of memory, where the device refuses a call, at the limits of pages, as damaged only where no database is
-/// held there or the list of free pages is none, and where the schema's record of a root is too long. After a refusal nothing
-/// is said of the pages but what every call of the space keeps.
+/// Refused for want of memory, where the device refuses a call, at the limits of pages, as damaged
+/// only where no database is held there or the list of free pages is none, and where the schema's
+/// record of a root is too long. After a refusal nothing is said of the pages but what every call
+/// of the space keeps.
 pub fn delete<S: PageSpace>(
     space: &mut S,
     alloc: Global,
@@ -184,8 +196,10 @@ pub fn delete<S: PageSpace>(
     name: &Text,
     number: u64,
 ) -> Result<u32, DatabaseError>
-    ensures deleted { (tables : List TableAt) → HoldsDatabase (S.pages space.old) root tables → IfOk result (DatabaseWritten (S.pages space.new) (stored.deleted (contents_of tables) name.now number)) }
-    ensures owned { (tables : List TableAt) → IsAllOwned (S.pages space.old) root tables → IfOk result (DatabaseOwned (S.pages space.new) (stored.deleted (contents_of tables) name.now number)) }
+    ensures deleted { (tables : List TableAt) → HoldsDatabase (S.pages space.old) root tables
+        → IfOk result (DatabaseWritten (S.pages space.new) (stored.deleted (contents_of tables) name.now number)) }
+    ensures owned { (tables : List TableAt) → IsAllOwned (S.pages space.old) root tables
+        → IfOk result (DatabaseOwned (S.pages space.new) (stored.deleted (contents_of tables) name.now number)) }
     ensures limits { IfErr result ReachesNone }
     ensures whole { OnOk result (S.is_whole space.old → S.is_whole space.new) }
     ensures refusal { IfErr result (SpaceRefused (S.at_limit space.new) (HoldsNoDatabaseIn (S.pages space.old) root (S.is_whole space.old)) (S.refused space.old) (S.refused space.new)) }

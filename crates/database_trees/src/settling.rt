@@ -88,10 +88,13 @@ pub(crate) fn put_table<S: PageSpace>(
     table: &Table,
     changed: &Table,
 ) -> Result<u32, DatabaseError>
-    ensures put { (alone : Bool) (h : HasTable alone (S.pages space.old) root table.now) → IsTable changed.now → changed.now.name ≡ table.now.name → IfOk result (TablePut alone (S.pages space.new) h.front changed.now h.back h.others) }
+    ensures put { (alone : Bool) (h : HasTable alone (S.pages space.old) root table.now) → IsTable changed.now
+        → changed.now.name ≡ table.now.name
+        → IfOk result (TablePut alone (S.pages space.new) h.front changed.now h.back h.others) }
     ensures limits { IfErr result ReachesNone }
     ensures whole { OnOk result (S.is_whole space.old → S.is_whole space.new) }
-    ensures refusal { IfErr result (SpaceRefused (S.at_limit space.new) (HasTable false (S.pages space.old) root table.now → S.is_whole space.old → ⊥) (S.refused space.old) (S.refused space.new)) }
+    ensures refusal { IfErr result (SpaceRefused (S.at_limit space.new) (HasTable false (S.pages space.old) root table.now
+        → S.is_whole space.old → ⊥) (S.refused space.old) (S.refused space.new)) }
     ensures rising { S.refused space.old ≤ S.refused space.new }
     ensures follows { S.follows space.old space.new }
 {
@@ -110,10 +113,13 @@ fn put_roots<S: PageSpace>(
     rows: u32,
     roots: &Items<u32>,
 ) -> Result<u32, DatabaseError>
-    ensures put { (alone : Bool) (h : HasTable alone (S.pages space.old) root table.now) → IsTable (table_with rows roots.now table.now) → IfOk result (TablePut alone (S.pages space.new) h.front (table_with rows roots.now table.now) h.back h.others) }
+    ensures put { (alone : Bool) (h : HasTable alone (S.pages space.old) root table.now)
+        → IsTable (table_with rows roots.now table.now)
+        → IfOk result (TablePut alone (S.pages space.new) h.front (table_with rows roots.now table.now) h.back h.others) }
     ensures limits { IfErr result ReachesNone }
     ensures whole { OnOk result (S.is_whole space.old → S.is_whole space.new) }
-    ensures refusal { IfErr result (SpaceRefused (S.at_limit space.new) (HasTable false (S.pages space.old) root table.now → S.is_whole space.old → ⊥) (S.refused space.old) (S.refused space.new)) }
+    ensures refusal { IfErr result (SpaceRefused (S.at_limit space.new) (HasTable false (S.pages space.old) root table.now
+        → S.is_whole space.old → ⊥) (S.refused space.old) (S.refused space.new)) }
     ensures rising { S.refused space.old ≤ S.refused space.new }
     ensures follows { S.follows space.old space.new }
 {
@@ -130,8 +136,8 @@ fn put_roots<S: PageSpace>(
     }
 }
 
-/// Exchanges rows in each index of a table whose tree of rows has been changed and begins at `rows`, lets the schema name the
-/// roots, and answers its own.
+/// Exchanges rows in each index of a table whose tree of rows has been changed and begins at
+/// `rows`, lets the schema name the roots, and answers its own.
 pub(crate) fn settle<S: PageSpace>(
     space: &mut S,
     alloc: Global,
@@ -140,10 +146,12 @@ pub(crate) fn settle<S: PageSpace>(
     rows: u32,
     exchange: &Exchange,
 ) -> Result<u32, DatabaseError>
-    ensures settled { (alone : Bool) (h : IsUnsettled alone (S.pages space.old) root table.now rows exchange.now) → IfOk result (IsSettled alone (S.pages space.new) h.front h.back h.before h.behind h.at h.rows) }
+    ensures settled { (alone : Bool) (h : IsUnsettled alone (S.pages space.old) root table.now rows exchange.now)
+        → IfOk result (IsSettled alone (S.pages space.new) h.front h.back h.before h.behind h.at h.rows) }
     ensures limits { IfErr result (Reaches ⊥ (HasLongKey (map index_of table.now.indexes) exchange.now.put.rows) ⊥) }
     ensures whole { OnOk result (S.is_whole space.old → S.is_whole space.new) }
-    ensures refusal { IfErr result (SpaceRefused (S.at_limit space.new) (IsUnsettled false (S.pages space.old) root table.now rows exchange.now → S.is_whole space.old → ⊥) (S.refused space.old) (S.refused space.new)) }
+    ensures refusal { IfErr result (SpaceRefused (S.at_limit space.new) (IsUnsettled false (S.pages space.old) root table.now rows exchange.now
+        → S.is_whole space.old → ⊥) (S.refused space.old) (S.refused space.new)) }
     ensures rising { S.refused space.old ≤ S.refused space.new }
     ensures follows { S.follows space.old space.new }
 {

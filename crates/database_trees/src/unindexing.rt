@@ -67,7 +67,8 @@ fn table_without(alloc: Global, table: Table, name: &Text) -> Result<Table, Data
 
 /// Gives back the tree of an index, where it has a name.
 fn drop_if_named<S: PageSpace>(space: &mut S, index: &Index, name: &Text) -> Result<(), SpaceError>
-    ensures dropped { is_named name.now index.now.name ≡ true → Drops (S.pages space.old) (S.pages space.new) index.now.root result }
+    ensures dropped { is_named name.now index.now.name ≡ true
+        → Drops (S.pages space.old) (S.pages space.new) index.now.root result }
     ensures same { is_named name.now index.now.name ≡ false → S.pages space.new ≡ S.pages space.old }
     ensures whole { OnOk result (S.is_whole space.old → S.is_whole space.new) }
     ensures refusal { IfErr result (ChangeRefused (S.at_limit space.new) (IsNoTreeIn (S.pages space.old) index.now.root (S.is_whole space.old)) (S.refused space.old) (S.refused space.new)) }
@@ -87,9 +88,11 @@ fn drop_named<S: PageSpace>(
     indexes: &Items<Index>,
     name: &Text,
 ) -> Result<(), SpaceError>
-    ensures left { (alone : Bool) (h : AreIndexes alone (S.pages space.old) indexes.now) → OnOk result (IndexesLeft alone (S.pages space.new) name.now h.before h.its h.behind h.rows) }
+    ensures left { (alone : Bool) (h : AreIndexes alone (S.pages space.old) indexes.now)
+        → OnOk result (IndexesLeft alone (S.pages space.new) name.now h.before h.its h.behind h.rows) }
     ensures whole { OnOk result (S.is_whole space.old → S.is_whole space.new) }
-    ensures refusal { IfErr result (ChangeRefused (S.at_limit space.new) (AreIndexes false (S.pages space.old) indexes.now → S.is_whole space.old → ⊥) (S.refused space.old) (S.refused space.new)) }
+    ensures refusal { IfErr result (ChangeRefused (S.at_limit space.new) (AreIndexes false (S.pages space.old) indexes.now
+        → S.is_whole space.old → ⊥) (S.refused space.old) (S.refused space.new)) }
     ensures rising { S.refused space.old ≤ S.refused space.new }
     ensures follows { S.follows space.old space.new }
 {
@@ -107,10 +110,12 @@ fn put_without<S: PageSpace>(
     table: &Table,
     name: &Text,
 ) -> Result<u32, DatabaseError>
-    ensures put { (alone : Bool) (h : HasTable alone (S.pages space.old) root table.now) → IfOk result (TablePut alone (S.pages space.new) h.front (table_without name.now table.now) h.back h.others) }
+    ensures put { (alone : Bool) (h : HasTable alone (S.pages space.old) root table.now)
+        → IfOk result (TablePut alone (S.pages space.new) h.front (table_without name.now table.now) h.back h.others) }
     ensures limits { IfErr result ReachesNone }
     ensures whole { OnOk result (S.is_whole space.old → S.is_whole space.new) }
-    ensures refusal { IfErr result (SpaceRefused (S.at_limit space.new) (HasTable false (S.pages space.old) root table.now → S.is_whole space.old → ⊥) (S.refused space.old) (S.refused space.new)) }
+    ensures refusal { IfErr result (SpaceRefused (S.at_limit space.new) (HasTable false (S.pages space.old) root table.now
+        → S.is_whole space.old → ⊥) (S.refused space.old) (S.refused space.new)) }
     ensures rising { S.refused space.old ≤ S.refused space.new }
     ensures follows { S.follows space.old space.new }
 {
@@ -124,7 +129,8 @@ fn put_without<S: PageSpace>(
     }
 }
 
-/// Takes the indexes of a name away from a table that has one, gives their trees back, and answers the schema's root.
+/// Takes the indexes of a name away from a table that has one, gives their trees back, and answers
+/// the schema's root.
 fn unindex_named<S: PageSpace>(
     space: &mut S,
     alloc: Global,
@@ -132,10 +138,12 @@ fn unindex_named<S: PageSpace>(
     table: &Table,
     name: &Text,
 ) -> Result<u32, DatabaseError>
-    ensures unindexed { (alone : Bool) (h : IsTableOf alone (S.pages space.old) root table.now) → IfOk result (IndexesGone alone (S.pages space.new) name.now h.before h.at h.behind) }
+    ensures unindexed { (alone : Bool) (h : IsTableOf alone (S.pages space.old) root table.now)
+        → IfOk result (IndexesGone alone (S.pages space.new) name.now h.before h.at h.behind) }
     ensures limits { IfErr result ReachesNone }
     ensures whole { OnOk result (S.is_whole space.old → S.is_whole space.new) }
-    ensures refusal { IfErr result (SpaceRefused (S.at_limit space.new) (IsTableOf false (S.pages space.old) root table.now → S.is_whole space.old → ⊥) (S.refused space.old) (S.refused space.new)) }
+    ensures refusal { IfErr result (SpaceRefused (S.at_limit space.new) (IsTableOf false (S.pages space.old) root table.now
+        → S.is_whole space.old → ⊥) (S.refused space.old) (S.refused space.new)) }
     ensures rising { S.refused space.old ≤ S.refused space.new }
     ensures follows { S.follows space.old space.new }
 {
@@ -156,10 +164,12 @@ fn unindex_table<S: PageSpace>(
     table: &Table,
     name: &Text,
 ) -> Result<u32, DatabaseError>
-    ensures unindexed { (alone : Bool) (h : IsTableOf alone (S.pages space.old) root table.now) → IfOk result (IndexesGone alone (S.pages space.new) name.now h.before h.at h.behind) }
+    ensures unindexed { (alone : Bool) (h : IsTableOf alone (S.pages space.old) root table.now)
+        → IfOk result (IndexesGone alone (S.pages space.new) name.now h.before h.at h.behind) }
     ensures limits { IfErr result ReachesNone }
     ensures whole { OnOk result (S.is_whole space.old → S.is_whole space.new) }
-    ensures refusal { IfErr result (SpaceRefused (S.at_limit space.new) (IsTableOf false (S.pages space.old) root table.now → S.is_whole space.old → ⊥) (S.refused space.old) (S.refused space.new)) }
+    ensures refusal { IfErr result (SpaceRefused (S.at_limit space.new) (IsTableOf false (S.pages space.old) root table.now
+        → S.is_whole space.old → ⊥) (S.refused space.old) (S.refused space.new)) }
     ensures rising { S.refused space.old ≤ S.refused space.new }
     ensures follows { S.follows space.old space.new }
 {
@@ -177,10 +187,13 @@ fn unindex_each<S: PageSpace>(
     tables: &Items<Table>,
     name: &Text,
 ) -> Result<u32, DatabaseError>
-    ensures unindexed { (alone : Bool) (its : List TableAt) → HoldsFor alone (S.pages space.old) root its → declared_of its ≡ tables.now → IfOk result (TablesUnindexed alone (S.pages space.new) name.now its) }
+    ensures unindexed { (alone : Bool) (its : List TableAt) → HoldsFor alone (S.pages space.old) root its
+        → declared_of its ≡ tables.now → IfOk result (TablesUnindexed alone (S.pages space.new) name.now its) }
     ensures limits { IfErr result ReachesNone }
     ensures whole { OnOk result (S.is_whole space.old → S.is_whole space.new) }
-    ensures refusal { IfErr result (SpaceRefused (S.at_limit space.new) ((its : List TableAt) → HoldsDatabase (S.pages space.old) root its → declared_of its ≡ tables.now → S.is_whole space.old → ⊥) (S.refused space.old) (S.refused space.new)) }
+    ensures refusal { IfErr result (SpaceRefused (S.at_limit space.new) ((its : List TableAt)
+        → HoldsDatabase (S.pages space.old) root its → declared_of its ≡ tables.now → S.is_whole space.old
+        → ⊥) (S.refused space.old) (S.refused space.new)) }
     ensures rising { S.refused space.old ≤ S.refused space.new }
     ensures follows { S.follows space.old space.new }
 {
@@ -191,20 +204,23 @@ fn unindex_each<S: PageSpace>(
     Ok(top)
 }
 
-/// Takes the indexes of a name away, whichever table has them, and answers the root. All pages of their trees are given back.
-/// Where no index has the name, all stays.
+/// Takes the indexes of a name away, whichever table has them, and answers the root. All pages of
+/// their trees are given back. Where no index has the name, all stays.
 ///
-/// Refused for want of memory, where the device refuses a call, at the limits of pages, as damaged only where no database is
-/// held there or the list of free pages is none, and where a record of the schema is too long. After a refusal nothing is said
-/// of the pages but what every call of the space keeps.
+/// Refused for want of memory, where the device refuses a call, at the limits of pages, as damaged
+/// only where no database is held there or the list of free pages is none, and where a record of
+/// the schema is too long. After a refusal nothing is said of the pages but what every call of the
+/// space keeps.
 pub fn drop_index<S: PageSpace>(
     space: &mut S,
     alloc: Global,
     root: u32,
     name: &Text,
 ) -> Result<u32, DatabaseError>
-    ensures unindexed { (tables : List TableAt) → HoldsDatabase (S.pages space.old) root tables → IfOk result (DatabaseWritten (S.pages space.new) (stored.unindexed (contents_of tables) name.now)) }
-    ensures owned { (tables : List TableAt) → IsAllOwned (S.pages space.old) root tables → IfOk result (DatabaseOwned (S.pages space.new) (stored.unindexed (contents_of tables) name.now)) }
+    ensures unindexed { (tables : List TableAt) → HoldsDatabase (S.pages space.old) root tables
+        → IfOk result (DatabaseWritten (S.pages space.new) (stored.unindexed (contents_of tables) name.now)) }
+    ensures owned { (tables : List TableAt) → IsAllOwned (S.pages space.old) root tables
+        → IfOk result (DatabaseOwned (S.pages space.new) (stored.unindexed (contents_of tables) name.now)) }
     ensures limits { IfErr result ReachesNone }
     ensures whole { OnOk result (S.is_whole space.old → S.is_whole space.new) }
     ensures refusal { IfErr result (SpaceRefused (S.at_limit space.new) (HoldsNoDatabaseIn (S.pages space.old) root (S.is_whole space.old)) (S.refused space.old) (S.refused space.new)) }

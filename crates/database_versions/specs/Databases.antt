@@ -31,7 +31,8 @@ abbrev pub known_contents : Bool → PageMap → PageMap → Contents
 known_contents true version written = contents_in version written
 known_contents false version written = empty
 
--- The list of free pages is one, and has each free page where that of the version has; and the pages in use hold a database, whose tables are those that lie there; the numbers of rows rise.
+-- The list of free pages is one, and has each free page where that of the version has; and the
+-- pages in use hold a database, whose tables are those that lie there; the numbers of rows rise.
 pub record IsDatabase (version written : PageMap) : Type 0 where
   pub whole : IsWholeOver version written
   pub tables : List TableAt
@@ -39,7 +40,8 @@ pub record IsDatabase (version written : PageMap) : Type 0 where
   pub read : contents_in version written ≡ contents_of tables
   pub rise : (name : Name) (table : StoredTable) → get (contents_of tables) name ≡ Some table → Rises table.entries
 
--- It is a database, each page in use is one of its trees, and each free page of the version stands in its list, so that each of those with the written pages does: none is lost.
+-- It is a database, each page in use is one of its trees, and each free page of the version stands
+-- in its list, so that each of those with the written pages does: none is lost.
 pub record IsOwned (version written : PageMap) : Type 0 where
   pub is : IsDatabase version written
   pub start : IsFull version

@@ -48,7 +48,9 @@ of_change change.Key = refused.Memory
 of_change change.Number = refused.Memory
 of_change change.Schema = refused.Memory
 
--- Which indexes there are, and which numbers rows have, is not known over a device that is not honest, so that a key is too long counts as want of memory; so does that a record of a schema is too long. That the numbers of rows end is told by the limit of pages.
+-- Which indexes there are, and which numbers rows have, is not known over a device that is not
+-- honest, so that a key is too long counts as want of memory; so does that a record of a schema is
+-- too long. That the numbers of rows end is told by the limit of pages.
 abbrev pub of_rows : DatabaseError → StoreError
 of_rows (change.Space f) = of_fault f
 of_rows change.Record = refused.Exceeded limit.Record
@@ -76,9 +78,11 @@ RowsReach counted rows limit.Pages = counted limit.Pages
 RowsReach counted rows limit.Private = counted limit.Private
 RowsReach counted rows limit.Kept = ⊥
 
--- where a database lies there, the numbers of rows end before each of these has one in the table of a name
+-- where a database lies there, the numbers of rows end before each of these has one in the table of
+-- a name
 abbrev pub NumbersEnd : PageMap → PageMap → Name → List Row → Type 0
-NumbersEnd version written name rows = IsDatabase version written → 2 ^ 63 < next_number (entries_of (get (contents_in version written) name)) + length rows
+NumbersEnd version written name rows = IsDatabase version written
+    → 2 ^ 63 < next_number (entries_of (get (contents_in version written) name)) + length rows
 
 -- new rows reach a limit: that of pages also tells that the numbers of rows end
 abbrev pub NewRowsReach : (StoreLimit → Type 0) → Type 0 → List Row → StoreLimit → Type 0

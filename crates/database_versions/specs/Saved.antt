@@ -15,7 +15,8 @@ pub record HoldsDatabase (file : List ℕ) (db : Database) : Type 0 where
   pub is : IsDatabase (page_of file) nothing
   pub shows : database_of (contents_in (page_of file) nothing) ≡ db
 
--- the device gives back what was written, and it is empty, or a file that is this database; the empty one is the database without tables
+-- the device gives back what was written, and it is empty, or a file that is this database; the
+-- empty one is the database without tables
 abbrev pub IsSaved : Bool → List ℕ → Database → Type 0
 IsSaved honest bytes db = IsTrue honest × (((bytes ≡ []) × (db ≡ empty)) ⊎ HoldsDatabase bytes db)
 

@@ -30,7 +30,8 @@ pub fn of_pool(error: PoolError) -> StoreError
     }
 }
 
-/// All but the refusals of the space of pages count as want of memory: a store has no other refusal of a change that stores no row.
+/// All but the refusals of the space of pages count as want of memory: a store has no other refusal
+/// of a change that stores no row.
 pub(crate) fn of_change(error: DatabaseError) -> StoreError
     ensures { result ≡ of_change error }
 {
@@ -43,9 +44,10 @@ pub(crate) fn of_change(error: DatabaseError) -> StoreError
     }
 }
 
-/// A key that is too long counts as want of memory: a store may name that limit only where it is known which indexes there are, and
-/// over a device that is not honest it is not. So does a record of a schema that is too long. Row numbers that have come to their end,
-/// 2^63, are told by the limit of pages.
+/// A key that is too long counts as want of memory: a store may name that limit only where it is
+/// known which indexes there are, and over a device that is not honest it is not. So does a record
+/// of a schema that is too long. Row numbers that have come to their end, 2^63, are told by the
+/// limit of pages.
 pub(crate) fn of_rows(error: DatabaseError) -> StoreError
     ensures { result ≡ of_rows error }
 {

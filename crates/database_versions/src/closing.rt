@@ -12,11 +12,15 @@ use disk::Disk;
 use pool::{CloseRefused, Pool};
 use stored_tables::{contents_are_read, numbers_rise};
 
-/// Writes all that is committed, waits until it is on the medium, and hands the device back. A refusal is that of the device, and hands the pool back with all versions as they were.
+/// Writes all that is committed, waits until it is on the medium, and hands the device back. A
+/// refusal is that of the device, and hands the pool back with all versions as they were.
 pub fn close_pool<D: Disk>(pool: Pool<D>) -> Result<D, CloseRefused<D>>
-    ensures saved { IfOk result (λ device. IsTrue D.is_honest → IsDatabase ((versions_of pool).pages (versions_of pool).last) nothing
+    ensures saved { IfOk result (λ device. IsTrue D.is_honest
+        → IsDatabase ((versions_of pool).pages (versions_of pool).last) nothing
         → HoldsDatabase (D.bytes device) (database_of (contents_in ((versions_of pool).pages (versions_of pool).last) nothing))) }
-    ensures owned { IfOk result (λ device. IsTrue D.is_honest → IsOwned ((versions_of pool).pages (versions_of pool).last) nothing → IsOwned (page_of (D.bytes device)) nothing) }
+    ensures owned { IfOk result (λ device. IsTrue D.is_honest
+        → IsOwned ((versions_of pool).pages (versions_of pool).last) nothing
+        → IsOwned (page_of (D.bytes device)) nothing) }
     ensures settled { IfOk result (λ device. D.settled device) }
     ensures rising { IfOk result (λ device. D.refused (device_of pool) ≤ D.refused device) }
     ensures versions { IfErr result (λ r. versions_of r.pool ≡ versions_of pool) }

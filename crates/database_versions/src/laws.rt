@@ -7,7 +7,8 @@ ghost use Rattle.pool.specs.Pages.{PageMap};
 ghost use Rattle.overlay.specs.Whole.{IsIn};
 ghost use Rattle.database_versions.specs.Databases.{nothing, IsOwned};
 
-/// Where no page is lost, each page is page 0, one of the trees of the database, or one of the list of free pages.
+/// Where no page is lost, each page is page 0, one of the trees of the database, or one of the list
+/// of free pages.
 pub fn each_page_has_its_place()
     ensures { (version : PageMap) (d : IsOwned version nothing) (n : ℕ) → IsSome (version n)
         → (n ≡ 0) ⊎ (Has n (d.owned.owned ++ pages_of (trees_of d.tables)) ⊎ IsIn n d.start.1.free) }

@@ -1,4 +1,5 @@
-//! The database in a version of a pool, with a transaction's pages over it: read, changed, opened and closed.
+//! The database in a version of a pool, with a transaction's pages over it: read, changed, opened
+//! and closed.
 #![tactic(auto)]
 
 mod causes;

@@ -23,7 +23,8 @@ use std::alloc::Global;
 use std::ops::Bound;
 use store::{Numbered, NumberedRow, Position, StoreError};
 
-/// The rows whose columns equal a key, by the index at a place of the table of a name among those at a root.
+/// The rows whose columns equal a key, by the index at a place of the table of a name among those
+/// at a root.
 fn seek_from<D: Disk>(
     alloc: Global,
     pool: &mut Pool<D>,
@@ -34,7 +35,8 @@ fn seek_from<D: Disk>(
     index: usize,
     key: &[Value],
 ) -> Result<Numbered, SpaceError>
-    ensures rows { (tables : List TableAt) → HoldsDatabase (in_use ((versions_of pool.old).pages at) (private_of changes.now)) root tables
+    ensures rows { (tables : List TableAt)
+        → HoldsDatabase (in_use ((versions_of pool.old).pages at) (private_of changes.now)) root tables
         → IfOk result (λ found. AreEntries found (sought (get (contents_of tables) name.now) index key.now)) }
     ensures versions { versions_of pool.new ≡ versions_of pool.old }
     ensures refusal { IfErr result (ReadRefused (HoldsNoDatabase (in_use ((versions_of pool.old).pages at) (private_of changes.now)) root) (D.refused (device_of pool.old)) (D.refused (device_of pool.new))) }
@@ -44,7 +46,8 @@ fn seek_from<D: Disk>(
     index_lookups::seek(&mut space, alloc, root, name, index, key)
 }
 
-/// The rows of a table of a version with these pages over it whose columns equal a key, by the index at a place of the table.
+/// The rows of a table of a version with these pages over it whose columns equal a key, by the
+/// index at a place of the table.
 pub fn rows_sought<D: Disk>(
     alloc: Global,
     pool: &mut Pool<D>,
@@ -78,7 +81,8 @@ pub fn rows_sought<D: Disk>(
     }
 }
 
-/// The rows whose first column of the index at a place is within bounds, of the table of a name among those at a root.
+/// The rows whose first column of the index at a place is within bounds, of the table of a name
+/// among those at a root.
 fn range_from<D: Disk>(
     alloc: Global,
     pool: &mut Pool<D>,
@@ -90,7 +94,8 @@ fn range_from<D: Disk>(
     low: &Bound<Value>,
     high: &Bound<Value>,
 ) -> Result<Numbered, SpaceError>
-    ensures rows { (tables : List TableAt) → HoldsDatabase (in_use ((versions_of pool.old).pages at) (private_of changes.now)) root tables
+    ensures rows { (tables : List TableAt)
+        → HoldsDatabase (in_use ((versions_of pool.old).pages at) (private_of changes.now)) root tables
         → IfOk result (λ found. AreEntries found (ranged (get (contents_of tables) name.now) index low.now high.now)) }
     ensures versions { versions_of pool.new ≡ versions_of pool.old }
     ensures refusal { IfErr result (ReadRefused (HoldsNoDatabase (in_use ((versions_of pool.old).pages at) (private_of changes.now)) root) (D.refused (device_of pool.old)) (D.refused (device_of pool.new))) }
@@ -100,7 +105,8 @@ fn range_from<D: Disk>(
     index_lookups::range(&mut space, alloc, root, name, index, low, high)
 }
 
-/// The rows of a table of a version with these pages over it whose first column of the index at a place is within bounds, in the order of the index.
+/// The rows of a table of a version with these pages over it whose first column of the index at a
+/// place is within bounds, in the order of the index.
 pub fn rows_within<D: Disk>(
     alloc: Global,
     pool: &mut Pool<D>,
@@ -136,7 +142,8 @@ pub fn rows_within<D: Disk>(
     }
 }
 
-/// The first row above a place in the index at a place of the table of a name among those at a root.
+/// The first row above a place in the index at a place of the table of a name among those at a
+/// root.
 fn next_in_from<D: Disk>(
     alloc: Global,
     pool: &mut Pool<D>,
@@ -147,7 +154,8 @@ fn next_in_from<D: Disk>(
     index: usize,
     after: Option<&Position>,
 ) -> Result<Option<NumberedRow>, SpaceError>
-    ensures row { (tables : List TableAt) → HoldsDatabase (in_use ((versions_of pool.old).pages at) (private_of changes.now)) root tables
+    ensures row { (tables : List TableAt)
+        → HoldsDatabase (in_use ((versions_of pool.old).pages at) (private_of changes.now)) root tables
         → IfOk result (λ found. IsEntry found (next_entry (get (contents_of tables) name.now) index (option_map (λ p. position_of p.now) after.entry))) }
     ensures versions { versions_of pool.new ≡ versions_of pool.old }
     ensures refusal { IfErr result (ReadRefused (HoldsNoDatabase (in_use ((versions_of pool.old).pages at) (private_of changes.now)) root) (D.refused (device_of pool.old)) (D.refused (device_of pool.new))) }
@@ -157,7 +165,8 @@ fn next_in_from<D: Disk>(
     index_lookups::next_in(&mut space, alloc, root, name, index, after)
 }
 
-/// The first row above a place in the index at a place of a table of a version with these pages over it.
+/// The first row above a place in the index at a place of a table of a version with these pages
+/// over it.
 pub fn row_beyond<D: Disk>(
     alloc: Global,
     pool: &mut Pool<D>,

@@ -26,14 +26,18 @@ pub(crate) fn put_root<D: Disk>(
     at: u64,
     root: u32,
 ) -> Result<(), SpaceError>
-    ensures put { (contents : Contents) → IsWholeOver ((versions_of pool.old).pages at) (private_of changes.old) → DatabaseWritten (in_use ((versions_of pool.old).pages at) (private_of changes.old)) contents root
+    ensures put { (contents : Contents) → IsWholeOver ((versions_of pool.old).pages at) (private_of changes.old)
+        → DatabaseWritten (in_use ((versions_of pool.old).pages at) (private_of changes.old)) contents root
         → OnOk result (IsNow ((versions_of pool.old).pages at) (private_of changes.new) contents) }
-    ensures owned { (contents : Contents) → IsFull ((versions_of pool.old).pages at) → IsWholeOver ((versions_of pool.old).pages at) (private_of changes.old) → DatabaseOwned (in_use ((versions_of pool.old).pages at) (private_of changes.old)) contents root
+    ensures owned { (contents : Contents) → IsFull ((versions_of pool.old).pages at)
+        → IsWholeOver ((versions_of pool.old).pages at) (private_of changes.old)
+        → DatabaseOwned (in_use ((versions_of pool.old).pages at) (private_of changes.old)) contents root
         → OnOk result (IsOwned ((versions_of pool.old).pages at) (private_of changes.new)) }
     ensures settled { settled_of changes.new ≡ settled_of changes.old }
     ensures versions { versions_of pool.new ≡ versions_of pool.old }
     ensures refusal { IfErr result (ChangeRefused (AtLimit (over (private_of changes.new) ((versions_of pool.old).pages at) 0) (size_of (private_of changes.new)))
-        ((contents : Contents) → IsWholeOver ((versions_of pool.old).pages at) (private_of changes.old) → DatabaseWritten (in_use ((versions_of pool.old).pages at) (private_of changes.old)) contents root → ⊥)
+        ((contents : Contents) → IsWholeOver ((versions_of pool.old).pages at) (private_of changes.old)
+        → DatabaseWritten (in_use ((versions_of pool.old).pages at) (private_of changes.old)) contents root → ⊥)
         (D.refused (device_of pool.old)) (D.refused (device_of pool.new))) }
     ensures rising { D.refused (device_of pool.old) ≤ D.refused (device_of pool.new) }
 {

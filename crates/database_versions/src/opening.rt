@@ -15,7 +15,8 @@ use std::alloc::Global;
 use store::{Returned, StoreError};
 use stored_tables::{contents_are_read, numbers_rise};
 
-/// A new database over an empty device, on which nothing is written yet. Refuses for want of memory alone.
+/// A new database over an empty device, on which nothing is written yet. Refuses for want of memory
+/// alone.
 fn new_pool<D: Disk>(alloc: Global, device: D, frames: u32) -> Result<Pool<D>, Returned<D>>
     requires least { 16 ≤ frames }
     requires most { frames ≤ 4096 }
@@ -59,7 +60,8 @@ fn old_pool<D: Disk>(alloc: Global, device: D, frames: u32) -> Result<Pool<D>, R
     ensures readable { IfOk result (λ pool. IsReadable D.is_honest (D.bytes device)) }
     ensures counts { IfOk result (λ pool. D.refused device ≤ D.refused (device_of pool)) }
     ensures left { IfErr result (λ back. IsTrue D.is_honest → D.bytes back.value ≡ D.bytes device) }
-    ensures refused { IfErr result (λ back. MayFail ((db : Database) × IsSaved D.is_honest (D.bytes device) db) (D.refused device) (D.refused back.value) Never back.error) }
+    ensures refused { IfErr result (λ back. MayFail ((db : Database)
+        × IsSaved D.is_honest (D.bytes device) db) (D.refused device) (D.refused back.value) Never back.error) }
 {
     match PageFile::open(device) {
         Ok((file, header)) => Ok(Pool::new(alloc, file, header.page_count, frames)),
@@ -70,7 +72,8 @@ fn old_pool<D: Disk>(alloc: Global, device: D, frames: u32) -> Result<Pool<D>, R
     }
 }
 
-/// A pool over what lies on a device: nothing, which is a database without tables, or a whole file; no other device is opened.
+/// A pool over what lies on a device: nothing, which is a database without tables, or a whole file;
+/// no other device is opened.
 pub fn pool_over<D: Disk>(alloc: Global, mut device: D, frames: u32) -> Result<Pool<D>, Returned<D>>
     requires least { 16 ≤ frames }
     requires most { frames ≤ 4096 }
@@ -79,7 +82,8 @@ pub fn pool_over<D: Disk>(alloc: Global, mut device: D, frames: u32) -> Result<P
     ensures readable { IfOk result (λ pool. IsReadable D.is_honest (D.bytes device)) }
     ensures counts { IfOk result (λ pool. D.refused device ≤ D.refused (device_of pool)) }
     ensures left { IfErr result (λ back. IsTrue D.is_honest → D.bytes back.value ≡ D.bytes device) }
-    ensures refused { IfErr result (λ back. MayFail ((db : Database) × IsSaved D.is_honest (D.bytes device) db) (D.refused device) (D.refused back.value) Never back.error) }
+    ensures refused { IfErr result (λ back. MayFail ((db : Database)
+        × IsSaved D.is_honest (D.bytes device) db) (D.refused device) (D.refused back.value) Never back.error) }
 {
     match device.len() {
         Ok(len) => {

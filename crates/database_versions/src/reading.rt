@@ -31,7 +31,8 @@ fn schema_from<D: Disk>(
     at: u64,
     root: u32,
 ) -> Result<Schema, SpaceError>
-    ensures found { (tables : List TableAt) → HoldsTables (in_use ((versions_of pool.old).pages at) (private_of changes.now)) root tables
+    ensures found { (tables : List TableAt)
+        → HoldsTables (in_use ((versions_of pool.old).pages at) (private_of changes.now)) root tables
         → IfOk result (λ schema. IsSchemaOf schema (database_of (contents_of tables))) }
     ensures versions { versions_of pool.new ≡ versions_of pool.old }
     ensures refusal { IfErr result (ReadRefused (HoldsNoTables (in_use ((versions_of pool.old).pages at) (private_of changes.now)) root) (D.refused (device_of pool.old)) (D.refused (device_of pool.new))) }
@@ -72,7 +73,8 @@ fn scan_from<D: Disk>(
     root: u32,
     name: &Text,
 ) -> Result<Numbered, SpaceError>
-    ensures rows { (tables : List TableAt) → HoldsTables (in_use ((versions_of pool.old).pages at) (private_of changes.now)) root tables
+    ensures rows { (tables : List TableAt)
+        → HoldsTables (in_use ((versions_of pool.old).pages at) (private_of changes.now)) root tables
         → IfOk result (λ found. AreEntries found (entries_of (get (contents_of tables) name.now))) }
     ensures versions { versions_of pool.new ≡ versions_of pool.old }
     ensures refusal { IfErr result (ReadRefused (HoldsNoTables (in_use ((versions_of pool.old).pages at) (private_of changes.now)) root) (D.refused (device_of pool.old)) (D.refused (device_of pool.new))) }
@@ -115,7 +117,8 @@ fn next_from<D: Disk>(
     name: &Text,
     after: Option<u64>,
 ) -> Result<Option<NumberedRow>, SpaceError>
-    ensures row { (tables : List TableAt) → HoldsTables (in_use ((versions_of pool.old).pages at) (private_of changes.now)) root tables
+    ensures row { (tables : List TableAt)
+        → HoldsTables (in_use ((versions_of pool.old).pages at) (private_of changes.now)) root tables
         → IfOk result (λ found. IsEntry found (entry_after after (entries_of (get (contents_of tables) name.now)))) }
     ensures versions { versions_of pool.new ≡ versions_of pool.old }
     ensures refusal { IfErr result (ReadRefused (HoldsNoTables (in_use ((versions_of pool.old).pages at) (private_of changes.now)) root) (D.refused (device_of pool.old)) (D.refused (device_of pool.new))) }

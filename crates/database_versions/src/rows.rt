@@ -36,10 +36,15 @@ fn append_from<D: Disk>(
     name: &Text,
     rows: Rows,
 ) -> Result<u32, DatabaseError>
-    ensures appended { (tables : List TableAt) → HoldsDatabase (in_use ((versions_of pool.old).pages at) (private_of changes.old)) root tables → IfOk result (DatabaseWritten (in_use ((versions_of pool.old).pages at) (private_of changes.new)) (appended (contents_of tables) name.now rows)) }
-    ensures owned { (tables : List TableAt) → IsAllOwned (in_use ((versions_of pool.old).pages at) (private_of changes.old)) root tables → IfOk result (DatabaseOwned (in_use ((versions_of pool.old).pages at) (private_of changes.new)) (appended (contents_of tables) name.now rows)) }
+    ensures appended { (tables : List TableAt)
+        → HoldsDatabase (in_use ((versions_of pool.old).pages at) (private_of changes.old)) root tables
+        → IfOk result (DatabaseWritten (in_use ((versions_of pool.old).pages at) (private_of changes.new)) (appended (contents_of tables) name.now rows)) }
+    ensures owned { (tables : List TableAt)
+        → IsAllOwned (in_use ((versions_of pool.old).pages at) (private_of changes.old)) root tables
+        → IfOk result (DatabaseOwned (in_use ((versions_of pool.old).pages at) (private_of changes.new)) (appended (contents_of tables) name.now rows)) }
     ensures limits { IfErr result (NumberingReaches (in_use ((versions_of pool.old).pages at) (private_of changes.old)) root name.now rows) }
-    ensures whole { OnOk result (IsWholeOver ((versions_of pool.old).pages at) (private_of changes.old) → IsWholeOver ((versions_of pool.old).pages at) (private_of changes.new)) }
+    ensures whole { OnOk result (IsWholeOver ((versions_of pool.old).pages at) (private_of changes.old)
+        → IsWholeOver ((versions_of pool.old).pages at) (private_of changes.new)) }
     ensures settled { settled_of changes.new ≡ settled_of changes.old }
     ensures versions { versions_of pool.new ≡ versions_of pool.old }
     ensures refusal { IfErr result (SpaceRefused (AtLimit (over (private_of changes.new) ((versions_of pool.old).pages at) 0) (size_of (private_of changes.new))) (HoldsNoDatabaseIn (in_use ((versions_of pool.old).pages at) (private_of changes.old)) root (IsWholeOver ((versions_of pool.old).pages at) (private_of changes.old))) (D.refused (device_of pool.old)) (D.refused (device_of pool.new))) }
@@ -49,8 +54,9 @@ fn append_from<D: Disk>(
     database_trees::append(&mut space, alloc, root, name, rows)
 }
 
-/// Puts rows behind those of the table of a name, and into each of its indexes; where no table has the name, all
-/// stays. After a refusal nothing is said of the pages but that those written before the mark stay.
+/// Puts rows behind those of the table of a name, and into each of its indexes; where no table has
+/// the name, all stays. After a refusal nothing is said of the pages but that those written before
+/// the mark stay.
 pub fn append_rows<D: Disk>(
     alloc: Global,
     pool: &mut Pool<D>,
@@ -59,8 +65,10 @@ pub fn append_rows<D: Disk>(
     name: &Text,
     rows: Rows,
 ) -> Result<(), StoreError>
-    ensures appended { IsDatabase ((versions_of pool.old).pages at) (private_of changes.old) → OnOk result (IsNow ((versions_of pool.old).pages at) (private_of changes.new) (appended (contents_in ((versions_of pool.old).pages at) (private_of changes.old)) name.now rows)) }
-    ensures owned { IsOwned ((versions_of pool.old).pages at) (private_of changes.old) → OnOk result (IsOwned ((versions_of pool.old).pages at) (private_of changes.new)) }
+    ensures appended { IsDatabase ((versions_of pool.old).pages at) (private_of changes.old)
+        → OnOk result (IsNow ((versions_of pool.old).pages at) (private_of changes.new) (appended (contents_in ((versions_of pool.old).pages at) (private_of changes.old)) name.now rows)) }
+    ensures owned { IsOwned ((versions_of pool.old).pages at) (private_of changes.old)
+        → OnOk result (IsOwned ((versions_of pool.old).pages at) (private_of changes.new)) }
     ensures settled { settled_of changes.new ≡ settled_of changes.old }
     ensures versions { versions_of pool.new ≡ versions_of pool.old }
     ensures refused { IfErr result (MayFail (IsDatabase ((versions_of pool.old).pages at) (private_of changes.old)) (D.refused (device_of pool.old)) (D.refused (device_of pool.new)) (NewRowsReach (IsCounted ((versions_of pool.old).pages at) (private_of changes.new)) (NumbersEnd ((versions_of pool.old).pages at) (private_of changes.old) name.now rows) rows)) }
@@ -89,10 +97,15 @@ fn replace_from<D: Disk>(
     number: u64,
     row: Row,
 ) -> Result<u32, DatabaseError>
-    ensures replaced { (tables : List TableAt) → HoldsDatabase (in_use ((versions_of pool.old).pages at) (private_of changes.old)) root tables → IfOk result (DatabaseWritten (in_use ((versions_of pool.old).pages at) (private_of changes.new)) (replaced (contents_of tables) name.now number row)) }
-    ensures owned { (tables : List TableAt) → IsAllOwned (in_use ((versions_of pool.old).pages at) (private_of changes.old)) root tables → IfOk result (DatabaseOwned (in_use ((versions_of pool.old).pages at) (private_of changes.new)) (replaced (contents_of tables) name.now number row)) }
+    ensures replaced { (tables : List TableAt)
+        → HoldsDatabase (in_use ((versions_of pool.old).pages at) (private_of changes.old)) root tables
+        → IfOk result (DatabaseWritten (in_use ((versions_of pool.old).pages at) (private_of changes.new)) (replaced (contents_of tables) name.now number row)) }
+    ensures owned { (tables : List TableAt)
+        → IsAllOwned (in_use ((versions_of pool.old).pages at) (private_of changes.old)) root tables
+        → IfOk result (DatabaseOwned (in_use ((versions_of pool.old).pages at) (private_of changes.new)) (replaced (contents_of tables) name.now number row)) }
     ensures limits { IfErr result (StoringReaches (in_use ((versions_of pool.old).pages at) (private_of changes.old)) root name.now (row ∷ [])) }
-    ensures whole { OnOk result (IsWholeOver ((versions_of pool.old).pages at) (private_of changes.old) → IsWholeOver ((versions_of pool.old).pages at) (private_of changes.new)) }
+    ensures whole { OnOk result (IsWholeOver ((versions_of pool.old).pages at) (private_of changes.old)
+        → IsWholeOver ((versions_of pool.old).pages at) (private_of changes.new)) }
     ensures settled { settled_of changes.new ≡ settled_of changes.old }
     ensures versions { versions_of pool.new ≡ versions_of pool.old }
     ensures refusal { IfErr result (SpaceRefused (AtLimit (over (private_of changes.new) ((versions_of pool.old).pages at) 0) (size_of (private_of changes.new))) (HoldsNoDatabaseIn (in_use ((versions_of pool.old).pages at) (private_of changes.old)) root (IsWholeOver ((versions_of pool.old).pages at) (private_of changes.old))) (D.refused (device_of pool.old)) (D.refused (device_of pool.new))) }
@@ -102,8 +115,9 @@ fn replace_from<D: Disk>(
     database_trees::replace(&mut space, alloc, root, name, number, row)
 }
 
-/// Puts a row in place of the one of a number in the table of a name, and in each of its indexes; where there is
-/// none, all stays. After a refusal nothing is said of the pages but that those written before the mark stay.
+/// Puts a row in place of the one of a number in the table of a name, and in each of its indexes;
+/// where there is none, all stays. After a refusal nothing is said of the pages but that those
+/// written before the mark stay.
 pub fn replace_row<D: Disk>(
     alloc: Global,
     pool: &mut Pool<D>,
@@ -113,8 +127,10 @@ pub fn replace_row<D: Disk>(
     number: u64,
     row: Row,
 ) -> Result<(), StoreError>
-    ensures replaced { IsDatabase ((versions_of pool.old).pages at) (private_of changes.old) → OnOk result (IsNow ((versions_of pool.old).pages at) (private_of changes.new) (replaced (contents_in ((versions_of pool.old).pages at) (private_of changes.old)) name.now number row)) }
-    ensures owned { IsOwned ((versions_of pool.old).pages at) (private_of changes.old) → OnOk result (IsOwned ((versions_of pool.old).pages at) (private_of changes.new)) }
+    ensures replaced { IsDatabase ((versions_of pool.old).pages at) (private_of changes.old)
+        → OnOk result (IsNow ((versions_of pool.old).pages at) (private_of changes.new) (replaced (contents_in ((versions_of pool.old).pages at) (private_of changes.old)) name.now number row)) }
+    ensures owned { IsOwned ((versions_of pool.old).pages at) (private_of changes.old)
+        → OnOk result (IsOwned ((versions_of pool.old).pages at) (private_of changes.new)) }
     ensures settled { settled_of changes.new ≡ settled_of changes.old }
     ensures versions { versions_of pool.new ≡ versions_of pool.old }
     ensures refused { IfErr result (MayFail (IsDatabase ((versions_of pool.old).pages at) (private_of changes.old)) (D.refused (device_of pool.old)) (D.refused (device_of pool.new)) (RowsReach (IsCounted ((versions_of pool.old).pages at) (private_of changes.new)) (row ∷ []))) }
@@ -151,9 +167,14 @@ fn delete_from<D: Disk>(
     name: &Text,
     number: u64,
 ) -> Result<u32, DatabaseError>
-    ensures deleted { (tables : List TableAt) → HoldsDatabase (in_use ((versions_of pool.old).pages at) (private_of changes.old)) root tables → IfOk result (DatabaseWritten (in_use ((versions_of pool.old).pages at) (private_of changes.new)) (deleted (contents_of tables) name.now number)) }
-    ensures owned { (tables : List TableAt) → IsAllOwned (in_use ((versions_of pool.old).pages at) (private_of changes.old)) root tables → IfOk result (DatabaseOwned (in_use ((versions_of pool.old).pages at) (private_of changes.new)) (deleted (contents_of tables) name.now number)) }
-    ensures whole { OnOk result (IsWholeOver ((versions_of pool.old).pages at) (private_of changes.old) → IsWholeOver ((versions_of pool.old).pages at) (private_of changes.new)) }
+    ensures deleted { (tables : List TableAt)
+        → HoldsDatabase (in_use ((versions_of pool.old).pages at) (private_of changes.old)) root tables
+        → IfOk result (DatabaseWritten (in_use ((versions_of pool.old).pages at) (private_of changes.new)) (deleted (contents_of tables) name.now number)) }
+    ensures owned { (tables : List TableAt)
+        → IsAllOwned (in_use ((versions_of pool.old).pages at) (private_of changes.old)) root tables
+        → IfOk result (DatabaseOwned (in_use ((versions_of pool.old).pages at) (private_of changes.new)) (deleted (contents_of tables) name.now number)) }
+    ensures whole { OnOk result (IsWholeOver ((versions_of pool.old).pages at) (private_of changes.old)
+        → IsWholeOver ((versions_of pool.old).pages at) (private_of changes.new)) }
     ensures settled { settled_of changes.new ≡ settled_of changes.old }
     ensures versions { versions_of pool.new ≡ versions_of pool.old }
     ensures refusal { IfErr result (SpaceRefused (AtLimit (over (private_of changes.new) ((versions_of pool.old).pages at) 0) (size_of (private_of changes.new))) (HoldsNoDatabaseIn (in_use ((versions_of pool.old).pages at) (private_of changes.old)) root (IsWholeOver ((versions_of pool.old).pages at) (private_of changes.old))) (D.refused (device_of pool.old)) (D.refused (device_of pool.new))) }
@@ -163,8 +184,9 @@ fn delete_from<D: Disk>(
     database_trees::delete(&mut space, alloc, root, name, number)
 }
 
-/// Takes the row of a number out of the table of a name, and out of each of its indexes; where there is none, all
-/// stays. After a refusal nothing is said of the pages but that those written before the mark stay.
+/// Takes the row of a number out of the table of a name, and out of each of its indexes; where
+/// there is none, all stays. After a refusal nothing is said of the pages but that those written
+/// before the mark stay.
 pub fn delete_row<D: Disk>(
     alloc: Global,
     pool: &mut Pool<D>,
@@ -173,8 +195,10 @@ pub fn delete_row<D: Disk>(
     name: &Text,
     number: u64,
 ) -> Result<(), StoreError>
-    ensures deleted { IsDatabase ((versions_of pool.old).pages at) (private_of changes.old) → OnOk result (IsNow ((versions_of pool.old).pages at) (private_of changes.new) (deleted (contents_in ((versions_of pool.old).pages at) (private_of changes.old)) name.now number)) }
-    ensures owned { IsOwned ((versions_of pool.old).pages at) (private_of changes.old) → OnOk result (IsOwned ((versions_of pool.old).pages at) (private_of changes.new)) }
+    ensures deleted { IsDatabase ((versions_of pool.old).pages at) (private_of changes.old)
+        → OnOk result (IsNow ((versions_of pool.old).pages at) (private_of changes.new) (deleted (contents_in ((versions_of pool.old).pages at) (private_of changes.old)) name.now number)) }
+    ensures owned { IsOwned ((versions_of pool.old).pages at) (private_of changes.old)
+        → OnOk result (IsOwned ((versions_of pool.old).pages at) (private_of changes.new)) }
     ensures settled { settled_of changes.new ≡ settled_of changes.old }
     ensures versions { versions_of pool.new ≡ versions_of pool.old }
     ensures refused { IfErr result (MayFail (IsDatabase ((versions_of pool.old).pages at) (private_of changes.old)) (D.refused (device_of pool.old)) (D.refused (device_of pool.new)) (ChangingReaches (IsCounted ((versions_of pool.old).pages at) (private_of changes.new)))) }

@@ -38,9 +38,15 @@ fn create_from<D: Disk>(
 ) -> Result<u32, DatabaseError>
     requires rows { table.now.root ≡ 0 }
     requires indexes { AllByRecursion (λ index. index.root ≡ 0) table.now.indexes }
-    ensures created { (tables : List TableAt) → HoldsDatabase (in_use ((versions_of pool.old).pages at) (private_of changes.old)) root tables → IsTable table.now → IfOk result (DatabaseWritten (in_use ((versions_of pool.old).pages at) (private_of changes.new)) (with_table (contents_of tables) table.now)) }
-    ensures owned { (tables : List TableAt) → IsAllOwned (in_use ((versions_of pool.old).pages at) (private_of changes.old)) root tables → IsTable table.now → IfOk result (DatabaseOwned (in_use ((versions_of pool.old).pages at) (private_of changes.new)) (with_table (contents_of tables) table.now)) }
-    ensures whole { OnOk result (IsWholeOver ((versions_of pool.old).pages at) (private_of changes.old) → IsWholeOver ((versions_of pool.old).pages at) (private_of changes.new)) }
+    ensures created { (tables : List TableAt)
+        → HoldsDatabase (in_use ((versions_of pool.old).pages at) (private_of changes.old)) root tables
+        → IsTable table.now
+        → IfOk result (DatabaseWritten (in_use ((versions_of pool.old).pages at) (private_of changes.new)) (with_table (contents_of tables) table.now)) }
+    ensures owned { (tables : List TableAt)
+        → IsAllOwned (in_use ((versions_of pool.old).pages at) (private_of changes.old)) root tables → IsTable table.now
+        → IfOk result (DatabaseOwned (in_use ((versions_of pool.old).pages at) (private_of changes.new)) (with_table (contents_of tables) table.now)) }
+    ensures whole { OnOk result (IsWholeOver ((versions_of pool.old).pages at) (private_of changes.old)
+        → IsWholeOver ((versions_of pool.old).pages at) (private_of changes.new)) }
     ensures settled { settled_of changes.new ≡ settled_of changes.old }
     ensures versions { versions_of pool.new ≡ versions_of pool.old }
     ensures refusal { IfErr result (SpaceRefused (AtLimit (over (private_of changes.new) ((versions_of pool.old).pages at) 0) (size_of (private_of changes.new))) (HoldsNoDatabaseIn (in_use ((versions_of pool.old).pages at) (private_of changes.old)) root (IsWholeOver ((versions_of pool.old).pages at) (private_of changes.old))) (D.refused (device_of pool.old)) (D.refused (device_of pool.new))) }
@@ -50,8 +56,8 @@ fn create_from<D: Disk>(
     database_trees::create_table(&mut space, alloc, root, table)
 }
 
-/// Puts a new table without rows beside the others; where a table has its name, all stays. After a refusal nothing
-/// is said of the pages but that those written before the mark stay.
+/// Puts a new table without rows beside the others; where a table has its name, all stays. After a
+/// refusal nothing is said of the pages but that those written before the mark stay.
 pub fn create_table<D: Disk>(
     alloc: Global,
     pool: &mut Pool<D>,
@@ -62,8 +68,10 @@ pub fn create_table<D: Disk>(
     requires rows { table.now.root ≡ 0 }
     requires indexes { AllByRecursion (λ index. index.root ≡ 0) table.now.indexes }
     requires range { IsTable table.now }
-    ensures created { IsDatabase ((versions_of pool.old).pages at) (private_of changes.old) → OnOk result (IsNow ((versions_of pool.old).pages at) (private_of changes.new) (with_table (contents_in ((versions_of pool.old).pages at) (private_of changes.old)) table.now)) }
-    ensures owned { IsOwned ((versions_of pool.old).pages at) (private_of changes.old) → OnOk result (IsOwned ((versions_of pool.old).pages at) (private_of changes.new)) }
+    ensures created { IsDatabase ((versions_of pool.old).pages at) (private_of changes.old)
+        → OnOk result (IsNow ((versions_of pool.old).pages at) (private_of changes.new) (with_table (contents_in ((versions_of pool.old).pages at) (private_of changes.old)) table.now)) }
+    ensures owned { IsOwned ((versions_of pool.old).pages at) (private_of changes.old)
+        → OnOk result (IsOwned ((versions_of pool.old).pages at) (private_of changes.new)) }
     ensures settled { settled_of changes.new ≡ settled_of changes.old }
     ensures versions { versions_of pool.new ≡ versions_of pool.old }
     ensures refused { IfErr result (MayFail (IsDatabase ((versions_of pool.old).pages at) (private_of changes.old)) (D.refused (device_of pool.old)) (D.refused (device_of pool.new)) (ChangingReaches (IsCounted ((versions_of pool.old).pages at) (private_of changes.new)))) }
@@ -90,9 +98,14 @@ fn drop_from<D: Disk>(
     root: u32,
     name: &Text,
 ) -> Result<u32, DatabaseError>
-    ensures dropped { (tables : List TableAt) → HoldsDatabase (in_use ((versions_of pool.old).pages at) (private_of changes.old)) root tables → IfOk result (DatabaseWritten (in_use ((versions_of pool.old).pages at) (private_of changes.new)) (without_table (contents_of tables) name.now)) }
-    ensures owned { (tables : List TableAt) → IsAllOwned (in_use ((versions_of pool.old).pages at) (private_of changes.old)) root tables → IfOk result (DatabaseOwned (in_use ((versions_of pool.old).pages at) (private_of changes.new)) (without_table (contents_of tables) name.now)) }
-    ensures whole { OnOk result (IsWholeOver ((versions_of pool.old).pages at) (private_of changes.old) → IsWholeOver ((versions_of pool.old).pages at) (private_of changes.new)) }
+    ensures dropped { (tables : List TableAt)
+        → HoldsDatabase (in_use ((versions_of pool.old).pages at) (private_of changes.old)) root tables
+        → IfOk result (DatabaseWritten (in_use ((versions_of pool.old).pages at) (private_of changes.new)) (without_table (contents_of tables) name.now)) }
+    ensures owned { (tables : List TableAt)
+        → IsAllOwned (in_use ((versions_of pool.old).pages at) (private_of changes.old)) root tables
+        → IfOk result (DatabaseOwned (in_use ((versions_of pool.old).pages at) (private_of changes.new)) (without_table (contents_of tables) name.now)) }
+    ensures whole { OnOk result (IsWholeOver ((versions_of pool.old).pages at) (private_of changes.old)
+        → IsWholeOver ((versions_of pool.old).pages at) (private_of changes.new)) }
     ensures settled { settled_of changes.new ≡ settled_of changes.old }
     ensures versions { versions_of pool.new ≡ versions_of pool.old }
     ensures refusal { IfErr result (SpaceRefused (AtLimit (over (private_of changes.new) ((versions_of pool.old).pages at) 0) (size_of (private_of changes.new))) (HoldsNoDatabaseIn (in_use ((versions_of pool.old).pages at) (private_of changes.old)) root (IsWholeOver ((versions_of pool.old).pages at) (private_of changes.old))) (D.refused (device_of pool.old)) (D.refused (device_of pool.new))) }
@@ -102,8 +115,8 @@ fn drop_from<D: Disk>(
     database_trees::drop_table(&mut space, alloc, root, name)
 }
 
-/// Takes the table of a name away, with its indexes; where no table has the name, all stays. After a refusal
-/// nothing is said of the pages but that those written before the mark stay.
+/// Takes the table of a name away, with its indexes; where no table has the name, all stays. After
+/// a refusal nothing is said of the pages but that those written before the mark stay.
 pub fn drop_table<D: Disk>(
     alloc: Global,
     pool: &mut Pool<D>,
@@ -111,8 +124,10 @@ pub fn drop_table<D: Disk>(
     at: u64,
     name: &Text,
 ) -> Result<(), StoreError>
-    ensures dropped { IsDatabase ((versions_of pool.old).pages at) (private_of changes.old) → OnOk result (IsNow ((versions_of pool.old).pages at) (private_of changes.new) (without_table (contents_in ((versions_of pool.old).pages at) (private_of changes.old)) name.now)) }
-    ensures owned { IsOwned ((versions_of pool.old).pages at) (private_of changes.old) → OnOk result (IsOwned ((versions_of pool.old).pages at) (private_of changes.new)) }
+    ensures dropped { IsDatabase ((versions_of pool.old).pages at) (private_of changes.old)
+        → OnOk result (IsNow ((versions_of pool.old).pages at) (private_of changes.new) (without_table (contents_in ((versions_of pool.old).pages at) (private_of changes.old)) name.now)) }
+    ensures owned { IsOwned ((versions_of pool.old).pages at) (private_of changes.old)
+        → OnOk result (IsOwned ((versions_of pool.old).pages at) (private_of changes.new)) }
     ensures settled { settled_of changes.new ≡ settled_of changes.old }
     ensures versions { versions_of pool.new ≡ versions_of pool.old }
     ensures refused { IfErr result (MayFail (IsDatabase ((versions_of pool.old).pages at) (private_of changes.old)) (D.refused (device_of pool.old)) (D.refused (device_of pool.new)) (ChangingReaches (IsCounted ((versions_of pool.old).pages at) (private_of changes.new)))) }
@@ -140,9 +155,16 @@ fn index_from<D: Disk>(
     name: &Text,
     index: Index,
 ) -> Result<u32, DatabaseError>
-    ensures indexed { (tables : List TableAt) → HoldsDatabase (in_use ((versions_of pool.old).pages at) (private_of changes.old)) root tables → ArePlaces index.columns → IfOk result (DatabaseWritten (in_use ((versions_of pool.old).pages at) (private_of changes.new)) (indexed (contents_of tables) name.now index)) }
-    ensures owned { (tables : List TableAt) → IsAllOwned (in_use ((versions_of pool.old).pages at) (private_of changes.old)) root tables → ArePlaces index.columns → IfOk result (DatabaseOwned (in_use ((versions_of pool.old).pages at) (private_of changes.new)) (indexed (contents_of tables) name.now index)) }
-    ensures whole { OnOk result (IsWholeOver ((versions_of pool.old).pages at) (private_of changes.old) → IsWholeOver ((versions_of pool.old).pages at) (private_of changes.new)) }
+    ensures indexed { (tables : List TableAt)
+        → HoldsDatabase (in_use ((versions_of pool.old).pages at) (private_of changes.old)) root tables
+        → ArePlaces index.columns
+        → IfOk result (DatabaseWritten (in_use ((versions_of pool.old).pages at) (private_of changes.new)) (indexed (contents_of tables) name.now index)) }
+    ensures owned { (tables : List TableAt)
+        → IsAllOwned (in_use ((versions_of pool.old).pages at) (private_of changes.old)) root tables
+        → ArePlaces index.columns
+        → IfOk result (DatabaseOwned (in_use ((versions_of pool.old).pages at) (private_of changes.new)) (indexed (contents_of tables) name.now index)) }
+    ensures whole { OnOk result (IsWholeOver ((versions_of pool.old).pages at) (private_of changes.old)
+        → IsWholeOver ((versions_of pool.old).pages at) (private_of changes.new)) }
     ensures settled { settled_of changes.new ≡ settled_of changes.old }
     ensures versions { versions_of pool.new ≡ versions_of pool.old }
     ensures refusal { IfErr result (SpaceRefused (AtLimit (over (private_of changes.new) ((versions_of pool.old).pages at) 0) (size_of (private_of changes.new))) (HoldsNoDatabaseIn (in_use ((versions_of pool.old).pages at) (private_of changes.old)) root (IsWholeOver ((versions_of pool.old).pages at) (private_of changes.old))) (D.refused (device_of pool.old)) (D.refused (device_of pool.new))) }
@@ -152,8 +174,9 @@ fn index_from<D: Disk>(
     database_trees::create_index(&mut space, alloc, root, name, index)
 }
 
-/// Makes an index of the table of a name, over the rows that are there; where no table has the name, all stays.
-/// After a refusal nothing is said of the pages but that those written before the mark stay.
+/// Makes an index of the table of a name, over the rows that are there; where no table has the
+/// name, all stays. After a refusal nothing is said of the pages but that those written before the
+/// mark stay.
 pub fn create_index<D: Disk>(
     alloc: Global,
     pool: &mut Pool<D>,
@@ -163,8 +186,10 @@ pub fn create_index<D: Disk>(
     index: Index,
 ) -> Result<(), StoreError>
     requires { ArePlaces index.columns }
-    ensures indexed { IsDatabase ((versions_of pool.old).pages at) (private_of changes.old) → OnOk result (IsNow ((versions_of pool.old).pages at) (private_of changes.new) (indexed (contents_in ((versions_of pool.old).pages at) (private_of changes.old)) name.now index)) }
-    ensures owned { IsOwned ((versions_of pool.old).pages at) (private_of changes.old) → OnOk result (IsOwned ((versions_of pool.old).pages at) (private_of changes.new)) }
+    ensures indexed { IsDatabase ((versions_of pool.old).pages at) (private_of changes.old)
+        → OnOk result (IsNow ((versions_of pool.old).pages at) (private_of changes.new) (indexed (contents_in ((versions_of pool.old).pages at) (private_of changes.old)) name.now index)) }
+    ensures owned { IsOwned ((versions_of pool.old).pages at) (private_of changes.old)
+        → OnOk result (IsOwned ((versions_of pool.old).pages at) (private_of changes.new)) }
     ensures settled { settled_of changes.new ≡ settled_of changes.old }
     ensures versions { versions_of pool.new ≡ versions_of pool.old }
     ensures refused { IfErr result (MayFail (IsDatabase ((versions_of pool.old).pages at) (private_of changes.old)) (D.refused (device_of pool.old)) (D.refused (device_of pool.new)) (ChangingReaches (IsCounted ((versions_of pool.old).pages at) (private_of changes.new)))) }
@@ -191,9 +216,14 @@ fn unindex_from<D: Disk>(
     root: u32,
     name: &Text,
 ) -> Result<u32, DatabaseError>
-    ensures unindexed { (tables : List TableAt) → HoldsDatabase (in_use ((versions_of pool.old).pages at) (private_of changes.old)) root tables → IfOk result (DatabaseWritten (in_use ((versions_of pool.old).pages at) (private_of changes.new)) (unindexed (contents_of tables) name.now)) }
-    ensures owned { (tables : List TableAt) → IsAllOwned (in_use ((versions_of pool.old).pages at) (private_of changes.old)) root tables → IfOk result (DatabaseOwned (in_use ((versions_of pool.old).pages at) (private_of changes.new)) (unindexed (contents_of tables) name.now)) }
-    ensures whole { OnOk result (IsWholeOver ((versions_of pool.old).pages at) (private_of changes.old) → IsWholeOver ((versions_of pool.old).pages at) (private_of changes.new)) }
+    ensures unindexed { (tables : List TableAt)
+        → HoldsDatabase (in_use ((versions_of pool.old).pages at) (private_of changes.old)) root tables
+        → IfOk result (DatabaseWritten (in_use ((versions_of pool.old).pages at) (private_of changes.new)) (unindexed (contents_of tables) name.now)) }
+    ensures owned { (tables : List TableAt)
+        → IsAllOwned (in_use ((versions_of pool.old).pages at) (private_of changes.old)) root tables
+        → IfOk result (DatabaseOwned (in_use ((versions_of pool.old).pages at) (private_of changes.new)) (unindexed (contents_of tables) name.now)) }
+    ensures whole { OnOk result (IsWholeOver ((versions_of pool.old).pages at) (private_of changes.old)
+        → IsWholeOver ((versions_of pool.old).pages at) (private_of changes.new)) }
     ensures settled { settled_of changes.new ≡ settled_of changes.old }
     ensures versions { versions_of pool.new ≡ versions_of pool.old }
     ensures refusal { IfErr result (SpaceRefused (AtLimit (over (private_of changes.new) ((versions_of pool.old).pages at) 0) (size_of (private_of changes.new))) (HoldsNoDatabaseIn (in_use ((versions_of pool.old).pages at) (private_of changes.old)) root (IsWholeOver ((versions_of pool.old).pages at) (private_of changes.old))) (D.refused (device_of pool.old)) (D.refused (device_of pool.new))) }
@@ -203,8 +233,8 @@ fn unindex_from<D: Disk>(
     database_trees::drop_index(&mut space, alloc, root, name)
 }
 
-/// Takes the indexes of a name away, whichever table has them. After a refusal nothing is said of the pages but
-/// that those written before the mark stay.
+/// Takes the indexes of a name away, whichever table has them. After a refusal nothing is said of
+/// the pages but that those written before the mark stay.
 pub fn drop_index<D: Disk>(
     alloc: Global,
     pool: &mut Pool<D>,
@@ -212,8 +242,10 @@ pub fn drop_index<D: Disk>(
     at: u64,
     name: &Text,
 ) -> Result<(), StoreError>
-    ensures unindexed { IsDatabase ((versions_of pool.old).pages at) (private_of changes.old) → OnOk result (IsNow ((versions_of pool.old).pages at) (private_of changes.new) (unindexed (contents_in ((versions_of pool.old).pages at) (private_of changes.old)) name.now)) }
-    ensures owned { IsOwned ((versions_of pool.old).pages at) (private_of changes.old) → OnOk result (IsOwned ((versions_of pool.old).pages at) (private_of changes.new)) }
+    ensures unindexed { IsDatabase ((versions_of pool.old).pages at) (private_of changes.old)
+        → OnOk result (IsNow ((versions_of pool.old).pages at) (private_of changes.new) (unindexed (contents_in ((versions_of pool.old).pages at) (private_of changes.old)) name.now)) }
+    ensures owned { IsOwned ((versions_of pool.old).pages at) (private_of changes.old)
+        → OnOk result (IsOwned ((versions_of pool.old).pages at) (private_of changes.new)) }
     ensures settled { settled_of changes.new ≡ settled_of changes.old }
     ensures versions { versions_of pool.new ≡ versions_of pool.old }
     ensures refused { IfErr result (MayFail (IsDatabase ((versions_of pool.old).pages at) (private_of changes.old)) (D.refused (device_of pool.old)) (D.refused (device_of pool.new)) (ChangingReaches (IsCounted ((versions_of pool.old).pages at) (private_of changes.new)))) }

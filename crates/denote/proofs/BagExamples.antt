@@ -116,7 +116,8 @@ pub union_all_comes_last : chain_by (by Union false) (by Union true) ≡ answer 
 unfolding through set_operation
 union_all_comes_last = simp meanings
 
--- T (A, B) has (0, 9223372036854775807) and (1, 1): SELECT 1 / A FROM T by operator SELECT B + 1 FROM T
+-- T (A, B) has (0, 9223372036854775807) and (1, 1): SELECT 1 / A FROM T by operator SELECT B + 1
+-- FROM T
 abbrev with_faults_by : SetOperator → Outcome
 with_faults_by operator =
     query_outcome (one_table ((number 0 ∷ greatest ∷ []) ∷ (number 1 ∷ number 1 ∷ []) ∷ []))

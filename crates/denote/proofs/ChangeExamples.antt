@@ -113,7 +113,8 @@ pub a_fault_of_a_query_inserts_none : (db : Database) →
 unfolding through
 a_fault_of_a_query_inserts_none db = simp (meanings, found)
 
--- T (A VARCHAR(3), B) has ('a', 0) and ('b', 1): INSERT INTO T (A) SELECT A || 'bcd' FROM T WHERE 1 / B > 0
+-- T (A VARCHAR(3), B) has ('a', 0) and ('b', 1): INSERT INTO T (A) SELECT A || 'bcd' FROM T WHERE 1
+-- / B > 0
 pub faults_of_a_query_and_of_storing : (db : Database) →
     changed no_check (insert db t (table (Varchar 3 ∷ one_integer) [] (pair (Text (97 ∷ [])) (number 0) ∷ pair (Text (98 ∷ [])) (number 1) ∷ [])))
     (does.Insert (record {

@@ -1,4 +1,5 @@
--- Worked changes of rows under several constraints and limits: a statement, a table, and what becomes of it.
+-- Worked changes of rows under several constraints and limits: a statement, a table, and what
+-- becomes of it.
 use Rattle.std.proofs.Common.{◌≡◌, refl, sym, subst, arith, ℕ, List, [], ◌∷◌, Option, Some, None, replicate}
 use Rattle.std.specs.FinMap.{insert}
 use Rattle.sqlval.specs.declared.value.Value.{Value}
@@ -45,7 +46,8 @@ update_of reading db assignments stored = update_in reading db (record { table =
 abbrev assign : ℕ → Expression → Assignment
 assign column source = record { column = column; source = source }
 
--- ---- several faults, at T (A NOT NULL, B CONSTRAINT P CHECK (B > 0), C VARCHAR(2), UNIQUE (A)), which is empty
+-- ---- several faults, at T (A NOT NULL, B CONSTRAINT P CHECK (B > 0), C VARCHAR(2), UNIQUE (A)),
+-- which is empty
 
 abbrev of_three_kinds : Table
 of_three_kinds = table (Integer ∷ Integer ∷ Varchar 2 ∷ []) (numbered 1 (NotNull 0) ∷ lettered 80 (Check []) ∷ numbered 3 (Unique (0 ∷ [])) ∷ []) []

@@ -163,7 +163,8 @@ pub no_group_over_nothing :
 unfolding through
 no_group_over_nothing = simp meanings
 
--- T (A) has 1, 2, 2 and NULL: SELECT COUNT( * ), COUNT(A), COUNT(DISTINCT A), SUM(DISTINCT A), AVG(A) FROM T
+-- T (A) has 1, 2, 2 and NULL: SELECT COUNT( * ), COUNT(A), COUNT(DISTINCT A), SUM(DISTINCT A),
+-- AVG(A) FROM T
 pub set_functions_drop_nulls :
     query_outcome (one_table (column_of (number 1 ∷ number 2 ∷ number 2 ∷ Null ∷ [])))
     (grouped (items (at 0 ∷ at 1 ∷ at 2 ∷ at 3 ∷ at 4 ∷ [])) from_t None

@@ -106,7 +106,8 @@ pub true_ends_or :
 unfolding through
 true_ends_or = simp meanings
 
--- ---- BETWEEN, at T (X, L, H) with (5, NULL, 3), (5, NULL, 9), (NULL, 1, 2), (5, 1, NULL), (0, 1, NULL) and (5, 9, 1)
+-- ---- BETWEEN, at T (X, L, H) with (5, NULL, 3), (5, NULL, 9), (NULL, 1, 2), (5, 1, NULL), (0, 1,
+-- NULL) and (5, 9, 1)
 
 -- SELECT X FROM T WHERE condition
 abbrev where_of_bounds : Condition → Outcome
@@ -125,7 +126,8 @@ where_of_bounds condition =
 abbrev is_between : Condition
 is_between = c.Between (at 0) (at 1) (at 2)
 
--- WHERE X BETWEEN L AND H: unknown and false, unknown and true, unknown, true and unknown, false, false
+-- WHERE X BETWEEN L AND H: unknown and false, unknown and true, unknown, true and unknown, false,
+-- false
 pub between_with_nulls : where_of_bounds is_between ≡ answer []
 unfolding through
 between_with_nulls = simp meanings

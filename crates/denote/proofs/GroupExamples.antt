@@ -52,7 +52,8 @@ pub faults_of_all_set_functions :
 unfolding through
 faults_of_all_set_functions = simp meanings
 
--- T (G, A) has (1, NULL), (1, NULL), (2, 5) and (NULL, NULL): SELECT G, COUNT( * ), COUNT(A), SUM(A), AVG(A), MIN(A), MAX(A) FROM T GROUP BY G
+-- T (G, A) has (1, NULL), (1, NULL), (2, 5) and (NULL, NULL): SELECT G, COUNT( * ), COUNT(A),
+-- SUM(A), AVG(A), MIN(A), MAX(A) FROM T GROUP BY G
 pub groups_of_nulls_alone :
     query_outcome (one_table ((number 1 ∷ Null ∷ []) ∷ (number 1 ∷ Null ∷ []) ∷ (number 2 ∷ number 5 ∷ []) ∷ (Null ∷ Null ∷ []) ∷ []))
     (grouped (items (at 0 ∷ at 1 ∷ at 2 ∷ at 3 ∷ at 4 ∷ at 5 ∷ at 6 ∷ [])) from_t (Some (0 ∷ []))
@@ -79,7 +80,8 @@ least_and_greatest_drop_nulls = simp meanings
 abbrev of_three_groups : List Row
 of_three_groups = (number 1 ∷ number 0 ∷ []) ∷ (number 1 ∷ number 5 ∷ []) ∷ (number 2 ∷ number 5 ∷ []) ∷ (number 3 ∷ number 1 ∷ []) ∷ []
 
--- SELECT list FROM T GROUP BY A HAVING condition: the first column is A, and those after it the set functions
+-- SELECT list FROM T GROUP BY A HAVING condition: the first column is A, and those after it the set
+-- functions
 abbrev by_first : List Row → List Expression → List SetFunction → Condition → Outcome
 by_first rows list functions having = query_outcome (one_table rows) (grouped_having (items list) from_t None (Some (0 ∷ [])) functions (Some having)) []
 
@@ -112,7 +114,8 @@ pub faults_of_groups_and_of_having :
 unfolding through
 faults_of_groups_and_of_having = simp meanings
 
--- T (A, B) has (1, 0) and (1, 5): SELECT A FROM T GROUP BY A HAVING 9223372036854775807 + A > 0 AND SUM(10 / B) > 0
+-- T (A, B) has (1, 0) and (1, 5): SELECT A FROM T GROUP BY A HAVING 9223372036854775807 + A > 0 AND
+-- SUM(10 / B) > 0
 pub having_sees_no_group_with_faults :
     by_first ((number 1 ∷ number 0 ∷ []) ∷ (number 1 ∷ number 5 ∷ []) ∷ []) (at 0 ∷ []) (s.Over Sum false (divided (literal 10) (at 1)) ∷ [])
     (c.And (exceeds (plus (e.Constant greatest) (at 0)) (literal 0) ∷ exceeds (at 1) (literal 0) ∷ []))

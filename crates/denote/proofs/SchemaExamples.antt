@@ -33,7 +33,8 @@ owned = record { name = None; columns = 0 ∷ [] }
 abbrev four_constraints : List Constraint
 four_constraints = numbered 1 (NotNull 0) ∷ numbered 2 (PrimaryKey (0 ∷ [])) ∷ numbered 3 (Check []) ∷ lettered 80 (Unique (1 ∷ 0 ∷ [])) ∷ []
 
--- CREATE TABLE T (A INTEGER NOT NULL, B INTEGER, PRIMARY KEY (A), CHECK .., CONSTRAINT P UNIQUE (B, A))
+-- CREATE TABLE T (A INTEGER NOT NULL, B INTEGER, PRIMARY KEY (A), CHECK .., CONSTRAINT P UNIQUE (B,
+-- A))
 pub keys_own_indexes : (db : Database) →
     changed no_check db (does.CreateTable (record { name = t; columns = columns_from 65 two_integers; constraints = four_constraints }))
     ≡ Makes (insert db t (record (table two_integers four_constraints []) { indexes = owned ∷ record { name = None; columns = 1 ∷ 0 ∷ [] } ∷ [] })) None
@@ -51,7 +52,8 @@ pub an_index_comes_last : (db : Database) →
     ≡ Makes (insert (insert db t (indexed (owned ∷ []))) t (indexed (owned ∷ named i ∷ []))) None
 an_index_comes_last db = simp found
 
--- a key of texts of 255, 255 and `last` characters takes 600 bytes where `last` is 76: 8 of row number, and 2 a text that are not its characters
+-- a key of texts of 255, 255 and `last` characters takes 600 bytes where `last` is 76: 8 of row
+-- number, and 2 a text that are not its characters
 abbrev long_texts : ℕ → List IndexDeclaration → Table
 long_texts last indexes =
     record (table (Varchar 255 ∷ Varchar 255 ∷ Varchar 255 ∷ []) [] ((Text (replicate 255 97) ∷ Text (replicate 255 97) ∷ Text (replicate last 97) ∷ []) ∷ [])) { indexes = indexes }

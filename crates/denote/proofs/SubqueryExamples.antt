@@ -133,7 +133,8 @@ pub not_in_a_list : where_in_t with_null [] (c.Not (c.InList (at 0) (number 2 �
 unfolding through
 not_in_a_list = simp meanings
 
--- T (A) has 1, S (B) has 1 and 0: SELECT A FROM T WHERE 1 IN (SELECT B / B FROM S), though 1 is there
+-- T (A) has 1, S (B) has 1 and 0: SELECT A FROM T WHERE 1 IN (SELECT B / B FROM S), though 1 is
+-- there
 pub in_has_the_faults_of_every_row : where_in_t one one_and_zero (c.InQuery (literal 1) (select (items (divided (at 0) (at 0) ∷ [])) from_s None)) ≡ faulting [] (DivisionByZero ∷ [])
 unfolding through whole
 in_has_the_faults_of_every_row = simp meanings
@@ -182,7 +183,8 @@ pub first_operand_ends_with_all_its_faults :
 unfolding through scalar
 first_operand_ends_with_all_its_faults = simp meanings
 
--- ---- correlation, at T (A) with 1, 2 and 3, S (B, C) with (1, 10), (2, 20) and (2, NULL), U (K, M) with (10, 1), (20, 3) and (20, 2)
+-- ---- correlation, at T (A) with 1, 2 and 3, S (B, C) with (1, 10), (2, 20) and (2, NULL), U (K,
+-- M) with (10, 1), (20, 3) and (20, 2)
 
 abbrev correlated : Query → Outcome
 correlated query =
@@ -200,7 +202,8 @@ pub one_level_deep :
 unfolding through whole
 one_level_deep = simp meanings
 
--- SELECT A FROM T WHERE EXISTS (SELECT B FROM S WHERE B = A AND EXISTS (SELECT K FROM U WHERE K = C AND M = A))
+-- SELECT A FROM T WHERE EXISTS (SELECT B FROM S WHERE B = A AND EXISTS (SELECT K FROM U WHERE K = C
+-- AND M = A))
 pub two_levels_deep :
     correlated (select (items (at 0 ∷ [])) from_t
     (Some (c.Exists (select (items (at 0 ∷ [])) from_s
@@ -237,7 +240,8 @@ pub derived_tables_see_outer_rows :
 unfolding through whole
 derived_tables_see_outer_rows = simp meanings
 
--- SELECT B FROM S GROUP BY B HAVING COUNT( * ) = (SELECT K FROM U WHERE K = 10 AND M = B) / 10: the outer row is that of the group
+-- SELECT B FROM S GROUP BY B HAVING COUNT( * ) = (SELECT K FROM U WHERE K = 10 AND M = B) / 10: the
+-- outer row is that of the group
 pub having_sees_the_row_of_the_group :
     correlated (grouped_having (items (at 0 ∷ [])) from_s None (Some (0 ∷ [])) (s.CountRows ∷ [])
     (Some (equals (at 1) (divided (e.Scalar (select (items (at 0 ∷ [])) from_u (Some (c.And (equals (at 0) (literal 10) ∷ equals (at 1) (outer 0) ∷ []))))) (literal 10)))))

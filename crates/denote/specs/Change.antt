@@ -1,6 +1,7 @@
--- What a statement that changes tables makes of a database (ISO/IEC 9075:1992, 11.3, 11.18, 13.7, 13.8, 13.10).
--- All its expressions see the database before the statement. First come the faults of evaluation, of every row; only where there
--- are none, the violated constraints of the database that would be: our own choice. So are indexes, which the standard does not know.
+-- What a statement that changes tables makes of a database (ISO/IEC 9075:1992, 11.3, 11.18, 13.7,
+-- 13.8, 13.10). All its expressions see the database before the statement. First come the faults of
+-- evaluation, of every row; only where there are none, the violated constraints of the database
+-- that would be: our own choice. So are indexes, which the standard does not know.
 use Rattle.std.specs.Prelude.{ℕ, ◌≡◌, Contains, Bool, true, false, not, List, [], ◌∷◌, ◌++◌, map, filter, flat_map, count_by, length, Option, Some, None, Ok, Err}
 use Rattle.std.specs.List.{filter_map}
 use Rattle.std.specs.FinMap.{get, insert, remove, entries, from_entries}
@@ -61,8 +62,8 @@ deleted_rows tables table d = together (map (λ row. is_touched tables d.filter 
 
 -- ---- what a change makes
 
--- A new database and, of a change of rows, how many it touched; or faults of evaluation, at least one; or the names of violated
--- constraints, at least one.
+-- A new database and, of a change of rows, how many it touched; or faults of evaluation, at least
+-- one; or the names of violated constraints, at least one.
 pub data Changed : Type 0 where
   Makes : (database : Database) → (count : Option ℕ) → Changed
   Raises : (faults : List Fault) → Changed
@@ -117,12 +118,14 @@ index_on db c table =
 abbrev pub without_index : Name → Table → Table
 without_index name table = record table { indexes = filter (λ index. not (is_named name index.name)) table.indexes }
 
--- a change of the table that it names; where no table has that name, which the rules of names exclude, nothing changes
+-- a change of the table that it names; where no table has that name, which the rules of names
+-- exclude, nothing changes
 abbrev pub on_table : Database → Option Table → (Table → Changed) → Changed
 on_table db None change = Makes db (Some 0)
 on_table db (Some table) change = change table
 
--- What the rules of names exclude is never met: a CREATE TABLE of a name that stands, a DROP of one that does not.
+-- What the rules of names exclude is never met: a CREATE TABLE of a name that stands, a DROP of one
+-- that does not.
 abbrev pub changed : CheckReading → Database → Change → Changed
 changed reading db (does.CreateTable c) = Makes (insert db c.name (created c)) None
 changed reading db (does.DropTable name) = Makes (remove db name) None
@@ -132,7 +135,7 @@ changed reading db (does.Insert i) = on_table db (get db i.table) (insert_into r
 changed reading db (does.Update u) = on_table db (get db u.table) (update_in reading db u)
 changed reading db (does.Delete d) = on_table db (get db d.table) (delete_from reading db d)
 
--- ---- `change`
+-- ---- `changes`
 
 -- a statement is accepted with this database, up to the order of rows, and this count
 abbrev pub IsAccepted : Changed → Database → Option ℕ → Type 0

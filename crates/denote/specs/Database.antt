@@ -26,7 +26,8 @@ use Rattle.denote.specs.Meaning.{truth_at}
 abbrev pub Name : Type 0
 Name = List ℕ
 
--- An index, which the standard does not know: our own choice. One that PRIMARY KEY or UNIQUE owns has no name.
+-- An index, which the standard does not know: our own choice. One that PRIMARY KEY or UNIQUE owns
+-- has no name.
 pub record IndexDeclaration : Type 0 where
   pub name : Option Name
   pub columns : List ℕ
@@ -56,8 +57,8 @@ rows_in db name = rows_of (get db name)
 
 -- ---- constraints
 
--- The condition that the printed text of a CHECK stands for, in the table with this name and these columns: that of the grammar
--- and of the rules of names and types.
+-- The condition that the printed text of a CHECK stands for, in the table with this name and these
+-- columns: that of the grammar and of the rules of names and types.
 abbrev pub CheckReading : Type 0
 CheckReading = Name → List Column → List ℕ → Condition
 
@@ -90,7 +91,8 @@ abbrev pub has_twins : List ℕ → List Row → Bool
 has_twins columns [] = false
 has_twins columns (row ∷ rows) = list_any (matches columns (key_of columns row)) rows || has_twins columns rows
 
--- Whether a table violates a rule. A CHECK is violated only where it is false (4.10.2). PRIMARY KEY is UNIQUE and NOT NULL in one: our own choice.
+-- Whether a table violates a rule. A CHECK is violated only where it is false (4.10.2). PRIMARY KEY
+-- is UNIQUE and NOT NULL in one: our own choice.
 abbrev pub is_violated : CheckReading → Name → Table → Rule → Bool
 is_violated reading name table (NotNull column) = has_null (column ∷ []) table.rows
 is_violated reading name table (PrimaryKey columns) = has_null columns table.rows || has_twins columns table.rows
@@ -101,7 +103,8 @@ is_violated reading name table (Check text) = list_any (λ row. is_false (check_
 abbrev pub violated_by : CheckReading → Name → Table → List Name
 violated_by reading name table = map (λ c. c.name) (filter (λ c. is_violated reading name table c.rule) table.constraints)
 
--- For the contract of what is built so far, and no part of any meaning: whether some of these rows violate a rule that is a NOT NULL.
+-- For the contract of what is built so far, and no part of any meaning: whether some of these rows
+-- violate a rule that is a NOT NULL.
 abbrev pub breaks_not_null : List Row → Rule → Bool
 breaks_not_null rows (NotNull column) = has_null (column ∷ []) rows
 breaks_not_null rows (PrimaryKey columns) = false
@@ -118,7 +121,8 @@ broken_not_nulls constraints rows = map (λ c. c.name) (filter (λ c. breaks_not
 abbrev pub fits_columns : List Column → Row → Bool
 fits_columns columns row = pointwise (λ value column. fits_column value column.column_type) row columns
 
--- The text of a CHECK can be read, in the table with this name and these columns: it stands for a condition, and its parentheses nest at most 64 deep.
+-- The text of a CHECK can be read, in the table with this name and these columns: it stands for a
+-- condition, and its parentheses nest at most 64 deep.
 pub record IsReadable (name : Name) (columns : List Column) (text : List ℕ) : Type 0 where
   pub condition : Condition
   pub reads : ReadsCheck name columns text condition
@@ -150,7 +154,8 @@ pub record NamesItsColumns (table : Table) : Type 0 where
   pub in_constraints : are_places (length table.columns) (constraint_columns table.constraints) ≡ true
   pub in_indexes : are_places (length table.columns) (index_columns table.indexes) ≡ true
 
--- The rows fit the columns and violate nothing, the table's CHECKs can be read, and what its constraints and indexes name are its columns.
+-- The rows fit the columns and violate nothing, the table's CHECKs can be read, and what its
+-- constraints and indexes name are its columns.
 pub record IsGoodTable (reading : CheckReading) (name : Name) (table : Table) : Type 0 where
   pub fitting : list_all (fits_columns table.columns) table.rows ≡ true
   pub unviolated : violated_by reading name table ≡ []

@@ -1,5 +1,5 @@
--- The schema of a database: what statements are typed against says of each table what the database has (ISO/IEC 9075:1992, 11.3; where trees begin is our own
--- choice and does not matter).
+-- The schema of a database: what statements are typed against says of each table what the database
+-- has (ISO/IEC 9075:1992, 11.3; where trees begin is our own choice and does not matter).
 use Rattle.std.specs.Prelude.{◌≡◌, map, Contains, Some}
 use Rattle.std.specs.FinMap.{get, keys}
 use Rattle.sqlval.specs.declared.schema.Index.{Index}

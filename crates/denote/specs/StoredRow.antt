@@ -23,8 +23,8 @@ abbrev pub value_for : Option (Evaluation Value) → Column → Value → Evalua
 value_for None column old = Ok old
 value_for (Some value) column old = value >>= (λ x. given (stored x column.column_type))
 
--- A row with values given for the columns at these places, and the old ones at the others. Its faults are those of all the values and
--- of storing them.
+-- A row with values given for the columns at these places, and the old ones at the others. Its
+-- faults are those of all the values and of storing them.
 abbrev pub row_with : List Column → List ℕ → List (Evaluation Value) → Row → Evaluation Row
 row_with columns places values old = together (map (λ c. value_for (given_for c.0 places values) c.1 (cell old c.0)) (enumerate_from 0 columns))
 
@@ -36,12 +36,14 @@ record_faults row = if nat_le (row_length row) 1000 then [] else Record ∷ []
 abbrev pub key_faults : Row → List ℕ → List Fault
 key_faults row columns = if nat_le (key_length (key_of columns row) + 8) 600 then [] else Key ∷ []
 
--- the faults of a row that a table is to hold: of the CHECKs that cannot be evaluated, and of its lengths
+-- the faults of a row that a table is to hold: of the CHECKs that cannot be evaluated, and of its
+-- lengths
 abbrev pub row_faults : List Condition → Table → Row → List Fault
 row_faults checks table row =
     flat_map (λ check. faults_in (check_at check row)) checks ++ (record_faults row ++ flat_map (λ index. key_faults row index.columns) table.indexes)
 
--- a row that a table is to hold, if nothing faults in it; where its values fault, nothing else is looked at: our own choice
+-- a row that a table is to hold, if nothing faults in it; where its values fault, nothing else is
+-- looked at: our own choice
 abbrev pub admitted : List Condition → Table → Evaluation Row → Evaluation Row
 admitted checks table row = row >>= (λ r. unless (row_faults checks table r) r)
 

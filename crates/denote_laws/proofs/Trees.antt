@@ -1,4 +1,5 @@
--- What a whole tree means is the same over tables that are the same up to the order of rows: by induction over the trees.
+-- What a whole tree means is the same over tables that are the same up to the order of rows: by
+-- induction over the trees.
 use Rattle.std.proofs.Common.{◌≡◌, refl, sym, subst, ℕ, Bool, List, [], map, Option, Some, None, Ok}
 use Rattle.sqlval.specs.Like.{like_of}
 use Rattle.sqlval.specs.Truth.{truth_not, truth_is, truth_of}

@@ -35,8 +35,11 @@ after db (Makes new count) = new
 after db (Raises faults) = db
 after db (Violates names) = db
 
--- What a change declares is right: the CHECKs of a table that it creates can be read, and its constraints name columns of it; an index names columns of its table.
+-- What a change declares is right: the CHECKs of a table that it creates can be read, and its
+-- constraints name columns of it; an index names columns of its table.
 abbrev pub DeclaresRightly : Database → Change → Type 0
-DeclaresRightly db (does.CreateTable c) = AreReadable c.name c.columns c.constraints × (are_places (length c.columns) (constraint_columns c.constraints) ≡ true)
-DeclaresRightly db (does.CreateIndex c) = (table : Table) → get db c.table ≡ Some table → are_places (length table.columns) c.columns ≡ true
+DeclaresRightly db (does.CreateTable c) = AreReadable c.name c.columns c.constraints
+    × (are_places (length c.columns) (constraint_columns c.constraints) ≡ true)
+DeclaresRightly db (does.CreateIndex c) = (table : Table) → get db c.table ≡ Some table
+    → are_places (length table.columns) c.columns ≡ true
 DeclaresRightly db _ = Unit {0}

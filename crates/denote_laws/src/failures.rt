@@ -30,11 +30,16 @@ pub fn no_failure_is_empty()
     ensures storing { (x : Value) (column : ColumnType) → IsSound (given (stored x column)) }
 {}
 
-/// Each expression, condition and set function of a typed tree, whatever stands in it, is at each row a value or at least one fault; and
-/// each change makes a database, or raises at least one fault, or names at least one violated constraint.
+/// Each expression, condition and set function of a typed tree, whatever stands in it, is at each
+/// row a value or at least one fault; and each change makes a database, or raises at least one
+/// fault, or names at least one violated constraint.
 pub fn no_meaning_is_an_empty_failure()
-    ensures expression { (tables : Tables) (expression : Expression) (env : Env) → IsSound (value_of tables expression env) }
-    ensures condition { (tables : Tables) (condition : Condition) (env : Env) → IsSound (truth_at tables condition env) }
-    ensures function { (tables : Tables) (function : SetFunction) (env : Env) (rows : List Row) → IsSound (function_value tables function env rows) }
-    ensures change { (reading : CheckReading) (db : Database) (change : Change) → IsDecided (changed reading db change) }
+    ensures expression { (tables : Tables) (expression : Expression) (env : Env)
+        → IsSound (value_of tables expression env) }
+    ensures condition { (tables : Tables) (condition : Condition) (env : Env)
+        → IsSound (truth_at tables condition env) }
+    ensures function { (tables : Tables) (function : SetFunction) (env : Env) (rows : List Row)
+        → IsSound (function_value tables function env rows) }
+    ensures change { (reading : CheckReading) (db : Database) (change : Change)
+        → IsDecided (changed reading db change) }
 {}

@@ -20,7 +20,8 @@ use Rattle.index_lookups.specs.Walked.{walk_of}
 
 -- no row whose entry stands before a code is sought
 abbrev pub MaySkip : Sought → List ℕ → List ℕ → Type 0
-MaySkip sought columns code = (e : stored.Entry) → IsKept e → precedes (index_entry columns e).key code ≡ true → is_wanted sought columns e ≡ false
+MaySkip sought columns code = (e : stored.Entry) → IsKept e → precedes (index_entry columns e).key code ≡ true
+    → is_wanted sought columns e ≡ false
 
 -- the beginning of an index, or the code of a key
 abbrev pub IsStart : List Value → List ℕ → Type 0

@@ -25,7 +25,8 @@ pub record HoldsIndexed (pages : PageMap) (root rows_root : ℕ) (columns : List
   pub table : HoldsRows pages rows_root rows_owned rows
 
 abbrev pub HoldsNoIndexed : PageMap → ℕ → ℕ → List ℕ → Type 0
-HoldsNoIndexed pages root rows_root columns = (rows : List stored.Entry) → HoldsIndexed pages root rows_root columns rows → ⊥
+HoldsNoIndexed pages root rows_root columns = (rows : List stored.Entry)
+    → HoldsIndexed pages root rows_root columns rows → ⊥
 
 -- these rows are left of a walk along the index, whose next entry is this one
 pub record StandsAt (columns : List ℕ) (rows : List stored.Entry) (next : Option Entry) (left : List stored.Entry) : Type 0 where
@@ -35,7 +36,8 @@ pub record StandsAt (columns : List ℕ) (rows : List stored.Entry) (next : Opti
 
 -- no walk along the index stands at this entry
 abbrev pub StandsNowhere : PageMap → ℕ → ℕ → List ℕ → Option Entry → Type 0
-StandsNowhere pages root rows_root columns next = (rows left : List stored.Entry) → HoldsIndexed pages root rows_root columns rows → StandsAt columns rows next left → ⊥
+StandsNowhere pages root rows_root columns next = (rows left : List stored.Entry)
+    → HoldsIndexed pages root rows_root columns rows → StandsAt columns rows next left → ⊥
 
 -- an index of a table whose rows begin at a root
 abbrev pub place_of : ℕ → Index → Place
@@ -44,11 +46,13 @@ place_of rows_root index = record { columns = index.columns; root = index.root; 
 -- the index at a place of a table lies there, or there is none
 abbrev pub IsPlaceOf : PageMap → Option stored.StoredTable → ℕ → Option Place → Type 0
 IsPlaceOf pages table at None = columns_at table at ≡ None
-IsPlaceOf pages table at (Some place) = (columns_at table at ≡ Some place.columns) × HoldsIndexed pages place.root place.rows_root place.columns (entries_of table)
+IsPlaceOf pages table at (Some place) = (columns_at table at ≡ Some place.columns)
+    × HoldsIndexed pages place.root place.rows_root place.columns (entries_of table)
 
 -- ---- steps of a walk
 
--- after a step, where these rows were left and these were found: some more are found, and others are left; where the walk has ended none of these is wanted
+-- after a step, where these rows were left and these were found: some more are found, and others
+-- are left; where the walk has ended none of these is wanted
 pub record HasStepped (columns : List ℕ) (rows : List stored.Entry) (wanted : stored.Entry → Bool) (left list : List stored.Entry) (walk : Walk) (ended : Bool) : Type 0 where
   pub rest : List stored.Entry
   pub more : List stored.Entry

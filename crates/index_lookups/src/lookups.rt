@@ -43,7 +43,9 @@ fn rows_behind<R: PageReader>(
     sought: Sought<'_>,
     code: &[u8],
 ) -> Result<Numbered, SpaceError>
-    ensures rows { (rows : List stored.Entry) → HoldsIndexed (R.pages space.old) place.now.root place.now.rows_root place.now.columns rows → MaySkip sought.entry place.now.columns code.now
+    ensures rows { (rows : List stored.Entry)
+        → HoldsIndexed (R.pages space.old) place.now.root place.now.rows_root place.now.columns rows
+        → MaySkip sought.entry place.now.columns code.now
         → IfOk result (λ found. AreEntries found (filter (is_wanted sought.entry place.now.columns) (walk_of place.now.columns rows))) }
     ensures same { R.pages space.new ≡ R.pages space.old }
     ensures whole { R.is_whole space.old → R.is_whole space.new }
@@ -57,7 +59,8 @@ fn rows_behind<R: PageReader>(
     }
 }
 
-/// Where a walk from a key on begins: at its code, and at the beginning where it is too long to have one.
+/// Where a walk from a key on begins: at its code, and at the beginning where it is too long to
+/// have one.
 fn start_of(alloc: Global, key: &[Value]) -> Result<Items<u8>, SpaceError>
     ensures start { IfOk result (IsStart key.now) }
     ensures memory { IfErr result (λ fault. fault ≡ OfMemory) }
@@ -77,7 +80,8 @@ fn matching<R: PageReader>(
     place: &Place,
     key: &[Value],
 ) -> Result<Numbered, SpaceError>
-    ensures rows { (rows : List stored.Entry) → HoldsIndexed (R.pages space.old) place.now.root place.now.rows_root place.now.columns rows
+    ensures rows { (rows : List stored.Entry)
+        → HoldsIndexed (R.pages space.old) place.now.root place.now.rows_root place.now.columns rows
         → IfOk result (λ found. AreEntries found (filter (λ (e : stored.Entry). matches place.now.columns key.now e.1) rows)) }
     ensures same { R.pages space.new ≡ R.pages space.old }
     ensures whole { R.is_whole space.old → R.is_whole space.new }
@@ -91,11 +95,13 @@ fn matching<R: PageReader>(
     }
 }
 
-/// The rows whose columns equal a key, in the order of their numbers: those of the index at a place of the table of a name, as
-/// many as the key has values. A null equals nothing; where no index stands there, nothing is found. It reads the pages on the
-/// way to the key, and on the way to each row that it gives.
+/// The rows whose columns equal a key, in the order of their numbers: those of the index at a place
+/// of the table of a name, as many as the key has values. A null equals nothing; where no index
+/// stands there, nothing is found. It reads the pages on the way to the key, and on the way to each
+/// row that it gives.
 ///
-/// Refused for want of memory, where the device refuses a call, and as damaged only where no database is held there.
+/// Refused for want of memory, where the device refuses a call, and as damaged only where no
+/// database is held there.
 pub fn seek<R: PageReader>(
     space: &mut R,
     alloc: Global,
@@ -104,7 +110,8 @@ pub fn seek<R: PageReader>(
     index: usize,
     key: &[Value],
 ) -> Result<Numbered, SpaceError>
-    ensures rows { (tables : List TableAt) → HoldsDatabase (R.pages space.old) root tables → IfOk result (λ found. AreEntries found (sought (get (contents_of tables) name.now) index key.now)) }
+    ensures rows { (tables : List TableAt) → HoldsDatabase (R.pages space.old) root tables
+        → IfOk result (λ found. AreEntries found (sought (get (contents_of tables) name.now) index key.now)) }
     ensures same { R.pages space.new ≡ R.pages space.old }
     ensures whole { R.is_whole space.old → R.is_whole space.new }
     ensures refusal { IfErr result (ReadRefused (HoldsNoDatabase (R.pages space.old) root) (R.refused space.old) (R.refused space.new)) }
@@ -138,7 +145,8 @@ fn within<R: PageReader>(
     low: &Bound<Value>,
     high: &Bound<Value>,
 ) -> Result<Numbered, SpaceError>
-    ensures rows { (rows : List stored.Entry) → HoldsIndexed (R.pages space.old) place.now.root place.now.rows_root place.now.columns rows
+    ensures rows { (rows : List stored.Entry)
+        → HoldsIndexed (R.pages space.old) place.now.root place.now.rows_root place.now.columns rows
         → IfOk result (λ found. AreEntries found (rows_within low.now high.now place.now.columns rows)) }
     ensures same { R.pages space.new ≡ R.pages space.old }
     ensures whole { R.is_whole space.old → R.is_whole space.new }
@@ -158,9 +166,10 @@ fn within<R: PageReader>(
     }
 }
 
-/// The rows whose first column of the index at a place of the table of a name is within bounds, in the order of the index: by
-/// the values of its columns, null lowest, and then by row number. A null is within no bound. It reads the pages on the way to
-/// the lower bound, and on the way to each row that it gives.
+/// The rows whose first column of the index at a place of the table of a name is within bounds, in
+/// the order of the index: by the values of its columns, null lowest, and then by row number. A
+/// null is within no bound. It reads the pages on the way to the lower bound, and on the way to
+/// each row that it gives.
 ///
 /// Refused as `seek` is.
 pub fn range<R: PageReader>(
@@ -172,7 +181,8 @@ pub fn range<R: PageReader>(
     low: &Bound<Value>,
     high: &Bound<Value>,
 ) -> Result<Numbered, SpaceError>
-    ensures rows { (tables : List TableAt) → HoldsDatabase (R.pages space.old) root tables → IfOk result (λ found. AreEntries found (ranged (get (contents_of tables) name.now) index low.now high.now)) }
+    ensures rows { (tables : List TableAt) → HoldsDatabase (R.pages space.old) root tables
+        → IfOk result (λ found. AreEntries found (ranged (get (contents_of tables) name.now) index low.now high.now)) }
     ensures same { R.pages space.new ≡ R.pages space.old }
     ensures whole { R.is_whole space.old → R.is_whole space.new }
     ensures refusal { IfErr result (ReadRefused (HoldsNoDatabase (R.pages space.old) root) (R.refused space.old) (R.refused space.new)) }
@@ -209,7 +219,9 @@ fn first_beyond<R: PageReader>(
     place: &Place,
     after: &Position,
 ) -> Result<Option<NumberedRow>, SpaceError>
-    ensures row { (rows : List stored.Entry) → HoldsIndexed (R.pages space.old) place.now.root place.now.rows_root place.now.columns rows → IfOk result (IsNextRow place.now.columns rows (Some (position_of after.now))) }
+    ensures row { (rows : List stored.Entry)
+        → HoldsIndexed (R.pages space.old) place.now.root place.now.rows_root place.now.columns rows
+        → IfOk result (IsNextRow place.now.columns rows (Some (position_of after.now))) }
     ensures same { R.pages space.new ≡ R.pages space.old }
     ensures whole { R.is_whole space.old → R.is_whole space.new }
     ensures refusal { IfErr result (ReadRefused (HoldsNoIndexed (R.pages space.old) place.now.root place.now.rows_root place.now.columns) (R.refused space.old) (R.refused space.new)) }
@@ -229,7 +241,9 @@ fn row_behind<R: PageReader>(
     place: &Place,
     code: &[u8],
 ) -> Result<Option<NumberedRow>, SpaceError>
-    ensures row { (rows : List stored.Entry) → HoldsIndexed (R.pages space.old) place.now.root place.now.rows_root place.now.columns rows → IfOk result (IsRowBehind place.now.columns rows code.now) }
+    ensures row { (rows : List stored.Entry)
+        → HoldsIndexed (R.pages space.old) place.now.root place.now.rows_root place.now.columns rows
+        → IfOk result (IsRowBehind place.now.columns rows code.now) }
     ensures same { R.pages space.new ≡ R.pages space.old }
     ensures whole { R.is_whole space.old → R.is_whole space.new }
     ensures refusal { IfErr result (ReadRefused (HoldsNoIndexed (R.pages space.old) place.now.root place.now.rows_root place.now.columns) (R.refused space.old) (R.refused space.new)) }
@@ -248,7 +262,9 @@ fn first_row<R: PageReader>(
     alloc: Global,
     place: &Place,
 ) -> Result<Option<NumberedRow>, SpaceError>
-    ensures row { (rows : List stored.Entry) → HoldsIndexed (R.pages space.old) place.now.root place.now.rows_root place.now.columns rows → IfOk result (IsNextRow place.now.columns rows None) }
+    ensures row { (rows : List stored.Entry)
+        → HoldsIndexed (R.pages space.old) place.now.root place.now.rows_root place.now.columns rows
+        → IfOk result (IsNextRow place.now.columns rows None) }
     ensures same { R.pages space.new ≡ R.pages space.old }
     ensures whole { R.is_whole space.old → R.is_whole space.new }
     ensures refusal { IfErr result (ReadRefused (HoldsNoIndexed (R.pages space.old) place.now.root place.now.rows_root place.now.columns) (R.refused space.old) (R.refused space.new)) }
@@ -268,7 +284,9 @@ fn row_beyond<R: PageReader>(
     place: &Place,
     after: &Position,
 ) -> Result<Option<NumberedRow>, SpaceError>
-    ensures row { (rows : List stored.Entry) → HoldsIndexed (R.pages space.old) place.now.root place.now.rows_root place.now.columns rows → IfOk result (IsNextRow place.now.columns rows (Some (position_of after.now))) }
+    ensures row { (rows : List stored.Entry)
+        → HoldsIndexed (R.pages space.old) place.now.root place.now.rows_root place.now.columns rows
+        → IfOk result (IsNextRow place.now.columns rows (Some (position_of after.now))) }
     ensures same { R.pages space.new ≡ R.pages space.old }
     ensures whole { R.is_whole space.old → R.is_whole space.new }
     ensures refusal { IfErr result (ReadRefused (HoldsNoIndexed (R.pages space.old) place.now.root place.now.rows_root place.now.columns) (R.refused space.old) (R.refused space.new)) }
@@ -287,8 +305,9 @@ fn row_beyond<R: PageReader>(
     }
 }
 
-/// The first row above a place in the index at a place of the table of a name; without a place the first of all. It reads the
-/// pages on the way to the place and to the row; where a place has no key of the index's columns, those of all rows.
+/// The first row above a place in the index at a place of the table of a name; without a place the
+/// first of all. It reads the pages on the way to the place and to the row; where a place has no
+/// key of the index's columns, those of all rows.
 ///
 /// Refused as `seek` is.
 pub fn next_in<R: PageReader>(
@@ -299,7 +318,8 @@ pub fn next_in<R: PageReader>(
     index: usize,
     after: Option<&Position>,
 ) -> Result<Option<NumberedRow>, SpaceError>
-    ensures row { (tables : List TableAt) → HoldsDatabase (R.pages space.old) root tables → IfOk result (λ found. IsEntry found (next_entry (get (contents_of tables) name.now) index (option_map (λ p. position_of p.now) after.entry))) }
+    ensures row { (tables : List TableAt) → HoldsDatabase (R.pages space.old) root tables
+        → IfOk result (λ found. IsEntry found (next_entry (get (contents_of tables) name.now) index (option_map (λ p. position_of p.now) after.entry))) }
     ensures same { R.pages space.new ≡ R.pages space.old }
     ensures whole { R.is_whole space.old → R.is_whole space.new }
     ensures refusal { IfErr result (ReadRefused (HoldsNoDatabase (R.pages space.old) root) (R.refused space.old) (R.refused space.new)) }

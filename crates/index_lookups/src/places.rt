@@ -43,7 +43,8 @@ fn place_in(table: Table, at: usize) -> Option<Place>
     }
 }
 
-/// The index at a place of the table of a name; `None` where no table has the name, or no index stands there.
+/// The index at a place of the table of a name; `None` where no table has the name, or no index
+/// stands there.
 pub(crate) fn index_at<R: PageReader>(
     space: &mut R,
     alloc: Global,
@@ -51,7 +52,8 @@ pub(crate) fn index_at<R: PageReader>(
     name: &Text,
     at: usize,
 ) -> Result<Option<Place>, SpaceError>
-    ensures found { (tables : List TableAt) → HoldsDatabase (R.pages space.old) root tables → IfOk result (IsPlaceOf (R.pages space.old) (get (contents_of tables) name.now) at) }
+    ensures found { (tables : List TableAt) → HoldsDatabase (R.pages space.old) root tables
+        → IfOk result (IsPlaceOf (R.pages space.old) (get (contents_of tables) name.now) at) }
     ensures same { R.pages space.new ≡ R.pages space.old }
     ensures whole { R.is_whole space.old → R.is_whole space.new }
     ensures refusal { IfErr result (ReadRefused (HoldsNoDatabase (R.pages space.old) root) (R.refused space.old) (R.refused space.new)) }

@@ -33,10 +33,13 @@ fn row_there<R: PageReader>(
     rows_root: u32,
     number: u64,
 ) -> Result<NumberedRow, SpaceError>
-    ensures row { (owned : List ℕ) (rows : List stored.Entry) → HoldsRows (R.pages space.old) rows_root owned rows → IfOk result (λ found. row_numbered number rows ≡ Some (entry_of found)) }
+    ensures row { (owned : List ℕ) (rows : List stored.Entry) → HoldsRows (R.pages space.old) rows_root owned rows
+        → IfOk result (λ found. row_numbered number rows ≡ Some (entry_of found)) }
     ensures same { R.pages space.new ≡ R.pages space.old }
     ensures whole { R.is_whole space.old → R.is_whole space.new }
-    ensures refusal { IfErr result (ReadRefused ((owned : List ℕ) (rows : List stored.Entry) (e : stored.Entry) → HoldsRows (R.pages space.old) rows_root owned rows → row_numbered number rows ≡ Some e → ⊥) (R.refused space.old) (R.refused space.new)) }
+    ensures refusal { IfErr result (ReadRefused ((owned : List ℕ) (rows : List stored.Entry) (e : stored.Entry)
+        → HoldsRows (R.pages space.old) rows_root owned rows → row_numbered number rows ≡ Some e
+        → ⊥) (R.refused space.old) (R.refused space.new)) }
     ensures rising { R.refused space.old ≤ R.refused space.new }
     ensures follows { R.follows space.old space.new }
 {
@@ -54,7 +57,9 @@ fn row_of_entry<R: PageReader>(
     place: &Place,
     entry: &Entry,
 ) -> Result<NumberedRow, SpaceError>
-    ensures row { (rows left : List stored.Entry) → HoldsIndexed (R.pages space.old) place.now.root place.now.rows_root place.now.columns rows → StandsAt place.now.columns rows (Some entry.now) left
+    ensures row { (rows left : List stored.Entry)
+        → HoldsIndexed (R.pages space.old) place.now.root place.now.rows_root place.now.columns rows
+        → StandsAt place.now.columns rows (Some entry.now) left
         → IfOk result (λ found. slice_get left 0 ≡ Some (entry_of found)) }
     ensures same { R.pages space.new ≡ R.pages space.old }
     ensures whole { R.is_whole space.old → R.is_whole space.new }
@@ -75,7 +80,9 @@ pub(crate) fn row_found<R: PageReader>(
     place: &Place,
     entry: &Option<Entry>,
 ) -> Result<Option<NumberedRow>, SpaceError>
-    ensures row { (rows left : List stored.Entry) → HoldsIndexed (R.pages space.old) place.now.root place.now.rows_root place.now.columns rows → StandsAt place.now.columns rows entry.now left
+    ensures row { (rows left : List stored.Entry)
+        → HoldsIndexed (R.pages space.old) place.now.root place.now.rows_root place.now.columns rows
+        → StandsAt place.now.columns rows entry.now left
         → IfOk result (λ found. option_map entry_of found ≡ slice_get left 0) }
     ensures same { R.pages space.new ≡ R.pages space.old }
     ensures whole { R.is_whole space.old → R.is_whole space.new }
@@ -94,7 +101,8 @@ pub(crate) fn row_found<R: PageReader>(
 
 /// Puts a row behind others, where it is wanted.
 fn put_if(found: &mut Numbered, is_one: bool, row: NumberedRow) -> Result<(), AllocError>
-    ensures { (rows : List stored.Entry) → AreEntries found.old rows → OnOk result (AreEntries found.new (rows ++ (if is_one then entry_of row ∷ [] else []))) }
+    ensures { (rows : List stored.Entry) → AreEntries found.old rows
+        → OnOk result (AreEntries found.new (rows ++ (if is_one then entry_of row ∷ [] else []))) }
 {
     if !is_one {
         return Ok(());
@@ -112,7 +120,9 @@ fn entry_behind<R: PageReader>(
     place: &Place,
     at: &Option<Entry>,
 ) -> Result<Option<Entry>, SpaceError>
-    ensures stands { (rows rest : List stored.Entry) (e : stored.Entry) → HoldsIndexed (R.pages space.old) place.now.root place.now.rows_root place.now.columns rows → StandsAt place.now.columns rows at.now (e ∷ rest)
+    ensures stands { (rows rest : List stored.Entry) (e : stored.Entry)
+        → HoldsIndexed (R.pages space.old) place.now.root place.now.rows_root place.now.columns rows
+        → StandsAt place.now.columns rows at.now (e ∷ rest)
         → IfOk result (λ entry. StandsAt place.now.columns rows entry rest) }
     ensures same { R.pages space.new ≡ R.pages space.old }
     ensures whole { R.is_whole space.old → R.is_whole space.new }
@@ -135,8 +145,11 @@ fn go_on<R: PageReader>(
     walk: &mut Walk,
     row: NumberedRow,
 ) -> Result<bool, SpaceError>
-    ensures stepped { (rows left list : List stored.Entry) → HoldsIndexed (R.pages space.old) place.now.root place.now.rows_root place.now.columns rows → StandsAt place.now.columns rows walk.old.next left
-        → slice_get left 0 ≡ Some (entry_of row) → AreEntries walk.old.found list → IfOk result (HasStepped place.now.columns rows (is_wanted sought.entry place.now.columns) left list walk.new) }
+    ensures stepped { (rows left list : List stored.Entry)
+        → HoldsIndexed (R.pages space.old) place.now.root place.now.rows_root place.now.columns rows
+        → StandsAt place.now.columns rows walk.old.next left
+        → slice_get left 0 ≡ Some (entry_of row) → AreEntries walk.old.found list
+        → IfOk result (HasStepped place.now.columns rows (is_wanted sought.entry place.now.columns) left list walk.new) }
     ensures same { R.pages space.new ≡ R.pages space.old }
     ensures whole { R.is_whole space.old → R.is_whole space.new }
     ensures refusal { IfErr result (ReadRefused (StandsNowhere (R.pages space.old) place.now.root place.now.rows_root place.now.columns walk.old.next) (R.refused space.old) (R.refused space.new)) }
@@ -165,8 +178,11 @@ fn step<R: PageReader>(
     sought: Sought<'_>,
     walk: &mut Walk,
 ) -> Result<bool, SpaceError>
-    ensures stepped { (rows left list : List stored.Entry) → HoldsIndexed (R.pages space.old) place.now.root place.now.rows_root place.now.columns rows → StandsAt place.now.columns rows walk.old.next left
-        → AreEntries walk.old.found list → IfOk result (HasStepped place.now.columns rows (is_wanted sought.entry place.now.columns) left list walk.new) }
+    ensures stepped { (rows left list : List stored.Entry)
+        → HoldsIndexed (R.pages space.old) place.now.root place.now.rows_root place.now.columns rows
+        → StandsAt place.now.columns rows walk.old.next left
+        → AreEntries walk.old.found list
+        → IfOk result (HasStepped place.now.columns rows (is_wanted sought.entry place.now.columns) left list walk.new) }
     ensures same { R.pages space.new ≡ R.pages space.old }
     ensures whole { R.is_whole space.old → R.is_whole space.new }
     ensures refusal { IfErr result (ReadRefused (StandsNowhere (R.pages space.old) place.now.root place.now.rows_root place.now.columns walk.old.next) (R.refused space.old) (R.refused space.new)) }
@@ -182,8 +198,8 @@ fn step<R: PageReader>(
 
 /// The rows of a walk from an entry on that are sought, in the order of the index.
 ///
-/// Refused for want of memory, where the device refuses a call, and as damaged only where no walk along an index stands at the
-/// entry.
+/// Refused for want of memory, where the device refuses a call, and as damaged only where no walk
+/// along an index stands at the entry.
 pub(crate) fn rows_from<R: PageReader>(
     space: &mut R,
     alloc: Global,
@@ -191,7 +207,9 @@ pub(crate) fn rows_from<R: PageReader>(
     sought: Sought<'_>,
     first: Option<Entry>,
 ) -> Result<Numbered, SpaceError>
-    ensures rows { (rows left : List stored.Entry) → HoldsIndexed (R.pages space.old) place.now.root place.now.rows_root place.now.columns rows → StandsAt place.now.columns rows first left
+    ensures rows { (rows left : List stored.Entry)
+        → HoldsIndexed (R.pages space.old) place.now.root place.now.rows_root place.now.columns rows
+        → StandsAt place.now.columns rows first left
         → IfOk result (λ found. AreEntries found (filter (is_wanted sought.entry place.now.columns) left)) }
     ensures same { R.pages space.new ≡ R.pages space.old }
     ensures whole { R.is_whole space.old → R.is_whole space.new }

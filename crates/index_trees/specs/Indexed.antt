@@ -34,7 +34,8 @@ pub record IsOfRow (columns : List ℕ) (rows : List stored.Entry) (x : Entry) :
   pub among : IsRow row rows
   pub is : x ≡ index_entry columns row
 
--- The tree at the root has an entry for each of these rows, and no others. Its keys rise, so none stands twice.
+-- The tree at the root has an entry for each of these rows, and no others. Its keys rise, so none
+-- stands twice.
 pub record HoldsIndex (pages : PageMap) (root : ℕ) (owned columns : List ℕ) (rows : List stored.Entry) : Type 0 where
   pub entries : List Entry
   pub tree : IsTree pages root owned entries
@@ -49,7 +50,8 @@ pub record AreWith (one : stored.Entry) (others rows : List stored.Entry) : Type
   pub apart : (row : stored.Entry) → IsRow row others → row.0 ≡ one.0 → ⊥
   pub numbers : (row : stored.Entry) → IsRow row rows → row.0 < 2 ^ 63
 
--- The tree at the root is now an index of these rows, in pages that it owned before or that were not in use; no other page in use has changed.
+-- The tree at the root is now an index of these rows, in pages that it owned before or that were
+-- not in use; no other page in use has changed.
 pub record IndexWritten (old new : PageMap) (owned columns : List ℕ) (rows : List stored.Entry) (root : ℕ) : Type 0 where
   pub now_owned : List ℕ
   pub holds : HoldsIndex new root now_owned columns rows
@@ -58,18 +60,22 @@ pub record IndexWritten (old new : PageMap) (owned columns : List ℕ) (rows : L
 
 -- no index lies there in a space whose list of free pages is one
 abbrev pub HoldsNoIndexIn : PageMap → ℕ → List ℕ → Type 0 → Type 0
-HoldsNoIndexIn pages root columns Whole = (owned : List ℕ) (rows : List stored.Entry) → HoldsIndex pages root owned columns rows → Whole → ⊥
+HoldsNoIndexIn pages root columns Whole = (owned : List ℕ) (rows : List stored.Entry)
+    → HoldsIndex pages root owned columns rows → Whole → ⊥
 
 -- no index of rows with this one lies there in a space whose list of free pages is one
 abbrev pub HoldsNoRowIn : PageMap → ℕ → List ℕ → stored.Entry → Type 0 → Type 0
-HoldsNoRowIn pages root columns one Whole = (owned : List ℕ) (others rows : List stored.Entry) → HoldsIndex pages root owned columns rows → AreWith one others rows → Whole → ⊥
+HoldsNoRowIn pages root columns one Whole = (owned : List ℕ) (others rows : List stored.Entry)
+    → HoldsIndex pages root owned columns rows → AreWith one others rows → Whole → ⊥
 
 -- whatever tree lies at the root has the row's entry
 abbrev pub HasEntry : PageMap → ℕ → List ℕ → stored.Entry → Type 0
-HasEntry pages root columns one = (owned : List ℕ) (entries : List Entry) → IsTree pages root owned entries → IsSome (get_of (index_entry columns one).key entries)
+HasEntry pages root columns one = (owned : List ℕ) (entries : List Entry) → IsTree pages root owned entries
+    → IsSome (get_of (index_entry columns one).key entries)
 
--- Why a change of an index may be refused, with what is known where it was for damage and with the counts of refused device calls before and after: as a change of
--- pages is, and where a row's key is too long.
+-- Why a change of an index may be refused, with what is known where it was for damage and with the
+-- counts of refused device calls before and after: as a change of pages is, and where a row's key
+-- is too long.
 abbrev pub MayRefuse : (SpaceError → Type 0) → Type 0 → ℕ → ℕ → List ℕ → Row → IndexError → Type 0
 MayRefuse AtLimit Harm before after columns row (Space fault) = ChangeRefused AtLimit Harm before after fault
 MayRefuse AtLimit Harm before after columns row Key = 600 < key_length (key_of columns row) + 8

@@ -61,13 +61,13 @@ fn code_of(
     }
 }
 
-/// Puts the entry of a row, whose number no row of the index has, into the index at a root over these
-/// columns, and answers the root; root 0 is the index of no rows.
+/// Puts the entry of a row, whose number no row of the index has, into the index at a root over
+/// these columns, and answers the root; root 0 is the index of no rows.
 ///
 /// Refused for want of memory, where the device refuses a call, at the limits of pages, as damaged
-/// only where no index lies there or the list of free pages is none, and by the limit `key` only where
-/// the row's key takes more than 600 bytes with its number. After a refusal nothing is said of the
-/// pages but what every call of the space keeps.
+/// only where no index lies there or the list of free pages is none, and by the limit `key` only
+/// where the row's key takes more than 600 bytes with its number. After a refusal nothing is said
+/// of the pages but what every call of the space keeps.
 pub fn add_row<S: PageSpace>(
     space: &mut S,
     alloc: Global,
@@ -76,7 +76,8 @@ pub fn add_row<S: PageSpace>(
     number: u64,
     row: &Row,
 ) -> Result<u32, IndexError>
-    ensures added { (owned : List ℕ) (others rows : List stored.Entry) → HoldsIndex (S.pages space.old) root owned columns.now others → AreWith (number, row.now) others rows
+    ensures added { (owned : List ℕ) (others rows : List stored.Entry)
+        → HoldsIndex (S.pages space.old) root owned columns.now others → AreWith (number, row.now) others rows
         → IfOk result (IndexWritten (S.pages space.old) (S.pages space.new) owned columns.now rows) }
     ensures keeps { IfOk result (LosesNoPage (S.pages space.old) (S.pages space.new) root) }
     ensures whole { OnOk result (S.is_whole space.old → S.is_whole space.new) }
@@ -94,8 +95,8 @@ pub fn add_row<S: PageSpace>(
 /// Takes the entry of a row out of the index at a root over these columns, and answers the root; 0
 /// where it was the only one.
 ///
-/// Refused as `add_row` is, and as damaged where the tree has no such entry: so only where no index of rows with this one
-/// lies there, or the list of free pages is none.
+/// Refused as `add_row` is, and as damaged where the tree has no such entry: so only where no index
+/// of rows with this one lies there, or the list of free pages is none.
 pub fn remove_row<S: PageSpace>(
     space: &mut S,
     alloc: Global,
@@ -104,7 +105,8 @@ pub fn remove_row<S: PageSpace>(
     number: u64,
     row: &Row,
 ) -> Result<u32, IndexError>
-    ensures removed { (owned : List ℕ) (others rows : List stored.Entry) → HoldsIndex (S.pages space.old) root owned columns.now rows → AreWith (number, row.now) others rows
+    ensures removed { (owned : List ℕ) (others rows : List stored.Entry)
+        → HoldsIndex (S.pages space.old) root owned columns.now rows → AreWith (number, row.now) others rows
         → IfOk result (IndexWritten (S.pages space.old) (S.pages space.new) owned columns.now others) }
     ensures there { OnOk result (HasEntry (S.pages space.old) root columns.now (number, row.now)) }
     ensures keeps { IfOk result (LosesNoPage (S.pages space.old) (S.pages space.new) root) }

@@ -1,4 +1,5 @@
--- A list is what a stable sort makes of another where it ascends and keeps the order of ties: there is one such list.
+-- A list is what a stable sort makes of another where it ascends and keeps the order of ties: there
+-- is one such list.
 use Rattle.std.proofs.Common.{◌≡◌, refl, ap, sym, ◌∙◌, subst, ℕ, suc, ◌+◌, ◌<◌, Bool, true, false, not, ◌&&◌, if◌then◌else◌, List, [], ◌∷◌, length, slice_index_or, arith}
 use Rattle.std.specs.Prelude.{filter}
 use Rattle.std.specs.Cmp.{IsStrictWeakOrder, IsTotalOrder}

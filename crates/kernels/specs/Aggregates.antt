@@ -1,4 +1,5 @@
--- Set functions over values that stand in rows: what a group's row has (ISO/IEC 9075:1992, 6.5, 7.7).
+-- Set functions over values that stand in rows: what a group's row has (ISO/IEC 9075:1992, 6.5,
+-- 7.7).
 use Rattle.std.specs.Prelude.{◌≡◌, ℕ, ◌+◌, ◌^◌, pos, nat_lt, if◌then◌else◌, List, [], ◌∷◌, ◌++◌, map, length, slice_index_or, Option, Result, Ok, IfOk, IfErr}
 use Rattle.std.specs.Option.{unwrap_or}
 use Rattle.sqlval.specs.declared.value.Value.{Value}

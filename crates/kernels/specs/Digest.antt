@@ -1,4 +1,5 @@
--- Digests: numbers that alike rows share. What they are matters to no promise; rows that differ may share one too.
+-- Digests: numbers that alike rows share. What they are matters to no promise; rows that differ may
+-- share one too.
 use Rattle.std.specs.Prelude.{ℕ, ◌+◌, ◌*◌, ◌%◌, ◌^◌, List, fold, unsigned_abs}
 use Rattle.sqlval.specs.declared.value.Value.{Value}
 use Rattle.sqlval.specs.declared.value.Value.TheVariants.{Null, Int, Text}

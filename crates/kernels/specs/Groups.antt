@@ -1,4 +1,5 @@
--- Rows by their keys: the groups, by their first rows, and which rows are in each, by their places (ISO/IEC 9075:1992, 7.7).
+-- Rows by their keys: the groups, by their first rows, and which rows are in each, by their places
+-- (ISO/IEC 9075:1992, 7.7).
 use Rattle.std.specs.Prelude.{ℕ, ◌+◌, if◌then◌else◌, List, [], ◌∷◌, map}
 use Rattle.sqlval.specs.Value.{Row}
 use Rattle.denote.specs.Bag.{are_alike, distinct}

@@ -1,4 +1,5 @@
--- The order of whole rows, column by column, a beginning before the longer row. Rows are alike just where they stand level in it.
+-- The order of whole rows, column by column, a beginning before the longer row. Rows are alike just
+-- where they stand level in it.
 use Rattle.std.specs.declared.cmp.Ordering.{Ordering}
 use Rattle.std.specs.Cmp.{IsTotalOrder}
 use Rattle.std.specs.Cmp.Lexicographic.{slice_cmp, lists_total}

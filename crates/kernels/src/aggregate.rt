@@ -27,7 +27,8 @@ pub enum Aggregate {
     },
 }
 
-/// The argument of the function with this number, at the row of this place; null where there is none.
+/// The argument of the function with this number, at the row of this place; null where there is
+/// none.
 fn value_at(
     alloc: Global,
     arguments: &[Row],
@@ -106,7 +107,8 @@ fn distinct_values(alloc: Global, values: Items<Value>) -> Result<Items<Value>, 
     first_values(alloc, rows)
 }
 
-/// The values that a set function takes: those that are not null, and with DISTINCT one of each alike ones.
+/// The values that a set function takes: those that are not null, and with DISTINCT one of each
+/// alike ones.
 pub fn taken_values(
     alloc: Global,
     distinct: bool,

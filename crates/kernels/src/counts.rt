@@ -37,8 +37,10 @@ pub fn count_row<'a>(
     counts: &mut BTreeMap<RowKey<'a>, usize>,
     row: &'a [Value],
 ) -> Result<usize, AllocError>
-    ensures before { (rows : List Values) → Counts counts.old rows → IfOk result (λ before. before ≡ times row.now rows) }
-    ensures counted { (rows : List Values) → Counts counts.old rows → length rows + 1 < 2 ^ 64 → OnOk result (Counts counts.new (rows ++ row.now ∷ [])) }
+    ensures before { (rows : List Values) → Counts counts.old rows
+        → IfOk result (λ before. before ≡ times row.now rows) }
+    ensures counted { (rows : List Values) → Counts counts.old rows → length rows + 1 < 2 ^ 64
+        → OnOk result (Counts counts.new (rows ++ row.now ∷ [])) }
 {
     let key = RowKey {
         digest: row_digest(row),

@@ -32,7 +32,8 @@ pub fn aggregates_of(
     alloc: Global,
     functions: &[SetFunction],
 ) -> Result<Items<Aggregate>, AllocError>
-    ensures { (step : Layer Tree-F → TreeMeaning) → IfOk result (λ aggregates. aggregates ≡ map kind_of (map (function_by step) functions.now)) }
+    ensures { (step : Layer Tree-F → TreeMeaning)
+        → IfOk result (λ aggregates. aggregates ≡ map kind_of (map (function_by step) functions.now)) }
 {
     let mut aggregates = Items::with_capacity(alloc, functions.len())?;
     for function in functions {

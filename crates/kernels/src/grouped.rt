@@ -103,7 +103,8 @@ fn all_places(alloc: Global, rows: &[Row]) -> Result<Items<usize>, AllocError>
     Ok(places)
 }
 
-/// The groups of rows by these columns, by their first rows; without columns there is one, even over no rows.
+/// The groups of rows by these columns, by their first rows; without columns there is one, even
+/// over no rows.
 fn groups_of(
     alloc: Global,
     columns: &Option<Items<usize>>,
@@ -128,9 +129,11 @@ fn groups_of(
     }
 }
 
-/// A row for each group: its key and then the values of its set functions, by the groups' first rows. Without `columns` all rows are
-/// one group, even where there are none. `arguments` has for each row the values of the functions' arguments there (null for COUNT(*)).
-/// Refuses with the first fault of a set function, by groups and then functions: a value outside signed 64 bits; else for want of memory alone.
+/// A row for each group: its key and then the values of its set functions, by the groups' first
+/// rows. Without `columns` all rows are one group, even where there are none. `arguments` has for
+/// each row the values of the functions' arguments there (null for COUNT(*)). Refuses with the
+/// first fault of a set function, by groups and then functions: a value outside signed 64 bits;
+/// else for want of memory alone.
 pub fn group_rows(
     alloc: Global,
     columns: &Option<Items<usize>>,
@@ -138,7 +141,9 @@ pub fn group_rows(
     rows: &[Row],
     arguments: &[Row],
 ) -> Result<Rows, Stop>
-    ensures { (functions : List MeantFunction) (env : Env) → aggregates.now ≡ map kind_of functions → together (map (argument_values functions env) rows.now) ≡ Ok arguments.now → GivesRows result (groups_listed columns.now functions env rows.now) }
+    ensures { (functions : List MeantFunction) (env : Env) → aggregates.now ≡ map kind_of functions
+        → together (map (argument_values functions env) rows.now) ≡ Ok arguments.now
+        → GivesRows result (groups_listed columns.now functions env rows.now) }
 {
     let groups = groups_of(alloc, columns, rows)?;
     rows_of_groups(alloc, arguments, aggregates, groups)

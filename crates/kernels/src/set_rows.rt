@@ -26,7 +26,8 @@ fn distinct_marks(alloc: Global, rows: &[Row]) -> Result<Items<bool>, AllocError
     Ok(marks)
 }
 
-/// The first of each alike rows, null being alike to null, in their order. Rows are moved and not copied. Refuses for want of memory alone.
+/// The first of each alike rows, null being alike to null, in their order. Rows are moved and not
+/// copied. Refuses for want of memory alone.
 pub fn distinct_rows(alloc: Global, rows: Rows) -> Result<Rows, AllocError>
     ensures { IfOk result (λ found. found ≡ distinct rows) }
 {
@@ -110,8 +111,9 @@ fn intersect_marks(
     Ok(marks)
 }
 
-/// The rows of a set operator: the left rows, and for UNION then the right ones; of alike rows the first, as many as the operator says.
-/// Rows are moved and not copied. Refuses for want of memory alone.
+/// The rows of a set operator: the left rows, and for UNION then the right ones; of alike rows the
+/// first, as many as the operator says. Rows are moved and not copied. Refuses for want of memory
+/// alone.
 pub fn combined_rows(
     alloc: Global,
     operation: SetOperation,

@@ -39,7 +39,8 @@ pub fn compare_rows(keys: &[OrderKey], a: &[Value], b: &[Value]) -> Ordering
     Ordering::Equal
 }
 
-/// The rows in the order of the keys, ties in the order in which they were. Rows are moved and not copied. Refuses for want of memory alone.
+/// The rows in the order of the keys, ties in the order in which they were. Rows are moved and not
+/// copied. Refuses for want of memory alone.
 pub fn sorted_rows(keys: &[OrderKey], rows: Rows) -> Result<Rows, AllocError>
     ensures { IfOk result (λ found. found ≡ sorted keys.now rows) }
 {

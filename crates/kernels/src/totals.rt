@@ -107,8 +107,8 @@ fn maximum(alloc: Global, values: &[Value]) -> Result<Value, AllocError>
     }
 }
 
-/// The value of a set function over the values that it takes. Refuses a whole outside signed 64 bits, and where it is a value
-/// perhaps for want of memory.
+/// The value of a set function over the values that it takes. Refuses a whole outside signed 64
+/// bits, and where it is a value perhaps for want of memory.
 pub fn aggregate_values(
     alloc: Global,
     function: SetFunctionType,

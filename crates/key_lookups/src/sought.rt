@@ -14,8 +14,9 @@ use sqlval::{CompOp, Value};
 use std::alloc::{AllocError, Global};
 use std::slice::from_ref;
 
-/// The key that a row has in these columns where the condition is true at it. There is one where the condition raises no fault and has, among its conjuncts, an equality of each of the
-/// columns with a literal. Refuses for want of memory alone.
+/// The key that a row has in these columns where the condition is true at it. There is one where
+/// the condition raises no fault and has, among its conjuncts, an equality of each of the columns
+/// with a literal. Refuses for want of memory alone.
 pub fn sought_key(
     alloc: Global,
     condition: &Condition,

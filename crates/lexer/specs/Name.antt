@@ -1,6 +1,6 @@
 -- Which lists of codes are identifiers.
--- SQL-92, 5.2 <regular identifier>, with letters folded to upper case there too. That the letters are those
--- of ASCII, and the limit of 64 characters in place of 128, is our own choice.
+-- SQL-92, 5.2 <regular identifier>, with letters folded to upper case there too. That the letters
+-- are those of ASCII, and the limit of 64 characters in place of 128, is our own choice.
 use Rattle.std.specs.Prelude.{ℕ, Bool, false, ◌&&◌, ◌||◌, ◌==◌, nat_le, List, [], ◌∷◌, length, is_none, Option, Some, None, if◌then◌else◌}
 use Rattle.std.specs.Char.{is_ascii_uppercase, is_ascii_digit}
 use Rattle.std.specs.List.{list_all}

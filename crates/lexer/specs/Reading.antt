@@ -1,4 +1,5 @@
--- What the functions that read one token compute: a step of the proof. What the crate promises stands in `Tokens`.
+-- What the functions that read one token compute: a step of the proof. What the crate promises
+-- stands in `Tokens`.
 use Rattle.std.specs.Prelude.{◌≡◌, ◌≢◌, ℕ, Bool, true, false, not, ◌&&◌, ◌||◌, if◌then◌else◌, ◌==◌, nat_lt, nat_le, [], ◌∷◌, ◌++◌, length, drop, take_while, Option, Some, None, option_and_then, Result, Ok, Err}
 use Rattle.std.specs.Borrow.{Bor}
 use Rattle.std.specs.Char.{is_ascii_alphabetic, is_ascii_digit}
@@ -84,7 +85,8 @@ number b bs =
     if nat_lt greatest_number (number_of (b ∷ run is_ascii_digit bs)) || goes_on_as_word (after_run is_ascii_digit bs) then Fails (Invalid reason.Number)
     else Reads (kind.Number (number_of (b ∷ run is_ascii_digit bs))) (after_run is_ascii_digit bs)
 
--- ---- strings, after the first quote. A quote is pending where the last byte was one that may be doubled.
+-- ---- strings, after the first quote. A quote is pending where the last byte was one that may be
+-- doubled.
 
 abbrev pub closed : Bytes → Bytes → Step
 closed done rest = if is_text done then Reads (kind.Text done) rest else Fails (Exceeded limit.Text)

@@ -1,4 +1,5 @@
--- Words whose forms are not built yet: a text that holds one is refused before the grammar is looked at.
+-- Words whose forms are not built yet: a text that holds one is refused before the grammar is
+-- looked at.
 use Rattle.std.specs.Prelude.{List, [], ◌∷◌, Option, Some, None, if◌then◌else◌}
 use Rattle.lexer.specs.declared.kinds.Kind.{Kind}
 use Rattle.lexer.specs.declared.kinds.Kind.TheVariants as kind

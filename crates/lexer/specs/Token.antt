@@ -1,6 +1,7 @@
--- What a token is: how it is spelled, what may not follow it, and which faults stand in place of one.
--- SQL-92, 5.2 <token> and <separator>, and 5.3 <literal>. Our own choices: comments may hold any byte and words
--- only ASCII letters; a number has no fraction and no exponent; two strings side by side are two tokens; the limits.
+-- What a token is: how it is spelled, what may not follow it, and which faults stand in place of
+-- one. SQL-92, 5.2 <token> and <separator>, and 5.3 <literal>. Our own choices: comments may hold
+-- any byte and words only ASCII letters; a number has no fraction and no exponent; two strings side
+-- by side are two tokens; the limits.
 use Rattle.std.specs.Prelude.{◌≡◌, ◌≢◌, ℕ, ◌+◌, ◌-◌, ◌*◌, ◌<◌, ◌≤◌, Bool, true, false, ◌||◌, ◌&&◌, if◌then◌else◌, ◌==◌, List, [], ◌∷◌, ◌++◌, length, fold, map, codes}
 use Rattle.std.specs.Char.{is_ascii_alphabetic, is_ascii_digit, to_ascii_uppercase}
 use Rattle.std.specs.List.{list_all}
@@ -39,7 +40,8 @@ begins_comment (b ∷ bs) = b == 45 && begins_with (λ c. c == 45) bs
 abbrev pub is_line : Bytes → Bool
 is_line = list_all (λ b. if b == 10 then false else true)
 
--- Before `rest` these bytes are white space and comments. A comment runs from -- to the next LF, or to the end of the text.
+-- Before `rest` these bytes are white space and comments. A comment runs from -- to the next LF, or
+-- to the end of the text.
 pub data IsGap : Bytes → Bytes → Type 0 where
   nothing : (rest : Bytes) → IsGap [] rest
   space : (b : ℕ) (gap rest : Bytes) → is_space b ≡ true → IsGap gap rest → IsGap (b ∷ gap) rest
@@ -96,7 +98,8 @@ symbol_text symbol.Concatenation = codes "||"
 abbrev pub Spells : Bytes → Kind → Type 0
 Spells bytes (kind.Word word) = folded bytes ≡ word_text word
 Spells bytes (kind.Name name) = (folded bytes ≡ name) × (is_name name ≡ true)
-Spells bytes (kind.Number number) = (is_digits bytes ≡ true) × (number_of bytes ≤ greatest_number) × (number ≡ number_of bytes)
+Spells bytes (kind.Number number) = (is_digits bytes ≡ true) × (number_of bytes ≤ greatest_number)
+    × (number ≡ number_of bytes)
 Spells bytes (kind.Text characters) = (bytes ≡ 39 ∷ quoted characters ++ 39 ∷ []) × (is_text characters ≡ true)
 Spells bytes (kind.Symbol symbol) = bytes ≡ symbol_text symbol
 
@@ -106,7 +109,8 @@ IsLongest symbol rest =
     (longer : Symbol) (more : Bytes) → symbol_text symbol ++ rest ≡ symbol_text longer ++ more
     → length (symbol_text longer) ≤ length (symbol_text symbol)
 
--- the token ends before these bytes: nothing there makes it longer, and after a number stands no letter
+-- the token ends before these bytes: nothing there makes it longer, and after a number stands no
+-- letter
 abbrev pub EndsBefore : Bytes → Kind → Type 0
 EndsBefore rest (kind.Word _) = begins_with is_word_byte rest ≡ false
 EndsBefore rest (kind.Name _) = begins_with is_word_byte rest ≡ false
@@ -132,16 +136,19 @@ pub data IsFault (bytes : Bytes) (refusal : Refusal) : Type 0 where
   long_name : (word rest : Bytes) → IsRun is_word_byte bytes word rest → begins_with is_ascii_alphabetic bytes ≡ true
       → longest_name < length word → refusal ≡ Exceeded limit.Name → IsFault bytes refusal
   -- 42000 `number`: digits of too great a value
-  great_number : (digits rest : Bytes) → IsRun is_ascii_digit bytes digits rest → begins_with is_ascii_digit bytes ≡ true
+  great_number : (digits rest : Bytes) → IsRun is_ascii_digit bytes digits rest
+      → begins_with is_ascii_digit bytes ≡ true
       → greatest_number < number_of digits → refusal ≡ Invalid reason.Number → IsFault bytes refusal
   -- 42000 `number`: digits with a letter or an underscore directly behind them
-  number_before_word : (digits rest : Bytes) → IsRun is_ascii_digit bytes digits rest → begins_with is_ascii_digit bytes ≡ true
+  number_before_word : (digits rest : Bytes) → IsRun is_ascii_digit bytes digits rest
+      → begins_with is_ascii_digit bytes ≡ true
       → begins_with is_word_byte rest ≡ true → refusal ≡ Invalid reason.Number → IsFault bytes refusal
   -- 42000 `text`: a string that no quote ends
   open_string : (characters : Bytes) → bytes ≡ 39 ∷ quoted characters → is_text characters ≡ true
       → refusal ≡ Invalid reason.Text → IsFault bytes refusal
   -- X0003 `text`: a string in which one character too many stands
-  long_string : (characters : Bytes) (c : ℕ) (rest : Bytes) → bytes ≡ 39 ∷ quoted characters ++ (quoted_character c ++ rest)
+  long_string : (characters : Bytes) (c : ℕ) (rest : Bytes)
+      → bytes ≡ 39 ∷ quoted characters ++ (quoted_character c ++ rest)
       → is_text characters ≡ true → length characters ≡ longest_text → is_character c ≡ true
       → refusal ≡ Exceeded limit.Text → IsFault bytes refusal
   -- 42000 `character`: a byte in a string that is no character

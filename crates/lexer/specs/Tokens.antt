@@ -8,7 +8,8 @@ use Rattle.lexer.specs.Token.{Bytes, IsGap, Spells, EndsBefore, IsFault, begins_
 abbrev pub kinds_of : List Token → List Kind
 kinds_of = map (λ token. token.kind)
 
--- After the first `from` bytes of the text the next token is this one, behind white space and comments.
+-- After the first `from` bytes of the text the next token is this one, behind white space and
+-- comments.
 pub record IsToken (text : Bytes) (from : ℕ) (token : Token) : Type 0 where
   pub after : from ≤ token.start
   pub within : token.end ≤ length text
@@ -28,7 +29,8 @@ pub record AreTokens (text : Bytes) (tokens : List Token) : Type 0 where
   pub before : AreTokensBetween text 0 tokens last
   pub gap : IsGap (drop last text) []
 
--- The first fault of the text from left to right: after some tokens, and behind white space and comments.
+-- The first fault of the text from left to right: after some tokens, and behind white space and
+-- comments.
 pub record IsFirstFault (text : Bytes) (refusal : Refusal) : Type 0 where
   pub tokens : List Token
   pub last : ℕ

@@ -1,5 +1,5 @@
--- The reserved words: those of SQL-92, 5.2, that the language uses now or keeps for later; EXPLAIN, INDEX and SAVEPOINT are
--- our own.
+-- The reserved words: those of SQL-92, 5.2, that the language uses now or keeps for later; EXPLAIN,
+-- INDEX and SAVEPOINT are our own.
 use Rattle.std.specs.Prelude.{ℕ, Bool, false, List, [], ◌∷◌, codes, Option, Some, None, if◌then◌else◌}
 use Rattle.std.specs.Str.{bytes_eq}
 use denote.Enum.Bare.{sameb}
@@ -14,8 +14,9 @@ use Rattle.lexer.specs.declared.words.Word.TheVariants as word
 abbrev pub Entry : Type 0
 Entry = List ℕ × Word × Support
 
--- Each reserved word with its spelling, and whether it is in use. Whoever builds new forms changes `Later` to `Now` on the
--- lines of their words, here and in the table of the code, which the prover finds to be this one
+-- Each reserved word with its spelling, and whether it is in use. Whoever builds new forms changes
+-- `Later` to `Now` on the lines of their words, here and in the table of the code, which the prover
+-- finds to be this one
 abbrev pub vocabulary : List Entry
 vocabulary =
     (codes "ALL", word.All, Now)

@@ -52,7 +52,8 @@ pub enum Kind {
     Symbol(Symbol),
 }
 
-/// A token, and where it stands in its text: from byte `start` up to byte `end`, which is not its own.
+/// A token, and where it stands in its text: from byte `start` up to byte `end`, which is not its
+/// own.
 #[derive(Drop)]
 pub struct Token {
     pub kind: Kind,

@@ -47,8 +47,8 @@ pub fn print_kinds(alloc: Global, kinds: &[Kind]) -> Result<Vec<u8>, AllocError>
     Ok(text)
 }
 
-/// The text of one token: a word or a name in upper case, a number in decimal, a string in quotes with
-/// its quotes doubled. Refuses for want of memory alone.
+/// The text of one token: a word or a name in upper case, a number in decimal, a string in quotes
+/// with its quotes doubled. Refuses for want of memory alone.
 pub fn print_kind(alloc: Global, kind: &Kind) -> Result<Vec<u8>, AllocError>
     ensures text { IfOk result (λ text. text.items ≡ kind_text kind.now) }
     ensures kind { IsKind kind.now }

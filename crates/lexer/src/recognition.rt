@@ -11,7 +11,8 @@ use crate::gaps::skip_gap;
 use crate::identifiers::run_len;
 use crate::words::Word;
 
-/// Whether the tokens of a text are just these reserved words, and perhaps a `;` after them. Takes no memory.
+/// Whether the tokens of a text are just these reserved words, and perhaps a `;` after them. Takes
+/// no memory.
 pub fn is_made_of(text: &[u8], words: &[Word]) -> bool
     ensures { IsTrue result ↔ IsMadeOf text.now words.now }
 {
@@ -58,7 +59,8 @@ fn is_nothing(text: &[u8]) -> bool
 /// What follows a `;`.
 fn after_semicolon(text: &[u8]) -> Option<&[u8]>
     ensures some { IfSome result (λ rest. next (gap text.now) ≡ Reads (kind_is.Symbol symbol_is.Semicolon) rest.now) }
-    ensures none { result ≡ None → (rest : List ℕ) → next (gap text.now) ≢ Reads (kind_is.Symbol symbol_is.Semicolon) rest }
+    ensures none { result ≡ None → (rest : List ℕ)
+        → next (gap text.now) ≢ Reads (kind_is.Symbol symbol_is.Semicolon) rest }
 {
     let [first, rest @ ..] = skip_gap(text) else {
         return None;
@@ -80,7 +82,8 @@ fn after_word(text: &[u8], word: Word) -> Option<&[u8]>
 /// What follows this word, which begins with `first`.
 fn after_letters(first: u8, after: &[u8], word: Word) -> Option<&[u8]>
     ensures some { IfSome result (λ rest. next (first ∷ after.now) ≡ Reads (kind_is.Word word) rest.now) }
-    ensures none { result ≡ None → (text rest : List ℕ) → gap text ≡ first ∷ after.now → next (gap text) ≢ Reads (kind_is.Word word) rest }
+    ensures none { result ≡ None → (text rest : List ℕ) → gap text ≡ first ∷ after.now
+        → next (gap text) ≢ Reads (kind_is.Word word) rest }
 {
     let (run, rest) = after.split_at(run_len(after));
     if is_folded_to(first, run, word.text()) {

@@ -16,8 +16,8 @@ use crate::symbols::read_symbol;
 use refusals::Refusal;
 use std::alloc::Global;
 
-/// The tokens of the text in order, whatever its length; or its first fault from left to right, byte
-/// by byte. Refuses for want of memory too.
+/// The tokens of the text in order, whatever its length; or its first fault from left to right,
+/// byte by byte. Refuses for want of memory too.
 pub fn tokens(alloc: Global, text: &[u8]) -> Result<Vec<Token>, Refusal>
     ensures found { IfOk result (λ found. AreTokens text.now found.items) }
     ensures fault { IfErr result (λ refusal. refusal ≢ Refusal.Memory → IsFirstFault text.now refusal) }

@@ -9,10 +9,11 @@ use std::fmt;
 #[derive(Clone, Copy, PartialEq, Eq)]
 pub enum Support {
     Now,
-    /// Its forms come later. Of these words the language has no form: ALTER, ANY, ASSERTION, CASCADE,
-    /// CASE, CAST, CHAR, COALESCE, COLLATE, CORRESPONDING, CURRENT, DATE, DECIMAL, DEFAULT, DOMAIN, ESCAPE,
-    /// FLOAT, FULL, GRANT, INTERVAL, ISOLATION, NATURAL, NULLIF, NUMERIC, REAL, RESTRICT, REVOKE, RIGHT,
-    /// SAVEPOINT, SCHEMA, SCROLL, SMALLINT, SOME, TIME, TIMESTAMP, USING and VIEW.
+    /// Its forms come later. Of these words the language has no form: ALTER, ANY, ASSERTION,
+    /// CASCADE, CASE, CAST, CHAR, COALESCE, COLLATE, CORRESPONDING, CURRENT, DATE, DECIMAL,
+    /// DEFAULT, DOMAIN, ESCAPE, FLOAT, FULL, GRANT, INTERVAL, ISOLATION, NATURAL, NULLIF, NUMERIC,
+    /// REAL, RESTRICT, REVOKE, RIGHT, SAVEPOINT, SCHEMA, SCROLL, SMALLINT, SOME, TIME, TIMESTAMP,
+    /// USING and VIEW.
     Later,
 }
 
@@ -135,7 +136,8 @@ pub enum Word {
 /// A text, its word, and whether the forms that use it are built.
 type Entry = (&'static str, Word, Support);
 
-/// Each reserved word with its text and its support, in the order of `Word`: the `vocabulary` of the definitions, line by line.
+/// Each reserved word with its text and its support, in the order of `Word`: the `vocabulary` of
+/// the definitions, line by line.
 pub const WORDS: [Entry; 111] = [
     ("ALL", Word::All, Support::Now),
     ("ALTER", Word::Alter, Support::Later),

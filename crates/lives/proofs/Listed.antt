@@ -1,4 +1,5 @@
--- The databases that a run commits are one list, each made from the one before; and what was done since an open is serializable at each time in it.
+-- The databases that a run commits are one list, each made from the one before; and what was done
+-- since an open is serializable at each time in it.
 use Rattle.std.proofs.Common.{◌≡◌, ◌∙◌, ◌+◌, ℕ, Bool, true, false, cond, List, [], ◌∷◌, ◌++◌, Result, Ok, Err, Some, refl, sym, ap, subst, inl, inr}
 use Rattle.std.specs.Prelude.{filter}
 use Rattle.std.proofs.lemmas.List.{append-nil}

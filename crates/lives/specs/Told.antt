@@ -12,13 +12,17 @@ use Rattle.session_definitions.specs.Run.{Event, Moment}
 abbrev pub events_of : List Moment → List Event
 events_of moments = map (λ (moment : Moment). moment.event) moments
 
--- A text was asked and got this reply: by a call of a session, which was made just before where it did not stand; or no session was made, and that refusal is the reply.
+-- A text was asked and got this reply: by a call of a session, which was made just before where it
+-- did not stand; or no session was made, and that refusal is the reply.
 pub data IsAsked (text : Bytes) (reply : Reply) (events : List Event) : Type 0 where
   stood : (s : ℕ) (effect : Effect) → events ≡ Event.Calls s text reply effect ∷ [] → IsAsked text reply events
-  made : (s : ℕ) (effect : Effect) → events ≡ Event.Calls s text reply effect ∷ Event.Makes (Ok s) ∷ [] → IsAsked text reply events
-  not_made : (refusal : Refusal) → reply ≡ says.Refused refusal → events ≡ Event.Makes (Err refusal) ∷ [] → IsAsked text reply events
+  made : (s : ℕ) (effect : Effect) → events ≡ Event.Calls s text reply effect ∷ Event.Makes (Ok s) ∷ []
+      → IsAsked text reply events
+  not_made : (refusal : Refusal) → reply ≡ says.Refused refusal → events ≡ Event.Makes (Err refusal) ∷ []
+      → IsAsked text reply events
 
--- What a piece asks for happened, with this reply. What is no call is no event: flushes change no world.
+-- What a piece asks for happened, with this reply. What is no call is no event: flushes change no
+-- world.
 abbrev pub IsDone : Request → Option Reply → List Event → Type 0
 IsDone Request.Nothing reply events = (reply ≡ None) × (events ≡ [])
 IsDone (Request.Chooses k) reply events = (reply ≡ None) × (events ≡ [])
@@ -31,7 +35,8 @@ IsDone Request.Wrong reply events = events ≡ []
 abbrev pub AreDone : List (List ℕ) → List (Option Reply) → List Event → Type 0
 AreDone [] replies events = (replies ≡ []) × (events ≡ [])
 AreDone (piece ∷ pieces) replies events =
-    (request : Request) × (reply : Option Reply) × (others : List (Option Reply)) × (first : List Event) × (later : List Event)
+    (request : Request) × (reply : Option Reply) × (others : List (Option Reply)) × (first : List Event)
+    × (later : List Event)
     × Asks piece request × IsDone request reply first × (replies ≡ reply ∷ others) × (events ≡ later ++ first)
     × AreDone pieces others later
 

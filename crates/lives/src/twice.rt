@@ -26,7 +26,8 @@ pub struct EndedRuns<S: Store> {
     pub first_is_told: bool,
     /// The exit status of the second; none where the store could not be closed after the first.
     pub second: Option<u8>,
-    /// Whether each line that the second had to say of a fault was written whole and passed on: also where there was no second.
+    /// Whether each line that the second had to say of a fault was written whole and passed on:
+    /// also where there was no second.
     pub second_is_told: bool,
     /// The device; none where the store could not be closed.
     pub device: Option<S::Device>,
@@ -34,13 +35,17 @@ pub struct EndedRuns<S: Store> {
     pub unclosed: Option<Core<S>>,
 }
 
-/// Does what `sqlsh run` does over the store on a device, and then once more over the device that is handed back, with another reader.
+/// Does what `sqlsh run` does over the store on a device, and then once more over the device that
+/// is handed back, with another reader.
 ///
-/// Where a good database is saved on the device, the second run begins with the database that the first committed last, and all that both do is one run of the definitions, whose calls
-/// are those of the two scripts, each with the reply that was printed. The databases that were committed are one list, each made from the one before by one transaction, and the last is saved
-/// on the device that is handed back, which was synced behind the last write where it was closed.
-/// No reply is that the file is damaged, the store is opened unless memory or the device refuses, and closed unless the device does: the device that is handed back, or the core that was not
-/// closed, has then counted a refused call. So it has where a reply is that the device refused.
+/// Where a good database is saved on the device, the second run begins with the database that the
+/// first committed last, and all that both do is one run of the definitions, whose calls are those
+/// of the two scripts, each with the reply that was printed. The databases that were committed are
+/// one list, each made from the one before by one transaction, and the last is saved on the device
+/// that is handed back, which was synced behind the last write where it was closed. No reply is
+/// that the file is damaged, the store is opened unless memory or the device refuses, and closed
+/// unless the device does: the device that is handed back, or the core that was not closed, has
+/// then counted a refused call. So it has where a reply is that the device refused.
 pub fn run_twice<S: Store, A: Read, B: Read, W: Write>(
     alloc: Global,
     settings: &Settings<'_>,
@@ -50,12 +55,14 @@ pub fn run_twice<S: Store, A: Read, B: Read, W: Write>(
     writer: &mut W,
 ) -> EndedRuns<S>
     ensures runs { (rules : Rules) (db : Database) → AreRules rules → S.saved device db → IsGood rules.check db
-        → (mid : Option (List ℕ)) × (again : Option S.Device) × RunsTwice rules db (between (A.remaining first.old) (A.remaining first.new) (W.contents writer.old) mid)
+        → (mid : Option (List ℕ)) × (again : Option S.Device)
+        × RunsTwice rules db (between (A.remaining first.old) (A.remaining first.new) (W.contents writer.old) mid)
         (between (B.remaining second.old) (B.remaining second.new) mid (W.contents writer.new))
         result.first result.first_is_told result.second result.second_is_told
         (HandsBack S.saved S.settled S.calls_refused (λ core. S.refused (store_of core)) (S.calls_refused device) again result.unclosed)
         (Leaves S.saved S.settled S.calls_refused (λ core. S.refused (store_of core)) rules.check (calls_from S.calls_refused device again) result.device result.unclosed) }
-    ensures ends { (mid : Option (List ℕ)) × EndTwice S.settled S.calls_refused (λ core. S.refused (store_of core)) (S.calls_refused device)
+    ensures ends { (mid : Option (List ℕ))
+        × EndTwice S.settled S.calls_refused (λ core. S.refused (store_of core)) (S.calls_refused device)
         (between (A.remaining first.old) (A.remaining first.new) (W.contents writer.old) mid)
         (between (B.remaining second.old) (B.remaining second.new) mid (W.contents writer.new))
         result.first result.first_is_told result.second result.second_is_told result.device result.unclosed }
@@ -92,8 +99,9 @@ pub fn run_twice<S: Store, A: Read, B: Read, W: Write>(
 
 /// Does what `run_twice` does over the tables in the pages of a device.
 ///
-/// The one premise is on the device: it gives back what was written, and is empty (`new`), or as an earlier run left it (`saved`). How the runs end and what is handed back is said of any
-/// device (`ends`).
+/// The one premise is on the device: it gives back what was written, and is empty (`new`), or as an
+/// earlier run left it (`saved`). How the runs end and what is handed back is said of any device
+/// (`ends`).
 pub fn run_twice_over_pages<D: Disk + Drop, A: Read, B: Read, W: Write>(
     alloc: Global,
     settings: &Settings<'_>,
@@ -102,19 +110,23 @@ pub fn run_twice_over_pages<D: Disk + Drop, A: Read, B: Read, W: Write>(
     second: &mut B,
     writer: &mut W,
 ) -> EndedRuns<Paged<D>>
-    ensures saved { (rules : Rules) (db : Database) → AreRules rules → ⟦<Paged<D> as Store>⟧.saved device db → IsGood rules.check db
-        → (mid : Option (List ℕ)) × (again : Option D) × RunsTwice rules db (between (A.remaining first.old) (A.remaining first.new) (W.contents writer.old) mid)
+    ensures saved { (rules : Rules) (db : Database) → AreRules rules → ⟦<Paged<D> as Store>⟧.saved device db
+        → IsGood rules.check db
+        → (mid : Option (List ℕ)) × (again : Option D)
+        × RunsTwice rules db (between (A.remaining first.old) (A.remaining first.new) (W.contents writer.old) mid)
         (between (B.remaining second.old) (B.remaining second.new) mid (W.contents writer.new))
         result.first result.first_is_told result.second result.second_is_told
         (HandsBack ⟦<Paged<D> as Store>⟧.saved D.settled D.refused (λ core. ⟦<Paged<D> as Store>⟧.refused (store_of core)) (D.refused device) again result.unclosed)
         (Leaves ⟦<Paged<D> as Store>⟧.saved D.settled D.refused (λ core. ⟦<Paged<D> as Store>⟧.refused (store_of core)) rules.check (calls_from D.refused device again) result.device result.unclosed) }
     ensures new { (rules : Rules) → AreRules rules → IsTrue D.is_honest → D.bytes device ≡ []
-        → (mid : Option (List ℕ)) × (again : Option D) × RunsTwice rules empty (between (A.remaining first.old) (A.remaining first.new) (W.contents writer.old) mid)
+        → (mid : Option (List ℕ)) × (again : Option D)
+        × RunsTwice rules empty (between (A.remaining first.old) (A.remaining first.new) (W.contents writer.old) mid)
         (between (B.remaining second.old) (B.remaining second.new) mid (W.contents writer.new))
         result.first result.first_is_told result.second result.second_is_told
         (HandsBack ⟦<Paged<D> as Store>⟧.saved D.settled D.refused (λ core. ⟦<Paged<D> as Store>⟧.refused (store_of core)) (D.refused device) again result.unclosed)
         (Leaves ⟦<Paged<D> as Store>⟧.saved D.settled D.refused (λ core. ⟦<Paged<D> as Store>⟧.refused (store_of core)) rules.check (calls_from D.refused device again) result.device result.unclosed) }
-    ensures ends { (mid : Option (List ℕ)) × EndTwice D.settled D.refused (λ core. ⟦<Paged<D> as Store>⟧.refused (store_of core)) (D.refused device)
+    ensures ends { (mid : Option (List ℕ))
+        × EndTwice D.settled D.refused (λ core. ⟦<Paged<D> as Store>⟧.refused (store_of core)) (D.refused device)
         (between (A.remaining first.old) (A.remaining first.new) (W.contents writer.old) mid)
         (between (B.remaining second.old) (B.remaining second.new) mid (W.contents writer.new))
         result.first result.first_is_told result.second result.second_is_told result.device result.unclosed }

@@ -11,7 +11,8 @@ use Rattle.open_plans.specs.declared.open.OpenPlan.{OpenPlan}
 abbrev pub left_of : OpenPlan → Outcome
 left_of opened = record { rows = into_iter_items opened.rows; faults = as_list opened.fault }
 
--- the first row of what was left, and then the others are left; where there is none the end, and nothing is changed
+-- the first row of what was left, and then the others are left; where there is none the end, and
+-- nothing is changed
 abbrev pub IsNext : Result (Option Row) Fault → Outcome → Outcome → Type 0
 IsNext (Ok (Some row)) before after = before ≡ record { rows = row ∷ after.rows; faults = after.faults }
 IsNext (Ok None) before after = (before ≡ nothing_at_all) × (after ≡ before)

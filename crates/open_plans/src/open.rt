@@ -41,19 +41,23 @@ fn whole_list(listed: Listed, rows_read: u64) -> OpenPlan
     }
 }
 
-/// Carries out a plan, which is a tree as it stands, over the tables as the reading finds them. No more rows are read for it than the tables have that it names,
-/// each counted once. It is refused for what `run_all` is refused for.
+/// Carries out a plan, which is a tree as it stands, over the tables as the reading finds them. No
+/// more rows are read for it than the tables have that it names, each counted once. It is refused
+/// for what `run_all` is refused for.
 pub fn open_plan<R: Reading>(
     alloc: Global,
     reading: &mut R,
     plan: &Tree,
 ) -> Result<OpenPlan, Refusal>
-    ensures lists { R.is_sound reading.old → IfOk result (λ opened. left_of opened ≡ tree_listing (rows_found (R.shows reading.old).contents) plan.now []) }
+    ensures lists { R.is_sound reading.old
+        → IfOk result (λ opened. left_of opened ≡ tree_listing (rows_found (R.shows reading.old).contents) plan.now []) }
     ensures counted { IfOk result (λ opened. opened.rows_read ≡ (R.shows reading.new).read - (R.shows reading.old).read) }
-    ensures read { R.is_sound reading.old → IfOk result (λ opened. opened.rows_read ≤ rows_under (rows_found (R.shows reading.old).contents) (tables_in_tree plan.now)) }
+    ensures read { R.is_sound reading.old
+        → IfOk result (λ opened. opened.rows_read ≤ rows_under (rows_found (R.shows reading.old).contents) (tables_in_tree plan.now)) }
     ensures refused { IfErr result (λ refusal. R.is_sound reading.old → IsReserved refusal) }
     ensures limits { IfErr result TellsNoLimit }
-    ensures counts { IfErr result (λ refusal. refusal ≡ Disk → HasRisen (R.shows reading.old).refused (R.shows reading.new).refused) }
+    ensures counts { IfErr result (λ refusal. refusal ≡ Disk
+        → HasRisen (R.shows reading.old).refused (R.shows reading.new).refused) }
     ensures follows { R.follows reading.old reading.new }
 {
     let before = reading.rows_read();
@@ -67,7 +71,8 @@ pub fn open_plan<R: Reading>(
 }
 
 impl OpenPlan {
-    /// The next row; where none is left the list's end, which is `None` or its fault. At the end each call gives it again.
+    /// The next row; where none is left the list's end, which is `None` or its fault. At the end
+    /// each call gives it again.
     pub fn next(&mut self) -> Result<Option<Row>, Fault>
         ensures next { IsNext result (left_of self.old) (left_of self.new) }
         ensures read { self.new.rows_read ≡ self.old.rows_read }

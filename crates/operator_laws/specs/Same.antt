@@ -52,7 +52,8 @@ AgreeOnRows f g = (env : Env) → IsSame (f env) (g env)
 
 -- of set functions: the same for groups of the same rows
 abbrev pub AgreeOnGroups : SetFunctionMeaning → SetFunctionMeaning → Type 0
-AgreeOnGroups f g = (env : Env) (rows others : List Row) → Permutes rows others → IsSameValue (f env rows) (g env others)
+AgreeOnGroups f g = (env : Env) (rows others : List Row) → Permutes rows others
+    → IsSameValue (f env rows) (g env others)
 
 -- of what is made of a part: the same of the same parts
 abbrev pub AgreeOnParts : (Env → Outcome → Outcome) → (Env → Outcome → Outcome) → Type 0

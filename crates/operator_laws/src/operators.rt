@@ -23,14 +23,16 @@ pub fn connectives_are_the_tables()
     ensures not { (tables : Tables) (env : Env) (a : Condition) (x : Truth) → truth_at tables a env ≡ Ok x → truth_at tables (c.Not a) env ≡ Ok (truth_not x) }
 {}
 
-/// Parentheses round an AND that is an operand of an AND change nothing, faults included; likewise for OR.
+/// Parentheses round an AND that is an operand of an AND change nothing, faults included; likewise
+/// for OR.
 pub fn nested_chains_are_one_chain()
     ensures and { (tables : Tables) (env : Env) (before xs after : List Condition) → truth_at tables (c.And (before ++ c.And xs ∷ after)) env ≡ truth_at tables (c.And (before ++ xs ++ after)) env }
     ensures or { (tables : Tables) (env : Env) (before xs after : List Condition) → truth_at tables (c.Or (before ++ c.Or xs ∷ after)) env ≡ truth_at tables (c.Or (before ++ xs ++ after)) env }
 {}
 
-/// A filter gives the rows at which its condition is true; an inner join is the filter of the product; a left join's rows are the
-/// inner join's, and, each once and padded, the left rows none of whose pairs is true or faults.
+/// A filter gives the rows at which its condition is true; an inner join is the filter of the
+/// product; a left join's rows are the inner join's, and, each once and padded, the left rows none
+/// of whose pairs is true or faults.
 pub fn joins_are_filters_of_products()
     ensures filter { (condition : ConditionMeaning) (env : Env) (rows : List Row) → (kept condition env rows).rows ≡ filter (is_true_at condition env) rows }
     ensures inner { (on : ConditionMeaning) (env : Env) (left right : Outcome) → (inner_join on env left right).rows ≡ filter (is_true_at on env) (product left right).rows }

@@ -1,4 +1,5 @@
--- Lists of rows in which none stands before an earlier one, by order keys. What is sorted is such a list.
+-- Lists of rows in which none stands before an earlier one, by order keys. What is sorted is such a
+-- list.
 use Rattle.std.proofs.Common.{◌≡◌, refl, ℕ, zero, suc, ◌+◌, ◌<◌, Bool, true, false, if◌then◌else◌, List, [], ◌∷◌, length, slice_index_or, arith}
 use Rattle.std.specs.Prelude.{IsSorted}
 use Rattle.std.specs.Cmp.{IsStrictWeakOrder, IsTotalOrder}

@@ -1,4 +1,5 @@
--- The order keys of a node of operator trees, from those of its parts; and which column an expression is.
+-- The order keys of a node of operator trees, from those of its parts; and which column an
+-- expression is.
 use Rattle.std.proofs.Common.{◌≡◌}
 use Rattle.algebra.specs.declared.tree.Condition.{Condition, fold-Condition}
 use Rattle.algebra.specs.declared.tree.Expression.{Expression-F, roll-Expression, map-Expression, fold-roll-Expression}

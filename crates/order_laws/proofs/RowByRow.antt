@@ -1,5 +1,5 @@
--- Where at most one row is made of each, and rows that are made stand as those of which they are made, the rows that are made ascend as well, also
--- where a fault ends them.
+-- Where at most one row is made of each, and rows that are made stand as those of which they are
+-- made, the rows that are made ascend as well, also where a fault ends them.
 use Rattle.std.proofs.Common.{◌≡◌, refl, ap, sym, ◌∙◌, subst, Bool, true, false, if◌then◌else◌, List, [], ◌∷◌, ◌++◌, map, append-nil, Ok, Err}
 use Rattle.std.specs.Ordering.{is_lt}
 use Rattle.sqlval.specs.Value.{Row}

@@ -1,4 +1,5 @@
-//! That listings of operator trees come in the order of their keys. Each clause is a law; the bodies are empty.
+//! That listings of operator trees come in the order of their keys. Each clause is a law; the
+//! bodies are empty.
 #![tactic(auto)]
 
 mod laws;

@@ -16,7 +16,8 @@ read_none v n = record { versions = refl; rising = omega arith }
 pub read_on : (u v w : Versions) (k m n : ℕ) → IsRead u v k m → IsRead v w m n → IsRead u w k n
 read_on u v w k m n h g = let x = h.rising in let y = g.rising in record { versions = g.versions ∙ h.versions; rising = omega arith }
 
--- the pages that a transaction wrote before the mark stay, and so does what is kept of the pages that were undone last
+-- the pages that a transaction wrote before the mark stay, and so does what is kept of the pages
+-- that were undone last
 pub record IsAfterMark (old new : WriteSet) : Type 0 where
   pub settled : settled_of new ≡ settled_of old
   pub undone : undone_of new ≡ undone_of old

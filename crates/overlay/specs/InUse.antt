@@ -18,8 +18,8 @@ abbrev pub is_counted : Option (List ℕ) → ℕ → Bool
 is_counted None n = false
 is_counted (Some first) n = nat_lt n (number_at first 8)
 
--- the pages in use: below the page count, and not free. Of a version whose page 0 is not known nothing is known but
--- what the transaction has written.
+-- the pages in use: below the page count, and not free. Of a version whose page 0 is not known
+-- nothing is known but what the transaction has written.
 unfoldable pub in_use : PageMap → PageMap → PageMap
 in_use version written n =
     if is_some (version 0) then (if is_counted (over written version 0) n then not_free (over written version) n else None) else not_free written n

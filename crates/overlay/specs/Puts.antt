@@ -82,7 +82,10 @@ pub record Took (version written : PageMap) (page : ℕ) (next : PageMap) : Type
 
 -- nothing was written but a page that is not in use
 abbrev pub TookAtMost : PageMap → PageMap → PageMap → Type 0
-TookAtMost version written next = (next ≡ written) ⊎ ((page : ℕ) × ((bytes : List ℕ) × ((0 < page) × (in_use version written page ≡ None) × (next ≡ over (only page bytes) written))))
+TookAtMost version written next = (next ≡ written)
+    ⊎ ((page : ℕ)
+    × ((bytes : List ℕ)
+    × ((0 < page) × (in_use version written page ≡ None) × (next ≡ over (only page bytes) written))))
 
 -- the header with another root of the catalogue
 abbrev pub with_root : FileHeader → ℕ → FileHeader

@@ -30,8 +30,9 @@ abbrev pub AreMost : Option (ℕ × ℕ) → Type 0
 AreMost None = ⊤
 AreMost (Some counts) = (65536 ≤ counts.0) × (counts.1 ≡ 0)
 
--- The pages that were undone last had reached the limit that a fault names, over a version with this page 0: there were 1,024, or
--- page 0, where it is known, had the greatest page count and no free page.
+-- The pages that were undone last had reached the limit that a fault names, over a version with
+-- this page 0: there were 1,024, or page 0, where it is known, had the greatest page count and no
+-- free page.
 abbrev pub WasAtLimit : Option (List ℕ) → Undone → SpaceError → Type 0
 WasAtLimit first undone Memory = ⊥
 WasAtLimit first undone Disk = ⊥

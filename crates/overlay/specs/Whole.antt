@@ -32,9 +32,12 @@ IsFreeList pages first (p ∷ ps) = (first ≡ p) × (0 < p) × ((link : FreeAt 
 
 -- each page from 1 to below this count that is of the kind free is among these
 abbrev pub ListsAll : PageMap → ℕ → List ℕ → Type 0
-ListsAll pages count free = (n : ℕ) (bytes : List ℕ) → 0 < n → n < count → pages n ≡ Some bytes → slice_index bytes 0 ≡ 3 → IsIn n free
+ListsAll pages count free = (n : ℕ) (bytes : List ℕ) → 0 < n → n < count → pages n ≡ Some bytes
+    → slice_index bytes 0 ≡ 3 → IsIn n free
 
--- Page 0 is this header, and the free pages are a list in which none stands twice. Each page below the page count is there, and none behind it. If the list is full, each page of the kind free stands in it.
+-- Page 0 is this header, and the free pages are a list in which none stands twice. Each page below
+-- the page count is there, and none behind it. If the list is full, each page of the kind free
+-- stands in it.
 pub record HasFreeList (full : Bool) (pages : PageMap) (header : FileHeader) : Type 0 where
   pub first : List ℕ
   pub there : pages 0 ≡ Some first
@@ -59,7 +62,8 @@ IsWhole = IsWholeFor false
 abbrev pub IsFull : PageMap → Type 0
 IsFull = IsWholeFor true
 
--- with written pages over a version: the list is one, and where that of the version alone is full, so is this one
+-- with written pages over a version: the list is one, and where that of the version alone is full,
+-- so is this one
 pub record IsWholeOver (version written : PageMap) : Type 0 where
   pub whole : IsWhole (over written version)
   pub full : IsFull version → IsFull (over written version)
@@ -87,7 +91,8 @@ abbrev pub IsSaid : Option (List ℕ) → FileHeader → Type 0
 IsSaid None header = ⊥
 IsSaid (Some first) header = IsHeader first header × IsInBounds header
 
--- A page was put before the first of the list of free pages: page 0 names it, and it names the page that page 0, where it was known, named before.
+-- A page was put before the first of the list of free pages: page 0 names it, and it names the page
+-- that page 0, where it was known, named before.
 pub record IsFirstFree (old new : PageMap) (page : ℕ) : Type 0 where
   pub first : List ℕ
   pub there : new 0 ≡ Some first
@@ -95,12 +100,13 @@ pub record IsFirstFree (old new : PageMap) (page : ℕ) : Type 0 where
   pub link : FreeAt new page
   pub next : (before : List ℕ) → old 0 ≡ Some before → link.next ≡ number_at before 12
 
--- A page was taken: page 0, where it was known, names as the first free page the one that the taken page named, where that was the first,
--- and none where it named none.
+-- A page was taken: page 0, where it was known, names as the first free page the one that the taken
+-- page named, where that was the first, and none where it named none.
 pub record NamesRest (old new : PageMap) (page : ℕ) : Type 0 where
   pub first : List ℕ
   pub there : new 0 ≡ Some first
-  pub rest : (before bytes : List ℕ) → old 0 ≡ Some before → number_at before 12 ≢ 0 → old page ≡ Some bytes → IsFree bytes (number_at first 12)
+  pub rest : (before bytes : List ℕ) → old 0 ≡ Some before → number_at before 12 ≢ 0 → old page ≡ Some bytes
+      → IsFree bytes (number_at first 12)
   pub none : (before : List ℕ) → old 0 ≡ Some before → number_at before 12 ≡ 0 → number_at first 12 ≡ 0
 
 -- page 0, where it is known, names this root of the catalogue
@@ -108,7 +114,9 @@ abbrev pub HasRoot : Option (List ℕ) → ℕ → Type 0
 HasRoot None root = ⊤
 HasRoot (Some first) root = number_at first 16 ≡ root
 
--- the page to be taken where page 0 is known: the first free one that it names, or the one behind the last where it names none
+-- the page to be taken where page 0 is known: the first free one that it names, or the one behind
+-- the last where it names none
 abbrev pub IsNext : Option (List ℕ) → ℕ → Type 0
 IsNext None page = ⊤
-IsNext (Some first) page = (number_at first 12 ≢ 0 → page ≡ number_at first 12) × (number_at first 12 ≡ 0 → page ≡ number_at first 8)
+IsNext (Some first) page = (number_at first 12 ≢ 0 → page ≡ number_at first 12)
+    × (number_at first 12 ≡ 0 → page ≡ number_at first 8)

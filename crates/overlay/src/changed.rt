@@ -6,7 +6,8 @@ use disk::Disk;
 use page_space::{Page, PageReader, SpaceError};
 use pool::Pool;
 
-/// A version of a pool, of the commit of this number, with pages that a transaction has written over it, to be read alone.
+/// A version of a pool, of the commit of this number, with pages that a transaction has written
+/// over it, to be read alone.
 #[derive(Drop)]
 pub struct Changed<'a, D: Disk> {
     pub pool: &'a mut Pool<D>,

@@ -9,15 +9,16 @@ use crate::write_set::WriteSet;
 use disk::Disk;
 use pool::{Pool, PoolError};
 
-/// Makes one commit more, of the pages that a transaction has written laid over the last, and answers
-/// its number. Refused as the pool's `commit` is, and then all versions stay. What the transaction has written
-/// is left to the caller, who drops it where the commit was made.
+/// Makes one commit more, of the pages that a transaction has written laid over the last, and
+/// answers its number. Refused as the pool's `commit` is, and then all versions stay. What the
+/// transaction has written is left to the caller, who drops it where the commit was made.
 pub fn commit<D: Disk>(pool: &mut Pool<D>, changes: &WriteSet) -> Result<u64, PoolError>
     ensures number { IfOk result (λ c. c ≡ (versions_of pool.new).last) }
     ensures last { OnOk result ((versions_of pool.new).last ≡ (versions_of pool.old).last + 1) }
     ensures written { OnOk result ((versions_of pool.new).pages (versions_of pool.new).last
         ≡ known D.is_honest (over (private_of changes.now) ((versions_of pool.old).pages (versions_of pool.old).last))) }
-    ensures kept { OnOk result ((c : ℕ) → 0 < (versions_of pool.old).pins c → (versions_of pool.new).pages c ≡ (versions_of pool.old).pages c) }
+    ensures kept { OnOk result ((c : ℕ) → 0 < (versions_of pool.old).pins c
+        → (versions_of pool.new).pages c ≡ (versions_of pool.old).pages c) }
     ensures pins { (versions_of pool.new).pins ≡ (versions_of pool.old).pins }
     ensures refused { OnErr result (versions_of pool.new ≡ versions_of pool.old) }
     ensures refusal { IfErr result (IsRefused ((versions_of pool.old).last ≡ 2 ^ 64 - 1) ⊥ (D.refused (device_of pool.old)) (D.refused (device_of pool.new))) }

@@ -28,18 +28,20 @@ fn header_of(first: &Page) -> Option<FileHeader>
     Some(header)
 }
 
-/// The fields of page 0 at a commit with a transaction's pages over it: the page count, the first free
-/// page and the root of the catalogue. Refused for memory, where the device refuses a call, and as
-/// damaged only where page 0 is no header within its bounds.
+/// The fields of page 0 at a commit with a transaction's pages over it: the page count, the first
+/// free page and the root of the catalogue. Refused for memory, where the device refuses a call,
+/// and as damaged only where page 0 is no header within its bounds.
 pub fn read_header<D: Disk>(
     pool: &mut Pool<D>,
     changes: &WriteSet,
     at: u64,
 ) -> Result<FileHeader, SpaceError>
-    ensures says { IfOk result (λ header. (first : List ℕ) → over (private_of changes.now) ((versions_of pool.old).pages at) 0 ≡ Some first → IsHeader first header) }
+    ensures says { IfOk result (λ header. (first : List ℕ)
+        → over (private_of changes.now) ((versions_of pool.old).pages at) 0 ≡ Some first → IsHeader first header) }
     ensures bounds { IfOk result IsInBounds }
     ensures versions { versions_of pool.new ≡ versions_of pool.old }
-    ensures refusal { IfErr result (ReadRefused ((header : FileHeader) → IsSaid (over (private_of changes.now) ((versions_of pool.old).pages at) 0) header → ⊥)
+    ensures refusal { IfErr result (ReadRefused ((header : FileHeader)
+        → IsSaid (over (private_of changes.now) ((versions_of pool.old).pages at) 0) header → ⊥)
         (D.refused (device_of pool.old)) (D.refused (device_of pool.new))) }
     ensures rising { D.refused (device_of pool.old) ≤ D.refused (device_of pool.new) }
 {

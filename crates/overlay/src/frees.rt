@@ -68,7 +68,8 @@ fn free_used<D: Disk>(
     ensures undone { undone_of changes.new ≡ undone_of changes.old }
     ensures versions { versions_of pool.new ≡ versions_of pool.old }
     ensures refusal { IfErr result (ChangeRefused (AtLimit (over (private_of changes.new) ((versions_of pool.new).pages at) 0) (size_of (private_of changes.new)))
-        (IsWhole (over (private_of changes.old) ((versions_of pool.old).pages at)) → IsSome (in_use ((versions_of pool.old).pages at) (private_of changes.old) page) → ⊥)
+        (IsWhole (over (private_of changes.old) ((versions_of pool.old).pages at))
+        → IsSome (in_use ((versions_of pool.old).pages at) (private_of changes.old) page) → ⊥)
         (D.refused (device_of pool.old)) (D.refused (device_of pool.new))) }
     ensures rising { D.refused (device_of pool.old) ≤ D.refused (device_of pool.new) }
 {
@@ -82,10 +83,10 @@ fn free_used<D: Disk>(
     }
 }
 
-/// Takes a page out of use, at a commit with a transaction's pages over it: it is the first free page
-/// then. Refused for memory, where the device refuses a call, at the limit of private pages, and as
-/// damaged only where the page is not in use, or the list of free pages is none. After a refusal of
-/// this page nothing is said; each other page is as it was.
+/// Takes a page out of use, at a commit with a transaction's pages over it: it is the first free
+/// page then. Refused for memory, where the device refuses a call, at the limit of private pages,
+/// and as damaged only where the page is not in use, or the list of free pages is none. After a
+/// refusal of this page nothing is said; each other page is as it was.
 pub fn free_page<D: Disk>(
     pool: &mut Pool<D>,
     changes: &mut WriteSet,
@@ -94,14 +95,18 @@ pub fn free_page<D: Disk>(
 ) -> Result<(), SpaceError>
     ensures freed { OnOk result (in_use ((versions_of pool.new).pages at) (private_of changes.new) page ≡ None) }
     ensures first { OnOk result (IsFirstFree (over (private_of changes.old) ((versions_of pool.old).pages at)) (over (private_of changes.new) ((versions_of pool.new).pages at)) page) }
-    ensures others { (n : ℕ) → n ≢ page → in_use ((versions_of pool.new).pages at) (private_of changes.new) n ≡ in_use ((versions_of pool.old).pages at) (private_of changes.old) n }
-    ensures whole { OnOk result (IsWhole (over (private_of changes.old) ((versions_of pool.old).pages at)) → IsWhole (over (private_of changes.new) ((versions_of pool.new).pages at))) }
-    ensures full { OnOk result (IsFull (over (private_of changes.old) ((versions_of pool.old).pages at)) → IsFull (over (private_of changes.new) ((versions_of pool.new).pages at))) }
+    ensures others { (n : ℕ) → n ≢ page
+        → in_use ((versions_of pool.new).pages at) (private_of changes.new) n ≡ in_use ((versions_of pool.old).pages at) (private_of changes.old) n }
+    ensures whole { OnOk result (IsWhole (over (private_of changes.old) ((versions_of pool.old).pages at))
+        → IsWhole (over (private_of changes.new) ((versions_of pool.new).pages at))) }
+    ensures full { OnOk result (IsFull (over (private_of changes.old) ((versions_of pool.old).pages at))
+        → IsFull (over (private_of changes.new) ((versions_of pool.new).pages at))) }
     ensures settled { settled_of changes.new ≡ settled_of changes.old }
     ensures undone { undone_of changes.new ≡ undone_of changes.old }
     ensures versions { versions_of pool.new ≡ versions_of pool.old }
     ensures refusal { IfErr result (ChangeRefused (AtLimit (over (private_of changes.new) ((versions_of pool.new).pages at) 0) (size_of (private_of changes.new)))
-        (IsWhole (over (private_of changes.old) ((versions_of pool.old).pages at)) → IsSome (in_use ((versions_of pool.old).pages at) (private_of changes.old) page) → ⊥)
+        (IsWhole (over (private_of changes.old) ((versions_of pool.old).pages at))
+        → IsSome (in_use ((versions_of pool.old).pages at) (private_of changes.old) page) → ⊥)
         (D.refused (device_of pool.old)) (D.refused (device_of pool.new))) }
     ensures rising { D.refused (device_of pool.old) ≤ D.refused (device_of pool.new) }
 {

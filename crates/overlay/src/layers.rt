@@ -61,7 +61,8 @@ fn settle_page(
     number: u32,
 ) -> Result<(), AllocError>
     requires { count.old ≡ size_of (pages_in settled.old) }
-    ensures settled { OnOk result ((n : ℕ) → pages_in settled.new n ≡ (if number == n then pick (pages_in fresh.now n) (pages_in settled.old n) else pages_in settled.old n)) }
+    ensures settled { OnOk result ((n : ℕ)
+        → pages_in settled.new n ≡ (if number == n then pick (pages_in fresh.now n) (pages_in settled.old n) else pages_in settled.old n)) }
     ensures left { OnErr result (settled.new ≡ settled.old) }
     ensures counted { count.new ≡ size_of (pages_in settled.new) }
 {
@@ -74,8 +75,8 @@ fn settle_page(
     }
 }
 
-/// Puts the fresh pages, whose numbers these are, into the settled ones. Where memory is refused some
-/// of them may be there already.
+/// Puts the fresh pages, whose numbers these are, into the settled ones. Where memory is refused
+/// some of them may be there already.
 pub(crate) fn settle_all(
     settled: &mut PageSet,
     count: &mut usize,

@@ -41,14 +41,16 @@ fn set_root<D: Disk>(
     root: u32,
 ) -> Result<(), SpaceError>
     ensures written { OnOk result (Rooted (over (private_of changes.old) ((versions_of pool.old).pages at)) root (private_of changes.old) (private_of changes.new)) }
-    ensures same { IsSome (over (private_of changes.old) ((versions_of pool.old).pages at) 0) → HasRoot (over (private_of changes.old) ((versions_of pool.old).pages at) 0) root
+    ensures same { IsSome (over (private_of changes.old) ((versions_of pool.old).pages at) 0)
+        → HasRoot (over (private_of changes.old) ((versions_of pool.old).pages at) 0) root
         → OnOk result (private_of changes.new ≡ private_of changes.old) }
     ensures left { OnErr result (private_of changes.new ≡ private_of changes.old) }
     ensures settled { settled_of changes.new ≡ settled_of changes.old }
     ensures undone { undone_of changes.new ≡ undone_of changes.old }
     ensures versions { versions_of pool.new ≡ versions_of pool.old }
     ensures refusal { IfErr result (ChangeRefused (AtLimit (over (private_of changes.new) ((versions_of pool.new).pages at) 0) (size_of (private_of changes.new)))
-        (IsWhole (over (private_of changes.old) ((versions_of pool.old).pages at)) → (root ≡ 0) ⊎ IsSome (in_use ((versions_of pool.old).pages at) (private_of changes.old) root) → ⊥)
+        (IsWhole (over (private_of changes.old) ((versions_of pool.old).pages at))
+        → (root ≡ 0) ⊎ IsSome (in_use ((versions_of pool.old).pages at) (private_of changes.old) root) → ⊥)
         (D.refused (device_of pool.old)) (D.refused (device_of pool.new))) }
     ensures rising { D.refused (device_of pool.old) ≤ D.refused (device_of pool.new) }
 {
@@ -66,9 +68,10 @@ fn set_root<D: Disk>(
     }
 }
 
-/// Lets page 0 name this root of the catalogue, 0 or a page in use, at a commit with a transaction's pages over it. Refused for
-/// memory, where the device refuses a call, at the limit of private pages, and as damaged only where the root is neither, or
-/// the list of free pages is none; then no page is other than it was. Nothing is written where page 0 names it already.
+/// Lets page 0 name this root of the catalogue, 0 or a page in use, at a commit with a
+/// transaction's pages over it. Refused for memory, where the device refuses a call, at the limit
+/// of private pages, and as damaged only where the root is neither, or the list of free pages is
+/// none; then no page is other than it was. Nothing is written where page 0 names it already.
 pub fn set_catalog_root<D: Disk>(
     pool: &mut Pool<D>,
     changes: &mut WriteSet,
@@ -76,17 +79,22 @@ pub fn set_catalog_root<D: Disk>(
     root: u32,
 ) -> Result<(), SpaceError>
     ensures root { OnOk result (HasRoot (over (private_of changes.new) ((versions_of pool.new).pages at) 0) root) }
-    ensures same { IsSome (over (private_of changes.old) ((versions_of pool.old).pages at) 0) → HasRoot (over (private_of changes.old) ((versions_of pool.old).pages at) 0) root
+    ensures same { IsSome (over (private_of changes.old) ((versions_of pool.old).pages at) 0)
+        → HasRoot (over (private_of changes.old) ((versions_of pool.old).pages at) 0) root
         → OnOk result (private_of changes.new ≡ private_of changes.old) }
     ensures left { OnErr result (private_of changes.new ≡ private_of changes.old) }
-    ensures others { (n : ℕ) → in_use ((versions_of pool.new).pages at) (private_of changes.new) n ≡ in_use ((versions_of pool.old).pages at) (private_of changes.old) n }
-    ensures whole { OnOk result (IsWhole (over (private_of changes.old) ((versions_of pool.old).pages at)) → IsWhole (over (private_of changes.new) ((versions_of pool.new).pages at))) }
-    ensures full { OnOk result (IsFull (over (private_of changes.old) ((versions_of pool.old).pages at)) → IsFull (over (private_of changes.new) ((versions_of pool.new).pages at))) }
+    ensures others { (n : ℕ)
+        → in_use ((versions_of pool.new).pages at) (private_of changes.new) n ≡ in_use ((versions_of pool.old).pages at) (private_of changes.old) n }
+    ensures whole { OnOk result (IsWhole (over (private_of changes.old) ((versions_of pool.old).pages at))
+        → IsWhole (over (private_of changes.new) ((versions_of pool.new).pages at))) }
+    ensures full { OnOk result (IsFull (over (private_of changes.old) ((versions_of pool.old).pages at))
+        → IsFull (over (private_of changes.new) ((versions_of pool.new).pages at))) }
     ensures settled { settled_of changes.new ≡ settled_of changes.old }
     ensures undone { undone_of changes.new ≡ undone_of changes.old }
     ensures versions { versions_of pool.new ≡ versions_of pool.old }
     ensures refusal { IfErr result (ChangeRefused (AtLimit (over (private_of changes.new) ((versions_of pool.new).pages at) 0) (size_of (private_of changes.new)))
-        (IsWhole (over (private_of changes.old) ((versions_of pool.old).pages at)) → (root ≡ 0) ⊎ IsSome (in_use ((versions_of pool.old).pages at) (private_of changes.old) root) → ⊥)
+        (IsWhole (over (private_of changes.old) ((versions_of pool.old).pages at))
+        → (root ≡ 0) ⊎ IsSome (in_use ((versions_of pool.old).pages at) (private_of changes.old) root) → ⊥)
         (D.refused (device_of pool.old)) (D.refused (device_of pool.new))) }
     ensures rising { D.refused (device_of pool.old) ≤ D.refused (device_of pool.new) }
 {

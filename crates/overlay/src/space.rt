@@ -9,7 +9,8 @@ use disk::Disk;
 use page_space::{Page, PageReader, PageSpace, SpaceError};
 use pool::Pool;
 
-/// A version of a pool, of the commit of this number, with the pages that a transaction has written over it.
+/// A version of a pool, of the commit of this number, with the pages that a transaction has written
+/// over it.
 #[derive(Drop)]
 pub struct Overlay<'a, D: Disk> {
     pub pool: &'a mut Pool<D>,
@@ -31,7 +32,8 @@ impl<'a, D: Disk> PageReader for Overlay<'a, D> {
     ghost refused = { λ s. D.refused (device_of s.pool.now) };
 
     ghost follows = { λ a b. IsRead (versions_of a.pool.now) (versions_of b.pool.now) (D.refused (device_of a.pool.now)) (D.refused (device_of b.pool.now))
-        × IsAfterMark a.changes.now b.changes.now × (b.pool.ghost_name ≡ a.pool.ghost_name) × (b.changes.ghost_name ≡ a.changes.ghost_name) × (b.at ≡ a.at) };
+        × IsAfterMark a.changes.now b.changes.now × (b.pool.ghost_name ≡ a.pool.ghost_name)
+        × (b.changes.ghost_name ≡ a.changes.ghost_name) × (b.at ≡ a.at) };
 
     ghost is_whole = { λ s. IsWholeOver ((versions_of s.pool.now).pages s.at) (private_of s.changes.now) };
 

@@ -33,8 +33,8 @@ fn new_leaf() -> Page
     page
 }
 
-/// The page that a free page names as the next, 0 for none; none where it is no free page, or names one at or above the
-/// page count.
+/// The page that a free page names as the next, 0 for none; none where it is no free page, or names
+/// one at or above the page count.
 fn next_free(page: &Page, count: u32) -> Option<u32>
     ensures free { IfSome result (λ next. IsFree page.now next) }
     ensures below { IfSome result (λ next. next < count) }
@@ -55,7 +55,8 @@ fn take_first<D: Disk>(
     header: FileHeader,
 ) -> Result<FileHeader, SpaceError>
     requires some { 0 < header.first_free }
-    requires says { (first : List ℕ) → over (private_of changes.now) ((versions_of pool.old).pages at) 0 ≡ Some first → IsHeader first header }
+    requires says { (first : List ℕ) → over (private_of changes.now) ((versions_of pool.old).pages at) 0 ≡ Some first
+        → IsHeader first header }
     requires bounds { IsInBounds header }
     ensures taken { IfOk result (λ new. Takes ((versions_of pool.old).pages at) (private_of changes.now) header header.first_free new) }
     ensures versions { versions_of pool.new ≡ versions_of pool.old }
@@ -75,19 +76,22 @@ fn take_first<D: Disk>(
     }
 }
 
-/// The page that can be taken, the first free one or the one behind the last, and the header after that.
+/// The page that can be taken, the first free one or the one behind the last, and the header after
+/// that.
 fn page_to_take<D: Disk>(
     pool: &mut Pool<D>,
     changes: &WriteSet,
     at: u64,
     header: FileHeader,
 ) -> Result<(u32, FileHeader), SpaceError>
-    requires says { (first : List ℕ) → over (private_of changes.now) ((versions_of pool.old).pages at) 0 ≡ Some first → IsHeader first header }
+    requires says { (first : List ℕ) → over (private_of changes.now) ((versions_of pool.old).pages at) 0 ≡ Some first
+        → IsHeader first header }
     requires bounds { IsInBounds header }
     ensures taken { IfOk result (λ found. Takes ((versions_of pool.old).pages at) (private_of changes.now) header found.0 found.1) }
     ensures versions { versions_of pool.new ≡ versions_of pool.old }
     ensures refusal { IfErr result (ChangeRefused (AtLimit (over (private_of changes.now) ((versions_of pool.new).pages at) 0) (size_of (private_of changes.now)))
-        (IsWhole (over (private_of changes.now) ((versions_of pool.old).pages at)) → ⊥) (D.refused (device_of pool.old)) (D.refused (device_of pool.new))) }
+        (IsWhole (over (private_of changes.now) ((versions_of pool.old).pages at))
+        → ⊥) (D.refused (device_of pool.old)) (D.refused (device_of pool.new))) }
     ensures rising { D.refused (device_of pool.old) ≤ D.refused (device_of pool.new) }
 {
     let first = header.first_free;
@@ -134,7 +138,8 @@ fn take_by<D: Disk>(
     at: u64,
     header: FileHeader,
 ) -> Result<u32, SpaceError>
-    requires says { (first : List ℕ) → over (private_of changes.old) ((versions_of pool.old).pages at) 0 ≡ Some first → IsHeader first header }
+    requires says { (first : List ℕ) → over (private_of changes.old) ((versions_of pool.old).pages at) 0 ≡ Some first
+        → IsHeader first header }
     requires bounds { IsInBounds header }
     ensures taken { IfOk result (λ page. Took ((versions_of pool.old).pages at) (private_of changes.old) page (private_of changes.new)) }
     ensures left { OnErr result (TookAtMost ((versions_of pool.old).pages at) (private_of changes.old) (private_of changes.new)) }
@@ -142,7 +147,8 @@ fn take_by<D: Disk>(
     ensures undone { undone_of changes.new ≡ undone_of changes.old }
     ensures versions { versions_of pool.new ≡ versions_of pool.old }
     ensures refusal { IfErr result (ChangeRefused (AtLimit (over (private_of changes.new) ((versions_of pool.new).pages at) 0) (size_of (private_of changes.new)))
-        (IsWhole (over (private_of changes.old) ((versions_of pool.old).pages at)) → ⊥) (D.refused (device_of pool.old)) (D.refused (device_of pool.new))) }
+        (IsWhole (over (private_of changes.old) ((versions_of pool.old).pages at))
+        → ⊥) (D.refused (device_of pool.old)) (D.refused (device_of pool.new))) }
     ensures rising { D.refused (device_of pool.old) ≤ D.refused (device_of pool.new) }
 {
     match page_to_take(pool, changes, at, header) {
@@ -163,7 +169,8 @@ fn take_page<D: Disk>(
     ensures undone { undone_of changes.new ≡ undone_of changes.old }
     ensures versions { versions_of pool.new ≡ versions_of pool.old }
     ensures refusal { IfErr result (ChangeRefused (AtLimit (over (private_of changes.new) ((versions_of pool.new).pages at) 0) (size_of (private_of changes.new)))
-        (IsWhole (over (private_of changes.old) ((versions_of pool.old).pages at)) → ⊥) (D.refused (device_of pool.old)) (D.refused (device_of pool.new))) }
+        (IsWhole (over (private_of changes.old) ((versions_of pool.old).pages at))
+        → ⊥) (D.refused (device_of pool.old)) (D.refused (device_of pool.new))) }
     ensures rising { D.refused (device_of pool.old) ≤ D.refused (device_of pool.new) }
 {
     match read_header(pool, changes, at) {
@@ -172,10 +179,11 @@ fn take_page<D: Disk>(
     }
 }
 
-/// Takes a page into use that was not in use, at a commit with a transaction's pages over it, and answers its number: the first
-/// free page, or the one behind the last where none is free. Refused for memory, where the device refuses a call, where no page
-/// is free and there are 65,536, at the limit of private pages, and as damaged only where the list of free pages is none. After
-/// a refusal each page in use is as it was.
+/// Takes a page into use that was not in use, at a commit with a transaction's pages over it, and
+/// answers its number: the first free page, or the one behind the last where none is free. Refused
+/// for memory, where the device refuses a call, where no page is free and there are 65,536, at the
+/// limit of private pages, and as damaged only where the list of free pages is none. After a
+/// refusal each page in use is as it was.
 pub fn allocate_page<D: Disk>(
     pool: &mut Pool<D>,
     changes: &mut WriteSet,
@@ -184,16 +192,20 @@ pub fn allocate_page<D: Disk>(
     ensures next { IfOk result (IsNext (over (private_of changes.old) ((versions_of pool.old).pages at) 0)) }
     ensures list { IfOk result (NamesRest (over (private_of changes.old) ((versions_of pool.old).pages at)) (over (private_of changes.new) ((versions_of pool.new).pages at))) }
     ensures fresh { IfOk result (IsFresh (in_use ((versions_of pool.old).pages at) (private_of changes.old)) (in_use ((versions_of pool.new).pages at) (private_of changes.new))) }
-    ensures others { IfOk result (λ page. (n : ℕ) → n ≢ page → in_use ((versions_of pool.new).pages at) (private_of changes.new) n ≡ in_use ((versions_of pool.old).pages at) (private_of changes.old) n) }
+    ensures others { IfOk result (λ page. (n : ℕ) → n ≢ page
+        → in_use ((versions_of pool.new).pages at) (private_of changes.new) n ≡ in_use ((versions_of pool.old).pages at) (private_of changes.old) n) }
     ensures kept { OnErr result ((n : ℕ) → IsSome (in_use ((versions_of pool.old).pages at) (private_of changes.old) n)
         → in_use ((versions_of pool.new).pages at) (private_of changes.new) n ≡ in_use ((versions_of pool.old).pages at) (private_of changes.old) n) }
-    ensures whole { OnOk result (IsWhole (over (private_of changes.old) ((versions_of pool.old).pages at)) → IsWhole (over (private_of changes.new) ((versions_of pool.new).pages at))) }
-    ensures full { OnOk result (IsFull (over (private_of changes.old) ((versions_of pool.old).pages at)) → IsFull (over (private_of changes.new) ((versions_of pool.new).pages at))) }
+    ensures whole { OnOk result (IsWhole (over (private_of changes.old) ((versions_of pool.old).pages at))
+        → IsWhole (over (private_of changes.new) ((versions_of pool.new).pages at))) }
+    ensures full { OnOk result (IsFull (over (private_of changes.old) ((versions_of pool.old).pages at))
+        → IsFull (over (private_of changes.new) ((versions_of pool.new).pages at))) }
     ensures settled { settled_of changes.new ≡ settled_of changes.old }
     ensures undone { undone_of changes.new ≡ undone_of changes.old }
     ensures versions { versions_of pool.new ≡ versions_of pool.old }
     ensures refusal { IfErr result (ChangeRefused (AtLimit (over (private_of changes.new) ((versions_of pool.new).pages at) 0) (size_of (private_of changes.new)))
-        (IsWhole (over (private_of changes.old) ((versions_of pool.old).pages at)) → ⊥) (D.refused (device_of pool.old)) (D.refused (device_of pool.new))) }
+        (IsWhole (over (private_of changes.old) ((versions_of pool.old).pages at))
+        → ⊥) (D.refused (device_of pool.old)) (D.refused (device_of pool.new))) }
     ensures rising { D.refused (device_of pool.old) ≤ D.refused (device_of pool.new) }
 {
     take_page(pool, changes, at)

@@ -33,7 +33,8 @@ pub(crate) fn number_in(page: &[u8], at: usize) -> u32
 
 /// The page count that page 0 says.
 fn page_count<D: Disk>(pool: &mut Pool<D>, changes: &WriteSet, at: u64) -> Result<u32, SpaceError>
-    ensures count { IfOk result (λ count. (first : List ℕ) → over (private_of changes.now) ((versions_of pool.old).pages at) 0 ≡ Some first → number_at first 8 ≡ count) }
+    ensures count { IfOk result (λ count. (first : List ℕ)
+        → over (private_of changes.now) ((versions_of pool.old).pages at) 0 ≡ Some first → number_at first 8 ≡ count) }
     ensures versions { versions_of pool.new ≡ versions_of pool.old }
     ensures refusal { IfErr result (ReadRefused ⊥ (D.refused (device_of pool.old)) (D.refused (device_of pool.new))) }
     ensures rising { D.refused (device_of pool.old) ≤ D.refused (device_of pool.new) }
@@ -51,8 +52,10 @@ fn is_stored<D: Disk>(
     page: u32,
 ) -> Result<bool, SpaceError>
     requires { private_of changes.now page ≡ None }
-    ensures unused { IfOk result (λ used. used ≡ false → in_use ((versions_of pool.old).pages at) (private_of changes.now) page ≡ None) }
-    ensures used { IfOk result (λ used. used ≡ true → IsWritable (over (private_of changes.now) ((versions_of pool.old).pages at)) page) }
+    ensures unused { IfOk result (λ used. used ≡ false
+        → in_use ((versions_of pool.old).pages at) (private_of changes.now) page ≡ None) }
+    ensures used { IfOk result (λ used. used ≡ true
+        → IsWritable (over (private_of changes.now) ((versions_of pool.old).pages at)) page) }
     ensures versions { versions_of pool.new ≡ versions_of pool.old }
     ensures refusal { IfErr result (ReadRefused ⊥ (D.refused (device_of pool.old)) (D.refused (device_of pool.new))) }
     ensures rising { D.refused (device_of pool.old) ≤ D.refused (device_of pool.new) }
@@ -76,8 +79,10 @@ pub(crate) fn is_in_use<D: Disk>(
     at: u64,
     page: u32,
 ) -> Result<bool, SpaceError>
-    ensures unused { IfOk result (λ used. used ≡ false → in_use ((versions_of pool.old).pages at) (private_of changes.now) page ≡ None) }
-    ensures used { IfOk result (λ used. used ≡ true → IsWritable (over (private_of changes.now) ((versions_of pool.old).pages at)) page) }
+    ensures unused { IfOk result (λ used. used ≡ false
+        → in_use ((versions_of pool.old).pages at) (private_of changes.now) page ≡ None) }
+    ensures used { IfOk result (λ used. used ≡ true
+        → IsWritable (over (private_of changes.now) ((versions_of pool.old).pages at)) page) }
     ensures within { IfOk result (λ used. used ≡ true → 0 < page) }
     ensures versions { versions_of pool.new ≡ versions_of pool.old }
     ensures refusal { IfErr result (ReadRefused ⊥ (D.refused (device_of pool.old)) (D.refused (device_of pool.new))) }

@@ -19,7 +19,8 @@ pub(crate) fn read_version<D: Disk>(
     page: u32,
     into: &mut Page,
 ) -> Result<(), SpaceError>
-    ensures value { OnOk result ((bytes : List ℕ) → (versions_of pool.old).pages at page ≡ Some bytes → into.new ≡ bytes) }
+    ensures value { OnOk result ((bytes : List ℕ) → (versions_of pool.old).pages at page ≡ Some bytes
+        → into.new ≡ bytes) }
     ensures versions { versions_of pool.new ≡ versions_of pool.old }
     ensures refusal { IfErr result (ReadRefused ⊥ (D.refused (device_of pool.old)) (D.refused (device_of pool.new))) }
     ensures rising { D.refused (device_of pool.old) ≤ D.refused (device_of pool.new) }
@@ -41,7 +42,8 @@ pub(crate) fn read_changed<D: Disk>(
     page: u32,
     into: &mut Page,
 ) -> Result<(), SpaceError>
-    ensures value { OnOk result ((bytes : List ℕ) → over (private_of changes.now) ((versions_of pool.old).pages at) page ≡ Some bytes → into.new ≡ bytes) }
+    ensures value { OnOk result ((bytes : List ℕ)
+        → over (private_of changes.now) ((versions_of pool.old).pages at) page ≡ Some bytes → into.new ≡ bytes) }
     ensures versions { versions_of pool.new ≡ versions_of pool.old }
     ensures refusal { IfErr result (ReadRefused ⊥ (D.refused (device_of pool.old)) (D.refused (device_of pool.new))) }
     ensures rising { D.refused (device_of pool.old) ≤ D.refused (device_of pool.new) }

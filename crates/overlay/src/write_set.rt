@@ -16,8 +16,8 @@ use std::alloc::{AllocError, Global};
 /// The pages that a transaction has written, in two layers: those settled before the mark, and over
 /// them those fresh since. There are 1,024 at most; page 0 counts as any other.
 ///
-/// The settled pages are two sets: those that were fresh at the last mark lie over the older ones, and go
-/// among these at the next mark. So a mark that is refused changes nothing.
+/// The settled pages are two sets: those that were fresh at the last mark lie over the older ones,
+/// and go among these at the next mark. So a mark that is refused changes nothing.
 #[derive(Drop)]
 pub struct WriteSet {
     alloc: Global,
@@ -31,7 +31,8 @@ pub struct WriteSet {
     /// The numbers of the fresh pages; one too many does no harm.
     fresh_numbers: Items<u32>,
     private_count: usize,
-    /// How many pages had been written when they were undone last, and what page 0 said, where it was one of them.
+    /// How many pages had been written when they were undone last, and what page 0 said, where it
+    /// was one of them.
     undone_size: usize,
     undone_counts: Option<(u32, u32)>,
     ghost listed: { AreListed (pages_in fresh) fresh_numbers },
@@ -159,8 +160,8 @@ impl WriteSet {
         Ok(())
     }
 
-    /// Goes back to the mark: the fresh pages are as if they had not been written, but for what is kept of
-    /// how many there were and of page 0. Takes no memory.
+    /// Goes back to the mark: the fresh pages are as if they had not been written, but for what is
+    /// kept of how many there were and of page 0. Takes no memory.
     pub fn undo(&mut self)
         ensures fresh { fresh_of self.new ≡ (λ n. None) }
         ensures settled { settled_of self.new ≡ settled_of self.old }
@@ -173,7 +174,8 @@ impl WriteSet {
         self.private_count = self.settled_count;
     }
 
-    /// Sets the mark here: the fresh pages are settled. Refuses for memory alone, and then the mark stays.
+    /// Sets the mark here: the fresh pages are settled. Refuses for memory alone, and then the mark
+    /// stays.
     pub fn mark(&mut self) -> Result<(), AllocError>
         ensures same { private_of self.new ≡ private_of self.old }
         ensures settled { OnOk result (settled_of self.new ≡ private_of self.old) }

@@ -15,9 +15,10 @@ use page_space::SpaceError;
 use pagefile::Page;
 use pool::Pool;
 
-/// Puts these bytes, which are not those of a free page, in place of a page in use at a commit with a
-/// transaction's pages over it. Refused for memory, where the device refuses a call, at the limit of
-/// private pages, and as damaged only where the page is not in use; then no page is other than it was.
+/// Puts these bytes, which are not those of a free page, in place of a page in use at a commit with
+/// a transaction's pages over it. Refused for memory, where the device refuses a call, at the limit
+/// of private pages, and as damaged only where the page is not in use; then no page is other than
+/// it was.
 pub fn replace_page<D: Disk>(
     pool: &mut Pool<D>,
     changes: &mut WriteSet,
@@ -28,9 +29,12 @@ pub fn replace_page<D: Disk>(
     requires { slice_index bytes.now 0 ≢ 3 }
     ensures written { OnOk result (IsSome (in_use ((versions_of pool.old).pages at) (private_of changes.old) page)
         → in_use ((versions_of pool.new).pages at) (private_of changes.new) page ≡ Some bytes.now) }
-    ensures others { (n : ℕ) → n ≢ page → in_use ((versions_of pool.new).pages at) (private_of changes.new) n ≡ in_use ((versions_of pool.old).pages at) (private_of changes.old) n }
-    ensures whole { OnOk result (IsWhole (over (private_of changes.old) ((versions_of pool.old).pages at)) → IsWhole (over (private_of changes.new) ((versions_of pool.new).pages at))) }
-    ensures full { OnOk result (IsFull (over (private_of changes.old) ((versions_of pool.old).pages at)) → IsFull (over (private_of changes.new) ((versions_of pool.new).pages at))) }
+    ensures others { (n : ℕ) → n ≢ page
+        → in_use ((versions_of pool.new).pages at) (private_of changes.new) n ≡ in_use ((versions_of pool.old).pages at) (private_of changes.old) n }
+    ensures whole { OnOk result (IsWhole (over (private_of changes.old) ((versions_of pool.old).pages at))
+        → IsWhole (over (private_of changes.new) ((versions_of pool.new).pages at))) }
+    ensures full { OnOk result (IsFull (over (private_of changes.old) ((versions_of pool.old).pages at))
+        → IsFull (over (private_of changes.new) ((versions_of pool.new).pages at))) }
     ensures left { OnErr result (private_of changes.new ≡ private_of changes.old) }
     ensures settled { settled_of changes.new ≡ settled_of changes.old }
     ensures undone { undone_of changes.new ≡ undone_of changes.old }

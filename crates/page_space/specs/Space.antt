@@ -14,8 +14,8 @@ pub record IsFresh (old new : PageMap) (page : ℕ) : Type 0 where
   pub free : old page ≡ None
   pub used : IsSome (new page)
 
--- why a read may be refused, with what is known where it was for damage and with the counts of refused device calls
--- before and after: never at a limit
+-- why a read may be refused, with what is known where it was for damage and with the counts of
+-- refused device calls before and after: never at a limit
 abbrev pub ReadRefused : Type 0 → ℕ → ℕ → SpaceError → Type 0
 ReadRefused Harm before after Memory = ⊤
 ReadRefused Harm before after Disk = HasRisen before after

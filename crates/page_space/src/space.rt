@@ -21,8 +21,9 @@ pub trait PageReader {
     /// Whether the list of free pages is one.
     ghost is_whole: { Self → Type 0 };
 
-    /// Gives what lies at a page, where one lies there. Refused for memory, where the device refuses
-    /// a call, and as damaged only where no page lies. After a refusal `into` may hold anything.
+    /// Gives what lies at a page, where one lies there. Refused for memory, where the device
+    /// refuses a call, and as damaged only where no page lies. After a refusal `into` may hold
+    /// anything.
     fn read(&mut self, page: u32, into: &mut Page) -> Result<(), SpaceError>
         ensures bytes { OnOk result ((bytes : List ℕ) → pages self.old page ≡ Some bytes → into.new ≡ bytes) }
         ensures same { pages self.new ≡ pages self.old }
@@ -43,8 +44,8 @@ pub trait PageReader {
 
 /// A space of numbered pages that can be changed.
 ///
-/// A refused call leaves every page but the one it names; of that one nothing is said. A limit comes
-/// only where the space is at it.
+/// A refused call leaves every page but the one it names; of that one nothing is said. A limit
+/// comes only where the space is at it.
 pub trait PageSpace: PageReader {
     /// That the space is at the limit that a fault names.
     ghost at_limit: { Self → SpaceError → Type 0 };
@@ -67,9 +68,11 @@ pub trait PageSpace: PageReader {
     fn allocate(&mut self) -> Result<u32, SpaceError>
         ensures fresh { IfOk result (IsFresh (Self.pages self.old) (Self.pages self.new)) }
         ensures others { IfOk result (λ page. (n : ℕ) → n ≢ page → Self.pages self.new n ≡ Self.pages self.old n) }
-        ensures kept { OnErr result ((n : ℕ) → IsSome (Self.pages self.old n) → Self.pages self.new n ≡ Self.pages self.old n) }
+        ensures kept { OnErr result ((n : ℕ) → IsSome (Self.pages self.old n)
+            → Self.pages self.new n ≡ Self.pages self.old n) }
         ensures whole { OnOk result (Self.is_whole self.old → Self.is_whole self.new) }
-        ensures refusal { IfErr result (ChangeRefused (at_limit self.new) (Self.is_whole self.old → ⊥) (Self.refused self.old) (Self.refused self.new)) }
+        ensures refusal { IfErr result (ChangeRefused (at_limit self.new) (Self.is_whole self.old
+            → ⊥) (Self.refused self.old) (Self.refused self.new)) }
         ensures rising { Self.refused self.old ≤ Self.refused self.new }
         ensures follows { Self.follows self.old self.new };
 
@@ -79,7 +82,8 @@ pub trait PageSpace: PageReader {
         ensures freed { OnOk result (Self.pages self.new page ≡ None) }
         ensures others { (n : ℕ) → n ≢ page → Self.pages self.new n ≡ Self.pages self.old n }
         ensures whole { OnOk result (Self.is_whole self.old → Self.is_whole self.new) }
-        ensures refusal { IfErr result (ChangeRefused (at_limit self.new) (Self.is_whole self.old → IsSome (Self.pages self.old page) → ⊥) (Self.refused self.old) (Self.refused self.new)) }
+        ensures refusal { IfErr result (ChangeRefused (at_limit self.new) (Self.is_whole self.old
+            → IsSome (Self.pages self.old page) → ⊥) (Self.refused self.old) (Self.refused self.new)) }
         ensures rising { Self.refused self.old ≤ Self.refused self.new }
         ensures follows { Self.follows self.old self.new };
 }

@@ -35,7 +35,8 @@ use Rattle.paged_store.proofs.SteadyLemmas.{steady_at, steady_same}
 abbrev Done : Type 0
 Done = Result (Unit {0}) StoreError
 
--- The change made the pages `mid` of `written`; after that there are the pages `next`: the same, or those at the mark.
+-- The change made the pages `mid` of `written`; after that there are the pages `next`: the same, or
+-- those at the mark.
 module _ (honest : Bool) (v w : Versions) (numbers : FinMap nat_cmp ℕ) (written settled mid mid_settled next next_settled : PageMap) (commits : ℕ) (last : commits ≡ v.last) (same : w ≡ v)
     (kept : mid_settled ≡ settled) (left : next_settled ≡ mid_settled) (change : Contents → Contents) where
   shows_by : (done : Done) → OnOk done (next ≡ mid) → (IsDatabase (v.pages commits) written → OnOk done (IsNow (v.pages commits) mid (change (contents_in (v.pages commits) written))))

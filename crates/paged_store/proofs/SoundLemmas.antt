@@ -75,7 +75,8 @@ module _ (honest : Bool) (v w : Versions) (numbers now : FinMap nat_cmp ℕ) (wr
 
 -- ---- the writer
 
--- the same versions, with other written pages over which the last one is a database of which no page is lost
+-- the same versions, with other written pages over which the last one is a database of which no
+-- page is lost
 pub sound_with : (honest : Bool) (v w : Versions) (numbers : FinMap nat_cmp ℕ) (written settled written_now settled_now : PageMap) → w ≡ v
     → (IsSound honest v numbers written settled → IsOwned (v.pages v.last) written_now) → (IsSound honest v numbers written settled → IsOwned (v.pages v.last) settled_now)
     → IsSound honest v numbers written settled → IsSound honest w numbers written_now settled_now

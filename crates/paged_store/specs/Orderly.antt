@@ -6,7 +6,8 @@ use Rattle.database_versions.specs.Databases.{IsDatabase}
 use Rattle.snapshot_pins.specs.declared.readers.Readers.{Readers}
 use Rattle.snapshot_pins.specs.Pinned.{ArePinned}
 
--- the readers hold their pins, the commits are counted, and over an honest device the last one has a page 0
+-- the readers hold their pins, the commits are counted, and over an honest device the last one has
+-- a page 0
 pub record IsOrderly (honest : Bool) (v : Versions) (readers : Readers) (commits : ℕ) : Type 0 where
   pub pinned : ArePinned readers v.pins
   pub counted : commits ≡ v.last

@@ -15,7 +15,8 @@ found_at honest v number = record { number = number; contents = known_contents h
 abbrev pub found_by : (ℕ → Found) → FinMap nat_cmp ℕ → FinMap nat_cmp Found
 found_by found numbers = from_entries (map (λ (e : ℕ × ℕ). (e.0, found e.1)) (entries numbers))
 
--- the versions of a last commit with these pages: it alone, with all written pages over it, and with those written before the mark
+-- the versions of a last commit with these pages: it alone, with all written pages over it, and
+-- with those written before the mark
 abbrev pub versions : Bool → ℕ → PageMap → FinMap nat_cmp Found → PageMap → PageMap → Stored
 versions honest commits newest readers written settled = record {
   commits = commits;

@@ -6,7 +6,9 @@ use Rattle.pool.specs.Pages.{PageMap}
 use Rattle.pool.specs.Versions.{Versions}
 use Rattle.database_versions.specs.Databases.{nothing, IsOwned}
 
--- The device is honest, and every version is a database of which no page is lost: the last commit, each that a reader found, the pages that the writer has written over the last one, and those at the mark, to which an undo goes back.
+-- The device is honest, and every version is a database of which no page is lost: the last commit,
+-- each that a reader found, the pages that the writer has written over the last one, and those at
+-- the mark, to which an undo goes back.
 pub record IsSound (honest : Bool) (v : Versions) (numbers : FinMap nat_cmp ℕ) (written settled : PageMap) : Type 0 where
   pub device : IsTrue honest
   pub last : IsOwned (v.pages v.last) nothing

@@ -79,8 +79,9 @@ fn are_new(indexes: &[Index]) -> bool
     true
 }
 
-/// Whether a table can be kept: no column is VARCHAR(0), its constraints and indexes name only places of its columns, and no index has a tree yet. No text declares
-/// another one. All else is of a table by its types.
+/// Whether a table can be kept: no column is VARCHAR(0), its constraints and indexes name only
+/// places of its columns, and no index has a tree yet. No text declares another one. All else is of
+/// a table by its types.
 pub(crate) fn is_kept(table: &Table) -> bool
     ensures kept { IsTrue result → IsTable table.now }
     ensures new { IsTrue result → AllByRecursion (λ index. index.root ≡ 0) table.now.indexes }

@@ -24,11 +24,12 @@ use std::alloc::Global;
 use std::ops::Bound;
 use store::{Numbered, NumberedRow, Position, Returned, Store, StoreError, View};
 
-/// Tables in the pages of one file, in versions. Each reader sees the pages of the commit that it found; what the writer changes lies over the last one until it is
-/// committed.
+/// Tables in the pages of one file, in versions. Each reader sees the pages of the commit that it
+/// found; what the writer changes lies over the last one until it is committed.
 ///
-/// A key of an index that is too long counts as want of memory: a store may name that limit only where it shows the index, and over a device that is not known to
-/// give back what was written nothing is shown.
+/// A key of an index that is too long counts as want of memory: a store may name that limit only
+/// where it shows the index, and over a device that is not known to give back what was written
+/// nothing is shown.
 #[derive(Drop)]
 pub struct Paged<D: Disk> {
     alloc: Global,

@@ -1,4 +1,5 @@
-//! What a view of a store sees: the written pages over the last commit, or the commit that a reader found, alone.
+//! What a view of a store sees: the written pages over the last commit, or the commit that a reader
+//! found, alone.
 ghost use Rattle.std.specs.Prelude.{◌≡◌, ◌≤◌, unwrap_or, List, IfOk, IfErr};
 ghost use Rattle.std.specs.FinMap.{get};
 ghost use Rattle.std.specs.Option.{option_map};
@@ -45,10 +46,12 @@ pub(crate) fn schema_seen<D: Disk>(
     view: View,
 ) -> Result<Schema, StoreError>
     requires { commits ≡ (versions_of pool.old).last }
-    ensures found { (settled : PageMap) → IsSound D.is_honest (versions_of pool.old) (numbers_of readers.now) (private_of changes.now) settled
+    ensures found { (settled : PageMap)
+        → IsSound D.is_honest (versions_of pool.old) (numbers_of readers.now) (private_of changes.now) settled
         → IfOk result (λ schema. IsSchemaOf schema (database_of (seen_by (stored D.is_honest (versions_of pool.old) (numbers_of readers.now) (private_of changes.now) settled) view))) }
     ensures versions { versions_of pool.new ≡ versions_of pool.old }
-    ensures refused { (settled : PageMap) → IfErr result (MayFail (IsSound D.is_honest (versions_of pool.old) (numbers_of readers.now) (private_of changes.now) settled) (D.refused (device_of pool.old)) (D.refused (device_of pool.new)) Never) }
+    ensures refused { (settled : PageMap)
+        → IfErr result (MayFail (IsSound D.is_honest (versions_of pool.old) (numbers_of readers.now) (private_of changes.now) settled) (D.refused (device_of pool.old)) (D.refused (device_of pool.new)) Never) }
     ensures rising { D.refused (device_of pool.old) ≤ D.refused (device_of pool.new) }
 {
     match view {
@@ -72,10 +75,12 @@ pub(crate) fn rows_seen<D: Disk>(
     name: &Text,
 ) -> Result<Numbered, StoreError>
     requires { commits ≡ (versions_of pool.old).last }
-    ensures rows { (settled : PageMap) → IsSound D.is_honest (versions_of pool.old) (numbers_of readers.now) (private_of changes.now) settled
+    ensures rows { (settled : PageMap)
+        → IsSound D.is_honest (versions_of pool.old) (numbers_of readers.now) (private_of changes.now) settled
         → IfOk result (λ found. AreEntries found (entries_of (get (seen_by (stored D.is_honest (versions_of pool.old) (numbers_of readers.now) (private_of changes.now) settled) view) name.now))) }
     ensures versions { versions_of pool.new ≡ versions_of pool.old }
-    ensures refused { (settled : PageMap) → IfErr result (MayFail (IsSound D.is_honest (versions_of pool.old) (numbers_of readers.now) (private_of changes.now) settled) (D.refused (device_of pool.old)) (D.refused (device_of pool.new)) Never) }
+    ensures refused { (settled : PageMap)
+        → IfErr result (MayFail (IsSound D.is_honest (versions_of pool.old) (numbers_of readers.now) (private_of changes.now) settled) (D.refused (device_of pool.old)) (D.refused (device_of pool.new)) Never) }
     ensures rising { D.refused (device_of pool.old) ≤ D.refused (device_of pool.new) }
 {
     match view {
@@ -100,10 +105,12 @@ pub(crate) fn next_seen<D: Disk>(
     after: Option<u64>,
 ) -> Result<Option<NumberedRow>, StoreError>
     requires { commits ≡ (versions_of pool.old).last }
-    ensures row { (settled : PageMap) → IsSound D.is_honest (versions_of pool.old) (numbers_of readers.now) (private_of changes.now) settled
+    ensures row { (settled : PageMap)
+        → IsSound D.is_honest (versions_of pool.old) (numbers_of readers.now) (private_of changes.now) settled
         → IfOk result (λ found. IsEntry found (entry_after after (entries_of (get (seen_by (stored D.is_honest (versions_of pool.old) (numbers_of readers.now) (private_of changes.now) settled) view) name.now)))) }
     ensures versions { versions_of pool.new ≡ versions_of pool.old }
-    ensures refused { (settled : PageMap) → IfErr result (MayFail (IsSound D.is_honest (versions_of pool.old) (numbers_of readers.now) (private_of changes.now) settled) (D.refused (device_of pool.old)) (D.refused (device_of pool.new)) Never) }
+    ensures refused { (settled : PageMap)
+        → IfErr result (MayFail (IsSound D.is_honest (versions_of pool.old) (numbers_of readers.now) (private_of changes.now) settled) (D.refused (device_of pool.old)) (D.refused (device_of pool.new)) Never) }
     ensures rising { D.refused (device_of pool.old) ≤ D.refused (device_of pool.new) }
 {
     match view {
@@ -129,10 +136,12 @@ pub(crate) fn sought_seen<D: Disk>(
     key: &[Value],
 ) -> Result<Numbered, StoreError>
     requires { commits ≡ (versions_of pool.old).last }
-    ensures rows { (settled : PageMap) → IsSound D.is_honest (versions_of pool.old) (numbers_of readers.now) (private_of changes.now) settled
+    ensures rows { (settled : PageMap)
+        → IsSound D.is_honest (versions_of pool.old) (numbers_of readers.now) (private_of changes.now) settled
         → IfOk result (λ found. AreEntries found (sought (get (seen_by (stored D.is_honest (versions_of pool.old) (numbers_of readers.now) (private_of changes.now) settled) view) name.now) index key.now)) }
     ensures versions { versions_of pool.new ≡ versions_of pool.old }
-    ensures refused { (settled : PageMap) → IfErr result (MayFail (IsSound D.is_honest (versions_of pool.old) (numbers_of readers.now) (private_of changes.now) settled) (D.refused (device_of pool.old)) (D.refused (device_of pool.new)) Never) }
+    ensures refused { (settled : PageMap)
+        → IfErr result (MayFail (IsSound D.is_honest (versions_of pool.old) (numbers_of readers.now) (private_of changes.now) settled) (D.refused (device_of pool.old)) (D.refused (device_of pool.new)) Never) }
     ensures rising { D.refused (device_of pool.old) ≤ D.refused (device_of pool.new) }
 {
     match view {
@@ -145,7 +154,8 @@ pub(crate) fn sought_seen<D: Disk>(
     }
 }
 
-/// The rows of a table of a view whose first column of the index at a place is within bounds, in the order of the index.
+/// The rows of a table of a view whose first column of the index at a place is within bounds, in
+/// the order of the index.
 pub(crate) fn ranged_seen<D: Disk>(
     alloc: Global,
     pool: &mut Pool<D>,
@@ -159,10 +169,12 @@ pub(crate) fn ranged_seen<D: Disk>(
     high: &Bound<Value>,
 ) -> Result<Numbered, StoreError>
     requires { commits ≡ (versions_of pool.old).last }
-    ensures rows { (settled : PageMap) → IsSound D.is_honest (versions_of pool.old) (numbers_of readers.now) (private_of changes.now) settled
+    ensures rows { (settled : PageMap)
+        → IsSound D.is_honest (versions_of pool.old) (numbers_of readers.now) (private_of changes.now) settled
         → IfOk result (λ found. AreEntries found (ranged (get (seen_by (stored D.is_honest (versions_of pool.old) (numbers_of readers.now) (private_of changes.now) settled) view) name.now) index low.now high.now)) }
     ensures versions { versions_of pool.new ≡ versions_of pool.old }
-    ensures refused { (settled : PageMap) → IfErr result (MayFail (IsSound D.is_honest (versions_of pool.old) (numbers_of readers.now) (private_of changes.now) settled) (D.refused (device_of pool.old)) (D.refused (device_of pool.new)) Never) }
+    ensures refused { (settled : PageMap)
+        → IfErr result (MayFail (IsSound D.is_honest (versions_of pool.old) (numbers_of readers.now) (private_of changes.now) settled) (D.refused (device_of pool.old)) (D.refused (device_of pool.new)) Never) }
     ensures rising { D.refused (device_of pool.old) ≤ D.refused (device_of pool.new) }
 {
     match view {
@@ -188,10 +200,12 @@ pub(crate) fn beyond_seen<D: Disk>(
     after: Option<&Position>,
 ) -> Result<Option<NumberedRow>, StoreError>
     requires { commits ≡ (versions_of pool.old).last }
-    ensures row { (settled : PageMap) → IsSound D.is_honest (versions_of pool.old) (numbers_of readers.now) (private_of changes.now) settled
+    ensures row { (settled : PageMap)
+        → IsSound D.is_honest (versions_of pool.old) (numbers_of readers.now) (private_of changes.now) settled
         → IfOk result (λ found. IsEntry found (next_entry (get (seen_by (stored D.is_honest (versions_of pool.old) (numbers_of readers.now) (private_of changes.now) settled) view) name.now) index (option_map (λ p. position_of p.now) after.entry))) }
     ensures versions { versions_of pool.new ≡ versions_of pool.old }
-    ensures refused { (settled : PageMap) → IfErr result (MayFail (IsSound D.is_honest (versions_of pool.old) (numbers_of readers.now) (private_of changes.now) settled) (D.refused (device_of pool.old)) (D.refused (device_of pool.new)) Never) }
+    ensures refused { (settled : PageMap)
+        → IfErr result (MayFail (IsSound D.is_honest (versions_of pool.old) (numbers_of readers.now) (private_of changes.now) settled) (D.refused (device_of pool.old)) (D.refused (device_of pool.new)) Never) }
     ensures rising { D.refused (device_of pool.old) ≤ D.refused (device_of pool.new) }
 {
     match view {

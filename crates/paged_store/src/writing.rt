@@ -6,7 +6,8 @@ ghost use Rattle.pool.specs.Versions.{versions_of, device_of, unwritten_of};
 use disk::Disk;
 use pool::{Pool, PoolError};
 
-/// Writes four committed pages, or all where fewer are left, and answers how many are left. Where their number is past that of its type, it goes on.
+/// Writes four committed pages, or all where fewer are left, and answers how many are left. Where
+/// their number is past that of its type, it goes on.
 pub(crate) fn write_some<D: Disk>(pool: &mut Pool<D>) -> Result<u32, PoolError>
     ensures left { IfOk result (λ left. left ≡ unwritten_of pool.new) }
     ensures less { OnOk result (0 < unwritten_of pool.old → unwritten_of pool.new < unwritten_of pool.old) }

@@ -1,4 +1,5 @@
--- What the pieces of a script are to a program in which each script has one session. All of this is our own choice.
+-- What the pieces of a script are to a program in which each script has one session. All of this is
+-- our own choice.
 use Rattle.std.specs.Prelude.{◌≡◌, ℕ, List, [], ◌∷◌, ◌++◌, map}
 use Rattle.std.specs.Global.{Vec}
 use Rattle.script_pieces.specs.Pieces.{ArePieces}

@@ -1,4 +1,5 @@
--- What is handed back of the device over which scripts were carried out. All of this is our own choice.
+-- What is handed back of the device over which scripts were carried out. All of this is our own
+-- choice.
 use Rattle.std.specs.Prelude.{◌≡◌, ℕ, ◌≤◌, Bool, true, false}
 use Rattle.refusals.specs.declared.refusal.Refusal.{Refusal}
 use Rattle.refusals.specs.declared.refusal.Refusal.TheVariants.{Disk}
@@ -32,32 +33,39 @@ HasRefused calls refused before Nothing = ⊥
 abbrev pub BeginsGood : World → Type 0
 BeginsGood start = (rules : Rules) × AreRules rules × IsGoodWorld rules.check start
 
--- The device of a store that was closed in the world `end`: it was synced behind the last write, and what was committed last is saved on it, where the first world was good. It counts no fewer
+-- The device of a store that was closed in the world `end`: it was synced behind the last write,
+-- and what was committed last is saved on it, where the first world was good. It counts no fewer
 -- refused calls than before.
 pub record IsClosed {D : Type 0} (saved : D → Database → Type 0) (settled : D → Type 0) (calls : D → ℕ) (before : ℕ) (start end : World) (device : D) : Type 0 where
   pub saves : BeginsGood start → saved device end.last
   pub synced : settled device
   pub counted : before ≤ calls device
 
--- What became of the store on a device: it was not opened, for this refusal; it was closed in this world; it could not be closed; or it was dropped, for want of memory.
+-- What became of the store on a device: it was not opened, for this refusal; it was closed in this
+-- world; it could not be closed; or it was dropped, for want of memory.
 pub data Left : Type 0 where
   unopened : Refusal → Left
   closed : World → Left
   unclosed : Left
   dropped : Left
 
--- What is handed back tells it. Where the store was not opened it is the device, and what the first world committed last is still saved on it; where it was closed, the device; where it could not be
--- closed, the core. The device is said to have refused that the store was opened or closed only where what is handed back counts more refused calls than before. Nothing is known of the device of
--- a store that was dropped.
-abbrev pub HandsBack : {S D : Type 0} → (D → Database → Type 0) → (D → Type 0) → (D → ℕ) → (S → ℕ) → ℕ → World → HandedBack S D → Left → Type 0
-HandsBack saved settled calls refused before start (Unopened device) (Left.unopened refusal) = saved device start.last × (refusal ≡ Disk → HasRisen before (calls device))
+-- What is handed back tells it. Where the store was not opened it is the device, and what the first
+-- world committed last is still saved on it; where it was closed, the device; where it could not be
+-- closed, the core. The device is said to have refused that the store was opened or closed only
+-- where what is handed back counts more refused calls than before. Nothing is known of the device
+-- of a store that was dropped.
+abbrev pub HandsBack : {S D : Type 0} → (D → Database → Type 0) → (D → Type 0) → (D → ℕ) → (S → ℕ) → ℕ → World
+    → HandedBack S D → Left → Type 0
+HandsBack saved settled calls refused before start (Unopened device) (Left.unopened refusal) = saved device start.last
+    × (refusal ≡ Disk → HasRisen before (calls device))
 HandsBack saved settled calls refused before start (Closed device) (Left.closed end) = IsClosed saved settled calls before start end device
 HandsBack saved settled calls refused before start (Unclosed core) Left.unclosed = HasRisen before (refused (store_of core))
 HandsBack saved settled calls refused before start Nothing Left.dropped = Unit {0}
 HandsBack saved settled calls refused before start back left = ⊥
 
--- What is known whatever lay on the device. A store was opened only where it can be read as a store's. The device of a closed one was synced behind the last write, and counts no fewer refused calls than
--- before; a core that could not be closed counts more of them.
+-- What is known whatever lay on the device. A store was opened only where it can be read as a
+-- store's. The device of a closed one was synced behind the last write, and counts no fewer refused
+-- calls than before; a core that could not be closed counts more of them.
 abbrev pub HandsAny : {S D : Type 0} → Type 0 → (D → Type 0) → (D → ℕ) → (S → ℕ) → ℕ → HandedBack S D → Type 0
 HandsAny readable settled calls refused before (Unopened device) = Unit {0}
 HandsAny readable settled calls refused before (Closed device) = readable × settled device × (before ≤ calls device)

@@ -24,7 +24,8 @@ reply_of (Err refusal) = says.Refused refusal
 abbrev pub no_session : Reply
 no_session = says.Refused (Invalid reason.Session)
 
--- The replies to the pieces of a script, in order: the answer to a call, and `session` for a piece that is wrong. There is an answer for each call.
+-- The replies to the pieces of a script, in order: the answer to a call, and `session` for a piece
+-- that is wrong. There is an answer for each call.
 abbrev pub replies_to : List Part → List Answer → List Reply
 replies_to [] answers = []
 replies_to (part.Wrong ∷ parts) answers = no_session ∷ replies_to parts answers

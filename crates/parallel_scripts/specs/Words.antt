@@ -23,7 +23,8 @@ pub record AsksInOne (word : List ℕ) (words : List (List ℕ)) (count : ℕ) (
 -- `--frames N`, and then names
 abbrev pub AsksInTwo : List ℕ → List (List ℕ) → ℕ → List (List ℕ) → Type 0
 AsksInTwo option [] count names = ⊥
-AsksInTwo option (text ∷ words) count names = (option ≡ codes "--frames") × WritesFrames text count × AreNames words names
+AsksInTwo option (text ∷ words) count names = (option ≡ codes "--frames") × WritesFrames text count
+    × AreNames words names
 
 -- 256 frames, and names
 abbrev pub AsksForNone : List (List ℕ) → ℕ → List (List ℕ) → Type 0
@@ -32,7 +33,8 @@ AsksForNone words count names = (count ≡ 256) × AreNames words names
 -- the words behind the program's name: `[--frames N | --frames=N] SCRIPT ..`
 abbrev pub AsksBehind : List (List ℕ) → ℕ → List (List ℕ) → Type 0
 AsksBehind [] count names = ⊥
-AsksBehind (word ∷ words) count names = AsksForNone (word ∷ words) count names ⊎ AsksInOne word words count names ⊎ AsksInTwo word words count names
+AsksBehind (word ∷ words) count names = AsksForNone (word ∷ words) count names ⊎ AsksInOne word words count names
+    ⊎ AsksInTwo word words count names
 
 -- The words, of which the first is the program's name, ask for so many frames and these scripts.
 abbrev pub Asks : List (List ℕ) → ℕ → List (List ℕ) → Type 0

@@ -19,18 +19,22 @@ use store::Store;
 /// The exit status where a reply was a refusal, or the scripts were refused.
 pub(crate) const REFUSED: u8 = 1;
 
-/// Prints the scripts' replies, and closes the core, also where the writer refuses; tells of a core that could not be closed.
+/// Prints the scripts' replies, and closes the core, also where the writer refuses; tells of a core
+/// that could not be closed.
 pub(crate) fn print_all<S: Store, W: Write>(
     core: Core<S>,
     parts: &[Vec<Part>],
     answers: Vec<Answers>,
     writer: &mut W,
 ) -> Printed<S>
-    ensures shows { (before : ℕ) (start : World) → before ≤ S.refused (store_of core) → (BeginsGood start → IsSound S.is_sound S.shows core)
+    ensures shows { (before : ℕ) (start : World) → before ≤ S.refused (store_of core)
+        → (BeginsGood start → IsSound S.is_sound S.shows core)
         → Puts (Shows (HandsBack S.saved S.settled S.calls_refused S.refused before start result.back) (world_of S.shows core) parts.now answers.items)
         (W.contents writer.old) (W.contents writer.new) result.outcome }
-    ensures any_device { (before : ℕ) → before ≤ S.refused (store_of core) → HandsAny ⊤ S.settled S.calls_refused S.refused before result.back }
-    ensures counts { (before : ℕ) → HasRisen before (S.refused (store_of core)) → HasRefused S.calls_refused S.refused before result.back }
+    ensures any_device { (before : ℕ) → before ≤ S.refused (store_of core)
+        → HandsAny ⊤ S.settled S.calls_refused S.refused before result.back }
+    ensures counts { (before : ℕ) → HasRisen before (S.refused (store_of core))
+        → HasRefused S.calls_refused S.refused before result.back }
     ensures status { IfOk result.outcome IsStatus }
 {
     let shown = show_all(parts, answers, writer);
@@ -57,11 +61,14 @@ fn status_for(refused: bool) -> u8
 
 /// Closes the core, and hands its device back, or the core where the device refuses that.
 fn close<S: Store>(core: Core<S>) -> HandedBack<S>
-    ensures closes { (before : ℕ) (start : World) → before ≤ S.refused (store_of core) → (BeginsGood start → IsSound S.is_sound S.shows core)
+    ensures closes { (before : ℕ) (start : World) → before ≤ S.refused (store_of core)
+        → (BeginsGood start → IsSound S.is_sound S.shows core)
         → MatchBool (is_closed result) (HandsBack S.saved S.settled S.calls_refused S.refused before start result (Left.closed (world_of S.shows core)))
         (HandsBack S.saved S.settled S.calls_refused S.refused before start result Left.unclosed) }
-    ensures any_device { (before : ℕ) → before ≤ S.refused (store_of core) → HandsAny ⊤ S.settled S.calls_refused S.refused before result }
-    ensures counts { (before : ℕ) → HasRisen before (S.refused (store_of core)) → HasRefused S.calls_refused S.refused before result }
+    ensures any_device { (before : ℕ) → before ≤ S.refused (store_of core)
+        → HandsAny ⊤ S.settled S.calls_refused S.refused before result }
+    ensures counts { (before : ℕ) → HasRisen before (S.refused (store_of core))
+        → HasRefused S.calls_refused S.refused before result }
 {
     match core.close() {
         Ok(device) => HandedBack::Closed(device),

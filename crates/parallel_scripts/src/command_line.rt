@@ -10,10 +10,12 @@ use frame_count::{GREATEST_FRAMES, LEAST_FRAMES};
 use std::alloc::Global;
 use std::convert::AsStr;
 
-/// Reads the words of a command line of `sqlmany`, the program's name first: `[--frames N] SCRIPT ..`, or `--frames=N`, with N from 16 to 4,096. A word that begins with `-` names
-/// no script.
+/// Reads the words of a command line of `sqlmany`, the program's name first:
+/// `[--frames N] SCRIPT ..`, or `--frames=N`, with N from 16 to 4,096. A word that begins with `-`
+/// names no script.
 ///
-/// The answer is an error for all other words: also where they ask for help, which the error's text then is. Words that ask for scripts are read without memory.
+/// The answer is an error for all other words: also where they ask for help, which the error's text
+/// then is. Words that ask for scripts are read without memory.
 pub fn settings<'a, S: AsStr>(alloc: Global, words: &'a [S]) -> Result<Settings<'a, S>, Error>
     ensures asked { (count : ℕ) (names : List (List ℕ)) → Asks (map S.text words.entry.now) count names
         → IsOkAnd result (λ settings. (settings.frames.count ≡ count) × (map S.text settings.scripts.now ≡ names)) }
@@ -54,7 +56,8 @@ fn command_line<'a>(alloc: Global) -> Result<Command<'a>, Error> {
         .value_parser(value_parser!(u32).range(
             i64::from(LEAST_FRAMES)..=i64::from(GREATEST_FRAMES),
         ))
-        // `DEFAULT_FRAMES` as a text: `clap` borrows it, and one made of the number would take memory.
+        // `DEFAULT_FRAMES` as a text: `clap` borrows it, and one made of the number would take
+        // memory.
         .default_value("256");
     let scripts = Arg::new(alloc, "scripts")
         .value_name("SCRIPT")

@@ -13,7 +13,8 @@ use std::io;
 use std::io::{ErrorKind, Write};
 use store::Store;
 
-/// The exit status where something went wrong around the scripts: one could not be read, the store not be opened or closed, or the output not be written.
+/// The exit status where something went wrong around the scripts: one could not be read, the store
+/// not be opened or closed, or the output not be written.
 pub(crate) const FAILED: u8 = 3;
 
 /// How what was printed ended.
@@ -44,13 +45,15 @@ fn with_status(printed: io::Result<()>, status: u8) -> io::Result<u8>
     }
 }
 
-/// Prints that the device refused where the store was not closed. The answer is the exit status: 3 then, and else this one.
+/// Prints that the device refused where the store was not closed. The answer is the exit status: 3
+/// then, and else this one.
 pub(crate) fn say_unless_closed<S: Store, W: Write>(
     back: &HandedBack<S>,
     status: u8,
     writer: &mut W,
 ) -> io::Result<u8>
-    ensures puts { MatchBool (is_closed back.now) ((W.contents writer.new ≡ W.contents writer.old) × (result ≡ Ok status))
+    ensures puts { MatchBool (is_closed back.now) ((W.contents writer.new ≡ W.contents writer.old)
+        × (result ≡ Ok status))
         (Puts (Tells Disk 3) (W.contents writer.old) (W.contents writer.new) result) }
     ensures status { IsStatus status → IfOk result IsStatus }
 {
@@ -60,7 +63,8 @@ pub(crate) fn say_unless_closed<S: Store, W: Write>(
     say(Refusal::Disk, FAILED, writer)
 }
 
-/// The end of what was printed so: with its own status, where the writer passes it on; and else with 3, and the fault of the writer is told where that can be written.
+/// The end of what was printed so: with its own status, where the writer passes it on; and else
+/// with 3, and the fault of the writer is told where that can be written.
 pub(crate) fn ended<W: Write>(outcome: io::Result<u8>, writer: &mut W) -> Exit
     ensures ends { EndsBy outcome (W.contents writer.old) (W.contents writer.new) result.status result.is_told }
     ensures status { IfOk outcome IsStatus → IsStatus result.status }
@@ -88,7 +92,8 @@ fn fail<W: Write>(writer: &mut W) -> Exit
     }
 }
 
-/// Prints that the writer refused, and has it pass that on. The answer is an error where not all of the line was written, or it was not passed on.
+/// Prints that the writer refused, and has it pass that on. The answer is an error where not all of
+/// the line was written, or it was not passed on.
 fn tell<W: Write>(writer: &mut W) -> io::Result<()>
     ensures { Writes (W.contents writer.old) (W.contents writer.new) (is_ok result) (refusal_line Disk) }
 {

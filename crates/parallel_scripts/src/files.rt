@@ -9,7 +9,8 @@ use std::fs::Files;
 use std::io::ErrorKind;
 use std::{fs, io};
 
-/// The bytes of the files of these names. Every file is read, in order; the first that cannot be read is the refusal.
+/// The bytes of the files of these names. Every file is read, in order; the first that cannot be
+/// read is the refusal.
 pub(crate) fn read_all<R: Files + AllocGlobal, S: AsStr>(
     rt: &R,
     names: &[S],

@@ -22,7 +22,8 @@ pub enum HandedBack<S: Store> {
 pub struct EndedScripts<S: Store> {
     /// The exit status.
     pub status: u8,
-    /// Whether all that was to be printed was written and passed on, or else the whole line `ERROR X0002` that says that it was not.
+    /// Whether all that was to be printed was written and passed on, or else the whole line
+    /// `ERROR X0002` that says that it was not.
     pub is_told: bool,
     /// What is handed back of their device.
     pub back: HandedBack<S>,

@@ -1,4 +1,5 @@
-//! Scripts side by side over any store, from their bytes to what is printed of them and what is handed back.
+//! Scripts side by side over any store, from their bytes to what is printed of them and what is
+//! handed back.
 ghost use Rattle.std.specs.Prelude.{◌≡◌, ⊤, ◌≤◌, ◌<◌, ℕ, false, length, IfOk, IfErr};
 ghost use Rattle.denote.specs.Database.{Database};
 ghost use Rattle.refusals.specs.declared.refusal.Refusal.TheVariants.{Disk, Exceeded};
@@ -27,13 +28,18 @@ use std::sync::Wait;
 use std::thread::Threads;
 use store::Store;
 
-/// Carries out scripts side by side over the store on this device, each in a session and on a thread of its own, and prints for each, in their order, a line with its number and its
-/// replies. The exit status is 0; 1 where a reply was a refusal; 1 where the scripts were refused, which alone is printed then: by the limit `sessions` exactly where
-/// there are more than 64, or for want of memory for their answers; 3 where there was no memory for the texts of their calls, or the store could not be opened or closed, which is
-/// printed, or the writer refused, which a line `ERROR X0002` says where it can be written: `is_told` tells whether it was.
+/// Carries out scripts side by side over the store on this device, each in a session and on a
+/// thread of its own, and prints for each, in their order, a line with its number and its replies.
+/// The exit status is 0; 1 where a reply was a refusal; 1 where the scripts were refused, which
+/// alone is printed then: by the limit `sessions` exactly where there are more than 64, or for want
+/// of memory for their answers; 3 where there was no memory for the texts of their calls, or the
+/// store could not be opened or closed, which is printed, or the writer refused, which a line
+/// `ERROR X0002` says where it can be written: `is_told` tells whether it was.
 ///
-/// Where the store was not opened, the device is handed back, saved as it was. Once scripts have run the store is closed, and its device is handed back, synced, with what was committed last
-/// saved on it; or the core is, where the device refuses that. That the device refused is said, in a reply or of the store, only where it refused a call: what is handed back counts more of them.
+/// Where the store was not opened, the device is handed back, saved as it was. Once scripts have
+/// run the store is closed, and its device is handed back, synced, with what was committed last
+/// saved on it; or the core is, where the device refuses that. That the device refused is said, in
+/// a reply or of the store, only where it refused a call: what is handed back counts more of them.
 /// A device that cannot be read as a store's is not opened.
 pub fn many_on<S: Store + Send, G: Gate + Sync, R: Threads + Wait + Sync, W: Write>(
     rt: &R,
@@ -47,7 +53,8 @@ pub fn many_on<S: Store + Send, G: Gate + Sync, R: Threads + Wait + Sync, W: Wri
 where
     S::Device: Send,
     ensures status { IsStatus result.status }
-    ensures many { 64 < length scripts.now → Ends (Tells (Exceeded limit.Sessions) 1) (W.contents writer.old) (W.contents writer.new) result.status result.is_told }
+    ensures many { 64 < length scripts.now
+        → Ends (Tells (Exceeded limit.Sessions) 1) (W.contents writer.old) (W.contents writer.new) result.status result.is_told }
     ensures back { 64 < length scripts.now → result.back ≡ handed.Unopened device }
     ensures any_device { HandsAny (S.readable device) S.settled S.calls_refused S.refused (S.calls_refused device) result.back }
     ensures runs { (db : Database) → S.saved device db
@@ -78,7 +85,8 @@ fn count_and_run<S: Store + Send, G: Gate + Sync, R: Threads + Wait + Sync, W: W
 where
     S::Device: Send,
     ensures status { IfOk result.outcome IsStatus }
-    ensures many { 64 < length scripts.now → Puts (Tells (Exceeded limit.Sessions) 1) (W.contents writer.old) (W.contents writer.new) result.outcome }
+    ensures many { 64 < length scripts.now
+        → Puts (Tells (Exceeded limit.Sessions) 1) (W.contents writer.old) (W.contents writer.new) result.outcome }
     ensures back { 64 < length scripts.now → result.back ≡ handed.Unopened device }
     ensures any_device { HandsAny (S.readable device) S.settled S.calls_refused S.refused (S.calls_refused device) result.back }
     ensures runs { (db : Database) → S.saved device db
@@ -156,19 +164,22 @@ fn unopened<S: Store, W: Write>(
     }
 }
 
-/// The core of the store on a device, with room for as many pages as there are frames. A refusal hands the device back.
+/// The core of the store on a device, with room for as many pages as there are frames. A refusal
+/// hands the device back.
 fn core_on<S: Store>(
     alloc: Global,
     frames: Frames,
     device: S::Device,
 ) -> Result<Core<S>, Refused<S::Device>>
     ensures frames { IfOk result (λ core. S.room (store_of core) ≡ frames.count) }
-    ensures opened { IfOk result (λ core. (db : Database) → S.saved device db → IsSound S.is_sound S.shows core × (world_of S.shows core ≡ opened db)) }
+    ensures opened { IfOk result (λ core. (db : Database) → S.saved device db
+        → IsSound S.is_sound S.shows core × (world_of S.shows core ≡ opened db)) }
     ensures empty { IfOk result (λ core. (id : ℕ) → is_live (world_of S.shows core) id ≡ false) }
     ensures readable { IfOk result (λ core. S.readable device) }
     ensures counts { IfOk result (λ core. S.calls_refused device ≤ S.refused (store_of core)) }
     ensures refused { IfErr result (λ back. (db : Database) → S.saved device db → StopsFlush back.refusal) }
-    ensures device { IfErr result (λ back. back.refusal ≡ Disk → HasRisen (S.calls_refused device) (S.calls_refused back.value)) }
+    ensures device { IfErr result (λ back. back.refusal ≡ Disk
+        → HasRisen (S.calls_refused device) (S.calls_refused back.value)) }
     ensures left { IfErr result (λ back. (db : Database) → S.saved device db → S.saved back.value db) }
 {
     Core::open(alloc, Sql, device, frames.get() as usize)
@@ -187,7 +198,8 @@ where
     S::Device: Send,
     requires { (id : ℕ) → is_live (world_of S.shows core) id ≡ false }
     ensures status { IfOk result.outcome IsStatus }
-    ensures any_device { (before : ℕ) → before ≤ S.refused (store_of core) → HandsAny ⊤ S.settled S.calls_refused S.refused before result.back }
+    ensures any_device { (before : ℕ) → before ≤ S.refused (store_of core)
+        → HandsAny ⊤ S.settled S.calls_refused S.refused before result.back }
     ensures runs { (before : ℕ) → before ≤ S.refused (store_of core) → IsSound S.is_sound S.shows core
         → Puts (Runs (world_of S.shows core) (HandsBack S.saved S.settled S.calls_refused S.refused before (world_of S.shows core) result.back)
         (HasRefused S.calls_refused S.refused before result.back) scripts.now.texts.items scripts.now.parts.items) (W.contents writer.old) (W.contents writer.new) result.outcome }

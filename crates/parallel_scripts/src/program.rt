@@ -23,17 +23,22 @@ use std::thread::Threads;
 /// The exit status of a command line that asks for nothing that there is.
 const WRONG_WORDS: u8 = 2;
 
-/// Does what the words of a command line of `sqlmany` ask for, of which the first is the program's name, and answers the exit status: 2 for words that ask for nothing that there is, 0 where they
-/// ask for help, both with nothing written here, 3 where a script cannot be read, which is told, and else that of `many_in_memory`. The tables are let go at the end.
+/// Does what the words of a command line of `sqlmany` ask for, of which the first is the program's
+/// name, and answers the exit status: 2 for words that ask for nothing that there is, 0 where they
+/// ask for help, both with nothing written here, 3 where a script cannot be read, which is told,
+/// and else that of `many_in_memory`. The tables are let go at the end.
 ///
-/// That the scripts are what stands in the files that the words name is tested: what a file is, no contract of the runtime says.
+/// That the scripts are what stands in the files that the words name is tested: what a file is, no
+/// contract of the runtime says.
 pub fn sqlmany<R: Files + Print + Eprint + AllocGlobal + Threads + Wait + Sync, S: AsStr, W: Write>(
     rt: &R,
     words: &[S],
     writer: &mut W,
 ) -> u8
-    ensures asked { (count : ℕ) (names : List (List ℕ)) → Asks (map S.text words.now) count names → EndsAlone (length names) (W.contents writer.old) (W.contents writer.new) result }
-    ensures others { ((count : ℕ) (names : List (List ℕ)) → Asks (map S.text words.now) count names → ⊥) → (W.contents writer.new ≡ W.contents writer.old) × ((result ≡ 0) ⊎ (result ≡ 2)) }
+    ensures asked { (count : ℕ) (names : List (List ℕ)) → Asks (map S.text words.now) count names
+        → EndsAlone (length names) (W.contents writer.old) (W.contents writer.new) result }
+    ensures others { ((count : ℕ) (names : List (List ℕ)) → Asks (map S.text words.now) count names → ⊥)
+        → (W.contents writer.new ≡ W.contents writer.old) × ((result ≡ 0) ⊎ (result ≡ 2)) }
 {
     match settings(rt.alloc(), words) {
         Ok(settings) => run_files(rt, &settings, writer),
@@ -41,8 +46,9 @@ pub fn sqlmany<R: Files + Print + Eprint + AllocGlobal + Threads + Wait + Sync, 
     }
 }
 
-/// Reads the scripts, all of them before a call is made, and carries them out over tables in memory, which are let go at the end. Where one cannot be read, that is said,
-/// and the status is 3.
+/// Reads the scripts, all of them before a call is made, and carries them out over tables in
+/// memory, which are let go at the end. Where one cannot be read, that is said, and the status
+/// is 3.
 fn run_files<R: Files + AllocGlobal + Threads + Wait + Sync, W: Write, S: AsStr>(
     rt: &R,
     settings: &Settings<'_, S>,
@@ -76,10 +82,13 @@ fn not_read<W: Write>(refusal: Refusal, writer: &mut W) -> u8
     ended(say(refusal, FAILED, writer), writer).status
 }
 
-/// Prints help, or what is wrong with the words, and answers the exit status: 0 for help and 2 for a fault.
+/// Prints help, or what is wrong with the words, and answers the exit status: 0 for help and 2 for
+/// a fault.
 fn wrong_words<R: Print + Eprint>(rt: &R, error: &Error) -> u8
-    ensures help { (kind_of error.now ≡ ErrorKind.DisplayHelp) ⊎ (kind_of error.now ≡ ErrorKind.DisplayVersion) → result ≡ 0 }
-    ensures fault { kind_of error.now ≢ ErrorKind.DisplayHelp → kind_of error.now ≢ ErrorKind.DisplayVersion → result ≡ 2 }
+    ensures help { (kind_of error.now ≡ ErrorKind.DisplayHelp) ⊎ (kind_of error.now ≡ ErrorKind.DisplayVersion)
+        → result ≡ 0 }
+    ensures fault { kind_of error.now ≢ ErrorKind.DisplayHelp → kind_of error.now ≢ ErrorKind.DisplayVersion
+        → result ≡ 2 }
     ensures status { (result ≡ 0) ⊎ (result ≡ 2) }
 {
     let _ = error.print(rt);

@@ -5,7 +5,8 @@ ghost use Rattle.replies.specs.Writes.{Writes};
 use std::io;
 use std::io::{ErrorKind, Write};
 
-/// Writes all the bytes, or a beginning of them where the writer refuses. What was interrupted is tried again.
+/// Writes all the bytes, or a beginning of them where the writer refuses. What was interrupted is
+/// tried again.
 fn put<W: Write>(writer: &mut W, bytes: &[u8]) -> io::Result<()>
     ensures { Writes (W.contents writer.old) (W.contents writer.new) (is_ok result) bytes.now }
 {

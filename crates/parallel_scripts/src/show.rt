@@ -15,7 +15,8 @@ use std::io;
 use std::io::Write;
 use std::vec::IntoIter;
 
-/// Prints for each script a line with its number, from 1, and the replies to its pieces, in order. Tells whether one of them is a refusal.
+/// Prints for each script a line with its number, from 1, and the replies to its pieces, in order.
+/// Tells whether one of them is a refusal.
 pub(crate) fn show_all<W: Write>(
     parts: &[Vec<Part>],
     all: Vec<Answers>,
@@ -43,7 +44,8 @@ fn next_answers(left: &mut IntoIter<Answers>) -> Option<Answers>
     left.next()
 }
 
-/// Prints the line of a script, and the replies to its pieces. Tells whether one of them is a refusal.
+/// Prints the line of a script, and the replies to its pieces. Tells whether one of them is a
+/// refusal.
 fn show_script<W: Write>(
     number: u64,
     parts: &[Part],
@@ -69,7 +71,8 @@ fn show_number<W: Write>(number: u64, writer: &mut W) -> io::Result<()>
     )
 }
 
-/// Prints the replies to the pieces of a script: a call's answer, or `session` for a piece that is wrong. Tells whether one is a refusal.
+/// Prints the replies to the pieces of a script: a call's answer, or `session` for a piece that is
+/// wrong. Tells whether one is a refusal.
 fn show<W: Write>(parts: &[Part], answers: Answers, writer: &mut W) -> io::Result<bool>
     ensures writes { Writes (W.contents writer.old) (W.contents writer.new) (is_ok result) (printed_replies (replies_to parts.now answers.items)) }
     ensures refused { IfOk result (λ refused. refused ≡ has_refusal (replies_to parts.now answers.items)) }
@@ -86,7 +89,8 @@ fn show<W: Write>(parts: &[Part], answers: Answers, writer: &mut W) -> io::Resul
 
 /// The reply to a piece: the next answer, where it is a call.
 fn next_reply(part: Part, answers: &mut IntoIter<Result<Reply, Refusal>>) -> Reply
-    ensures { (parts : List Kind) → replies_to (part ∷ parts) (into_iter_items answers.old) ≡ result ∷ replies_to parts (into_iter_items answers.new) }
+    ensures { (parts : List Kind)
+        → replies_to (part ∷ parts) (into_iter_items answers.old) ≡ result ∷ replies_to parts (into_iter_items answers.new) }
 {
     match part {
         Part::Wrong => Reply::Refused(Refusal::Invalid(Reason::Session)),

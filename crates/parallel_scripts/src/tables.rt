@@ -22,7 +22,8 @@ use store::Store;
 /// Tables in the pages of a device in memory.
 type Tables = Paged<MemDisk>;
 
-/// Carries out scripts side by side over a new database in memory, as `many_on` does over any store.
+/// Carries out scripts side by side over a new database in memory, as `many_on` does over any
+/// store.
 pub fn many_in_memory<G: Gate + Sync, R: Threads + Wait + Sync, W: Write>(
     rt: &R,
     alloc: Global,
@@ -32,7 +33,8 @@ pub fn many_in_memory<G: Gate + Sync, R: Threads + Wait + Sync, W: Write>(
     writer: &mut W,
 ) -> EndedScripts<Tables>
     ensures status { IsStatus result.status }
-    ensures many { 64 < length scripts.now → Ends (Tells (Exceeded limit.Sessions) 1) (W.contents writer.old) (W.contents writer.new) result.status result.is_told }
+    ensures many { 64 < length scripts.now
+        → Ends (Tells (Exceeded limit.Sessions) 1) (W.contents writer.old) (W.contents writer.new) result.status result.is_told }
     ensures runs { Ends (ComesTo new_world (HandsBack ⟦<Paged<MemDisk> as Store>⟧.saved ⟦<Paged<MemDisk> as Store>⟧.settled ⟦<MemDisk as Disk>⟧.refused ⟦<Paged<MemDisk> as Store>⟧.refused 0 new_world result.back)
         (HasRefused ⟦<MemDisk as Disk>⟧.refused ⟦<Paged<MemDisk> as Store>⟧.refused 0 result.back) scripts.now) (W.contents writer.old) (W.contents writer.new) result.status result.is_told }
 {

@@ -8,7 +8,8 @@ use crate::options::Settings;
 use frame_count::{DEFAULT_FRAMES, Frames};
 use std::convert::AsStr;
 
-/// The settings that the words ask for, of which the first is the program's name; or none, where they ask for nothing that there is.
+/// The settings that the words ask for, of which the first is the program's name; or none, where
+/// they ask for nothing that there is.
 pub(crate) fn settings_asked<'a, S: AsStr>(words: &'a [S]) -> Option<Settings<'a, S>>
     ensures asked { (count : ℕ) (names : List (List ℕ)) → Asks (map S.text words.entry.now) count names
         → IsSomeAnd result (λ settings. (settings.frames.count ≡ count) × (map S.text settings.scripts.now ≡ names)) }
@@ -52,9 +53,11 @@ fn default_frames<'a, S: AsStr>(words: &'a [S]) -> Option<Settings<'a, S>>
 
 /// The settings of so many frames, and of the words behind them.
 fn frames_and_names<'a, S: AsStr>(number: &str, words: &'a [S]) -> Option<Settings<'a, S>>
-    ensures asked { (count : ℕ) (names : List (List ℕ)) → WritesFrames number.now count → AreNames (map S.text words.entry.now) names
+    ensures asked { (count : ℕ) (names : List (List ℕ)) → WritesFrames number.now count
+        → AreNames (map S.text words.entry.now) names
         → IsSomeAnd result (λ settings. (settings.frames.count ≡ count) × (map S.text settings.scripts.now ≡ names)) }
-    ensures found { IfSome result (λ settings. WritesFrames number.now settings.frames.count × AreNames (map S.text words.entry.now) (map S.text settings.scripts.now)) }
+    ensures found { IfSome result (λ settings. WritesFrames number.now settings.frames.count
+        × AreNames (map S.text words.entry.now) (map S.text settings.scripts.now)) }
 {
     with_names(Frames::written(number)?, words)
 }
@@ -63,7 +66,8 @@ fn frames_and_names<'a, S: AsStr>(number: &str, words: &'a [S]) -> Option<Settin
 fn with_names<'a, S: AsStr>(frames: Frames, words: &'a [S]) -> Option<Settings<'a, S>>
     ensures asked { (names : List (List ℕ)) → AreNames (map S.text words.entry.now) names
         → IsSomeAnd result (λ settings. (settings.frames ≡ frames) × (map S.text settings.scripts.now ≡ names)) }
-    ensures found { IfSome result (λ settings. (settings.frames ≡ frames) × AreNames (map S.text words.entry.now) (map S.text settings.scripts.now)) }
+    ensures found { IfSome result (λ settings. (settings.frames ≡ frames)
+        × AreNames (map S.text words.entry.now) (map S.text settings.scripts.now)) }
 {
     if words.is_empty() || has_option(words) {
         return None;

@@ -31,7 +31,8 @@ Post A = Global → Option ℕ → ℕ → Bor (List Token) → Result (A × Bor
 pub record Nests (limit : Option ℕ) (depth : ℕ) (expression_pre : Pre) (expression_post : Post Expression)
     (condition_pre : Pre) (condition_post : Post Condition) (query_pre : Pre) (query_post : Post Query) : Type 0 where
   pub expression_callable : (alloc : Global) (tokens : Bor (List Token)) → expression_pre alloc limit depth tokens
-  pub expression_reads : (alloc : Global) → ReadsBy (expression_post alloc limit depth) (inner_at limit depth).expression
+  pub expression_reads : (alloc : Global)
+      → ReadsBy (expression_post alloc limit depth) (inner_at limit depth).expression
   pub condition_callable : (alloc : Global) (tokens : Bor (List Token)) → condition_pre alloc limit depth tokens
   pub condition_reads : (alloc : Global) → ReadsBy (condition_post alloc limit depth) (inner_at limit depth).condition
   pub query_callable : (alloc : Global) (tokens : Bor (List Token)) → query_pre alloc limit depth tokens

@@ -165,7 +165,8 @@ impl<
         Ok(((operator, operand), rest))
     }
 
-    /// `expr = term {(+ | - | ||) term}`: refuses tokens that begin with none, and for want of memory.
+    /// `expr = term {(+ | - | ||) term}`: refuses tokens that begin with none, and for want of
+    /// memory.
     #[tactic(auto, unfolding(crate::specs::ReadExpressions::expression))]
     pub fn expression<'a>(
         &self,

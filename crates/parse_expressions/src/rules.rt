@@ -10,8 +10,9 @@ use lexer::Token;
 use parse_terminals::{ParseError, boxed, parenthesized};
 use std::alloc::Global;
 
-/// The rules, where the function values read what stands between parentheses: that is nested less than `depth` deep,
-/// and no chain in it has more than `limit` operands. So all recursion goes through these three.
+/// The rules, where the function values read what stands between parentheses: that is nested less
+/// than `depth` deep, and no chain in it has more than `limit` operands. So all recursion goes
+/// through these three.
 #[derive(Clone, Copy)]
 pub struct Rules<E, C, Q> {
     pub alloc: Global,
@@ -57,8 +58,8 @@ impl<
         (self.query)(self.alloc, self.limit, self.depth, tokens)
     }
 
-    /// A query and its parentheses. Refuses where one of the two is wanting, what the function value refuses, and for
-    /// want of memory.
+    /// A query and its parentheses. Refuses where one of the two is wanting, what the function
+    /// value refuses, and for want of memory.
     pub fn query_in_parentheses<'a>(
         &self,
         tokens: &'a [Token],

@@ -10,8 +10,8 @@ use parse_expressions::Rules;
 use parse_terminals::ParseError;
 use std::alloc::Global;
 
-/// An expression with parentheses nested less than `depth` deep, and at most `limit` operands in a chain. Refuses
-/// tokens that begin with none such, and for want of memory.
+/// An expression with parentheses nested less than `depth` deep, and at most `limit` operands in a
+/// chain. Refuses tokens that begin with none such, and for want of memory.
 #[cycle(parser)]
 pub fn expression(
     alloc: Global,
@@ -35,8 +35,8 @@ pub fn expression(
     rules.expression(tokens)
 }
 
-/// A condition with parentheses nested less than `depth` deep, and at most `limit` operands in a chain. Refuses
-/// tokens that begin with none such, and for want of memory.
+/// A condition with parentheses nested less than `depth` deep, and at most `limit` operands in a
+/// chain. Refuses tokens that begin with none such, and for want of memory.
 #[cycle(parser)]
 pub fn condition(
     alloc: Global,
@@ -60,8 +60,8 @@ pub fn condition(
     rules.condition(tokens)
 }
 
-/// A query with parentheses nested less than `depth` deep, and at most `limit` operands in a chain. Refuses
-/// tokens that begin with none such, and for want of memory.
+/// A query with parentheses nested less than `depth` deep, and at most `limit` operands in a chain.
+/// Refuses tokens that begin with none such, and for want of memory.
 #[cycle(parser)]
 pub fn query(
     alloc: Global,

@@ -1,4 +1,5 @@
-//! Queries, and the three rules that recursion goes through, read from the front of a list of tokens.
+//! Queries, and the three rules that recursion goes through, read from the front of a list of
+//! tokens.
 #![tactic(auto)]
 
 pub mod entry;

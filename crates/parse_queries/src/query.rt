@@ -220,7 +220,8 @@ impl<
         Ok(((operator, operand), rest))
     }
 
-    /// `query = select | sum`, where `sum = addend {(UNION | EXCEPT) [ALL] addend}` has a set operator in it
+    /// `query = select | sum`, where `sum = addend {(UNION | EXCEPT) [ALL] addend}` has a set
+    /// operator in it
     #[tactic(auto, unfolding(parse_expressions::specs::ReadQueries::query))]
     pub fn query<'a>(&self, tokens: &'a [Token]) -> Result<(Query, &'a [Token]), ParseError>
         requires { Nests self.now.rules.limit self.now.rules.depth (E.pre self.now.rules.expression) (E.post self.now.rules.expression) (C.pre self.now.rules.condition) (C.post self.now.rules.condition) (Q.pre self.now.rules.query) (Q.post self.now.rules.query) }

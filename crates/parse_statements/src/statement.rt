@@ -18,7 +18,8 @@ use parse_terminals::{
 };
 use std::alloc::Global;
 
-/// The rules of statements, over parentheses nested less than `depth` deep and chains of at most `limit` operands.
+/// The rules of statements, over parentheses nested less than `depth` deep and chains of at most
+/// `limit` operands.
 #[derive(Clone, Copy)]
 pub struct Statements {
     pub alloc: Global,
@@ -306,8 +307,8 @@ impl Statements {
         }
     }
 
-    /// One statement and perhaps a `;`. Refuses where anything is left after it, where there is none, and for want of
-    /// memory.
+    /// One statement and perhaps a `;`. Refuses where anything is left after it, where there is
+    /// none, and for want of memory.
     #[tactic(auto, unfolding(crate::specs::ReadStatements::text))]
     pub fn text<'a>(&self, tokens: &'a [Token]) -> Result<(Statement, &'a [Token]), ParseError>
         ensures { Gives result (statements.text (inner_at self.now.limit self.now.depth) (kinds tokens.now)) }
@@ -316,7 +317,8 @@ impl Statements {
         only_if(is_end(rest), statement, rest)
     }
 
-    /// One condition. Refuses where anything is left after it, where there is none, and for want of memory.
+    /// One condition. Refuses where anything is left after it, where there is none, and for want of
+    /// memory.
     #[tactic(auto, unfolding(crate::specs::ReadStatements::condition_text))]
     pub fn condition_text<'a>(
         &self,

@@ -172,8 +172,8 @@ sort_key = made (λ x. record { column = x.0; direction = x.1 }) (both sort_colu
 abbrev pub is_set_word : Kind → Bool
 is_set_word t = is_word w.Union t || (is_word w.Except t || is_word w.Intersect t)
 
--- Behind a left parenthesis: whether a query follows, and no expression. That is so at SELECT, and at a parenthesis
--- behind whose end a set operator stands.
+-- Behind a left parenthesis: whether a query follows, and no expression. That is so at SELECT, and
+-- at a parenthesis behind whose end a set operator stands.
 abbrev pub begins_query : Tokens → Bool
 begins_query ts = next_is (is_word w.Select) ts || (next_is (is_symbol s.LeftParenthesis) ts && next_is is_set_word (skip (rest_of ts) 0))
 

@@ -1,5 +1,5 @@
--- Reading from the front of a list of tokens, one function for each way in which the grammar joins its rules.
--- A step of the proof: the grammar itself is what parsing promises.
+-- Reading from the front of a list of tokens, one function for each way in which the grammar joins
+-- its rules. A step of the proof: the grammar itself is what parsing promises.
 use Rattle.std.specs.Prelude.{◌≡◌, ℕ, zero, suc, ◌-◌, nat_le, Bool, true, false, if◌then◌else◌, List, [], ◌∷◌, ◌++◌, length, Option, Some, None, Result, Ok, Err}
 use denote.Enum.Bare.{sameb}
 use Rattle.std.specs.Borrow.{Bor}
@@ -57,16 +57,21 @@ FindsRest (Some x) read = read ≡ Some (tt, kinds x.now)
 FindsRest None read = read ≡ None
 
 -- A function value, of which this is the relation of arguments to answers, gives what is read.
-abbrev pub ReadsBy : {A : Type 0} → (Bor (List Token) → Result (A × Bor (List Token)) ParseError → Type 0) → Reader A → Type 0
-ReadsBy {A} post reads = (at : Bor (List Token)) (answer : Result (A × Bor (List Token)) ParseError) → post at answer → Gives answer (reads (kinds at.now))
+abbrev pub ReadsBy : {A : Type 0} → (Bor (List Token) → Result (A × Bor (List Token)) ParseError → Type 0)
+    → Reader A → Type 0
+ReadsBy {A} post reads = (at : Bor (List Token)) (answer : Result (A × Bor (List Token)) ParseError) → post at answer
+    → Gives answer (reads (kinds at.now))
 
 -- The same where it looks whether something comes next, and where what came before is an argument.
 abbrev pub FindsBy : {O : Type 0} → (Bor (List Token) → Option (O × Bor (List Token)) → Type 0) → Reader O → Type 0
-FindsBy {O} post begins = (at : Bor (List Token)) (answer : Option (O × Bor (List Token))) → post at answer → Finds answer (begins (kinds at.now))
+FindsBy {O} post begins = (at : Bor (List Token)) (answer : Option (O × Bor (List Token))) → post at answer
+    → Finds answer (begins (kinds at.now))
 
-abbrev pub ReadsAfter : {O A : Type 0} → (O → Bor (List Token) → Result (A × Bor (List Token)) ParseError → Type 0) → (O → Reader A) → Type 0
+abbrev pub ReadsAfter : {O A : Type 0} → (O → Bor (List Token) → Result (A × Bor (List Token)) ParseError → Type 0)
+    → (O → Reader A) → Type 0
 ReadsAfter {O} {A} post reads =
-    (o : O) (at : Bor (List Token)) (answer : Result (A × Bor (List Token)) ParseError) → post o at answer → Gives answer (reads o (kinds at.now))
+    (o : O) (at : Bor (List Token)) (answer : Result (A × Bor (List Token)) ParseError) → post o at answer
+    → Gives answer (reads o (kinds at.now))
 
 -- ---- tokens
 
@@ -138,7 +143,8 @@ abbrev pub if_full : {B : Type 0} → Bool → Outcome B → Outcome B
 if_full true next = None
 if_full false next = next
 
--- Items, each where `begin` reads something before it, and no more than the limit allows. The number bounds the turns, and each turn takes a token.
+-- Items, each where `begin` reads something before it, and no more than the limit allows. The
+-- number bounds the turns, and each turn takes a token.
 abbrev pub many_from : {O A : Type 0} → Option ℕ → Reader O → (O → Reader A) → ℕ → List A → Reader (List A)
 many_from limit begin item zero found ts = Some (found, ts)
 many_from limit begin item (suc n) found ts = if_next (begin ts) (Some (found, ts))

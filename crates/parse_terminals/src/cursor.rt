@@ -103,7 +103,8 @@ pub fn eat_word(word: Word, tokens: &[Token]) -> (bool, &[Token])
     }
 }
 
-/// A copy of the name that has to come next. Refuses any other token, the end, and for want of memory.
+/// A copy of the name that has to come next. Refuses any other token, the end, and for want of
+/// memory.
 pub fn name(alloc: Global, tokens: &[Token]) -> Result<(Name, &[Token]), ParseError>
     ensures { Gives result (read.name (kinds tokens.now)) }
 {
@@ -120,8 +121,8 @@ pub fn name(alloc: Global, tokens: &[Token]) -> Result<(Name, &[Token]), ParseEr
 }
 
 /// The number that has to come next. Refuses any other token, and the end.
-// Callers take the answer apart by `match`: the prover does not cover `?` yet where a type that is `Copy` and has a
-// model, as `Number`, stands beside a reference.
+// Callers take the answer apart by `match`: the prover does not cover `?` yet where a type that is
+// `Copy` and has a model, as `Number`, stands beside a reference.
 pub fn number(tokens: &[Token]) -> Result<(Number, &[Token]), ParseError>
     ensures { Gives result (read.number (kinds tokens.now)) }
 {
@@ -137,7 +138,8 @@ pub fn number(tokens: &[Token]) -> Result<(Number, &[Token]), ParseError>
     }
 }
 
-/// What follows the end of the parentheses that are open, one more than those that `tokens` begin with.
+/// What follows the end of the parentheses that are open, one more than those that `tokens` begin
+/// with.
 pub fn skip(tokens: &[Token]) -> &[Token]
     ensures { kinds result.now ≡ read.skip (kinds tokens.now) 0 }
 {

@@ -1,4 +1,5 @@
-//! The next tokens, parts that are repeated, and the parts that hold no other part, read from the front of a list of tokens.
+//! The next tokens, parts that are repeated, and the parts that hold no other part, read from the
+//! front of a list of tokens.
 #![tactic(auto)]
 
 mod cursor;

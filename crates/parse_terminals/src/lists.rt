@@ -21,9 +21,9 @@ fn is_full(limit: Option<usize>, others: usize) -> bool
     }
 }
 
-/// Items for as long as `begin` finds what begins one, put behind those in `found`. Refuses more than `limit` allows
-/// (one less than it: the first operand of a chain is not among them), where an item is refused, and for want of
-/// memory.
+/// Items for as long as `begin` finds what begins one, put behind those in `found`. Refuses more
+/// than `limit` allows (one less than it: the first operand of a chain is not among them), where an
+/// item is refused, and for want of memory.
 pub fn many<
     'a,
     O,
@@ -41,7 +41,8 @@ where
     O: Drop,
     requires begin { B.IsAlwaysCallable begin }
     requires item { F.IsAlwaysCallable item }
-    ensures { (begins : Reader O) (reads : O → Reader T) → FindsBy (B.post begin) begins → ReadsAfter (F.post item) reads
+    ensures { (begins : Reader O) (reads : O → Reader T) → FindsBy (B.post begin) begins
+        → ReadsAfter (F.post item) reads
         → Gives result (read.many limit begins reads found (kinds tokens.now)) }
 {
     let mut found = found;
@@ -66,7 +67,8 @@ fn comma(tokens: &[Token]) -> Option<((), &[Token])>
     after_symbol(Symbol::Comma, tokens).map(|rest| ((), rest))
 }
 
-/// Items with commas between them, at least one. Refuses where an item is refused, and for want of memory.
+/// Items with commas between them, at least one. Refuses where an item is refused, and for want of
+/// memory.
 pub fn listed<'a, T: Drop, F: Fn(&[Token]) -> Result<(T, &[Token]), ParseError>>(
     alloc: Global,
     item: F,
@@ -88,8 +90,9 @@ pub fn names(alloc: Global, tokens: &[Token]) -> Result<(Items<Name>, &[Token]),
     listed(alloc, |at| name(alloc, at), tokens)
 }
 
-/// What was read before, with what was read next, where that was not refused. A caller that owned a tree over a `?` would drop it there, part by
-/// part, and be slow to prove; here what is dropped is any `A`.
+/// What was read before, with what was read next, where that was not refused. A caller that owned a
+/// tree over a `?` would drop it there, part by part, and be slow to prove; here what is dropped is
+/// any `A`.
 pub fn paired<'a, A: Drop, B: Drop>(
     before: A,
     next: Result<(B, &'a [Token]), ParseError>,
@@ -100,8 +103,8 @@ pub fn paired<'a, A: Drop, B: Drop>(
     Ok(((before, after), rest))
 }
 
-/// What was read, on the heap, where it was not refused and memory is not wanting. As with `paired`, what may be
-/// dropped is any `T`.
+/// What was read, on the heap, where it was not refused and memory is not wanting. As with
+/// `paired`, what may be dropped is any `T`.
 pub fn boxed<'a, T: Drop>(
     alloc: Global,
     found: Result<(T, &'a [Token]), ParseError>,
@@ -127,14 +130,16 @@ pub fn only_if<T: Drop>(
     }
 }
 
-/// What `inside` reads, between parentheses. Refuses where one of the two is wanting, or where `inside` refuses.
+/// What `inside` reads, between parentheses. Refuses where one of the two is wanting, or where
+/// `inside` refuses.
 #[tactic(auto, unfolding(crate::specs::Readers::symbol))]
 pub fn parenthesized<'a, T: Drop, F: FnOnce(&[Token]) -> Result<(T, &[Token]), ParseError>>(
     inside: F,
     tokens: &'a [Token],
 ) -> Result<(T, &'a [Token]), ParseError>
     requires { F.IsAlwaysCallable inside }
-    ensures { (reads : Reader T) → ReadsBy (F.post inside) reads → Gives result (read.parenthesized reads (kinds tokens.now)) }
+    ensures { (reads : Reader T) → ReadsBy (F.post inside) reads
+        → Gives result (read.parenthesized reads (kinds tokens.now)) }
 {
     let rest = symbol(Symbol::LeftParenthesis, tokens)?;
     let (found, rest) = inside(rest)?;

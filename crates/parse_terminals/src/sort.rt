@@ -48,7 +48,8 @@ fn may_direction(tokens: &[Token]) -> (Option<Direction>, &[Token])
     }
 }
 
-/// `key = (name | number) [ASC | DESC]`: refuses where neither name nor number comes, and for want of memory.
+/// `key = (name | number) [ASC | DESC]`: refuses where neither name nor number comes, and for want
+/// of memory.
 #[tactic(auto, unfolding(crate::specs::ReadTerminals::sort_key))]
 pub fn sort_key(alloc: Global, tokens: &[Token]) -> Result<(SortKey, &[Token]), ParseError>
     ensures { Gives result (terminals.sort_key (kinds tokens.now)) }

@@ -278,7 +278,8 @@ pub fn next_is_name(tokens: &[Token]) -> bool
     )
 }
 
-/// A copy of the string that has to come next. Refuses any other token, the end, and for want of memory.
+/// A copy of the string that has to come next. Refuses any other token, the end, and for want of
+/// memory.
 pub fn string(alloc: Global, tokens: &[Token]) -> Result<(Text, &[Token]), ParseError>
     ensures { Gives result (terminals.string (kinds tokens.now)) }
 {
@@ -394,8 +395,8 @@ fn begins_query(tokens: &[Token]) -> bool
     }
 }
 
-/// Whether a query stands in the parentheses that begin here, and no expression. That is so at SELECT, and at a
-/// parenthesis behind whose end a set operator stands.
+/// Whether a query stands in the parentheses that begin here, and no expression. That is so at
+/// SELECT, and at a parenthesis behind whose end a set operator stands.
 #[tactic(auto, unfolding(crate::specs::ReadTerminals::opens_query))]
 pub fn opens_query(tokens: &[Token]) -> bool
     ensures { result ≡ terminals.opens_query (kinds tokens.now) }

@@ -29,7 +29,8 @@ pub nothing_stops : (ts : Tokens) → Stops never ts
 nothing_stops [] = refl
 nothing_stops (t ∷ ts) = refl
 
--- What is in R passes matched parentheses, and r reads it where the next token does not go on with it.
+-- What is in R passes matched parentheses, and r reads it where the next token does not go on with
+-- it.
 pub record Again (A : Type 0) (d : ℕ) (goes_on : Kind → Bool) (r : Reader A) (R : Rule A) : Type 0 where
   pub passes : (ts : Tokens) (x : A) (rest : Tokens) → R ts x rest → Passes ts rest
   pub at : (ts : Tokens) (x : A) (rest : Tokens) → R ts x rest → is_shallow ts d ≡ true → Stops goes_on rest → r ts ≡ Some (x, rest)
@@ -131,7 +132,8 @@ optional_again {A} {d} {r} {R} q l absent weaker = record { passes = maybe_passe
     at ts None rest h shallow stops = rw (h, absent rest stops) refl
     at ts (Some y) rest h shallow stops = rw (l.at ts y rest h shallow (weaker rest stops)) refl
 
--- What begins an item, and the item after it. The next token after an item does not pass p; after the last it does not pass q.
+-- What begins an item, and the item after it. The next token after an item does not pass p; after
+-- the last it does not pass q.
 pub record Opened (O A : Type 0) (d : ℕ) (p q : Kind → Bool) (begin : Reader O) (item : O → Reader A) (R : Rule A) : Type 0 where
   pub passes : (ts : Tokens) (x : A) (rest : Tokens) → R ts x rest → Passes ts rest
   pub at : (ts : Tokens) (x : A) (rest : Tokens) → R ts x rest → is_shallow ts d ≡ true → Stops p rest → (o : O × Tokens) × (begin ts ≡ Some o) × (item o.0 o.1 ≡ Some (x, rest))

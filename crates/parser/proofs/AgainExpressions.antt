@@ -38,7 +38,8 @@ use Rattle.parser.proofs.Again.{Stops, never, nothing_stops, Again, Inside, both
 use Rattle.parser.proofs.Follow.{or, stops_left, stops_right, multiplies, adds, term_goes_on, expression_goes_on, no_expression, no_query}
 use Rattle.parser.proofs.AgainTerminals.{add_operator_again, multiply_operator_again, sign_again, quantifier_again, set_function_again, column_again, add_operator_first, multiply_operator_first, no_sign, no_add_operator, no_multiply_operator, no_quantifier}
 
--- What is known of the rules of what stands between parentheses, where d levels are left around them.
+-- What is known of the rules of what stands between parentheses, where d levels are left around
+-- them.
 pub record Known (d : ℕ) (I : Inner) (N : Nested) : Type 0 where
   pub expression : Inside Expression d I.expression N.expression
   pub condition : Inside Condition d I.condition N.condition
@@ -80,9 +81,11 @@ shallow_behind : (a b : Tokens) → Passes a b → (d : ℕ) → is_shallow (LEF
 shallow_behind a b p zero h = cc
 shallow_behind a b p (suc d) h = shallow_after p d h
 
--- ---- behind the parentheses that begin an expression stands an operator, or what follows the expression
+-- ---- behind the parentheses that begin an expression stands an operator, or what follows the
+-- expression
 
--- what follows the parentheses at the front of these tokens, where there are any, goes on with an expression or is the rest
+-- what follows the parentheses at the front of these tokens, where there are any, goes on with an
+-- expression or is the rest
 abbrev pub Behind : Tokens → Tokens → Type 0
 Behind ts rest = next_is (is_symbol s.LeftParenthesis) ts ≡ true → (skip (rest_of ts) 0 ≡ rest) ⊎ (next_is is_operator (skip (rest_of ts) 0) ≡ true)
 

@@ -193,7 +193,8 @@ type_name_again = record { passes = type_name_passes; at = λ ts x rest h shallo
 
 -- ---- over expressions, conditions and queries
 
--- what goes on with a query and its order, with a filter, with the sources of a row, with the rows of an INSERT and with assignments and their filter
+-- what goes on with a query and its order, with a filter, with the sources of a row, with the rows
+-- of an INSERT and with assignments and their filter
 abbrev pub ordered_goes_on : Kind → Bool
 ordered_goes_on = or query_goes_on order_goes_on
 

@@ -1,4 +1,5 @@
--- A whole text: what is in the grammar is read again, by the depth of its parentheses and the levels that are left.
+-- A whole text: what is in the grammar is read again, by the depth of its parentheses and the
+-- levels that are left.
 use Rattle.std.proofs.Common.{◌≡◌, ℕ, zero, suc, Bool, true, false, [], ◌∷◌, Option, Some, None, refl, sym as flip, ◌∙◌, inl, inr}
 use Rattle.std.specs.Prelude.{◌⊎◌}
 use Rattle.lexer.specs.declared.kinds.Kind.{Kind}

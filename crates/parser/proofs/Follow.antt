@@ -1,4 +1,5 @@
--- Which tokens go on with a part of the grammar, which begin none, and what the rules of statements need of those inside.
+-- Which tokens go on with a part of the grammar, which begin none, and what the rules of statements
+-- need of those inside.
 use Rattle.std.proofs.Common.{◌≡◌, ℕ, Bool, true, false, [], ◌∷◌, refl}
 use Rattle.std.specs.Prelude.{◌||◌}
 use Rattle.std.proofs.lemmas.Bool.{or_from, or_parts}

@@ -85,7 +85,8 @@ fn condition_text(
 /// Why the tokens are no statement with chains within the limit.
 fn statement_refusal(alloc: Global, tokens: &[Token]) -> Refusal
     ensures chain { result ≡ Exceeded Chain → HasStatement None (kinds tokens.now) }
-    ensures syntax { result ≡ Invalid Syntax → is_shallow (kinds tokens.now) 64 ≡ true → ¬ HasStatement None (kinds tokens.now) }
+    ensures syntax { result ≡ Invalid Syntax → is_shallow (kinds tokens.now) 64 ≡ true
+        → ¬ HasStatement None (kinds tokens.now) }
     ensures refusal { (result ≡ Memory) ⊎ (result ≡ Invalid Syntax) ⊎ (result ≡ Exceeded Chain) }
 {
     let refused = match text(alloc, None, MAXIMUM_NESTING + 1, tokens) {
@@ -101,7 +102,8 @@ fn statement_refusal(alloc: Global, tokens: &[Token]) -> Refusal
 /// Why the tokens are no condition with chains within the limit.
 fn condition_refusal(alloc: Global, tokens: &[Token]) -> Refusal
     ensures chain { result ≡ Exceeded Chain → HasCondition None (kinds tokens.now) }
-    ensures syntax { result ≡ Invalid Syntax → is_shallow (kinds tokens.now) 64 ≡ true → ¬ HasCondition None (kinds tokens.now) }
+    ensures syntax { result ≡ Invalid Syntax → is_shallow (kinds tokens.now) 64 ≡ true
+        → ¬ HasCondition None (kinds tokens.now) }
     ensures refusal { (result ≡ Memory) ⊎ (result ≡ Invalid Syntax) ⊎ (result ≡ Exceeded Chain) }
 {
     let refused = match condition_text(alloc, None, MAXIMUM_NESTING + 1, tokens) {
@@ -116,20 +118,25 @@ fn condition_refusal(alloc: Global, tokens: &[Token]) -> Refusal
 
 /// The statement that the tokens are, without the `;` that may end them.
 ///
-/// Refuses `Exceeded(Nesting)` where more than 64 parentheses are open at once, whatever else the tokens are;
-/// otherwise `Exceeded(Chain)` where the tokens are a statement only with more than 64 operands in a chain, and
-/// `Invalid(Syntax)` where they are no statement; `Memory` for want of memory.
+/// Refuses `Exceeded(Nesting)` where more than 64 parentheses are open at once, whatever else the
+/// tokens are; otherwise `Exceeded(Chain)` where the tokens are a statement only with more than 64
+/// operands in a chain, and `Invalid(Syntax)` where they are no statement; `Memory` for want of
+/// memory.
 pub fn parse(alloc: Global, tokens: &[Token]) -> Result<Statement, Refusal>
     // What is parsed is in the grammar.
     ensures found { IfOk result (λ x. IsText (Some 64) (kinds tokens.now) x) }
     // What is in the grammar is parsed, so it has no other tree.
-    ensures only { (x : Statement) → IsText (Some 64) (kinds tokens.now) x → (result ≡ Ok x) ⊎ (result ≡ Err Memory) ⊎ (result ≡ Err (Exceeded Nesting)) }
+    ensures only { (x : Statement) → IsText (Some 64) (kinds tokens.now) x
+        → (result ≡ Ok x) ⊎ (result ≡ Err Memory) ⊎ (result ≡ Err (Exceeded Nesting)) }
     // No tree has these tokens, however many operands its chains may have.
-    ensures syntax { result ≡ Err (Invalid Syntax) → (¬ HasStatement (Some 64) (kinds tokens.now)) × (¬ HasStatement None (kinds tokens.now)) }
+    ensures syntax { result ≡ Err (Invalid Syntax)
+        → (¬ HasStatement (Some 64) (kinds tokens.now)) × (¬ HasStatement None (kinds tokens.now)) }
     // A tree has them, but none with 64 operands at most in a chain.
-    ensures chain { result ≡ Err (Exceeded Chain) → (¬ HasStatement (Some 64) (kinds tokens.now)) × HasStatement None (kinds tokens.now) }
+    ensures chain { result ≡ Err (Exceeded Chain)
+        → (¬ HasStatement (Some 64) (kinds tokens.now)) × HasStatement None (kinds tokens.now) }
     ensures nesting { (result ≡ Err (Exceeded Nesting)) ↔ (¬ IsNestedWithin 64 (kinds tokens.now)) }
-    ensures refusal { IfErr result (λ e. (e ≡ Memory) ⊎ (e ≡ Invalid Syntax) ⊎ (e ≡ Exceeded Chain) ⊎ (e ≡ Exceeded Nesting)) }
+    ensures refusal { IfErr result (λ e. (e ≡ Memory) ⊎ (e ≡ Invalid Syntax) ⊎ (e ≡ Exceeded Chain)
+        ⊎ (e ≡ Exceeded Nesting)) }
 {
     if is_nested_deeper(tokens) {
         return Err(Refusal::Exceeded(Limit::Nesting));
@@ -144,11 +151,15 @@ pub fn parse(alloc: Global, tokens: &[Token]) -> Result<Statement, Refusal>
 /// The condition that the tokens are. Refuses as `parse` does.
 pub fn parse_condition(alloc: Global, tokens: &[Token]) -> Result<Condition, Refusal>
     ensures found { IfOk result (λ x. IsConditionText (Some 64) (kinds tokens.now) x) }
-    ensures only { (x : Condition) → IsConditionText (Some 64) (kinds tokens.now) x → (result ≡ Ok x) ⊎ (result ≡ Err Memory) ⊎ (result ≡ Err (Exceeded Nesting)) }
-    ensures syntax { result ≡ Err (Invalid Syntax) → (¬ HasCondition (Some 64) (kinds tokens.now)) × (¬ HasCondition None (kinds tokens.now)) }
-    ensures chain { result ≡ Err (Exceeded Chain) → (¬ HasCondition (Some 64) (kinds tokens.now)) × HasCondition None (kinds tokens.now) }
+    ensures only { (x : Condition) → IsConditionText (Some 64) (kinds tokens.now) x
+        → (result ≡ Ok x) ⊎ (result ≡ Err Memory) ⊎ (result ≡ Err (Exceeded Nesting)) }
+    ensures syntax { result ≡ Err (Invalid Syntax)
+        → (¬ HasCondition (Some 64) (kinds tokens.now)) × (¬ HasCondition None (kinds tokens.now)) }
+    ensures chain { result ≡ Err (Exceeded Chain)
+        → (¬ HasCondition (Some 64) (kinds tokens.now)) × HasCondition None (kinds tokens.now) }
     ensures nesting { (result ≡ Err (Exceeded Nesting)) ↔ (¬ IsNestedWithin 64 (kinds tokens.now)) }
-    ensures refusal { IfErr result (λ e. (e ≡ Memory) ⊎ (e ≡ Invalid Syntax) ⊎ (e ≡ Exceeded Chain) ⊎ (e ≡ Exceeded Nesting)) }
+    ensures refusal { IfErr result (λ e. (e ≡ Memory) ⊎ (e ≡ Invalid Syntax) ⊎ (e ≡ Exceeded Chain)
+        ⊎ (e ≡ Exceeded Nesting)) }
 {
     if is_nested_deeper(tokens) {
         return Err(Refusal::Exceeded(Limit::Nesting));

@@ -1,4 +1,5 @@
-//! Plans: operator trees that are carried out as they stand. What chooses among them comes with the rules.
+//! Plans: operator trees that are carried out as they stand. What chooses among them comes with the
+//! rules.
 #![tactic(auto)]
 
 mod plans;

@@ -13,7 +13,8 @@ newest_page InFile stored = stored
 newest_page (Clean page) stored = Some page
 newest_page (Dirty page) stored = Some page
 
--- a page at the commit c: its first image from before a later commit than c, or else its newest version
+-- a page at the commit c: its first image from before a later commit than c, or else its newest
+-- version
 abbrev pub seen : ℕ → List OldImage → Option (List ℕ) → Option (List ℕ)
 seen c [] newest = newest
 seen c (o ∷ os) newest = if nat_lt c o.until then o.page else seen c os newest

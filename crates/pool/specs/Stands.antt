@@ -31,4 +31,5 @@ IsLoaded began n slots = (began ≤ n) ⊎ ((slot_at slots n).newest ≡ InFile 
 
 -- each page to be written is in the list of these
 abbrev pub AreListed : List Slot → List ℕ → Type 0
-AreListed slots unwritten = (n : ℕ) (page : List ℕ) → (slot_at slots n).newest ≡ Dirty page → list_any (λ k. k == n) unwritten ≡ true
+AreListed slots unwritten = (n : ℕ) (page : List ℕ) → (slot_at slots n).newest ≡ Dirty page
+    → list_any (λ k. k == n) unwritten ≡ true

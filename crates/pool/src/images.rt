@@ -39,7 +39,8 @@ pub(crate) fn is_needed(pins: &[Pin], images: &[OldImage]) -> bool
     false
 }
 
-/// Notes at each pinned commit that would read the newest version of a page that it will read an old image.
+/// Notes at each pinned commit that would read the newest version of a page that it will read an
+/// old image.
 pub(crate) fn note(
     touched: &mut Items<Items<u32>>,
     pins: &[Pin],
@@ -74,7 +75,9 @@ fn seen_page(slot: &Slot, at: u64) -> Option<&Boxed<Page>>
 
 /// Copies what a commit reads of a page, where something stands in memory.
 pub(crate) fn copy_seen(slots: &[Slot], page: u32, at: u64, into: &mut Page)
-    ensures { (bytes : List ℕ) → seen at (slot_at slots.now page).images (newest_page (slot_at slots.now page).newest None) ≡ Some bytes → into.new ≡ bytes }
+    ensures { (bytes : List ℕ)
+        → seen at (slot_at slots.now page).images (newest_page (slot_at slots.now page).newest None) ≡ Some bytes
+        → into.new ≡ bytes }
 {
     if let Some(slot) = slots.get(page as usize)
         && let Some(found) = seen_page(slot, at)
@@ -86,7 +89,8 @@ pub(crate) fn copy_seen(slots: &[Slot], page: u32, at: u64, into: &mut Page)
 /// Whether a commit reads the image at this place.
 fn is_read_at(images: &[OldImage], place: usize, number: u64) -> bool
     requires { place < length images.now }
-    ensures { result ≡ false → (d : Option (List ℕ)) → seen number (remove images.now place) d ≡ seen number images.now d }
+    ensures { result ≡ false → (d : Option (List ℕ))
+        → seen number (remove images.now place) d ≡ seen number images.now d }
 {
     number < images[place].until && !is_covered(&images[..place], number)
 }
@@ -123,7 +127,8 @@ fn drop_unread(images: &mut Items<OldImage>, pins: &[Pin], last: u64)
 fn drop_at(slots: &mut Items<Slot>, pins: &[Pin], last: u64, page: u32)
     ensures newest { (n : ℕ) → (slot_at slots.new n).newest ≡ (slot_at slots.old n).newest }
     ensures shown { (n : ℕ) → KeepsSeen pins.now last (slot_at slots.old n).images (slot_at slots.new n).images }
-    ensures later { (n : ℕ) → ReadsNone last (slot_at slots.old n).images → ReadsNone last (slot_at slots.new n).images }
+    ensures later { (n : ℕ) → ReadsNone last (slot_at slots.old n).images
+        → ReadsNone last (slot_at slots.new n).images }
 {
     if let Some(slot) = slots.get_mut(page as usize) {
         drop_unread(&mut slot.images, pins, last);
@@ -134,7 +139,8 @@ fn drop_at(slots: &mut Items<Slot>, pins: &[Pin], last: u64, page: u32)
 pub(crate) fn drop_pages(slots: &mut Items<Slot>, pins: &[Pin], last: u64, pages: &[u32])
     ensures newest { (n : ℕ) → (slot_at slots.new n).newest ≡ (slot_at slots.old n).newest }
     ensures shown { (n : ℕ) → KeepsSeen pins.now last (slot_at slots.old n).images (slot_at slots.new n).images }
-    ensures later { (n : ℕ) → ReadsNone last (slot_at slots.old n).images → ReadsNone last (slot_at slots.new n).images }
+    ensures later { (n : ℕ) → ReadsNone last (slot_at slots.old n).images
+        → ReadsNone last (slot_at slots.new n).images }
 {
     for page in pages {
         drop_at(slots, pins, last, *page);

@@ -52,7 +52,8 @@ impl PageSet {
         }
     }
 
-    /// Makes this the page of its number. Refuses for want of memory alone, and then stays as it was.
+    /// Makes this the page of its number. Refuses for want of memory alone, and then stays as it
+    /// was.
     pub fn put(&mut self, number: u32, page: &Page) -> Result<(), AllocError>
         ensures put { OnOk result (pages_in self.new ≡ over (only number page.now) (pages_in self.old)) }
         ensures len { OnOk result (length self.new ≤ length self.old + 1) }
@@ -66,7 +67,8 @@ impl PageSet {
     /// The numbers of its pages, in order. Refuses for want of memory alone.
     pub fn numbers(&self, alloc: Global) -> Result<Vec<u32>, AllocError>
         ensures numbers { IfOk result (λ numbers. numbers.items ≡ numbers_of self.now) }
-        ensures all { IfOk result (λ numbers. (n : ℕ) → IsSome (pages_in self.now n) → list_any (λ k. k == n) numbers.items ≡ true) }
+        ensures all { IfOk result (λ numbers. (n : ℕ) → IsSome (pages_in self.now n)
+            → list_any (λ k. k == n) numbers.items ≡ true) }
     {
         self.pages.keys().copied().collect(alloc)
     }

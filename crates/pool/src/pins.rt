@@ -29,7 +29,8 @@ fn place_of(pins: &[Pin], number: u64) -> Option<(usize, u64)>
 
 /// Pins a commit once more.
 pub(crate) fn pin_once(pins: &mut Items<Pin>, number: u64) -> Result<(), AllocError>
-    ensures pinned { OnOk result ((c : ℕ) → pins_at pins.new c ≡ (if number == c then pins_at pins.old c + 1 else pins_at pins.old c)) }
+    ensures pinned { OnOk result ((c : ℕ)
+        → pins_at pins.new c ≡ (if number == c then pins_at pins.old c + 1 else pins_at pins.old c)) }
     ensures refused { OnErr result (pins.new ≡ pins.old) }
 {
     match place_of(pins.as_slice(), number) {
@@ -50,7 +51,8 @@ pub(crate) fn pin_once(pins: &mut Items<Pin>, number: u64) -> Result<(), AllocEr
     }
 }
 
-/// Takes one pin of a commit away. Answers its place where that was its last one, and it is out of the list.
+/// Takes one pin of a commit away. Answers its place where that was its last one, and it is out of
+/// the list.
 pub(crate) fn unpin_once(pins: &mut Items<Pin>, number: u64) -> Option<usize>
     ensures { (c : ℕ) → pins_at pins.new c ≡ (if number == c then pins_at pins.old c - 1 else pins_at pins.old c) }
 {

@@ -60,7 +60,8 @@ impl<D: Disk> Pool<D> {
     ghost use Rattle.pool.specs.Refused.{IsRefused, IsOfDevice, IsNotOfDevice, IsTold};
     ghost use Rattle.pool.specs.Versions.{IsKept, versions_of, device_of, unwritten_of, unwritten_at};
 
-    /// A pool over a file of this many pages. `frames`, from 16 to 4,096, is how many pages it may keep in memory.
+    /// A pool over a file of this many pages. `frames`, from 16 to 4,096, is how many pages it may
+    /// keep in memory.
     pub fn new(alloc: Global, file: PageFile<D>, page_count: u32, frames: u32) -> Pool<D>
         requires least { 16 ≤ frames }
         requires most { frames ≤ 4096 }
@@ -85,8 +86,9 @@ impl<D: Disk> Pool<D> {
         }
     }
 
-    /// A pool over an empty file, which begins with this page 0 and no other. The page is yet to be written, as one that was committed.
-    /// Refuses for want of memory alone, and hands the file back.
+    /// A pool over an empty file, which begins with this page 0 and no other. The page is yet to be
+    /// written, as one that was committed. Refuses for want of memory alone, and hands the file
+    /// back.
     pub fn with_first(
         alloc: Global,
         file: PageFile<D>,
@@ -143,7 +145,8 @@ impl<D: Disk> Pool<D> {
     /// Gives what lies at a page at a commit, where something does. Refuses for want of memory, and
     /// where the device refuses; `into` then is as it was.
     pub fn read(&mut self, at: u64, page: u32, into: &mut Page) -> Result<(), PoolError>
-        ensures value { OnOk result ((bytes : List ℕ) → (versions_of self.old).pages at page ≡ Some bytes → into.new ≡ bytes) }
+        ensures value { OnOk result ((bytes : List ℕ) → (versions_of self.old).pages at page ≡ Some bytes
+            → into.new ≡ bytes) }
         ensures left { OnErr result (into.new ≡ into.old) }
         ensures versions { versions_of self.new ≡ versions_of self.old }
         ensures unwritten { unwritten_of self.new ≡ unwritten_of self.old }
@@ -164,19 +167,21 @@ impl<D: Disk> Pool<D> {
         Ok(())
     }
 
-    /// Makes one commit more, of the pages of a set laid over the last, and empties the set. Refuses
-    /// for want of memory, where the device refuses, and as `Pages` where the numbers of commits have
-    /// come to their end; then all versions and the set are as they were.
+    /// Makes one commit more, of the pages of a set laid over the last, and empties the set.
+    /// Refuses for want of memory, where the device refuses, and as `Pages` where the numbers of
+    /// commits have come to their end; then all versions and the set are as they were.
     pub fn commit(&mut self, set: &mut PageSet) -> Result<u64, PoolError>
         ensures number { IfOk result (λ c. c ≡ (versions_of self.new).last) }
         ensures last { OnOk result ((versions_of self.new).last ≡ (versions_of self.old).last + 1) }
         ensures written { OnOk result ((versions_of self.new).pages (versions_of self.new).last ≡ known D.is_honest (over (pages_in set.old) ((versions_of self.old).pages (versions_of self.old).last))) }
-        ensures kept { OnOk result ((c : ℕ) → 0 < (versions_of self.old).pins c → (versions_of self.new).pages c ≡ (versions_of self.old).pages c) }
+        ensures kept { OnOk result ((c : ℕ) → 0 < (versions_of self.old).pins c
+            → (versions_of self.new).pages c ≡ (versions_of self.old).pages c) }
         ensures emptied { OnOk result (set.new ≡ []) }
         ensures pins { (versions_of self.new).pins ≡ (versions_of self.old).pins }
         ensures refused { OnErr result (versions_of self.new ≡ versions_of self.old) }
         ensures left { OnErr result (set.new ≡ set.old) }
-        ensures unwritten { OnOk result ((n : ℕ) → unwritten_at self.new n ≡ (if is_some (pages_in set.old n) then 1 else unwritten_at self.old n)) }
+        ensures unwritten { OnOk result ((n : ℕ)
+            → unwritten_at self.new n ≡ (if is_some (pages_in set.old n) then 1 else unwritten_at self.old n)) }
         ensures counted { OnOk result (unwritten_of self.new ≡ unwritten_of self.old + new_in (unwritten_at self.old) set.old) }
         ensures same { OnErr result ((n : ℕ) → unwritten_at self.new n ≡ unwritten_at self.old n) }
         ensures same_count { OnErr result (unwritten_of self.new ≡ unwritten_of self.old) }
@@ -223,8 +228,10 @@ impl<D: Disk> Pool<D> {
 
     /// Takes one pin of a commit away; nothing where it is not pinned. Takes no memory.
     pub fn unpin(&mut self, number: u64)
-        ensures pins { (c : ℕ) → (versions_of self.new).pins c ≡ (if number == c then (versions_of self.old).pins c - 1 else (versions_of self.old).pins c) }
-        ensures kept { (c : ℕ) → IsKept (versions_of self.new) c → (versions_of self.new).pages c ≡ (versions_of self.old).pages c }
+        ensures pins { (c : ℕ)
+            → (versions_of self.new).pins c ≡ (if number == c then (versions_of self.old).pins c - 1 else (versions_of self.old).pins c) }
+        ensures kept { (c : ℕ) → IsKept (versions_of self.new) c
+            → (versions_of self.new).pages c ≡ (versions_of self.old).pages c }
         ensures last { (versions_of self.new).last ≡ (versions_of self.old).last }
         ensures unwritten { unwritten_of self.new ≡ unwritten_of self.old }
         ensures same { (n : ℕ) → unwritten_at self.new n ≡ unwritten_at self.old n }
@@ -244,15 +251,17 @@ impl<D: Disk> Pool<D> {
     }
 
     /// Writes four of the pages that were committed and are not written yet, or all where fewer are
-    /// left, and answers how many are left (2^32 - 1 where there are more). Where the device refuses,
-    /// the page is written again later.
+    /// left, and answers how many are left (2^32 - 1 where there are more). Where the device
+    /// refuses, the page is written again later.
     pub fn flush_step(&mut self) -> Result<u32, PoolError>
         ensures left { IfOk result (λ left. left ≡ min (unwritten_of self.new) (2 ^ 32 - 1)) }
         ensures written { OnOk result (unwritten_of self.new ≡ unwritten_of self.old - 4) }
         ensures fewer { unwritten_of self.new ≤ unwritten_of self.old }
         ensures fewer_at { (n : ℕ) → unwritten_at self.new n ≤ unwritten_at self.old n }
         ensures none { unwritten_of self.new ≡ 0 → (n : ℕ) → unwritten_at self.new n ≡ 0 }
-        ensures stored { (n : ℕ) (page : List ℕ) → unwritten_at self.new n ≡ 0 → IsTrue D.is_honest → (versions_of self.new).pages (versions_of self.new).last n ≡ Some page → page_of (D.bytes (device_of self.new)) n ≡ Some page }
+        ensures stored { (n : ℕ) (page : List ℕ) → unwritten_at self.new n ≡ 0 → IsTrue D.is_honest
+            → (versions_of self.new).pages (versions_of self.new).last n ≡ Some page
+            → page_of (D.bytes (device_of self.new)) n ≡ Some page }
         ensures idle { unwritten_of self.old ≡ 0 → IsOk result }
         ensures versions { versions_of self.new ≡ versions_of self.old }
         ensures refusal { IfErr result (IsOfDevice (D.refused (device_of self.old)) (D.refused (device_of self.new))) }
@@ -313,8 +322,11 @@ impl<D: Disk> Pool<D> {
     /// device back. The file then has the pages of the last commit, and nothing behind the last of
     /// them. Where the device refuses, the pool comes back with all versions as they were.
     pub fn close(mut self) -> Result<D, CloseRefused<D>>
-        ensures stored { IfOk result (λ disk. IsTrue D.is_honest → (n : ℕ) (page : List ℕ) → (versions_of self).pages (versions_of self).last n ≡ Some page → page_of (D.bytes disk) n ≡ Some page) }
-        ensures size { IfOk result (λ disk. IsTrue D.is_honest → (m : ℕ) → ((n : ℕ) → m ≤ n → (versions_of self).pages (versions_of self).last n ≡ None) → length (D.bytes disk) ≤ 4096 * m) }
+        ensures stored { IfOk result (λ disk. IsTrue D.is_honest → (n : ℕ) (page : List ℕ)
+            → (versions_of self).pages (versions_of self).last n ≡ Some page → page_of (D.bytes disk) n ≡ Some page) }
+        ensures size { IfOk result (λ disk. IsTrue D.is_honest → (m : ℕ)
+            → ((n : ℕ) → m ≤ n → (versions_of self).pages (versions_of self).last n ≡ None)
+            → length (D.bytes disk) ≤ 4096 * m) }
         ensures synced { IfOk result (λ disk. HasRisen (D.synced (device_of self)) (D.synced disk)) }
         ensures settled { IfOk result (λ disk. D.settled disk) }
         ensures rising { IfOk result (λ disk. D.refused (device_of self) ≤ D.refused disk) }

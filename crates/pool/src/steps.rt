@@ -43,14 +43,16 @@ pub(crate) fn load<D: Disk>(
     page: u32,
 ) -> Result<(), PoolError>
     requires { page < length slots.old }
-    ensures same { IsTrue D.is_honest → (last : ℕ) (unwritten : List ℕ) → Stands (D.bytes (disk_of file.old)) began last slots.old unwritten
+    ensures same { IsTrue D.is_honest → (last : ℕ) (unwritten : List ℕ)
+        → Stands (D.bytes (disk_of file.old)) began last slots.old unwritten
         → StaysAs began last unwritten (D.bytes (disk_of file.old)) slots.old (D.bytes (disk_of file.new)) slots.new }
     ensures unwritten { (n : ℕ) → to_write (slot_at slots.new n).newest ≡ to_write (slot_at slots.old n).newest }
     ensures images { (n : ℕ) → (slot_at slots.new n).images ≡ (slot_at slots.old n).images }
     ensures loaded { OnOk result (IsLoaded began page slots.new) }
     ensures len { length slots.new ≡ length slots.old }
     ensures refusal { IfErr result (IsRefused ⊥ ⊥ (D.refused (disk_of file.old)) (D.refused (disk_of file.new))) }
-    ensures read_always { IsTrue D.is_honest → IsTrue D.always_reads → 4096 * began ≤ length (D.bytes (disk_of file.old)) → IfErr result IsNotOfDevice }
+    ensures read_always { IsTrue D.is_honest → IsTrue D.always_reads
+        → 4096 * began ≤ length (D.bytes (disk_of file.old)) → IfErr result IsNotOfDevice }
     ensures cause { IfErr result (IsTold (D.told (disk_of file.new))) }
     ensures rising { D.refused (disk_of file.old) ≤ D.refused (disk_of file.new) }
 {
@@ -77,7 +79,8 @@ fn prepare_page<D: Disk>(
 ) -> Result<(), PoolError>
     requires numbered { last < 2 ^ 64 - 1 }
     requires pinned { (c : ℕ) → 0 < pins_at pins.now c → c ≤ last }
-    ensures same { IsTrue D.is_honest → (unwritten : List ℕ) → Stands (D.bytes (disk_of file.old)) began last slots.old unwritten
+    ensures same { IsTrue D.is_honest → (unwritten : List ℕ)
+        → Stands (D.bytes (disk_of file.old)) began last slots.old unwritten
         → StaysAs began last unwritten (D.bytes (disk_of file.old)) slots.old (D.bytes (disk_of file.new)) slots.new }
     ensures unwritten { (n : ℕ) → to_write (slot_at slots.new n).newest ≡ to_write (slot_at slots.old n).newest }
     ensures room { OnOk result (page < length slots.new) }
@@ -85,7 +88,8 @@ fn prepare_page<D: Disk>(
     ensures covered { OnOk result ((c : ℕ) → 0 < pins_at pins.now c → Covered c (slot_at slots.new page).images) }
     ensures grows { (n c : ℕ) → Covered c (slot_at slots.old n).images → Covered c (slot_at slots.new n).images }
     ensures refusal { IfErr result (IsRefused ⊥ ⊥ (D.refused (disk_of file.old)) (D.refused (disk_of file.new))) }
-    ensures read_always { IsTrue D.is_honest → IsTrue D.always_reads → 4096 * began ≤ length (D.bytes (disk_of file.old)) → IfErr result IsNotOfDevice }
+    ensures read_always { IsTrue D.is_honest → IsTrue D.always_reads
+        → 4096 * began ≤ length (D.bytes (disk_of file.old)) → IfErr result IsNotOfDevice }
     ensures cause { IfErr result (IsTold (D.told (disk_of file.new))) }
     ensures rising { D.refused (disk_of file.old) ≤ D.refused (disk_of file.new) }
 {
@@ -112,12 +116,15 @@ pub(crate) fn prepare<D: Disk>(
 ) -> Result<(), PoolError>
     requires numbered { last < 2 ^ 64 - 1 }
     requires pinned { (c : ℕ) → 0 < pins_at pins.now c → c ≤ last }
-    ensures same { IsTrue D.is_honest → (unwritten : List ℕ) → Stands (D.bytes (disk_of file.old)) began last slots.old unwritten
+    ensures same { IsTrue D.is_honest → (unwritten : List ℕ)
+        → Stands (D.bytes (disk_of file.old)) began last slots.old unwritten
         → StaysAs began last unwritten (D.bytes (disk_of file.old)) slots.old (D.bytes (disk_of file.new)) slots.new }
     ensures unwritten { (n : ℕ) → to_write (slot_at slots.new n).newest ≡ to_write (slot_at slots.old n).newest }
-    ensures ready { OnOk result ((k : ℕ) → k < length numbers.now → IsReady slots.new pins.now (slice_index numbers.now k)) }
+    ensures ready { OnOk result ((k : ℕ) → k < length numbers.now
+        → IsReady slots.new pins.now (slice_index numbers.now k)) }
     ensures refusal { IfErr result (IsRefused ⊥ ⊥ (D.refused (disk_of file.old)) (D.refused (disk_of file.new))) }
-    ensures read_always { IsTrue D.is_honest → IsTrue D.always_reads → (unwritten : List ℕ) → Stands (D.bytes (disk_of file.old)) began last slots.old unwritten → IfErr result IsNotOfDevice }
+    ensures read_always { IsTrue D.is_honest → IsTrue D.always_reads → (unwritten : List ℕ)
+        → Stands (D.bytes (disk_of file.old)) began last slots.old unwritten → IfErr result IsNotOfDevice }
     ensures cause { IfErr result (IsTold (D.told (disk_of file.new))) }
     ensures rising { D.refused (disk_of file.old) ≤ D.refused (disk_of file.new) }
 {
@@ -131,11 +138,15 @@ pub(crate) fn prepare<D: Disk>(
 fn list_unwritten(unwritten: &mut Vec<u32>, slots: &[Slot], page: u32)
     requires room { page < length slots.now }
     requires space { vec_len unwritten.old < vec_capacity unwritten.old }
-    ensures kept { (n : ℕ) → list_any (λ k. k == n) unwritten.old.items ≡ true → list_any (λ k. k == n) unwritten.new.items ≡ true }
-    ensures here { ((bytes : List ℕ) → (slot_at slots.now page).newest ≡ Newest.Dirty bytes → list_any (λ k. k == page) unwritten.old.items ≡ true)
+    ensures kept { (n : ℕ) → list_any (λ k. k == n) unwritten.old.items ≡ true
+        → list_any (λ k. k == n) unwritten.new.items ≡ true }
+    ensures here { ((bytes : List ℕ) → (slot_at slots.now page).newest ≡ Newest.Dirty bytes
+        → list_any (λ k. k == page) unwritten.old.items ≡ true)
         → list_any (λ k. k == page) unwritten.new.items ≡ true }
-    ensures again { (bytes : List ℕ) → (slot_at slots.now page).newest ≡ Newest.Dirty bytes → unwritten.new.items ≡ unwritten.old.items }
-    ensures counted { (n : ℕ) → times_in unwritten.new.items n + (if page == n then to_write (slot_at slots.now page).newest else 0) ≡ times_in unwritten.old.items n + one_at page n }
+    ensures again { (bytes : List ℕ) → (slot_at slots.now page).newest ≡ Newest.Dirty bytes
+        → unwritten.new.items ≡ unwritten.old.items }
+    ensures counted { (n : ℕ)
+        → times_in unwritten.new.items n + (if page == n then to_write (slot_at slots.now page).newest else 0) ≡ times_in unwritten.old.items n + one_at page n }
     ensures total { vec_len unwritten.new + to_write (slot_at slots.now page).newest ≡ vec_len unwritten.old + 1 }
     ensures len { vec_len unwritten.new ≤ vec_len unwritten.old + 1 }
     ensures capacity { vec_capacity unwritten.old ≤ vec_capacity unwritten.new }
@@ -182,12 +193,14 @@ pub(crate) fn fetch<D: Disk>(
     began: u32,
     page: u32,
 ) -> Result<(), PoolError>
-    ensures same { IsTrue D.is_honest → (last : ℕ) (unwritten : List ℕ) → Stands (D.bytes (disk_of file.old)) began last slots.old unwritten
+    ensures same { IsTrue D.is_honest → (last : ℕ) (unwritten : List ℕ)
+        → Stands (D.bytes (disk_of file.old)) began last slots.old unwritten
         → StaysAs began last unwritten (D.bytes (disk_of file.old)) slots.old (D.bytes (disk_of file.new)) slots.new }
     ensures unwritten { (n : ℕ) → to_write (slot_at slots.new n).newest ≡ to_write (slot_at slots.old n).newest }
     ensures loaded { OnOk result (IsLoaded began page slots.new) }
     ensures refusal { IfErr result (IsRefused ⊥ ⊥ (D.refused (disk_of file.old)) (D.refused (disk_of file.new))) }
-    ensures read_always { IsTrue D.is_honest → IsTrue D.always_reads → 4096 * began ≤ length (D.bytes (disk_of file.old)) → IfErr result IsNotOfDevice }
+    ensures read_always { IsTrue D.is_honest → IsTrue D.always_reads
+        → 4096 * began ≤ length (D.bytes (disk_of file.old)) → IfErr result IsNotOfDevice }
     ensures cause { IfErr result (IsTold (D.told (disk_of file.new))) }
     ensures rising { D.refused (disk_of file.old) ≤ D.refused (disk_of file.new) }
 {
@@ -203,8 +216,10 @@ fn write_slot<D: Disk>(file: &mut PageFile<D>, slot: &mut Slot, page: u32) -> Re
     ensures images { slot.new.images ≡ slot.old.images }
     ensures written { OnOk result (slot.new.newest ≡ cleaned slot.old.newest) }
     ensures refused { OnErr result ((slot.new.newest ≡ slot.old.newest) × IsDirty slot.old.newest) }
-    ensures others { IsTrue D.is_honest → IsDirty slot.old.newest → KeepsOthers page (D.bytes (disk_of file.old)) (D.bytes (disk_of file.new)) }
-    ensures there { OnOk result (IsTrue D.is_honest → (bytes : List ℕ) → slot.old.newest ≡ Newest.Dirty bytes → page_of (D.bytes (disk_of file.new)) page ≡ Some bytes) }
+    ensures others { IsTrue D.is_honest → IsDirty slot.old.newest
+        → KeepsOthers page (D.bytes (disk_of file.old)) (D.bytes (disk_of file.new)) }
+    ensures there { OnOk result (IsTrue D.is_honest → (bytes : List ℕ) → slot.old.newest ≡ Newest.Dirty bytes
+        → page_of (D.bytes (disk_of file.new)) page ≡ Some bytes) }
     ensures idle { (IsDirty slot.old.newest → ⊥) → file.new ≡ file.old }
     ensures count { CountsRefusal result (D.refused (disk_of file.old)) (D.refused (disk_of file.new)) }
     ensures cause { IfErr result (D.told (disk_of file.new)) }
@@ -238,9 +253,13 @@ fn write_at<D: Disk>(
     ensures images { (n : ℕ) → (slot_at slots.new n).images ≡ (slot_at slots.old n).images }
     ensures newest { (n : ℕ) → n ≢ page → (slot_at slots.new n).newest ≡ (slot_at slots.old n).newest }
     ensures written { OnOk result ((slot_at slots.new page).newest ≡ cleaned (slot_at slots.old page).newest) }
-    ensures refused { OnErr result (((slot_at slots.new page).newest ≡ (slot_at slots.old page).newest) × IsDirty (slot_at slots.old page).newest) }
-    ensures others { IsTrue D.is_honest → IsDirty (slot_at slots.old page).newest → KeepsOthers page (D.bytes (disk_of file.old)) (D.bytes (disk_of file.new)) }
-    ensures there { OnOk result (IsTrue D.is_honest → (bytes : List ℕ) → (slot_at slots.old page).newest ≡ Newest.Dirty bytes → page_of (D.bytes (disk_of file.new)) page ≡ Some bytes) }
+    ensures refused { OnErr result (((slot_at slots.new page).newest ≡ (slot_at slots.old page).newest)
+        × IsDirty (slot_at slots.old page).newest) }
+    ensures others { IsTrue D.is_honest → IsDirty (slot_at slots.old page).newest
+        → KeepsOthers page (D.bytes (disk_of file.old)) (D.bytes (disk_of file.new)) }
+    ensures there { OnOk result (IsTrue D.is_honest → (bytes : List ℕ)
+        → (slot_at slots.old page).newest ≡ Newest.Dirty bytes
+        → page_of (D.bytes (disk_of file.new)) page ≡ Some bytes) }
     ensures idle { (IsDirty (slot_at slots.old page).newest → ⊥) → file.new ≡ file.old }
     ensures count { CountsRefusal result (D.refused (disk_of file.old)) (D.refused (disk_of file.new)) }
     ensures cause { IfErr result (D.told (disk_of file.new)) }
@@ -258,7 +277,8 @@ pub(crate) fn write_last<D: Disk>(
     slots: &mut Items<Slot>,
     unwritten: &mut Vec<u32>,
 ) -> Result<(), DiskError>
-    ensures same { IsTrue D.is_honest → (began last : ℕ) → Stands (D.bytes (disk_of file.old)) began last slots.old unwritten.old.items
+    ensures same { IsTrue D.is_honest → (began last : ℕ)
+        → Stands (D.bytes (disk_of file.old)) began last slots.old unwritten.old.items
         → StaysAs began last unwritten.new.items (D.bytes (disk_of file.old)) slots.old (D.bytes (disk_of file.new)) slots.new }
     ensures left { OnOk result (vec_len unwritten.new ≡ vec_len unwritten.old - 1) }
     ensures refused { OnErr result (unwritten.new.items ≡ unwritten.old.items) }

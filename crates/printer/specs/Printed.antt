@@ -10,8 +10,8 @@ use Rattle.ast.specs.Words.{SEMICOLON}
 
 -- ---- statements
 
--- Whatever tokens are a text with the tree `x`, they are these, perhaps with a ; after them; and where any are, these are too.
--- The limit of chains is any.
+-- Whatever tokens are a text with the tree `x`, they are these, perhaps with a ; after them; and
+-- where any are, these are too. The limit of chains is any.
 pub record AreTokensOf (x : Statement) (kinds : Tokens) : Type 0 where
   pub only : (limit : Option ℕ) (ts : Tokens) → IsText limit ts x → (ts ≡ kinds) ⊎ (ts ≡ kinds ++ SEMICOLON ∷ [])
   pub again : (limit : Option ℕ) (ts : Tokens) → IsText limit ts x → IsText limit kinds x
@@ -25,15 +25,18 @@ pub record IsTextOf (x : Statement) (text : Bytes) : Type 0 where
 
 -- ---- conditions
 
--- The tokens begin with a condition that has the tree `x`, and `rest` is left, as in a text in which the condition stands.
+-- The tokens begin with a condition that has the tree `x`, and `rest` is left, as in a text in
+-- which the condition stands.
 pub record BeginsWithCondition (limit : Option ℕ) (ts : Tokens) (x : Condition) (rest : Tokens) : Type 0 where
   pub depth : ℕ
   pub condition : (nested_at limit depth).condition ts x rest
 
--- Whatever tokens begin with a condition that has the tree `x`, it is these; and where any do, these alone are this condition.
+-- Whatever tokens begin with a condition that has the tree `x`, it is these; and where any do,
+-- these alone are this condition.
 pub record AreConditionTokensOf (x : Condition) (kinds : Tokens) : Type 0 where
   pub only : (limit : Option ℕ) (ts rest : Tokens) → BeginsWithCondition limit ts x rest → ts ≡ kinds ++ rest
-  pub again : (limit : Option ℕ) (ts rest : Tokens) → BeginsWithCondition limit ts x rest → IsConditionText limit kinds x
+  pub again : (limit : Option ℕ) (ts rest : Tokens) → BeginsWithCondition limit ts x rest
+      → IsConditionText limit kinds x
 
 -- The text of the tokens of the condition `x`. Read again it has just these.
 pub record IsConditionTextOf (x : Condition) (text : Bytes) : Type 0 where

@@ -5,7 +5,8 @@ use Rattle.ast.specs.Notation.{Tokens, Rule}
 use Rattle.ast.specs.Expressions.{Nested}
 use Rattle.ast.specs.Grammar.{nested_at}
 
--- a rule over the greatest number of operands in a chain, if there is one, and the rules of what stands between parentheses
+-- a rule over the greatest number of operands in a chain, if there is one, and the rules of what
+-- stands between parentheses
 abbrev pub LimitedRule : Type 0 → Type 1
 LimitedRule A = Option ℕ → Nested → Rule A
 
@@ -13,12 +14,14 @@ LimitedRule A = Option ℕ → Nested → Rule A
 abbrev pub Part : Type 1
 Part = Option ℕ → Nested → Tokens → Tokens → Type 0
 
--- `new` is `old` with some tokens at its end. Whatever tokens are the part, they are just these; and where any are the part,
--- these are it too, whatever follows. The limit of chains and the depth of nesting are any.
+-- `new` is `old` with some tokens at its end. Whatever tokens are the part, they are just these;
+-- and where any are the part, these are it too, whatever follows. The limit of chains and the depth
+-- of nesting are any.
 pub record Puts (part : Part) (old new : Tokens) : Type 0 where
   pub kinds : Tokens
   pub put : new ≡ old ++ kinds
-  pub only : (limit : Option ℕ) (depth : ℕ) (ts rest : Tokens) → part limit (nested_at limit depth) ts rest → ts ≡ kinds ++ rest
+  pub only : (limit : Option ℕ) (depth : ℕ) (ts rest : Tokens) → part limit (nested_at limit depth) ts rest
+      → ts ≡ kinds ++ rest
   pub again : (limit : Option ℕ) (depth : ℕ) (ts rest after : Tokens) → part limit (nested_at limit depth) ts rest
       → part limit (nested_at limit depth) (kinds ++ after) after
 

@@ -30,8 +30,8 @@ pub fn print_condition_tokens(
     Ok(writer.into_kinds())
 }
 
-/// The text of a statement: its tokens with one space between two, words in upper case, without a `;` after it.
-/// Refuses for want of memory alone.
+/// The text of a statement: its tokens with one space between two, words in upper case, without a
+/// `;` after it. Refuses for want of memory alone.
 pub fn print(alloc: Global, statement: &Statement) -> Result<Items<u8>, AllocError>
     ensures { IfOk result (IsTextOf statement.now) }
 {

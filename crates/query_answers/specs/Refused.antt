@@ -11,4 +11,5 @@ MayRefuse faults refusal = IsReserved refusal ⊎ ((fault : Fault) × (refusal �
 
 -- want of memory, or one of these faults
 abbrev pub GivesFaults : List Fault → Refusal → Type 0
-GivesFaults faults refusal = (refusal ≡ Memory) ⊎ ((fault : Fault) × (refusal ≡ refusal_of fault) × Contains faults fault)
+GivesFaults faults refusal = (refusal ≡ Memory)
+    ⊎ ((fault : Fault) × (refusal ≡ refusal_of fault) × Contains faults fault)

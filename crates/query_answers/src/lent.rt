@@ -67,11 +67,14 @@ fn is_lent(tables: &[LentTable], name: &Text) -> bool
 /// A stored table with all its rows; where no table has this name, it has none.
 fn read_table<R: Reading>(alloc: Global, reading: &mut R, name: &Text) -> Result<LentTable, Refusal>
     ensures name { IfOk result (λ table. table.name ≡ name.now) }
-    ensures rows { R.is_sound reading.old → IfOk result (λ table. table.rows ≡ rows_found (R.shows reading.old).contents name.now) }
-    ensures read { R.is_sound reading.old → IfOk result (λ _. (R.shows reading.new).read ≤ (R.shows reading.old).read + length (rows_found (R.shows reading.old).contents name.now)) }
+    ensures rows { R.is_sound reading.old
+        → IfOk result (λ table. table.rows ≡ rows_found (R.shows reading.old).contents name.now) }
+    ensures read { R.is_sound reading.old
+        → IfOk result (λ _. (R.shows reading.new).read ≤ (R.shows reading.old).read + length (rows_found (R.shows reading.old).contents name.now)) }
     ensures refused { IfErr result (λ refusal. R.is_sound reading.old → IsReserved refusal) }
     ensures limits { IfErr result TellsNoLimit }
-    ensures counts { IfErr result (λ refusal. refusal ≡ Disk → HasRisen (R.shows reading.old).refused (R.shows reading.new).refused) }
+    ensures counts { IfErr result (λ refusal. refusal ≡ Disk
+        → HasRisen (R.shows reading.old).refused (R.shows reading.new).refused) }
     ensures follows { R.follows reading.old reading.new }
 {
     let name_kept = name.copy(alloc);
@@ -91,12 +94,15 @@ fn lend<R: Reading>(
     tables: &mut Items<LentTable>,
     name: &Text,
 ) -> Result<(), Refusal>
-    ensures lent { R.is_sound reading.old → OnOk result ((names : List (List ℕ)) → IsLending tables.old (rows_found (R.shows reading.old).contents) names
+    ensures lent { R.is_sound reading.old
+        → OnOk result ((names : List (List ℕ)) → IsLending tables.old (rows_found (R.shows reading.old).contents) names
         → IsLending tables.new (rows_found (R.shows reading.old).contents) (names ++ name.now ∷ [])) }
-    ensures read { R.is_sound reading.old → OnOk result ((R.shows reading.new).read ≤ (R.shows reading.old).read + newly_read tables.old (rows_found (R.shows reading.old).contents) name.now) }
+    ensures read { R.is_sound reading.old
+        → OnOk result ((R.shows reading.new).read ≤ (R.shows reading.old).read + newly_read tables.old (rows_found (R.shows reading.old).contents) name.now) }
     ensures refused { IfErr result (λ refusal. R.is_sound reading.old → IsReserved refusal) }
     ensures limits { IfErr result TellsNoLimit }
-    ensures counts { IfErr result (λ refusal. refusal ≡ Disk → HasRisen (R.shows reading.old).refused (R.shows reading.new).refused) }
+    ensures counts { IfErr result (λ refusal. refusal ≡ Disk
+        → HasRisen (R.shows reading.old).refused (R.shows reading.new).refused) }
     ensures follows { R.follows reading.old reading.new }
 {
     if is_lent(tables.as_slice(), name) {
@@ -109,17 +115,21 @@ fn lend<R: Reading>(
     }
 }
 
-/// The tables of these names, each read once: no more rows are read than these tables have. It is refused for what the store is refused for.
+/// The tables of these names, each read once: no more rows are read than these tables have. It is
+/// refused for what the store is refused for.
 pub fn lent_tables<R: Reading>(
     alloc: Global,
     reading: &mut R,
     names: &[Text],
 ) -> Result<LentTables, Refusal>
-    ensures lent { R.is_sound reading.old → IfOk result (λ lent. Agree (rows_lent lent.tables) (rows_found (R.shows reading.old).contents) names.now) }
-    ensures read { R.is_sound reading.old → IfOk result (λ _. (R.shows reading.new).read ≤ (R.shows reading.old).read + rows_under (rows_found (R.shows reading.old).contents) names.now) }
+    ensures lent { R.is_sound reading.old
+        → IfOk result (λ lent. Agree (rows_lent lent.tables) (rows_found (R.shows reading.old).contents) names.now) }
+    ensures read { R.is_sound reading.old
+        → IfOk result (λ _. (R.shows reading.new).read ≤ (R.shows reading.old).read + rows_under (rows_found (R.shows reading.old).contents) names.now) }
     ensures refused { IfErr result (λ refusal. R.is_sound reading.old → IsReserved refusal) }
     ensures limits { IfErr result TellsNoLimit }
-    ensures counts { IfErr result (λ refusal. refusal ≡ Disk → HasRisen (R.shows reading.old).refused (R.shows reading.new).refused) }
+    ensures counts { IfErr result (λ refusal. refusal ≡ Disk
+        → HasRisen (R.shows reading.old).refused (R.shows reading.new).refused) }
     ensures follows { R.follows reading.old reading.new }
 {
     let mut tables = Items::new(alloc);

@@ -1,4 +1,5 @@
-//! What queries answer and VALUES give, over a reading of a store: by operator trees, over all forms of tables.
+//! What queries answer and VALUES give, over a reading of a store: by operator trees, over all
+//! forms of tables.
 #![tactic(auto)]
 
 mod fault;

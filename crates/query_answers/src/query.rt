@@ -33,7 +33,8 @@ use tree_tables::{listings_read_their_tables, tables_in_tree};
 use typing::OrderedQuery;
 use uncorrelated_subqueries::listed_once;
 
-/// The tree of a query that was typed over this schema; it knows of each table that it names what the schema does. Refuses for want of memory alone.
+/// The tree of a query that was typed over this schema; it knows of each table that it names what
+/// the schema does. Refuses for want of memory alone.
 pub fn query_tree(alloc: Global, schema: &Schema, query: &OrderedQuery) -> Result<Tree, AllocError>
     ensures tree { IfOk result (λ tree. IsTreeOf query.now tree) }
     ensures known { IfOk result (λ tree. tree ≡ tree_of_ordered (described_in schema.now) query.now) }
@@ -41,14 +42,19 @@ pub fn query_tree(alloc: Global, schema: &Schema, query: &OrderedQuery) -> Resul
     translate(alloc, schema, query)
 }
 
-/// Carries out a plan, which is a tree as it stands: what it lists, over the tables as the reading finds them. Each table that it names is read once, and no row besides.
-/// A fault of the plan is the end of its list and no refusal; it is refused for want of memory, and for what the store is refused for.
+/// Carries out a plan, which is a tree as it stands: what it lists, over the tables as the reading
+/// finds them. Each table that it names is read once, and no row besides. A fault of the plan is
+/// the end of its list and no refusal; it is refused for want of memory, and for what the store is
+/// refused for.
 pub fn run_all<R: Reading>(alloc: Global, reading: &mut R, plan: &Tree) -> Result<Listed, Refusal>
-    ensures lists { R.is_sound reading.old → IfOk result (λ listed. outcome_of listed ≡ tree_listing (rows_found (R.shows reading.old).contents) plan.now []) }
-    ensures read { R.is_sound reading.old → IfOk result (λ _. (R.shows reading.new).read ≤ (R.shows reading.old).read + rows_under (rows_found (R.shows reading.old).contents) (tables_in_tree plan.now)) }
+    ensures lists { R.is_sound reading.old
+        → IfOk result (λ listed. outcome_of listed ≡ tree_listing (rows_found (R.shows reading.old).contents) plan.now []) }
+    ensures read { R.is_sound reading.old
+        → IfOk result (λ _. (R.shows reading.new).read ≤ (R.shows reading.old).read + rows_under (rows_found (R.shows reading.old).contents) (tables_in_tree plan.now)) }
     ensures refused { IfErr result (λ refusal. R.is_sound reading.old → IsReserved refusal) }
     ensures limits { IfErr result TellsNoLimit }
-    ensures counts { IfErr result (λ refusal. refusal ≡ Disk → HasRisen (R.shows reading.old).refused (R.shows reading.new).refused) }
+    ensures counts { IfErr result (λ refusal. refusal ≡ Disk
+        → HasRisen (R.shows reading.old).refused (R.shows reading.new).refused) }
     ensures follows { R.follows reading.old reading.new }
 {
     listings_read_their_tables();
@@ -74,13 +80,18 @@ fn unstopped(listed: Result<Listed, Stop>) -> Result<Listed, Refusal>
     }
 }
 
-/// The rows of a query by its tree. Each table that it names is read once. It is refused by one of the query's faults, and for what the store is refused for.
+/// The rows of a query by its tree. Each table that it names is read once. It is refused by one of
+/// the query's faults, and for what the store is refused for.
 pub fn answer<R: Reading>(alloc: Global, reading: &mut R, tree: &Tree) -> Result<Rows, Refusal>
-    ensures answers { IfOk result (λ rows. R.is_sound reading.old → (ordered : Asked) → IsTreeOf ordered tree.now → Answers (Ok rows) (denotes (database_of (R.shows reading.old).contents) ordered)) }
-    ensures read { R.is_sound reading.old → IfOk result (λ _. (R.shows reading.new).read ≤ (R.shows reading.old).read + rows_under (rows_found (R.shows reading.old).contents) (tables_in_tree tree.now)) }
-    ensures refused { IfErr result (λ refusal. R.is_sound reading.old → (ordered : Asked) → IsTreeOf ordered tree.now → MayRefuse (denotes (database_of (R.shows reading.old).contents) ordered).unordered.faults refusal) }
+    ensures answers { IfOk result (λ rows. R.is_sound reading.old → (ordered : Asked) → IsTreeOf ordered tree.now
+        → Answers (Ok rows) (denotes (database_of (R.shows reading.old).contents) ordered)) }
+    ensures read { R.is_sound reading.old
+        → IfOk result (λ _. (R.shows reading.new).read ≤ (R.shows reading.old).read + rows_under (rows_found (R.shows reading.old).contents) (tables_in_tree tree.now)) }
+    ensures refused { IfErr result (λ refusal. R.is_sound reading.old → (ordered : Asked) → IsTreeOf ordered tree.now
+        → MayRefuse (denotes (database_of (R.shows reading.old).contents) ordered).unordered.faults refusal) }
     ensures limits { IfErr result TellsNoLimit }
-    ensures counts { IfErr result (λ refusal. refusal ≡ Disk → HasRisen (R.shows reading.old).refused (R.shows reading.new).refused) }
+    ensures counts { IfErr result (λ refusal. refusal ≡ Disk
+        → HasRisen (R.shows reading.old).refused (R.shows reading.new).refused) }
     ensures follows { R.follows reading.old reading.new }
 {
     listings_answer_queries();

@@ -191,12 +191,13 @@ fn all_rows(
     Ok(added)
 }
 
-/// The rows that an INSERT of VALUES adds to a table: the n-th source of each row goes to the column at the n-th place of
-/// `columns`, as that column holds it, and the other columns get null. `trees` are those of the sources, and `checks` those of the
-/// conditions of the table's CHECKs. Constraints are not looked at.
+/// The rows that an INSERT of VALUES adds to a table: the n-th source of each row goes to the
+/// column at the n-th place of `columns`, as that column holds it, and the other columns get null.
+/// `trees` are those of the sources, and `checks` those of the conditions of the table's CHECKs.
+/// Constraints are not looked at.
 ///
-/// Else it is refused by a fault: of a source, of storing, of a CHECK that cannot be evaluated, or `record` or `key` of a row; or for
-/// want of memory.
+/// Else it is refused by a fault: of a source, of storing, of a CHECK that cannot be evaluated, or
+/// `record` or `key` of a row; or for want of memory.
 pub fn rows_to_insert(
     alloc: Global,
     lent: &LentTables,

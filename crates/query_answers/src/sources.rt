@@ -21,7 +21,8 @@ use store::Reading;
 use translation::translate_expression;
 use tree_tables::tables_in_expression;
 
-/// The trees of the sources of VALUES that were typed over this schema, row by row. Refuses for want of memory alone.
+/// The trees of the sources of VALUES that were typed over this schema, row by row. Refuses for
+/// want of memory alone.
 pub fn source_trees(
     alloc: Global,
     schema: &Schema,
@@ -77,11 +78,14 @@ pub fn tables_for_sources<R: Reading>(
     reading: &mut R,
     trees: &[Items<Expression>],
 ) -> Result<LentTables, Refusal>
-    ensures lent { R.is_sound reading.old → IfOk result (λ lent. Agree (rows_lent lent.tables) (rows_found (R.shows reading.old).contents) (tables_in_rows trees.now)) }
-    ensures read { R.is_sound reading.old → IfOk result (λ _. (R.shows reading.new).read ≤ (R.shows reading.old).read + rows_under (rows_found (R.shows reading.old).contents) (tables_in_rows trees.now)) }
+    ensures lent { R.is_sound reading.old
+        → IfOk result (λ lent. Agree (rows_lent lent.tables) (rows_found (R.shows reading.old).contents) (tables_in_rows trees.now)) }
+    ensures read { R.is_sound reading.old
+        → IfOk result (λ _. (R.shows reading.new).read ≤ (R.shows reading.old).read + rows_under (rows_found (R.shows reading.old).contents) (tables_in_rows trees.now)) }
     ensures refused { IfErr result (λ refusal. R.is_sound reading.old → IsReserved refusal) }
     ensures limits { IfErr result TellsNoLimit }
-    ensures counts { IfErr result (λ refusal. refusal ≡ Disk → HasRisen (R.shows reading.old).refused (R.shows reading.new).refused) }
+    ensures counts { IfErr result (λ refusal. refusal ≡ Disk
+        → HasRisen (R.shows reading.old).refused (R.shows reading.new).refused) }
     ensures follows { R.follows reading.old reading.new }
 {
     let names = match names_in_rows(alloc, trees) {

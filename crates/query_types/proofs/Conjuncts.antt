@@ -1,4 +1,5 @@
--- What is found at the nodes of a condition, wherever it is seen, and loops over the operands of AND and OR.
+-- What is found at the nodes of a condition, wherever it is seen, and loops over the operands of
+-- AND and OR.
 use Rattle.std.proofs.Common.{◌≡◌, ℕ, suc, ◌+◌, ◌<◌, ◌≤◌, Bool, List, [], ◌∷◌, ◌++◌, map, length, get_or, drop, drop-cons, add-one, append_assoc, Ok, Err, refl, sym, ◌∙◌, ap}
 use Rattle.std.specs.Prelude.{flat_map}
 use Rattle.std.proofs.lemmas.List.{append-nil, drop_all}

@@ -91,7 +91,8 @@ settled_in select rows =
     groups_of key ((shown select).found (record { scope = keyed key rows; clause = Shown (width key) }))))))
 
 -- a SELECT over a FROM that is found
-abbrev pub select_from : Option Quantifier → List Column → Source → Finding ((Unit {0} × Unit {0}) × Settled) → Finding TypedQuery
+abbrev pub select_from : Option Quantifier → List Column → Source → Finding ((Unit {0} × Unit {0}) × Settled)
+    → Finding TypedQuery
 select_from quantifier groups source found = found >>= (λ p. Ok (made_select quantifier groups source p.1))
 
 abbrev pub select_over : Option Quantifier → List Column → TypedFrom → Finding Settled → Finding TypedQuery

@@ -30,7 +30,8 @@ pub fn typed_aggregate(
     argument: &ast::Expression,
     scope: &Scope,
 ) -> Result<(SetFunction, ValueType), Refusal>
-    ensures { (k : Known) → Finds result (aggregate_found function quantifier (expression_part k argument.now) (frames scope.now)) }
+    ensures { (k : Known)
+        → Finds result (aggregate_found function quantifier (expression_part k argument.now) (frames scope.now)) }
 {
     let argument = argument_expression(alloc, argument, scope);
     aggregate_of(function, is_distinct(quantifier), argument)
@@ -77,7 +78,8 @@ fn argument_summands(
     others: &[(AddOperator, Term)],
     scope: &Scope,
 ) -> Result<Items<(Arithmetic, Expression)>, Refusal>
-    ensures { (k : Known) → Finds result (each (in_order (term_after k) summed others.now (argument_view (frames scope.now)))) }
+    ensures { (k : Known)
+        → Finds result (each (in_order (term_after k) summed others.now (argument_view (frames scope.now)))) }
 {
     let mut operands = Items::new(alloc);
     for (operator, term) in others {
@@ -92,7 +94,8 @@ fn argument_texts(
     others: &[(AddOperator, Term)],
     scope: &Scope,
 ) -> Result<Items<Expression>, Refusal>
-    ensures { (k : Known) → Finds result (each (in_order (term_after k) continued others.now (argument_view (frames scope.now)))) }
+    ensures { (k : Known)
+        → Finds result (each (in_order (term_after k) continued others.now (argument_view (frames scope.now)))) }
 {
     let mut operands = Items::new(alloc);
     for (operator, term) in others {
@@ -119,7 +122,8 @@ fn argument_multipliers(
     others: &[(MultiplyOperator, Factor)],
     scope: &Scope,
 ) -> Result<Items<(Arithmetic, Expression)>, Refusal>
-    ensures { (k : Known) → Finds result (each (in_order (factor_after k) multiplied others.now (argument_view (frames scope.now)))) }
+    ensures { (k : Known)
+        → Finds result (each (in_order (factor_after k) multiplied others.now (argument_view (frames scope.now)))) }
 {
     let mut operands = Items::new(alloc);
     for (operator, factor) in others {

@@ -1,4 +1,5 @@
-//! The set functions of a SELECT, in the order of the text. Those of queries inside it are their own.
+//! The set functions of a SELECT, in the order of the text. Those of queries inside it are their
+//! own.
 
 ghost use Rattle.std.specs.Prelude.{◌++◌, map};
 ghost use Rattle.typing.specs.Finds.{Finds};
@@ -27,7 +28,8 @@ pub fn shown_functions(
     having: &Option<Boxed<Condition>>,
     scope: &Scope,
 ) -> Result<Items<SetFunction>, Refusal>
-    ensures { (k : Known) → Finds result (functions_in (frames scope.now) ((list_part k items.now).functions ++ (filter_part k having.now).functions)) }
+    ensures { (k : Known)
+        → Finds result (functions_in (frames scope.now) ((list_part k items.now).functions ++ (filter_part k having.now).functions)) }
 {
     let listed = functions_in_list(alloc, items, scope);
     joined(listed, functions_in_filter(alloc, having, scope))
@@ -51,7 +53,8 @@ fn functions_in_items(
     items: &[SelectItem],
     scope: &Scope,
 ) -> Result<Items<SetFunction>, Refusal>
-    ensures { (k : Known) → Finds result (functions_in (frames scope.now) (functions_of (map (item_part k) items.now))) }
+    ensures { (k : Known)
+        → Finds result (functions_in (frames scope.now) (functions_of (map (item_part k) items.now))) }
 {
     let mut functions = Ok(Items::new(alloc));
     for item in items {

@@ -20,8 +20,8 @@ use typing::{OrderKey, OrderedQuery, Query, ResultColumn, TypedQuery};
 
 /// What a query that stands in no other stands for over a schema, with its ORDER BY.
 ///
-/// Refused by a reason of names or types, or a limit of its tables and columns, that holds of it; where several hold, by any of
-/// these. Refuses for want of memory too.
+/// Refused by a reason of names or types, or a limit of its tables and columns, that holds of it;
+/// where several hold, by any of these. Refuses for want of memory too.
 pub fn typed_query(
     alloc: Global,
     tree: &ast::OrderedQuery,

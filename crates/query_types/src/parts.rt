@@ -36,7 +36,8 @@ pub fn joined(
     first: Result<Items<SetFunction>, Refusal>,
     others: Result<Items<SetFunction>, Refusal>,
 ) -> Result<Items<SetFunction>, Refusal>
-    ensures { (scope : Frames) (fs gs : List FunctionFinding) → Finds first (functions_in scope fs) → Finds others (functions_in scope gs) → Finds result (functions_in scope (fs ++ gs)) }
+    ensures { (scope : Frames) (fs gs : List FunctionFinding) → Finds first (functions_in scope fs)
+        → Finds others (functions_in scope gs) → Finds result (functions_in scope (fs ++ gs)) }
 {
     appended(both(first, others))
 }
@@ -65,7 +66,8 @@ pub fn only_function(
 
 /// A query inside an expression or a condition, which may not stand in each clause.
 pub fn query_seen(clause: Clause, query: Result<TypedQuery, Refusal>) -> Result<TypedQuery, Refusal>
-    ensures { (found : Frames → Finding TypedQuery) (scope : Frames) → Finds query (found scope) → Finds result (query_seen (clause_in clause) (found (scope_in clause scope))) }
+    ensures { (found : Frames → Finding TypedQuery) (scope : Frames) → Finds query (found scope)
+        → Finds result (query_seen (clause_in clause) (found (scope_in clause scope))) }
 {
     match clause {
         Clause::Shown(_) => query,
@@ -273,7 +275,8 @@ fn select_from(
     source: Source,
     settled: Result<(((), ()), Settled), Refusal>,
 ) -> Result<TypedQuery, Refusal>
-    ensures { (x : Finding ((Unit {0} × Unit {0}) × Settled)) → Finds settled x → Finds result (select_from quantifier groups.now source x) }
+    ensures { (x : Finding ((Unit {0} × Unit {0}) × Settled)) → Finds settled x
+        → Finds result (select_from quantifier groups.now source x) }
 {
     let (_, settled) = settled?;
     type_rules::made_select(alloc, quantifier, groups, source, settled)
@@ -281,7 +284,8 @@ fn select_from(
 
 /// The name after AS, else that of the column that the item is. `( A )` is no column.
 pub fn item_name(item: &SelectItem) -> Option<&Text>
-    ensures { (k : Known) → option_copied result ≡ item_name (out-SelectItem item.now).alias (expression_part k (out-SelectItem item.now).value).name }
+    ensures { (k : Known)
+        → option_copied result ≡ item_name (out-SelectItem item.now).alias (expression_part k (out-SelectItem item.now).value).name }
 {
     match &item.alias {
         Some(alias) => Some(alias.name.as_text()),

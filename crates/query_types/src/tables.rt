@@ -63,7 +63,8 @@ fn typed_join(
     left: Result<TypedFrom, Refusal>,
     scope: &Scope,
 ) -> Result<TypedFrom, Refusal>
-    ensures { (from : From) → Finds left (from_found from (frames scope.now)) → Finds result (from_found (join_part (known schema.now) tree.now from) (frames scope.now)) }
+    ensures { (from : From) → Finds left (from_found from (frames scope.now))
+        → Finds result (from_found (join_part (known schema.now) tree.now from) (frames scope.now)) }
 {
     match tree {
         Join::Cross(right) => crossed(alloc, left, typed_source(alloc, schema, right, &*scope)),

@@ -1,4 +1,5 @@
-//! Typed statements of what is found of their kinds. They are taken with their refusals, so that nothing is owned where one is refused.
+//! Typed statements of what is found of their kinds. They are taken with their refusals, so that
+//! nothing is owned where one is refused.
 
 ghost use Rattle.std.specs.Prelude.{ℕ, List};
 ghost use Rattle.typing.specs.declared.statement.Change.{Change as ChangeOf};

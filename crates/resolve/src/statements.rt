@@ -26,8 +26,9 @@ use typing::{AccessMode, Typed};
 
 /// What a statement stands for over a schema.
 ///
-/// A statement with a form that is not built yet is `NotSupported`, whatever else may be wrong with it. Else it is refused by a
-/// reason of names or types, or a limit, that holds of it; where several hold, by any of these. Refuses for want of memory too.
+/// A statement with a form that is not built yet is `NotSupported`, whatever else may be wrong with
+/// it. Else it is refused by a reason of names or types, or a limit, that holds of it; where
+/// several hold, by any of these. Refuses for want of memory too.
 #[tactic(auto, using(crate::proofs::Answering::answer_steps))]
 pub fn typed_statement(
     alloc: Global,

@@ -5,8 +5,8 @@ ghost use Rattle.algebra.specs.Raising.{some_may, condition_may_raise, expressio
 
 use algebra::{Condition, Expression, SetFunction, Tree};
 
-/// Whether a condition may raise a fault. Where it says no, the condition has a value in whatever rows, over whatever tables; it says
-/// no of each plain condition.
+/// Whether a condition may raise a fault. Where it says no, the condition has a value in whatever
+/// rows, over whatever tables; it says no of each plain condition.
 #[cycle(raising)]
 #[tactic(auto, using(crate::proofs::Nodes::raising_nodes))]
 pub fn condition_can_raise(condition: &Condition) -> bool

@@ -11,7 +11,8 @@ pub enum Rule {
     FilterBelowProduct,
     /// Q3: a filter goes to the left of a left join.
     FilterLeftOfLeftJoin,
-    /// Q4: a part of ON that speaks of the right side alone goes into the right side of a left join.
+    /// Q4: a part of ON that speaks of the right side alone goes into the right side of a left
+    /// join.
     OnIntoRightSide,
     /// Q5: a filter of a product becomes an inner join.
     ProductToInner,
@@ -39,8 +40,9 @@ pub enum Rule {
     PreFilter,
 }
 
-/// A way from the root of a tree to one of its nodes: at each node the place of the part in which it goes on, from 0. The
-/// parts of a node are its trees, in the order of their fields, and then the subqueries in its expressions and conditions, in the order of the text.
+/// A way from the root of a tree to one of its nodes: at each node the place of the part in which
+/// it goes on, from 0. The parts of a node are its trees, in the order of their fields, and then
+/// the subqueries in its expressions and conditions, in the order of the text.
 #[derive(Drop)]
 pub struct Path {
     pub places: Items<usize>,

@@ -1,4 +1,5 @@
--- Each part of a tree is found in the tokens of the tree, for each way in which the grammar joins its rules.
+-- Each part of a tree is found in the tokens of the tree, for each way in which the grammar joins
+-- its rules.
 use Rattle.std.proofs.Common.{◌≡◌, ℕ, false, List, [], ◌∷◌, ◌++◌, map, Option, Some, None, refl, sym as flip, subst}
 use Rattle.std.specs.Prelude.{flat_map}
 use Rattle.std.specs.List.{All}

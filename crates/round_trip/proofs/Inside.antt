@@ -54,7 +54,8 @@ module _ (limit : Option ℕ) where
       let f = All-contains (Found limit ts) (parts x) part (parts_found depth x ts rest h) member in
       found_behind f.leads (found_inside more f.depth f.from f.rest f.stands)
 
--- The tokens from where the condition stands begin with it, and nest no deeper than those of the whole statement.
+-- The tokens from where the condition stands begin with it, and nest no deeper than those of the
+-- whole statement.
 pub record IsBegun (x : Condition) : Type 0 where
   pub kinds : Tokens
   pub rest : Tokens

@@ -7,7 +7,8 @@ use Rattle.parser.specs.Shallow.{is_shallow}
 use Rattle.parser.proofs.Nested.{nested_shallow, shallow_nested}
 use Rattle.parser.proofs.Passes.{Passes, here, past, around, shallow_after, shallow_inside}
 
--- From ts one comes to a later place by passing tokens in which parentheses are matched, and by going into parentheses.
+-- From ts one comes to a later place by passing tokens in which parentheses are matched, and by
+-- going into parentheses.
 pub data Leads : Tokens → Tokens → Type 0 where
   at_once : {ts : Tokens} → Leads ts ts
   into : {ts from : Tokens} → Leads ts from → Leads (LEFT_PARENTHESIS ∷ ts) from

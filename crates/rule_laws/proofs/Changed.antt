@@ -1,4 +1,5 @@
--- What a change makes of a database whose CHECKs can be read does not depend on the reading of their texts.
+-- What a change makes of a database whose CHECKs can be read does not depend on the reading of
+-- their texts.
 use Rattle.std.proofs.Common.{◌≡◌, refl, ap, ◌∙◌, ℕ, not, List, ◌++◌, map, length, Option, Some, None, Ok, Err}
 use Rattle.std.specs.Prelude.{filter, count_by}
 use Rattle.std.specs.FinMap.{get, insert}

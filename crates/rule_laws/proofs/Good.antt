@@ -1,4 +1,5 @@
--- What a good database is does not depend on the reading of the texts of CHECKs, and neither do the conditions of its CHECKs.
+-- What a good database is does not depend on the reading of the texts of CHECKs, and neither do the
+-- conditions of its CHECKs.
 use Rattle.std.proofs.Common.{◌≡◌, refl, sym, ap, ◌∙◌, ℕ, List, [], ◌∷◌, ◌++◌, map}
 use Rattle.std.specs.Prelude.{filter}
 use Rattle.std.specs.List.{All, list_any, filter_map, cons_option}

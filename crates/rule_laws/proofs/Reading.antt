@@ -1,5 +1,6 @@
--- A reading of the texts of CHECKs: a text has its tokens or a fault, tokens are read by as many levels as they have left parentheses, and the rules of names and types find
--- a condition or not. Where there is none, it gives some condition.
+-- A reading of the texts of CHECKs: a text has its tokens or a fault, tokens are read by as many
+-- levels as they have left parentheses, and the rules of names and types find a condition or not.
+-- Where there is none, it gives some condition.
 use Rattle.std.proofs.Common.{◌≡◌, refl, ap, ◌∙◌, ℕ, zero, suc, ◌≤◌, true, List, [], ◌∷◌, Option, Some, None, Ok, Err, arith}
 use Rattle.sqlval.specs.declared.schema.Column.{Column}
 use Rattle.lexer.specs.declared.kinds.Kind.TheVariants as kind

@@ -1,4 +1,5 @@
-//! Laws of the rules of names and types: there are some, all agree, and what holds by all of them is what an engine does. Nothing of it runs.
+//! Laws of the rules of names and types: there are some, all agree, and what holds by all of them
+//! is what an engine does. Nothing of it runs.
 #![tactic(auto)]
 
 mod theorems;

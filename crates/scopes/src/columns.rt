@@ -17,7 +17,8 @@ use lexer::Name;
 use refusals::{Reason, Refusal};
 use typing::{Expression, Found, Frame, Matches, Offer, TypedExpression};
 
-/// A column that is found: how many SELECTs outwards, in which FROM, with which grouping columns, and which of its columns.
+/// A column that is found: how many SELECTs outwards, in which FROM, with which grouping columns,
+/// and which of its columns.
 #[derive(Clone, Copy)]
 struct Located<'a> {
     depth: usize,
@@ -121,7 +122,8 @@ fn is_meant_by(offer: &Offer, name: &Column) -> bool
     }
 }
 
-/// Where the value of a column stands: in the row of FROM, or in the row that begins with the grouping columns, of which it must be one.
+/// Where the value of a column stands: in the row of FROM, or in the row that begins with the
+/// grouping columns, of which it must be one.
 pub fn seen_in(
     key: Option<&Items<usize>>,
     depth: usize,

@@ -1,4 +1,5 @@
-//! How many set functions a part has, queries inside it left out. Numbers stop at the greatest of the machine.
+//! How many set functions a part has, queries inside it left out. Numbers stop at the greatest of
+//! the machine.
 
 ghost use Rattle.std.specs.Prelude.{◌≡◌, map};
 ghost use Rattle.std.specs.Option.{option_map};

@@ -23,14 +23,16 @@ use typing::Frame;
 pub enum Scope<'a> {
     /// Outside all queries.
     Outermost,
-    /// Inside a SELECT: what its FROM shows, its grouping columns where they alone may be named, and what is seen around it.
+    /// Inside a SELECT: what its FROM shows, its grouping columns where they alone may be named,
+    /// and what is seen around it.
     Inside(&'a Frame, Option<&'a Items<usize>>, &'a Scope<'a>),
 }
 
 /// The clause in which a part stands.
 #[derive(Clone, Copy, PartialEq, Eq)]
 pub enum Clause {
-    /// A select list or HAVING. The values of its set functions stand in the row that is seen, from this place on.
+    /// A select list or HAVING. The values of its set functions stand in the row that is seen, from
+    /// this place on.
     Shown(usize),
     /// WHERE, ON, or a source, where no set function may stand.
     Plain,
@@ -47,8 +49,8 @@ pub struct View<'a> {
     pub clause: Clause,
 }
 
-/// The view after a part that has so many set functions, of which the values come first. Refuses for want of memory
-/// where the numbers do not reach so far.
+/// The view after a part that has so many set functions, of which the values come first. Refuses
+/// for want of memory where the numbers do not reach so far.
 fn past<'a>(view: &View<'a>, count: usize) -> Result<View<'a>, Refusal>
     ensures ok { IfOk result (λ next. count < 2 ^ 64 - 1 × next ≡ moved_on count view.now) }
     ensures err { IfErr result (λ refusal. refusal ≡ Memory) }
@@ -114,7 +116,8 @@ pub fn after_items<'a>(
     items: &Option<Items<SelectItem>>,
     view: &View<'a>,
 ) -> Result<View<'a>, Refusal>
-    ensures ok { (k : Known) → IfOk result (λ next. seen next ≡ past (select_list (option_map (map (item_part k)) items.now)) (seen view.now)) }
+    ensures ok { (k : Known)
+        → IfOk result (λ next. seen next ≡ past (select_list (option_map (map (item_part k)) items.now)) (seen view.now)) }
     ensures err { IfErr result (λ refusal. refusal ≡ Memory) }
 {
     past(view, count_in_items(items))

@@ -1,4 +1,5 @@
--- What a cutter knows of a piece after its first bytes: what the piece asks for, by the bytes that are still to come.
+-- What a cutter knows of a piece after its first bytes: what the piece asks for, by the bytes that
+-- are still to come.
 use Rattle.std.specs.Prelude.{◌≡◌, ◌≢◌, ◌⊎◌, ℕ, ◌≤◌, true, None, Some, min, List, [], ◌∷◌, ◌++◌, All, take, codes}
 use Rattle.std.specs.Str.Parse.{digits_value}
 use Rattle.script_pieces.specs.declared.place.Place.{Place}
@@ -17,7 +18,8 @@ use Rattle.script_pieces.specs.Place.{is_outside, place_after, LeadsTo}
 abbrev pub MayGoOn : Place → ℕ → Type 0
 MayGoOn place b = is_outside place ≡ true → b ≢ semicolon
 
--- what was read last and is no white space yet: a minus that may begin a comment, or a comment that has not ended
+-- what was read last and is no white space yet: a minus that may begin a comment, or a comment that
+-- has not ended
 abbrev pub IsPending : Place → List ℕ → Type 0
 IsPending Outside bytes = bytes ≡ []
 IsPending AfterMinus bytes = bytes ≡ minus ∷ []
@@ -43,13 +45,15 @@ pub record AreDigits (value : ℕ) (digits : List ℕ) : Type 0 where
   pub decimal : All IsDigit digits
   pub valued : min 65 (digits_value 10 digits) ≡ value
 
--- a piece that was read up to this place and stage, with this much of its text, asks for the request if `rest` follows
+-- a piece that was read up to this place and stage, with this much of its text, asks for the
+-- request if `rest` follows
 abbrev pub WouldAsk : Place → Stage → List ℕ → List ℕ → meaning.Request → Type 0
 WouldAsk place Blank text rest request =
     text ≡ [] → (pending : List ℕ) → IsPending place pending → Asks (pending ++ rest) request
 WouldAsk place At text rest request = text ≡ [] → place ≡ Outside → BodyAsks (at_sign ∷ rest) request
 WouldAsk place (Digits value) text rest request =
-    text ≡ [] → place ≡ Outside → (digits : List ℕ) → AreDigits value digits → BodyAsks (at_sign ∷ (digits ++ rest)) request
+    text ≡ [] → place ≡ Outside → (digits : List ℕ) → AreDigits value digits
+    → BodyAsks (at_sign ∷ (digits ++ rest)) request
 WouldAsk place (Flush letters) text rest request =
     place ≡ Outside → 1 ≤ letters → letters ≤ 4 → BodyAsks (at_sign ∷ (take letters (codes "flush") ++ rest)) request
 WouldAsk place AfterFlush text rest request =
@@ -60,7 +64,8 @@ WouldAsk place (Text None) text rest request = request ≡ meaning.Calls (text_o
 WouldAsk place (Text (Some session)) text rest request = request ≡ meaning.ChoosesAndCalls session (text_of_call (text ++ rest))
 WouldAsk place Wrong text rest request = request ≡ meaning.Wrong
 
--- with this byte the one stage and its text become the other: what follows then would ask for, the byte and it would ask for before
+-- with this byte the one stage and its text become the other: what follows then would ask for, the
+-- byte and it would ask for before
 abbrev pub Steps : Place → Stage → List ℕ → ℕ → Stage → List ℕ → Type 0
 Steps place stage text b next_stage next_text =
     (rest : List ℕ) (request : meaning.Request) → WouldAsk (place_after place b) next_stage next_text rest request

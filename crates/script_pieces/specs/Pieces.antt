@@ -1,5 +1,6 @@
 -- Pieces of an input: where each ends, and what it stands for.
--- That a semicolon ends a statement given directly is SQL-92, 20.1; `@k` and `@flush` are our own choice.
+-- That a semicolon ends a statement given directly is SQL-92, 20.1; `@k` and `@flush` are our own
+-- choice.
 use Rattle.std.specs.Prelude.{◌≡◌, ◌≢◌, ◌⊎◌, ℕ, List, [], ◌∷◌, ◌++◌, Contains}
 
 -- the codes that decide where a piece ends
@@ -34,7 +35,8 @@ pub record IsComment (bytes following : List ℕ) : Type 0 where
 abbrev pub BeginsComment : List ℕ → Type 0
 BeginsComment bytes = (inside : List ℕ) × (bytes ≡ minus ∷ minus ∷ inside)
 
--- between `bytes` and what follows stand whole strings, whole comments, and other bytes but semicolons
+-- between `bytes` and what follows stand whole strings, whole comments, and other bytes but
+-- semicolons
 pub data Passes : List ℕ → List ℕ → Type 0 where
   here : (bytes : List ℕ) → Passes bytes bytes
   string : (bytes following rest : List ℕ) → IsString bytes following → Passes following rest → Passes bytes rest

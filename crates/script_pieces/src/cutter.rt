@@ -45,7 +45,8 @@ impl Cutter {
         self.text.clear();
     }
 
-    /// Takes the next byte, and says what the piece asks for where this byte ends it; `text` is then the text of its call.
+    /// Takes the next byte, and says what the piece asks for where this byte ends it; `text` is
+    /// then the text of its call.
     pub fn take(&mut self, byte: u8) -> Option<Request>
         ensures goes_on { IfNone result (GoesOn self.old byte self.new) }
         ensures ends { IfSome result (λ request. EndsAt self.old byte request self.new) }

@@ -54,7 +54,8 @@ impl Place {
         matches!(self, Place::AfterMinus)
     }
 
-    /// Whether white space and comments up to here go on with this byte: a minus may begin a comment.
+    /// Whether white space and comments up to here go on with this byte: a minus may begin a
+    /// comment.
     pub(crate) fn goes_on_blank(self, byte: u8) -> bool
         ensures { result ≡ goes_on_blank self byte }
     {

@@ -33,7 +33,8 @@ const FLUSH: &[u8] = b"flush";
 /// The greatest number of a session.
 const GREATEST_SESSION: usize = 64;
 
-/// The stage after a byte that does not end the piece, which goes to the text where it belongs to a call's.
+/// The stage after a byte that does not end the piece, which goes to the text where it belongs to a
+/// call's.
 pub(crate) fn stage_after(place: Place, stage: Stage, text: &mut TextBuffer, byte: u8) -> Stage
     requires { MayGoOn place byte }
     ensures { Steps place stage text.old byte result text.new }
@@ -99,7 +100,8 @@ fn after_digits(place: Place, value: usize, text: &mut TextBuffer, byte: u8) -> 
 }
 
 fn after_letters(letters: usize, byte: u8) -> Stage
-    ensures { (place : Place) (text : List ℕ) → MayGoOn place byte → Steps place (Stage.Flush letters) text byte result text }
+    ensures { (place : Place) (text : List ℕ) → MayGoOn place byte
+        → Steps place (Stage.Flush letters) text byte result text }
 {
     if letters >= FLUSH.len() {
         return Stage::Wrong;
@@ -139,7 +141,8 @@ fn after_session(place: Place, session: usize, text: &mut TextBuffer, byte: u8) 
 
 /// What the piece asks for where it ends here: a minus at its end is none of a comment.
 pub(crate) fn request_at_end(place: Place, stage: Stage, text: &mut TextBuffer) -> Request
-    ensures { (tail : List ℕ) → IsEnd place tail → WouldAsk place stage text.old tail (asked result (text_of_call (text.new ++ tail))) }
+    ensures { (tail : List ℕ) → IsEnd place tail
+        → WouldAsk place stage text.old tail (asked result (text_of_call (text.new ++ tail))) }
 {
     if place.is_after_minus() {
         request_after_minus(place, stage, text)
@@ -150,7 +153,8 @@ pub(crate) fn request_at_end(place: Place, stage: Stage, text: &mut TextBuffer) 
 
 fn request_after_minus(place: Place, stage: Stage, text: &mut TextBuffer) -> Request
     requires { place ≡ Place.AfterMinus }
-    ensures { (tail : List ℕ) → IsEnd place tail → WouldAsk place stage text.old tail (asked result (text_of_call (text.new ++ tail))) }
+    ensures { (tail : List ℕ) → IsEnd place tail
+        → WouldAsk place stage text.old tail (asked result (text_of_call (text.new ++ tail))) }
 {
     match stage {
         Stage::Blank => {
@@ -166,7 +170,8 @@ fn request_after_minus(place: Place, stage: Stage, text: &mut TextBuffer) -> Req
 
 fn request_after(place: Place, stage: Stage) -> Request
     requires { place ≢ Place.AfterMinus }
-    ensures { (text tail : List ℕ) → IsEnd place tail → WouldAsk place stage text tail (asked result (text_of_call (text ++ tail))) }
+    ensures { (text tail : List ℕ) → IsEnd place tail
+        → WouldAsk place stage text tail (asked result (text_of_call (text ++ tail))) }
 {
     match stage {
         Stage::Blank => Request::Nothing,
@@ -182,7 +187,8 @@ fn request_after(place: Place, stage: Stage) -> Request
 
 /// The choice of the session of this number.
 fn choice(number: usize) -> Request
-    ensures { (place : Place) (text tail call : List ℕ) → IsEnd place tail → WouldAsk place (Stage.Digits number) text tail (asked result call) }
+    ensures { (place : Place) (text tail call : List ℕ) → IsEnd place tail
+        → WouldAsk place (Stage.Digits number) text tail (asked result call) }
 {
     if is_session(number) {
         Request::Chooses(number)

@@ -17,7 +17,8 @@ numbers_some : (places : Places) (i : ℕ) (session : SessionId) → i < length 
 numbers_some places i session within is =
     ap numbers_of (drop-cons places i None within ∙ ap (λ x. x ∷ drop (suc i) places) is) ∙ ap (λ n. number_of session ∷ numbers_of (drop n places)) (sym (add-one i))
 
--- The sessions in the places from this one on stand in this world, and where these end, all have ended.
+-- The sessions in the places from this one on stand in this world, and where these end, all have
+-- ended.
 pub record EndsFrom (start : World) (places : Places) (i : ℕ) (w : World) : Type 0 where
   pub live : AreLive w (numbers_of (drop i places))
   pub ends : (new : World) → EndsSessions w (numbers_of (drop i places)) new → EndsSessions start (numbers_of places) new

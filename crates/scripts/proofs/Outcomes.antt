@@ -37,7 +37,8 @@ module _ {S L D : Type 0} (is_sound : S → Type 0) (shows : S → Stored) where
       → IsKeptBy is_sound shows known old → IsKeptBy is_sound shows known new
   kept_on known old new keeps kept = λ rules is. ((kept rules is).0, keeps rules (kept rules is).0 (kept rules is).1)
 
--- ---- what was shown; the count of refused calls was m when the script ended, and is n when its sessions have
+-- ---- what was shown; the count of refused calls was m when the script ended, and is n when its
+-- sessions have
 
 module _ (start : Start) (left : Option (List ℕ)) (w : World) (sessions : Sessions) (holds : Option (List ℕ)) (m n : ℕ) where
   unfoldable pub shows_pieces : (cuts : List ℕ → List (List ℕ) → Type 0) → HasPrinted start cuts left w sessions holds m → m ≤ n

@@ -23,6 +23,7 @@ shows_disk None = false
 abbrev pub disk_count : List (Option Reply) → ℕ
 disk_count = count_by shows_disk
 
--- Each X0002 among these replies has a refused call of its own: the count of refused calls rose by as many from the one to the other, or stands at its greatest.
+-- Each X0002 among these replies has a refused call of its own: the count of refused calls rose by
+-- as many from the one to the other, or stands at its greatest.
 abbrev pub TellDevice : List (Option Reply) → ℕ → ℕ → Type 0
 TellDevice replies before after = min (disk_count replies + before) (2 ^ 64 - 1) ≤ after

@@ -1,4 +1,5 @@
--- Which replies tell a limit of what the store counts, its pages, private pages or kept page images, and to which pieces they come.
+-- Which replies tell a limit of what the store counts, its pages, private pages or kept page
+-- images, and to which pieces they come.
 use Rattle.std.specs.Prelude.{ℕ, ◌≤◌, List, [], ◌∷◌, Option, Some, None}
 use Rattle.lexer.specs.Token.{Bytes}
 use Rattle.replies.specs.declared.reply.Reply.{Reply}
@@ -15,7 +16,9 @@ Ever commits = Unit {0}
 abbrev pub UpTo : ℕ → ℕ → Type 0
 UpTo last commits = commits ≤ last
 
--- The text is a change, which may reach each of them, or a COMMIT, which takes no private page, and reaches the limit of pages only where the number of commits ends. `may` says after how many commits.
+-- The text is a change, which may reach each of them, or a COMMIT, which takes no private page, and
+-- reaches the limit of pages only where the number of commits ends. `may` says after how many
+-- commits.
 abbrev pub MayReach : (ℕ → Type 0) → Bytes → StoreLimit → Type 0
 MayReach may text which = (commits : ℕ) × may commits × CallReaches (λ _. Unit {0}) commits text which
 

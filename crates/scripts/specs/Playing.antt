@@ -1,4 +1,5 @@
--- Where a script stands between its pieces: words of the proof, of which none stands in the contract of `run`.
+-- Where a script stands between its pieces: words of the proof, of which none stands in the
+-- contract of `run`.
 use Rattle.std.specs.Prelude.{◌≡◌, ◌≢◌, ◌<◌, ◌≤◌, ◌||◌, ℕ, ◌+◌, Bool, true, false, List, [], ◌∷◌, ◌++◌, get_or, length, slice_set, Option, Some, None, Ok, Err}
 use Rattle.std.specs.Option.{ForSome}
 use Rattle.std.specs.Ordering.{nat_cmp}
@@ -29,7 +30,8 @@ use Rattle.scripts.specs.Shown.{Prints, AreReplied}
 
 -- ---- the sessions of a script
 
--- the sessions that were made, by their numbers in the script; the first place is that of this number
+-- the sessions that were made, by their numbers in the script; the first place is that of this
+-- number
 abbrev pub standing_from : ℕ → Places → FinMap nat_cmp ℕ
 standing_from k [] = empty
 standing_from k (None ∷ places) = standing_from (k + 1) places
@@ -61,9 +63,12 @@ pub record IsReady (w : World) (sessions : Sessions) : Type 0 where
 
 -- The session that is chosen stood already, or was made.
 pub data FindsSession (old : World) (before : Sessions) (session : SessionId) (new : World) (after : Sessions) : Type 0 where
-  stood : get_or before.standing before.chosen None ≡ Some session → new ≡ old → after ≡ before → FindsSession old before session new after
-  made : before.chosen < length before.standing → get_or before.standing before.chosen None ≡ None → MakesSession old (Ok (number_of session)) new
-      → after ≡ record before { standing = slice_set before.standing before.chosen (Some session) } → FindsSession old before session new after
+  stood : get_or before.standing before.chosen None ≡ Some session → new ≡ old → after ≡ before
+      → FindsSession old before session new after
+  made : before.chosen < length before.standing → get_or before.standing before.chosen None ≡ None
+      → MakesSession old (Ok (number_of session)) new
+      → after ≡ record before { standing = slice_set before.standing before.chosen (Some session) }
+      → FindsSession old before session new after
 
 -- It did not stand, and was not made.
 pub record FindsNone (old : World) (before : Sessions) (refusal : Refusal) (new : World) (after : Sessions) : Type 0 where
@@ -73,14 +78,16 @@ pub record FindsNone (old : World) (before : Sessions) (refusal : Refusal) (new 
 
 -- ---- a piece
 
--- A piece was carried out, and its reply written: all of it where the writer did not refuse. The device had refused m calls before, and has refused n then. Where rules are known, what the
--- piece asks for was done by them.
+-- A piece was carried out, and its reply written: all of it where the writer did not refuse. The
+-- device had refused m calls before, and has refused n then. Where rules are known, what the piece
+-- asks for was done by them.
 pub record IsCarriedOut (known : Option Rules) (piece : List ℕ) (old : World) (before : Sessions) (new : World) (after : Sessions) (held holds : Option (List ℕ)) (m n : ℕ) (is_done : Bool) : Type 0 where
   pub request : Request
   pub asks : Asks piece request
   pub reply : Option Reply
   pub prints : Prints request reply
-  pub performs : ForSome known (λ rules. IsReady old before → Performs rules (scene_of old before) request reply (scene_of new after) × IsReady new after)
+  pub performs : ForSome known (λ rules. IsReady old before
+      → Performs rules (scene_of old before) request reply (scene_of new after) × IsReady new after)
   pub answer : after.refused ≡ (before.refused || is_refused reply)
   pub written : Writes held holds is_done (printed_replies (reply ∷ []))
   pub device : shows_disk reply ≡ true → HasRisen m n
@@ -109,7 +116,8 @@ pub record HasCut (input : List ℕ) (pieces : List (List ℕ)) (cutter : Cutter
   pub ended : AreEndedPieces pieces
   pub has_read : HasRead bytes cutter
 
--- What a script begins with: the rules that are known, if any; the world; what the reader gives and the writer holds; and how many calls the device has refused.
+-- What a script begins with: the rules that are known, if any; the world; what the reader gives and
+-- the writer holds; and how many calls the device has refused.
 pub record Start : Type 0 where
   pub known : Option Rules
   pub world : World
@@ -117,7 +125,9 @@ pub record Start : Type 0 where
   pub held : Option (List ℕ)
   pub refused : ℕ
 
--- These pieces were carried out, and of the text that they print `unwritten` was not written, which is the last one's. Where rules are known, it was done by them. The device has refused `count` calls.
+-- These pieces were carried out, and of the text that they print `unwritten` was not written, which
+-- is the last one's. Where rules are known, it was done by them. The device has refused `count`
+-- calls.
 pub record HasPlayed (start : Start) (pieces : List (List ℕ)) (unwritten : List ℕ) (w : World) (sessions : Sessions) (holds : Option (List ℕ)) (count : ℕ) : Type 0 where
   pub replies : List (Option Reply)
   pub replied : AreReplied pieces replies

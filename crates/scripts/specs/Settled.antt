@@ -35,7 +35,8 @@ Places = List (Option SessionId)
 
 -- the session of this number stands in a place
 pub data IsIn (places : Places) (k : ℕ) : Type 0 where
-  at_place : (place : ℕ) (session : SessionId) → slice_get places place ≡ Some (Some session) → number_of session ≡ k → IsIn places k
+  at_place : (place : ℕ) (session : SessionId) → slice_get places place ≡ Some (Some session) → number_of session ≡ k
+      → IsIn places k
 
 -- each session that stands is in a place
 abbrev pub HoldAll : Places → World → Type 0

@@ -1,4 +1,5 @@
--- What a script shows over any store, sound or not: what it reads, which pieces have a reply, what is written of them, and what the replies may tell.
+-- What a script shows over any store, sound or not: what it reads, which pieces have a reply, what
+-- is written of them, and what the replies may tell.
 use Rattle.std.specs.Prelude.{◌≡◌, ℕ, Bool, List, [], ◌∷◌, ◌++◌, Option, Some, None, IsSome}
 use Rattle.std.specs.Io.KnownBytes.{Appends, Consumes, IsAtEnd, Keeps}
 use Rattle.refusals.specs.declared.refusal.Refusal.TheVariants.{Invalid}
@@ -16,7 +17,8 @@ use Rattle.scripts.specs.Played.{Streams, ArePiecesSoFar, AreWrittenButLast}
 
 -- ---- replies
 
--- What is printed for a request: nothing where it asks for nothing or only chooses a session, and otherwise one reply.
+-- What is printed for a request: nothing where it asks for nothing or only chooses a session, and
+-- otherwise one reply.
 abbrev pub Prints : Request → Option Reply → Type 0
 Prints Request.Nothing printed = printed ≡ None
 Prints (Request.Chooses k) printed = printed ≡ None
@@ -36,9 +38,11 @@ AreReplied (piece ∷ pieces) (reply ∷ replies) = IsReplied piece reply × Are
 AreReplied [] (reply ∷ replies) = ⊥
 AreReplied (piece ∷ pieces) [] = ⊥
 
--- ---- a whole run, over a store whose device had refused `before` calls, and has refused `after` then
+-- ---- a whole run, over a store whose device had refused `before` calls, and has refused `after`
+-- then
 
--- What was read has these pieces, as `cuts` says. Each has its reply, and the text that these print was written. They tell the device's refusals and the store's limits only where these may be told.
+-- What was read has these pieces, as `cuts` says. Each has its reply, and the text that these print
+-- was written. They tell the device's refusals and the store's limits only where these may be told.
 pub record ShowsPieces (cuts : List ℕ → List (List ℕ) → Type 0) (streams : Streams) (before after : ℕ) : Type 0 where
   pub input : List ℕ
   pub read : Consumes streams.given streams.left input
@@ -50,13 +54,15 @@ pub record ShowsPieces (cuts : List ℕ → List (List ℕ) → Type 0) (streams
   pub device : TellDevice replies before after
   pub limits : TellLimits Ever pieces replies
 
--- The input was read to its end, all its pieces have their replies, and the answer tells whether one of these is a refusal.
+-- The input was read to its end, all its pieces have their replies, and the answer tells whether
+-- one of these is a refusal.
 pub record ShowsWhole (streams : Streams) (before : ℕ) (refused : Bool) (after : ℕ) : Type 0 where
   pub all : IsAtEnd streams.left
   pub shown : ShowsPieces ArePieces streams before after
   pub answer : refused ≡ has_refusal shown.replies
 
--- The writer refused: some pieces have their replies and none behind them, and a beginning of the text was written, all of it but of the last reply.
+-- The writer refused: some pieces have their replies and none behind them, and a beginning of the
+-- text was written, all of it but of the last reply.
 pub record ShowsSome (streams : Streams) (before after : ℕ) : Type 0 where
   pub input : List ℕ
   pub read : Consumes streams.given streams.left input

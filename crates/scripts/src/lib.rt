@@ -1,4 +1,5 @@
-//! Scripts: the pieces of an input, carried out in order as calls of the sessions of a core over any store.
+//! Scripts: the pieces of an input, carried out in order as calls of the sessions of a core over
+//! any store.
 #![tactic(auto)]
 
 mod script;

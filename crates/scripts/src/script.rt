@@ -55,14 +55,16 @@ struct Sessions {
     refused: bool,
 }
 
-/// Reads a script, makes the calls of its pieces in order and prints each reply; then ends its sessions.
+/// Reads a script, makes the calls of its pieces in order and prints each reply; then ends its
+/// sessions.
 ///
-/// The answer tells whether a reply was a refusal. After a fault of the reader only the pieces that ended
-/// before it were carried out, and after one of the writer no later piece; of the text of the replies a beginning
-/// was then written. Without memory nothing is read, written or called. A read or a write that was interrupted is
-/// tried again. However it ends, what is not committed is rolled back: where no session stood before, none stands
-/// after it. Each reply X0002 has a call of its own that the device refused; the limits `pages`, `private` and
-/// `kept` are told only of a change, or of a COMMIT.
+/// The answer tells whether a reply was a refusal. After a fault of the reader only the pieces that
+/// ended before it were carried out, and after one of the writer no later piece; of the text of the
+/// replies a beginning was then written. Without memory nothing is read, written or called. A read
+/// or a write that was interrupted is tried again. However it ends, what is not committed is rolled
+/// back: where no session stood before, none stands after it. Each reply X0002 has a call of its
+/// own that the device refused; the limits `pages`, `private` and `kept` are told only of a change,
+/// or of a COMMIT.
 pub fn run<S: Store, L: Language + Changes<S>, R: Read, W: Write>(
     alloc: Global,
     core: &mut Core<S, L>,
@@ -79,11 +81,14 @@ pub fn run<S: Store, L: Language + Changes<S>, R: Read, W: Write>(
     ensures stopped { (rules : Rules) → AreRules rules → IsSettled S.is_sound S.shows rules.check core.old
         → IfErr result (λ fault. RunsInPart rules (between (R.remaining reader.old) (R.remaining reader.new) (W.contents writer.old) (W.contents writer.new)) (world_of S.shows core.old)
         (S.refused (store_of core.old)) fault (world_of S.shows core.new) (S.refused (store_of core.new))) }
-    ensures untouched { IfErr result (λ fault. fault ≡ ScriptFault.Memory → (reader.new ≡ reader.old) × (writer.new ≡ writer.old) × (core.new ≡ core.old)) }
+    ensures untouched { IfErr result (λ fault. fault ≡ ScriptFault.Memory
+        → (reader.new ≡ reader.old) × (writer.new ≡ writer.old) × (core.new ≡ core.old)) }
     ensures tried_again { IfErr result IsNotInterrupted }
     ensures ended { HasNoSession (world_of S.shows core.old) → HasNoSession (world_of S.shows core.new) }
-    ensures settled { (rules : Rules) → AreRules rules → IsSettled S.is_sound S.shows rules.check core.old → IsSettled S.is_sound S.shows rules.check core.new }
-    ensures committed { (rules : Rules) → AreRules rules → IsSettled S.is_sound S.shows rules.check core.old → IsCommitted S.shows core.new }
+    ensures settled { (rules : Rules) → AreRules rules → IsSettled S.is_sound S.shows rules.check core.old
+        → IsSettled S.is_sound S.shows rules.check core.new }
+    ensures committed { (rules : Rules) → AreRules rules → IsSettled S.is_sound S.shows rules.check core.old
+        → IsCommitted S.shows core.new }
     ensures counts { S.refused (store_of core.old) ≤ S.refused (store_of core.new) }
 {
     let mut cutter = match Cutter::new(alloc) {
@@ -104,8 +109,8 @@ pub fn run<S: Store, L: Language + Changes<S>, R: Read, W: Write>(
     }
 }
 
-/// Carries out all the pieces that the reader gives. `waits` is whether the writer may hold text that it has not passed on: never where
-/// the reader is asked for more, nor at the end.
+/// Carries out all the pieces that the reader gives. `waits` is whether the writer may hold text
+/// that it has not passed on: never where the reader is asked for more, nor at the end.
 fn play<S: Store, L: Language + Changes<S>, R: Read, W: Write>(
     core: &mut Core<S, L>,
     cutter: &mut Cutter,
@@ -121,8 +126,10 @@ fn play<S: Store, L: Language + Changes<S>, R: Read, W: Write>(
         → MatchResult result (λ _. HasEnded start (R.remaining reader.new) (world_of S.shows core.new) sessions.new (W.contents writer.new) (S.refused (store_of core.new)))
         (λ fault. HasFailed start fault (R.remaining reader.new) (world_of S.shows core.new) sessions.new (W.contents writer.new) (S.refused (store_of core.new))) }
     ensures tried_again { IfErr result IsNotInterrupted }
-    ensures kept { (rules : Rules) → AreRules rules → IsKept S.is_sound S.shows rules.check core.old → IsKept S.is_sound S.shows rules.check core.new }
-    ensures held { HoldAll sessions.old.standing (world_of S.shows core.old) → HoldAll sessions.new.standing (world_of S.shows core.new) }
+    ensures kept { (rules : Rules) → AreRules rules → IsKept S.is_sound S.shows rules.check core.old
+        → IsKept S.is_sound S.shows rules.check core.new }
+    ensures held { HoldAll sessions.old.standing (world_of S.shows core.old)
+        → HoldAll sessions.new.standing (world_of S.shows core.new) }
     ensures counts { S.refused (store_of core.old) ≤ S.refused (store_of core.new) }
 {
     let mut chunk = [0u8; CHUNK];
@@ -136,7 +143,8 @@ fn play<S: Store, L: Language + Changes<S>, R: Read, W: Write>(
     Err(ScriptFault::Reader(io::Error::from(ErrorKind::TimedOut)))
 }
 
-/// Reads once, and carries out the pieces that end in what was read. The answer is whether the input may go on.
+/// Reads once, and carries out the pieces that end in what was read. The answer is whether the
+/// input may go on.
 fn turn<S: Store, L: Language + Changes<S>, R: Read, W: Write>(
     core: &mut Core<S, L>,
     cutter: &mut Cutter,
@@ -155,8 +163,10 @@ fn turn<S: Store, L: Language + Changes<S>, R: Read, W: Write>(
         (λ fault. HasFailed start fault (R.remaining reader.new) (world_of S.shows core.new) sessions.new (W.contents writer.new) (S.refused (store_of core.new))) }
     ensures tried_again { IfErr result IsNotInterrupted }
     ensures room { length chunk.new ≡ length chunk.old }
-    ensures kept { (rules : Rules) → AreRules rules → IsKept S.is_sound S.shows rules.check core.old → IsKept S.is_sound S.shows rules.check core.new }
-    ensures held { HoldAll sessions.old.standing (world_of S.shows core.old) → HoldAll sessions.new.standing (world_of S.shows core.new) }
+    ensures kept { (rules : Rules) → AreRules rules → IsKept S.is_sound S.shows rules.check core.old
+        → IsKept S.is_sound S.shows rules.check core.new }
+    ensures held { HoldAll sessions.old.standing (world_of S.shows core.old)
+        → HoldAll sessions.new.standing (world_of S.shows core.new) }
     ensures counts { S.refused (store_of core.old) ≤ S.refused (store_of core.new) }
 {
     match read_some(reader, chunk) {
@@ -185,8 +195,10 @@ fn play_last<S: Store, L: Language + Changes<S>, W: Write>(
         → IsPlaying start input (world_of S.shows core.old) cutter.old sessions.old (W.contents writer.old) (S.refused (store_of core.old))
         → HasFinished start input (is_ok result) (world_of S.shows core.new) sessions.new (W.contents writer.new) (S.refused (store_of core.new)) }
     ensures tried_again { IfErr result IsNoInterruption }
-    ensures kept { (rules : Rules) → AreRules rules → IsKept S.is_sound S.shows rules.check core.old → IsKept S.is_sound S.shows rules.check core.new }
-    ensures held { HoldAll sessions.old.standing (world_of S.shows core.old) → HoldAll sessions.new.standing (world_of S.shows core.new) }
+    ensures kept { (rules : Rules) → AreRules rules → IsKept S.is_sound S.shows rules.check core.old
+        → IsKept S.is_sound S.shows rules.check core.new }
+    ensures held { HoldAll sessions.old.standing (world_of S.shows core.old)
+        → HoldAll sessions.new.standing (world_of S.shows core.new) }
     ensures counts { S.refused (store_of core.old) ≤ S.refused (store_of core.new) }
 {
     let last = cutter.finish();
@@ -254,8 +266,10 @@ fn play_bytes<S: Store, L: Language + Changes<S>, W: Write>(
         (λ _. IsPlaying start (input ++ bytes.now) (world_of S.shows core.new) cutter.new sessions.new (W.contents writer.new) (S.refused (store_of core.new)))
         (λ _. HasStopped start (AreEnded (input ++ bytes.now)) (world_of S.shows core.new) sessions.new (W.contents writer.new) (S.refused (store_of core.new))) }
     ensures tried_again { IfErr result IsNoInterruption }
-    ensures kept { (rules : Rules) → AreRules rules → IsKept S.is_sound S.shows rules.check core.old → IsKept S.is_sound S.shows rules.check core.new }
-    ensures held { HoldAll sessions.old.standing (world_of S.shows core.old) → HoldAll sessions.new.standing (world_of S.shows core.new) }
+    ensures kept { (rules : Rules) → AreRules rules → IsKept S.is_sound S.shows rules.check core.old
+        → IsKept S.is_sound S.shows rules.check core.new }
+    ensures held { HoldAll sessions.old.standing (world_of S.shows core.old)
+        → HoldAll sessions.new.standing (world_of S.shows core.new) }
     ensures counts { S.refused (store_of core.old) ≤ S.refused (store_of core.new) }
 {
     for byte in bytes {
@@ -279,12 +293,15 @@ fn carry_out_piece<S: Store, L: Language + Changes<S>, W: Write>(
     waits: &mut bool,
 ) -> io::Result<()>
     ensures told { waits.new ≡ false → writer.new ≡ writer.old }
-    ensures carries_out { (known : Option Rules) (piece : List ℕ) → IsKeptBy S.is_sound S.shows known core.old → Asks piece (asked request (call_text cutter.now))
+    ensures carries_out { (known : Option Rules) (piece : List ℕ) → IsKeptBy S.is_sound S.shows known core.old
+        → Asks piece (asked request (call_text cutter.now))
         → IsCarriedOut known piece (world_of S.shows core.old) sessions.old (world_of S.shows core.new) sessions.new (W.contents writer.old) (W.contents writer.new)
         (S.refused (store_of core.old)) (S.refused (store_of core.new)) (is_ok result) }
     ensures tried_again { IfErr result IsNoInterruption }
-    ensures kept { (rules : Rules) → AreRules rules → IsKept S.is_sound S.shows rules.check core.old → IsKept S.is_sound S.shows rules.check core.new }
-    ensures held { HoldAll sessions.old.standing (world_of S.shows core.old) → HoldAll sessions.new.standing (world_of S.shows core.new) }
+    ensures kept { (rules : Rules) → AreRules rules → IsKept S.is_sound S.shows rules.check core.old
+        → IsKept S.is_sound S.shows rules.check core.new }
+    ensures held { HoldAll sessions.old.standing (world_of S.shows core.old)
+        → HoldAll sessions.new.standing (world_of S.shows core.new) }
     ensures counts { S.refused (store_of core.old) ≤ S.refused (store_of core.new) }
 {
     match reply_to(core, cutter, sessions, request) {
@@ -297,8 +314,9 @@ fn carry_out_piece<S: Store, L: Language + Changes<S>, W: Write>(
     }
 }
 
-/// Carries out what a piece asks for; a choice of a session alone has no reply. After a flush that is not refused nothing is left to write. A reply is X0002 only where the device refused
-/// a call, and a limit of what the store counts is told only of a change or a COMMIT.
+/// Carries out what a piece asks for; a choice of a session alone has no reply. After a flush that
+/// is not refused nothing is left to write. A reply is X0002 only where the device refused a call,
+/// and a limit of what the store counts is told only of a change or a COMMIT.
 fn reply_to<S: Store, L: Language + Changes<S>>(
     core: &mut Core<S, L>,
     cutter: &Cutter,
@@ -306,18 +324,22 @@ fn reply_to<S: Store, L: Language + Changes<S>>(
     request: Request,
 ) -> Option<Reply>
     ensures prints { Prints (asked request (call_text cutter.now)) result }
-    ensures performs { (rules : Rules) (piece : List ℕ) → AreRules rules → IsKept S.is_sound S.shows rules.check core.old
+    ensures performs { (rules : Rules) (piece : List ℕ) → AreRules rules
+        → IsKept S.is_sound S.shows rules.check core.old
         → IsReady (world_of S.shows core.old) sessions.old → Asks piece (asked request (call_text cutter.now))
         → Performs rules (scene_of (world_of S.shows core.old) sessions.old) (asked request (call_text cutter.now)) result (scene_of (world_of S.shows core.new) sessions.new)
         × IsReady (world_of S.shows core.new) sessions.new }
-    ensures flushes { request ≡ Request.Flushes → IfSome result (λ reply. reply ≡ Reply.Done → S.unwritten (store_of core.new) ≡ 0) }
+    ensures flushes { request ≡ Request.Flushes
+        → IfSome result (λ reply. reply ≡ Reply.Done → S.unwritten (store_of core.new) ≡ 0) }
     ensures refused { sessions.new.refused ≡ sessions.old.refused }
     ensures device { IfSome result (λ reply. Counts reply (S.refused (store_of core.old)) (S.refused (store_of core.new))) }
     ensures limits { IfSome result (λ reply. IfRefused reply (TellsReached (RequestReaches Ever (asked request (call_text cutter.now))))) }
     ensures within { (rules : Rules) → AreRules rules → IsKept S.is_sound S.shows rules.check core.old
         → IfSome result (λ reply. IfRefused reply (TellsReached (RequestReaches (UpTo (world_of S.shows core.new).commits) (asked request (call_text cutter.now))))) }
-    ensures kept { (rules : Rules) → AreRules rules → IsKept S.is_sound S.shows rules.check core.old → IsKept S.is_sound S.shows rules.check core.new }
-    ensures held { HoldAll sessions.old.standing (world_of S.shows core.old) → HoldAll sessions.new.standing (world_of S.shows core.new) }
+    ensures kept { (rules : Rules) → AreRules rules → IsKept S.is_sound S.shows rules.check core.old
+        → IsKept S.is_sound S.shows rules.check core.new }
+    ensures held { HoldAll sessions.old.standing (world_of S.shows core.old)
+        → HoldAll sessions.new.standing (world_of S.shows core.new) }
     ensures counts { S.refused (store_of core.old) ≤ S.refused (store_of core.new) }
 {
     match request {
@@ -342,7 +364,8 @@ fn flush_all<S: Store, L: Language + Changes<S>>(core: &mut Core<S, L>) -> Reply
     ensures flushed { result ≡ Reply.Done → S.unwritten (store_of core.new) ≡ 0 }
     ensures device { Counts result (S.refused (store_of core.old)) (S.refused (store_of core.new)) }
     ensures same { world_of S.shows core.new ≡ world_of S.shows core.old }
-    ensures kept { (rules : Rules) → IsKept S.is_sound S.shows rules.check core.old → IsKept S.is_sound S.shows rules.check core.new }
+    ensures kept { (rules : Rules) → IsKept S.is_sound S.shows rules.check core.old
+        → IsKept S.is_sound S.shows rules.check core.new }
     ensures counts { S.refused (store_of core.old) ≤ S.refused (store_of core.new) }
 {
     let mut left = match core.flush() {
@@ -378,22 +401,26 @@ impl Sessions {
         self.refused = self.refused || reply.is_refused();
     }
 
-    /// Calls the chosen session, which is made where it does not stand; where that is refused, the refusal
-    /// is the reply.
+    /// Calls the chosen session, which is made where it does not stand; where that is refused, the
+    /// refusal is the reply.
     fn call<S: Store, L: Language + Changes<S>>(
         &mut self,
         core: &mut Core<S, L>,
         text: &[u8],
     ) -> Reply
-        ensures plays { (rules : Rules) → AreRules rules → IsKept S.is_sound S.shows rules.check core.old → IsReady (world_of S.shows core.old) self.old
-            → Plays rules (scene_of (world_of S.shows core.old) self.old) text.now result (scene_of (world_of S.shows core.new) self.new) × IsReady (world_of S.shows core.new) self.new }
+        ensures plays { (rules : Rules) → AreRules rules → IsKept S.is_sound S.shows rules.check core.old
+            → IsReady (world_of S.shows core.old) self.old
+            → Plays rules (scene_of (world_of S.shows core.old) self.old) text.now result (scene_of (world_of S.shows core.new) self.new)
+            × IsReady (world_of S.shows core.new) self.new }
         ensures refused { self.new.refused ≡ self.old.refused }
         ensures device { Counts result (S.refused (store_of core.old)) (S.refused (store_of core.new)) }
         ensures limits { IfRefused result (TellsReached (MayReach Ever text.now)) }
         ensures within { (rules : Rules) → AreRules rules → IsKept S.is_sound S.shows rules.check core.old
             → IfRefused result (TellsReached (MayReach (UpTo (world_of S.shows core.new).commits) text.now)) }
-        ensures kept { (rules : Rules) → AreRules rules → IsKept S.is_sound S.shows rules.check core.old → IsKept S.is_sound S.shows rules.check core.new }
-        ensures held { HoldAll self.old.standing (world_of S.shows core.old) → HoldAll self.new.standing (world_of S.shows core.new) }
+        ensures kept { (rules : Rules) → AreRules rules → IsKept S.is_sound S.shows rules.check core.old
+            → IsKept S.is_sound S.shows rules.check core.new }
+        ensures held { HoldAll self.old.standing (world_of S.shows core.old)
+            → HoldAll self.new.standing (world_of S.shows core.new) }
         ensures counts { S.refused (store_of core.old) ≤ S.refused (store_of core.new) }
     {
         databases_stay_good();
@@ -414,8 +441,10 @@ impl Sessions {
         ensures refused { self.new.refused ≡ self.old.refused }
         ensures device { IfErr result (λ refusal. refusal ≢ Disk) }
         ensures limits { IfErr result TellsNoLimit }
-        ensures kept { (rules : Rules) → AreRules rules → IsKept S.is_sound S.shows rules.check core.old → IsKept S.is_sound S.shows rules.check core.new }
-        ensures held { HoldAll self.old.standing (world_of S.shows core.old) → HoldAll self.new.standing (world_of S.shows core.new) }
+        ensures kept { (rules : Rules) → AreRules rules → IsKept S.is_sound S.shows rules.check core.old
+            → IsKept S.is_sound S.shows rules.check core.new }
+        ensures held { HoldAll self.old.standing (world_of S.shows core.old)
+            → HoldAll self.new.standing (world_of S.shows core.new) }
         ensures counts { S.refused (store_of core.old) ≤ S.refused (store_of core.new) }
     {
         if self.chosen >= SESSIONS {
@@ -437,8 +466,10 @@ impl Sessions {
     fn end<S: Store, L: Language + Changes<S>>(&self, core: &mut Core<S, L>)
         ensures ends { AreLive (world_of S.shows core.old) (numbers_of self.now.standing)
             → EndsSessions (world_of S.shows core.old) (numbers_of self.now.standing) (world_of S.shows core.new) }
-        ensures kept { (rules : Rules) → AreRules rules → IsKept S.is_sound S.shows rules.check core.old → IsKept S.is_sound S.shows rules.check core.new }
-        ensures ended { HoldAll self.now.standing (world_of S.shows core.old) → HasNoSession (world_of S.shows core.new) }
+        ensures kept { (rules : Rules) → AreRules rules → IsKept S.is_sound S.shows rules.check core.old
+            → IsKept S.is_sound S.shows rules.check core.new }
+        ensures ended { HoldAll self.now.standing (world_of S.shows core.old)
+            → HasNoSession (world_of S.shows core.new) }
         ensures counts { S.refused (store_of core.old) ≤ S.refused (store_of core.new) }
     {
         for slot in &self.standing {

@@ -8,13 +8,15 @@ use Rattle.denote.specs.Bag.{Permutes}
 use Rattle.denote.specs.Outcome.{OrderedOutcome}
 use Rattle.session_definitions.specs.World.{Cursor}
 
--- All rows of an outcome in an order in which a cursor may give them: sorted by the order keys where there are no faults, so that
--- they answer the outcome; and in any order where there are some (our own choice).
+-- All rows of an outcome in an order in which a cursor may give them: sorted by the order keys
+-- where there are no faults, so that they answer the outcome; and in any order where there are some
+-- (our own choice).
 pub record IsWhole (o : OrderedOutcome) (rows : List Row) : Type 0 where
   pub bag : Permutes o.unordered.rows rows
   pub sorted : o.unordered.faults ≡ [] → IsSorted (by_keys o.keys) rows
 
--- The rows begin all rows: without faults they begin an answer, and with faults none comes more often than in the bag.
+-- The rows begin all rows: without faults they begin an answer, and with faults none comes more
+-- often than in the bag.
 pub record Begins (o : OrderedOutcome) (rows : List Row) : Type 0 where
   pub others : List Row
   pub all : IsWhole o (rows ++ others)
@@ -23,7 +25,8 @@ pub record Begins (o : OrderedOutcome) (rows : List Row) : Type 0 where
 abbrev pub MayGive : Cursor → Row → Type 0
 MayGive cursor row = Begins cursor.outcome (cursor.given ++ row ∷ [])
 
--- the end comes only where the rows given are an answer, and so never where there are faults; no row may come there
+-- the end comes only where the rows given are an answer, and so never where there are faults; no
+-- row may come there
 pub record IsAtEnd (cursor : Cursor) : Type 0 where
   pub clean : cursor.outcome.unordered.faults ≡ []
   pub all : IsWhole cursor.outcome cursor.given

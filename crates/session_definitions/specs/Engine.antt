@@ -1,4 +1,5 @@
--- What an engine does: the step, the run and the script over the rules of names and types. All other definitions of sessions take any rules.
+-- What an engine does: the step, the run and the script over the rules of names and types. All
+-- other definitions of sessions take any rules.
 use Rattle.std.specs.Prelude.{ℕ, List}
 use Rattle.lexer.specs.Token.{Bytes}
 use Rattle.replies.specs.declared.reply.Reply.{Reply}
@@ -8,7 +9,8 @@ use Rattle.session_definitions.specs.Script.{IsPlayed}
 use Rattle.session_definitions.specs.Step.{Step}
 use Rattle.session_definitions.specs.World.{World}
 
--- in the session s, in this world, the text may get this reply, and leave the world new (ISO/IEC 9075:1992, 20.1)
+-- in the session s, in this world, the text may get this reply, and leave the world new (ISO/IEC
+-- 9075:1992, 20.1)
 pub record IsStep (old : World) (s : ℕ) (text : Bytes) (reply : Reply) (new : World) : Type 0 where
   pub rules : Rules
   pub are : AreRules rules

@@ -1,4 +1,5 @@
--- Which refusal a fault is, and which refusals may stand in place of nearly any reply. The codes from X0001 on are our own choice.
+-- Which refusal a fault is, and which refusals may stand in place of nearly any reply. The codes
+-- from X0001 on are our own choice.
 use Rattle.std.specs.Prelude.{◌≡◌}
 use Rattle.refusals.specs.declared.refusal.Refusal.{Refusal}
 use Rattle.refusals.specs.declared.refusal.Refusal.TheVariants as refused
@@ -18,7 +19,8 @@ refusal_of fault.DivisionByZero = refused.DivisionByZero
 refusal_of fault.Record = refused.Exceeded limit.Record
 refusal_of fault.Key = refused.Exceeded limit.Key
 
--- pages, private pages and kept page images are counted where they are stored, which the world does not show
+-- pages, private pages and kept page images are counted where they are stored, which the world does
+-- not show
 abbrev pub IsStoreLimit : Limit → Type 0
 IsStoreLimit limit.Pages = Unit {0}
 IsStoreLimit limit.Private = Unit {0}

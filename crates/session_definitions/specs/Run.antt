@@ -1,5 +1,6 @@
--- What happens to an engine over time: calls of sessions, the making and ending of sessions, flushes, and close with a later open
--- (sessions begin and end by 4.30 and 15 of ISO/IEC 9075:1992; flushes, close and open are our own choice).
+-- What happens to an engine over time: calls of sessions, the making and ending of sessions,
+-- flushes, and close with a later open (sessions begin and end by 4.30 and 15 of ISO/IEC 9075:1992;
+-- flushes, close and open are our own choice).
 use Rattle.std.specs.Prelude.{◌≡◌, ◌⊎◌, ℕ, ◌<◌, Bool, true, false, ◌||◌, List, [], ◌∷◌, ◌++◌, map, filter, Result, Ok, Err, Some, None, if◌then◌else◌}
 use Rattle.std.specs.List.{list_all}
 use Rattle.std.specs.FinMap.{get, remove, empty}
@@ -15,8 +16,8 @@ use Rattle.session_definitions.specs.Rules.{Rules}
 use Rattle.session_definitions.specs.Step.{Call}
 use Rattle.session_definitions.specs.World.{Session, World, is_live, is_writer, new_session, opened, with_session}
 
--- An event, with its reply. Of a call its effect is told too: text, reply and world do not always determine it (a FETCH that is refused for want of memory
--- may have closed its cursor or not).
+-- An event, with its reply. Of a call its effect is told too: text, reply and world do not always
+-- determine it (a FETCH that is refused for want of memory may have closed its cursor or not).
 pub data Event : Type 0 where
   Makes : (made : Result ℕ Refusal) → Event
   Calls : (session : ℕ) → (text : Bytes) → (reply : Reply) → (effect : Effect) → Event
@@ -38,10 +39,13 @@ pub record IsLeastFree (w : World) (s : ℕ) : Type 0 where
 abbrev pub IsFull : World → Type 0
 IsFull w = (k : ℕ) → k < most_sessions → is_live w k ≡ true
 
--- a new session gets the least number that no other has; none is made where as many stand as may, or for want of memory
+-- a new session gets the least number that no other has; none is made where as many stand as may,
+-- or for want of memory
 abbrev pub MakesSession : World → Result ℕ Refusal → World → Type 0
 MakesSession old (Ok s) new = IsLeastFree old s × (s < most_sessions) × (new ≡ with_session old s new_session)
-MakesSession old (Err refusal) new = ((IsFull old × (refusal ≡ Exceeded limit.Sessions)) ⊎ ((IsFull old → ⊥) × (refusal ≡ Memory))) × (new ≡ old)
+MakesSession old (Err refusal) new = ((IsFull old × (refusal ≡ Exceeded limit.Sessions))
+    ⊎ ((IsFull old → ⊥) × (refusal ≡ Memory)))
+    × (new ≡ old)
 
 -- the world without a session, whose transaction is rolled back
 abbrev pub without_session : World → ℕ → World
@@ -56,7 +60,8 @@ pub record DropsSession (old : World) (s : ℕ) (new : World) : Type 0 where
 abbrev pub without_sessions : World → World
 without_sessions w = record w { writer = None; sessions = empty }
 
--- a flush writes pages and changes no world; it is refused for want of memory or by the device alone
+-- a flush writes pages and changes no world; it is refused for want of memory or by the device
+-- alone
 abbrev pub FlushesPages : World → Result ℕ Refusal → World → Type 0
 FlushesPages old (Ok left) new = new ≡ old
 FlushesPages old (Err refusal) new = StopsFlush refusal × (new ≡ old)
@@ -80,7 +85,8 @@ pub record Moment : Type 0 where
 -- Events happened one after another, from one world to another. The latest stands first.
 abbrev pub Run : Rules → World → List Moment → World → Type 0
 Run rules start [] end = end ≡ start
-Run rules start (moment ∷ earlier) end = Run rules start earlier moment.before × Happens rules moment.before moment.event end
+Run rules start (moment ∷ earlier) end = Run rules start earlier moment.before
+    × Happens rules moment.before moment.event end
 
 -- what sessions do: they are made, also where that is refused, called, and ended
 abbrev pub is_call : Event → Bool
@@ -103,7 +109,8 @@ is_flush Event.Reopens = false
 abbrev pub calls_of : List Event → List Event
 calls_of = filter is_call
 
--- Calls and flushes, the latest first, can have happened in this order from the one world to the other: a legal history.
+-- Calls and flushes, the latest first, can have happened in this order from the one world to the
+-- other: a legal history.
 pub record IsLegal (rules : Rules) (start : World) (events : List Event) (end : World) : Type 0 where
   pub shared : list_all (λ event. is_call event || is_flush event) events ≡ true
   pub moments : List Moment
@@ -125,7 +132,8 @@ lengthened w (Event.Flushes left) dbs = dbs
 lengthened w (Event.FailsToClose refusal) dbs = dbs
 lengthened w Event.Reopens dbs = w.last ∷ []
 
--- The committed databases since the last open, in the order of their commits; the first is the one that was opened.
+-- The committed databases since the last open, in the order of their commits; the first is the one
+-- that was opened.
 abbrev pub history : World → List Moment → List Database
 history start [] = start.last ∷ []
 history start (moment ∷ earlier) = lengthened moment.before moment.event (history start earlier)

@@ -18,7 +18,8 @@ use Rattle.session_definitions.specs.Run.{MakesSession, DropsSession}
 use Rattle.session_definitions.specs.Step.{Step}
 use Rattle.session_definitions.specs.World.{World}
 
--- Where a script stands: the world, the chosen session's number in the script, and, by these numbers, the sessions that were made.
+-- Where a script stands: the world, the chosen session's number in the script, and, by these
+-- numbers, the sessions that were made.
 pub record Scene : Type 0 where
   pub world : World
   pub chosen : ℕ
@@ -34,14 +35,16 @@ choosing scene k = record scene { chosen = k }
 abbrev pub with_world : Scene → World → Scene
 with_world scene w = record scene { world = w }
 
--- A call of the chosen session, which is made just before it where it does not stand. Where that is refused, the refusal is the
--- reply, and the session still does not stand.
+-- A call of the chosen session, which is made just before it where it does not stand. Where that is
+-- refused, the refusal is the reply, and the session still does not stand.
 pub data Plays (rules : Rules) (old : Scene) (text : Bytes) (reply : Reply) (new : Scene) : Type 0 where
   stands_already : (s : ℕ) (w : World) → get old.standing old.chosen ≡ Some s → Step rules old.world s text reply w
       → new ≡ with_world old w → Plays rules old text reply new
-  made_now : (s : ℕ) (mid w : World) → get old.standing old.chosen ≡ None → MakesSession old.world (Ok s) mid → Step rules mid s text reply w
+  made_now : (s : ℕ) (mid w : World) → get old.standing old.chosen ≡ None → MakesSession old.world (Ok s) mid
+      → Step rules mid s text reply w
       → new ≡ record old { world = w; standing = insert old.standing old.chosen s } → Plays rules old text reply new
-  not_made : (refusal : Refusal) (w : World) → get old.standing old.chosen ≡ None → MakesSession old.world (Err refusal) w
+  not_made : (refusal : Refusal) (w : World) → get old.standing old.chosen ≡ None
+      → MakesSession old.world (Err refusal) w
       → reply ≡ says.Refused refusal → new ≡ with_world old w → Plays rules old text reply new
 
 -- The reply to flushes until no page is left, or until one is refused. They change no world.
@@ -52,9 +55,12 @@ RepliesToFlush reply = (reply ≡ says.Done) ⊎ ((refusal : Refusal) × StopsFl
 abbrev pub Performs : Rules → Scene → Request → Option Reply → Scene → Type 0
 Performs rules old Request.Nothing printed new = (printed ≡ None) × (new ≡ old)
 Performs rules old (Request.Chooses k) printed new = (printed ≡ None) × (new ≡ choosing old k)
-Performs rules old (Request.Calls text) printed new = (reply : Reply) × Plays rules old text reply new × (printed ≡ Some reply)
-Performs rules old (Request.ChoosesAndCalls k text) printed new = (reply : Reply) × Plays rules (choosing old k) text reply new × (printed ≡ Some reply)
-Performs rules old Request.Flushes printed new = (reply : Reply) × RepliesToFlush reply × (printed ≡ Some reply) × (new ≡ old)
+Performs rules old (Request.Calls text) printed new = (reply : Reply) × Plays rules old text reply new
+    × (printed ≡ Some reply)
+Performs rules old (Request.ChoosesAndCalls k text) printed new = (reply : Reply)
+    × Plays rules (choosing old k) text reply new × (printed ≡ Some reply)
+Performs rules old Request.Flushes printed new = (reply : Reply) × RepliesToFlush reply × (printed ≡ Some reply)
+    × (new ≡ old)
 Performs rules old Request.Wrong printed new = (printed ≡ Some (says.Refused (Invalid reason.Session))) × (new ≡ old)
 
 -- whether some reply is a refusal; a piece that is wrong is refused too
@@ -84,7 +90,8 @@ abbrev pub EndsSessions : World → List ℕ → World → Type 0
 EndsSessions old [] new = new ≡ old
 EndsSessions old (s ∷ ss) new = (mid : World) × DropsSession old s mid × EndsSessions mid ss new
 
--- A whole script from a world: its pieces, what it prints, and at its end the sessions that it made end.
+-- A whole script from a world: its pieces, what it prints, and at its end the sessions that it made
+-- end.
 pub record IsPlayed (rules : Rules) (old : World) (pieces : List (List ℕ)) (printed : List ℕ) (new : World) : Type 0 where
   pub scene : Scene
   pub replies : List (Option Reply)
@@ -92,8 +99,8 @@ pub record IsPlayed (rules : Rules) (old : World) (pieces : List (List ℕ)) (pr
   pub text : printed ≡ printed_replies replies
   pub ended : EndsSessions scene.world (values scene.standing) new
 
--- A script whose writer refused: the pieces up to one are carried out, and no later one; a beginning of what they print was written, and at the end the sessions that
--- were made end.
+-- A script whose writer refused: the pieces up to one are carried out, and no later one; a
+-- beginning of what they print was written, and at the end the sessions that were made end.
 pub record IsStopped (rules : Rules) (old : World) (pieces : List (List ℕ)) (written : List ℕ) (new : World) : Type 0 where
   pub done : List (List ℕ)
   pub later : List (List ℕ)

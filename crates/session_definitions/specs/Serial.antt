@@ -1,4 +1,5 @@
--- Serial order: each transaction as if it ran alone, after those before it (ISO/IEC 9075:1992, 4.28, serializable).
+-- Serial order: each transaction as if it ran alone, after those before it (ISO/IEC 9075:1992,
+-- 4.28, serializable).
 use Rattle.std.specs.Prelude.{◌≡◌, ◌⊎◌, ℕ, ◌+◌, ◌==◌, Bool, true, false, List, [], ◌∷◌, Option, Some, None, if◌then◌else◌}
 use Rattle.std.specs.FinMap.{get, insert, empty}
 use Rattle.lexer.specs.Token.{Bytes}
@@ -48,8 +49,9 @@ talk s (moment ∷ earlier) = talk_with s moment.before moment.event (talk s ear
 
 -- ---- transactions that ended by COMMIT
 
--- Who made it, how the session stood before; the committed database that it found, and that one's number; all that was said in it,
--- with the replies, from the statement that began it to its COMMIT, the latest first; its working database at the end; whether it wrote.
+-- Who made it, how the session stood before; the committed database that it found, and that one's
+-- number; all that was said in it, with the replies, from the statement that began it to its
+-- COMMIT, the latest first; its working database at the end; whether it wrote.
 pub record Committed : Type 0 where
   pub session : ℕ
   pub before : Session
@@ -83,16 +85,20 @@ transactions (moment ∷ earlier) =
 
 -- ---- run alone
 
--- The sayings, the latest first, are calls of one session from the one world to the other, with replies that are allowed there.
+-- The sayings, the latest first, are calls of one session from the one world to the other, with
+-- replies that are allowed there.
 abbrev pub Says : Rules → World → ℕ → List Saying → World → Type 0
 Says rules start s [] end = end ≡ start
-Says rules start s (saying ∷ earlier) end = (mid : World) × Says rules start s earlier mid × Step rules mid s saying.text saying.reply end
+Says rules start s (saying ∷ earlier) end = (mid : World) × Says rules start s earlier mid
+    × Step rules mid s saying.text saying.reply end
 
--- the world in which a transaction runs alone: that of the database that it found, with its session and no other
+-- the world in which a transaction runs alone: that of the database that it found, with its session
+-- and no other
 abbrev pub alone : Committed → World
 alone c = record { commits = c.beginning; last = c.found; writer = None; sessions = insert empty c.session c.before }
 
--- Run alone, the transaction gets the same replies and ends at the same database, which is then the last committed one.
+-- Run alone, the transaction gets the same replies and ends at the same database, which is then the
+-- last committed one.
 pub record RunsAlone (rules : Rules) (c : Committed) : Type 0 where
   pub end : World
   pub says : Says rules (alone c) c.session c.said end
@@ -115,16 +121,16 @@ pub record IsWriter (rules : Rules) (n : ℕ) (db : Database) (c : Committed) : 
   pub finds : c.found ≡ db
   pub runs : RunsAlone rules c
 
--- The transactions run in this order, one after another, from this committed database, which has this number; and these are the
--- committed databases from there on.
+-- The transactions run in this order, one after another, from this committed database, which has
+-- this number; and these are the committed databases from there on.
 abbrev pub InSeries : Rules → ℕ → Database → List Committed → List Database → Type 0
 InSeries rules n db [] dbs = dbs ≡ db ∷ []
 InSeries rules n db (c ∷ cs) dbs =
     (IsReader rules n db c × InSeries rules n db cs dbs)
     ⊎ ((others : List Database) × IsWriter rules n db c × InSeries rules (n + 1) c.made cs others × (dbs ≡ db ∷ others))
 
--- The transactions of a run that ended by COMMIT have an order in which they run one after another, from the first database of the
--- history and through all of it.
+-- The transactions of a run that ended by COMMIT have an order in which they run one after another,
+-- from the first database of the history and through all of it.
 pub record IsSerializable (rules : Rules) (start : World) (moments : List Moment) : Type 0 where
   pub first : Database
   pub order : List Committed

@@ -1,5 +1,5 @@
--- What each statement answers and does. A rule speaks of the session in which the statement is made and of the transaction in which
--- it runs, its own or one that begins now.
+-- What each statement answers and does. A rule speaks of the session in which the statement is made
+-- and of the transaction in which it runs, its own or one that begins now.
 -- Scaffolding until these forms are built: EXPLAIN, DECLARE, OPEN, FETCH and CLOSE.
 use Rattle.std.specs.Prelude.{◌≡◌, ◌⊎◌, ℕ, ◌<◌, ◌≤◌, zero, suc, true, false, List, [], ◌∷◌, ◌++◌, Option, Some, None, Ok, Err}
 use Rattle.std.specs.FinMap.{get, contains_key, len, insert}
@@ -33,7 +33,8 @@ use Rattle.session_definitions.specs.World.{Cursor, Transaction, Session}
 
 -- ---- queries
 
--- A query (20.2): its rows, over the working database. It begins a transaction, but not where it is refused.
+-- A query (20.2): its rows, over the working database. It begins a transaction, but not where it is
+-- refused.
 pub data Queries (rules : Rules) (session : Session) (t : Transaction) (x : OrderedQuery) (reply : Reply) (effect : Effect) : Type 0 where
   wrong : (refusal : Refusal) → IsReason rules t.working (asks.Query x) refusal
       → Refuses refusal reply effect → Queries rules session t x reply effect
@@ -44,33 +45,41 @@ pub data Queries (rules : Rules) (session : Session) (t : Transaction) (x : Orde
       → Answers (Err fault) (denotes t.working query)
       → Refuses (refusal_of fault) reply effect → Queries rules session t x reply effect
 
--- EXPLAIN (our own choice): as a query, but nothing is evaluated. Which lines it answers is open here.
+-- EXPLAIN (our own choice): as a query, but nothing is evaluated. Which lines it answers is open
+-- here.
 pub data Explains (rules : Rules) (session : Session) (t : Transaction) (x : OrderedQuery) (reply : Reply) (effect : Effect) : Type 0 where
   wrong : (refusal : Refusal) → IsReason rules t.working (asks.Explain x) refusal
       → Refuses refusal reply effect → Explains rules session t x reply effect
-  shows : (query : typed.OrderedQuery) (lines : List (List ℕ)) → Means rules t.working (asks.Explain x) (does.Explain query)
+  shows : (query : typed.OrderedQuery) (lines : List (List ℕ))
+      → Means rules t.working (asks.Explain x) (does.Explain query)
       → reply ≡ says.Lines lines → effect ≡ Effect.Becomes (active session t) → Explains rules session t x reply effect
 
 -- ---- changes
 
--- the reply to a change: how many rows it touched, where it speaks of rows at all (our own choice; 22.1 for 02000)
+-- the reply to a change: how many rows it touched, where it speaks of rows at all (our own choice;
+-- 22.1 for 02000)
 abbrev pub counted : Option ℕ → Reply
 counted None = says.Done
 counted (Some zero) = says.Unchanged
 counted (Some (suc n)) = says.Changed (suc n)
 
--- CREATE, DROP, INSERT, UPDATE and DELETE (11.3, 11.18, 13.7, 13.8, 13.10). `obstacle` is what stands in its way. The session is the
--- writer from then on, also where no row was touched.
+-- CREATE, DROP, INSERT, UPDATE and DELETE (11.3, 11.18, 13.7, 13.8, 13.10). `obstacle` is what
+-- stands in its way. The session is the writer from then on, also where no row was touched.
 pub data Changes (rules : Rules) (session : Session) (t : Transaction) (obstacle : Option Refusal) (x : Statement) (reply : Reply) (effect : Effect) : Type 0 where
-  reads_only : obstacle ≡ Some TransactionState → Refuses TransactionState reply effect → Changes rules session t obstacle x reply effect
-  has_cursor : obstacle ≡ Some CursorState → Refuses CursorState reply effect → Changes rules session t obstacle x reply effect
-  overtaken : obstacle ≡ Some SerializationFailure → reply ≡ says.Refused SerializationFailure → effect ≡ Effect.RollsBack
+  reads_only : obstacle ≡ Some TransactionState → Refuses TransactionState reply effect
+      → Changes rules session t obstacle x reply effect
+  has_cursor : obstacle ≡ Some CursorState → Refuses CursorState reply effect
+      → Changes rules session t obstacle x reply effect
+  overtaken : obstacle ≡ Some SerializationFailure → reply ≡ says.Refused SerializationFailure
+      → effect ≡ Effect.RollsBack
       → Changes rules session t obstacle x reply effect
   wrong : (refusal : Refusal) → obstacle ≡ None → IsReason rules t.working x refusal
       → Refuses refusal reply effect → Changes rules session t obstacle x reply effect
-  makes : (change : Change) (db : Database) (count : Option ℕ) → obstacle ≡ None → Means rules t.working x (does.Change change)
+  makes : (change : Change) (db : Database) (count : Option ℕ) → obstacle ≡ None
+      → Means rules t.working x (does.Change change)
       → IsAccepted (changed rules.check t.working change) db count
-      → reply ≡ counted count → effect ≡ Effect.Writes (active session (record t { working = db })) → Changes rules session t obstacle x reply effect
+      → reply ≡ counted count → effect ≡ Effect.Writes (active session (record t { working = db }))
+      → Changes rules session t obstacle x reply effect
   raises : (change : Change) (fault : Fault) → obstacle ≡ None → Means rules t.working x (does.Change change)
       → IsRaised (changed rules.check t.working change) fault
       → Refuses (refusal_of fault) reply effect → Changes rules session t obstacle x reply effect
@@ -92,7 +101,8 @@ Undoes (Some t) reply effect = (reply ≡ says.Done) × (effect ≡ Effect.Rolls
 
 -- SET TRANSACTION (14.1): the mode of the next transaction. Refused while there is one.
 abbrev pub SetsMode : Session → Option Transaction → AccessMode → Reply → Effect → Type 0
-SetsMode session None mode reply effect = (reply ≡ says.Done) × (effect ≡ Effect.Becomes (record session { next = mode }))
+SetsMode session None mode reply effect = (reply ≡ says.Done)
+    × (effect ≡ Effect.Becomes (record session { next = mode }))
 SetsMode session (Some t) mode reply effect = Refuses TransactionState reply effect
 
 -- ---- cursors
@@ -101,14 +111,18 @@ SetsMode session (Some t) mode reply effect = Refuses TransactionState reply eff
 abbrev pub most_cursors : ℕ
 most_cursors = 8
 
--- DECLARE (13.1): the session keeps the query. That it takes the place of one of that name whose cursor is not open, and is 24000 where it is open, is our
--- own choice. It begins no transaction.
+-- DECLARE (13.1): the session keeps the query. That it takes the place of one of that name whose
+-- cursor is not open, and is 24000 where it is open, is our own choice. It begins no transaction.
 pub data Declares (session : Session) (x : DeclareCursor) (reply : Reply) (effect : Effect) : Type 0 where
-  open_already : is_open_in session.transaction x.cursor ≡ true → Refuses CursorState reply effect → Declares session x reply effect
-  too_many : is_open_in session.transaction x.cursor ≡ false → contains_key session.declared x.cursor ≡ false → most_cursors ≤ len session.declared
+  open_already : is_open_in session.transaction x.cursor ≡ true → Refuses CursorState reply effect
+      → Declares session x reply effect
+  too_many : is_open_in session.transaction x.cursor ≡ false → contains_key session.declared x.cursor ≡ false
+      → most_cursors ≤ len session.declared
       → Refuses (Exceeded limit.Cursors) reply effect → Declares session x reply effect
-  declares : is_open_in session.transaction x.cursor ≡ false → (contains_key session.declared x.cursor ≡ true) ⊎ (len session.declared < most_cursors)
-      → reply ≡ says.Done → effect ≡ Effect.Becomes (record session { declared = insert session.declared x.cursor x.query })
+  declares : is_open_in session.transaction x.cursor ≡ false
+      → (contains_key session.declared x.cursor ≡ true) ⊎ (len session.declared < most_cursors)
+      → reply ≡ says.Done
+      → effect ≡ Effect.Becomes (record session { declared = insert session.declared x.cursor x.query })
       → Declares session x reply effect
 
 -- the same bag, the same faults and the same order keys
@@ -116,23 +130,28 @@ pub record IsSameOutcome (o p : OrderedOutcome) : Type 0 where
   pub unordered : IsSame o.unordered p.unordered
   pub keys : o.keys ≡ p.keys
 
--- OPEN (13.2): the cursor has the outcome of its query over the working database as it is now. It begins a transaction.
+-- OPEN (13.2): the cursor has the outcome of its query over the working database as it is now. It
+-- begins a transaction.
 pub data Opens (rules : Rules) (session : Session) (t : Transaction) (name : Name) (reply : Reply) (effect : Effect) : Type 0 where
   open_already : is_open t name ≡ true → Refuses CursorState reply effect → Opens rules session t name reply effect
-  undeclared : get session.declared name ≡ None → Refuses CursorState reply effect → Opens rules session t name reply effect
+  undeclared : get session.declared name ≡ None → Refuses CursorState reply effect
+      → Opens rules session t name reply effect
   wrong : (x : OrderedQuery) (refusal : Refusal) → is_open t name ≡ false → get session.declared name ≡ Some x
       → IsReason rules t.working (asks.Query x) refusal
       → Refuses refusal reply effect → Opens rules session t name reply effect
-  opens : (x : OrderedQuery) (query : typed.OrderedQuery) (outcome : OrderedOutcome) → is_open t name ≡ false → get session.declared name ≡ Some x
+  opens : (x : OrderedQuery) (query : typed.OrderedQuery) (outcome : OrderedOutcome) → is_open t name ≡ false
+      → get session.declared name ≡ Some x
       → Means rules t.working (asks.Query x) (does.Query query) → IsSameOutcome outcome (denotes t.working query)
-      → reply ≡ says.Done → effect ≡ Effect.Becomes (active session (with_cursor t name (record { outcome = outcome; given = [] })))
+      → reply ≡ says.Done
+      → effect ≡ Effect.Becomes (active session (with_cursor t name (record { outcome = outcome; given = [] })))
       → Opens rules session t name reply effect
 
 -- FETCH (13.3): a row, the end, or a fault of the query, which closes the cursor (our own choice).
 pub data FetchesIn (session : Session) (t : Transaction) (name : Name) (reply : Reply) (effect : Effect) : Type 0 where
   not_open : get t.cursors name ≡ None → Refuses CursorState reply effect → FetchesIn session t name reply effect
   gives : (cursor : Cursor) (row : Row) → get t.cursors name ≡ Some cursor → MayGive cursor row
-      → reply ≡ says.Row row → effect ≡ Effect.Becomes (active session (with_cursor t name (record cursor { given = cursor.given ++ row ∷ [] })))
+      → reply ≡ says.Row row
+      → effect ≡ Effect.Becomes (active session (with_cursor t name (record cursor { given = cursor.given ++ row ∷ [] })))
       → FetchesIn session t name reply effect
   ends : (cursor : Cursor) → get t.cursors name ≡ Some cursor → IsAtEnd cursor
       → reply ≡ says.EndOfRows → effect ≡ Effect.Nothing → FetchesIn session t name reply effect

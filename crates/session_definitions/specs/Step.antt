@@ -1,6 +1,8 @@
--- One call of a session: a text, its reply, and the world after it (ISO/IEC 9075:1992, 20.1). The refusals come in this order, which is our own choice: the statement's length, its tokens,
--- words that are not supported, nesting, grammar; the state of transaction and cursors; names and types; evaluation and constraints.
--- Scaffolding until cursors are built: FetchesOpen, and the field closes of a refusal.
+-- One call of a session: a text, its reply, and the world after it (ISO/IEC 9075:1992, 20.1). The
+-- refusals come in this order, which is our own choice: the statement's length, its tokens, words
+-- that are not supported, nesting, grammar; the state of transaction and cursors; names and types;
+-- evaluation and constraints. Scaffolding until cursors are built: FetchesOpen, and the field
+-- closes of a refusal.
 use Rattle.std.specs.Prelude.{◌≡◌, ℕ, true, false, Option, Some}
 use Rattle.std.specs.FinMap.{get}
 use Rattle.refusals.specs.declared.refusal.Refusal.{Refusal}
@@ -26,20 +28,24 @@ pub record FetchesOpen (session : Session) (text : Bytes) : Type 0 where
   pub read : IsRead text (asks.Fetch name)
   pub open_there : is_open_in session.transaction name ≡ true
 
--- Want of memory, a device that refused or a limit of the store may stand in place of any reply but that of ROLLBACK. The world then
--- stays as it was; but a FETCH has closed its cursor, and only after want of memory it may stand as it was.
+-- Want of memory, a device that refused or a limit of the store may stand in place of any reply but
+-- that of ROLLBACK. The world then stays as it was; but a FETCH has closed its cursor, and only
+-- after want of memory it may stand as it was.
 pub data Withholds (session : Session) (text : Bytes) (reply : Reply) (effect : Effect) : Type 0 where
   of_memory : (IsRollback text → ⊥) → Refuses Memory reply effect → Withholds session text reply effect
   of_store : (refusal : Refusal) → IsOfStore refusal → (IsRollback text → ⊥) → (FetchesOpen session text → ⊥)
       → Refuses refusal reply effect → Withholds session text reply effect
   closes : (refusal : Refusal) (t : Transaction) (name : Name) → IsReserved refusal → IsRead text (asks.Fetch name)
       → session.transaction ≡ Some t → is_open t name ≡ true
-      → reply ≡ says.Refused refusal → effect ≡ Effect.Becomes (active session (without_cursor t name)) → Withholds session text reply effect
+      → reply ≡ says.Refused refusal → effect ≡ Effect.Becomes (active session (without_cursor t name))
+      → Withholds session text reply effect
 
 -- the reply to a text, and its effect
 pub data Replies (rules : Rules) (session : Session) (t : Transaction) (obstacle : Option Refusal) (text : Bytes) (reply : Reply) (effect : Effect) : Type 0 where
-  unread : (refusal : Refusal) → IsUnread text refusal → Refuses refusal reply effect → Replies rules session t obstacle text reply effect
-  carried_out : (x : Statement) → IsRead text x → CarriesOut rules session t obstacle x reply effect → Replies rules session t obstacle text reply effect
+  unread : (refusal : Refusal) → IsUnread text refusal → Refuses refusal reply effect
+      → Replies rules session t obstacle text reply effect
+  carried_out : (x : Statement) → IsRead text x → CarriesOut rules session t obstacle x reply effect
+      → Replies rules session t obstacle text reply effect
   withheld : Withholds session text reply effect → Replies rules session t obstacle text reply effect
 
 -- A call of the session of this number, with its effect.

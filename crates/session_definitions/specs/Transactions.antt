@@ -13,12 +13,14 @@ use Rattle.session_definitions.specs.World.{Cursor, Transaction, Session, World,
 abbrev pub starting : World → AccessMode → Transaction
 starting w mode = record { mode = mode; beginning = w.commits; found = w.last; working = w.last; cursors = empty }
 
--- the transaction in which a session's statement runs: its own, or, in an idle session, one that begins now (4.28)
+-- the transaction in which a session's statement runs: its own, or, in an idle session, one that
+-- begins now (4.28)
 abbrev pub begun : World → Session → Transaction
 begun w session = unwrap_or session.transaction (starting w session.next)
 
--- the session with its transaction as it is after a statement; the mode that was set for the next one is used up (in an active session
--- it was when the transaction began, and SET TRANSACTION is refused there)
+-- the session with its transaction as it is after a statement; the mode that was set for the next
+-- one is used up (in an active session it was when the transaction began, and SET TRANSACTION is
+-- refused there)
 abbrev pub active : Session → Transaction → Session
 active session t = record { declared = session.declared; next = ReadWrite; transaction = Some t }
 
@@ -57,13 +59,13 @@ abbrev pub began_earlier : ℕ → Option Transaction → Bool
 began_earlier commits None = false
 began_earlier commits (Some t) = not (t.beginning == commits)
 
--- whether a change in this session would not be serializable: another session is the writer, or its transaction has not written yet
--- and does not see the last commit
+-- whether a change in this session would not be serializable: another session is the writer, or its
+-- transaction has not written yet and does not see the last commit
 abbrev pub is_overtaken : World → ℕ → Session → Bool
 is_overtaken w s session = has_other s w.writer || (not (is_writer w s) && began_earlier w.commits session.transaction)
 
--- What stands in the way of a change, the first that holds: the transaction only reads (14.1); the session has an open cursor (our own
--- choice); the change would not be serializable (4.28).
+-- What stands in the way of a change, the first that holds: the transaction only reads (14.1); the
+-- session has an open cursor (our own choice); the change would not be serializable (4.28).
 abbrev pub obstacle : World → ℕ → Session → Option Refusal
 obstacle w s session =
     if is_read_only (begun w session).mode then Some TransactionState

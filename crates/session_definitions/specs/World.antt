@@ -1,7 +1,8 @@
--- What an engine with sessions stands for: the databases that were committed, and what its sessions are doing.
--- SQL-92 has SQL-transactions and SQL-sessions (ISO/IEC 9075:1992, 4.28, 4.30). One writer at a time, and that each transaction
--- reads the database that stood committed when it began, are our own choice.
--- Scaffolding until cursors are built: declared queries and open cursors.
+-- What an engine with sessions stands for: the databases that were committed, and what its sessions
+-- are doing. SQL-92 has SQL-transactions and SQL-sessions (ISO/IEC 9075:1992, 4.28, 4.30). One
+-- writer at a time, and that each transaction reads the database that stood committed when it
+-- began, are our own choice. Scaffolding until cursors are built: declared queries and open
+-- cursors.
 use Rattle.std.specs.Prelude.{ℕ, Bool, false, ◌==◌, List, is_some, Option, Some, None}
 use Rattle.std.specs.Ordering.{nat_cmp}
 use Rattle.std.specs.FinMap.{FinMap, empty, get, insert}
@@ -18,8 +19,8 @@ pub record Cursor : Type 0 where
   pub outcome : OrderedOutcome
   pub given : List Row
 
--- A transaction: what it may do, which committed database it found (its number, from 0, and itself), the database that its
--- statements see, and its open cursors.
+-- A transaction: what it may do, which committed database it found (its number, from 0, and
+-- itself), the database that its statements see, and its open cursors.
 pub record Transaction : Type 0 where
   pub mode : AccessMode
   pub beginning : ℕ
@@ -27,15 +28,16 @@ pub record Transaction : Type 0 where
   pub working : Database
   pub cursors : FinMap text_order Cursor
 
--- A session: the queries that it declared, as they were written; what its next transaction may do; and its transaction. A session
--- with one is active, one without is idle.
+-- A session: the queries that it declared, as they were written; what its next transaction may do;
+-- and its transaction. A session with one is active, one without is idle.
 pub record Session : Type 0 where
   pub declared : FinMap text_order OrderedQuery
   pub next : AccessMode
   pub transaction : Option Transaction
 
--- How many COMMITs there were of a transaction that wrote, since the last open; the last committed database; the session that has written and not yet
--- ended its transaction, if there is one; and the sessions by their numbers.
+-- How many COMMITs there were of a transaction that wrote, since the last open; the last committed
+-- database; the session that has written and not yet ended its transaction, if there is one; and
+-- the sessions by their numbers.
 pub record World : Type 0 where
   pub commits : ℕ
   pub last : Database

@@ -64,7 +64,8 @@ first_of_three false true c x y z = inl refl
 first_of_three false false true x y z = inr refl
 first_of_three false false false x y z = inl refl
 
--- alone, the same stands in the way of a change as among others, unless that is a serialization failure
+-- alone, the same stands in the way of a change as among others, unless that is a serialization
+-- failure
 obstacles : (w : World) (n : ℕ) (db : Database) (s : ℕ) (writes : Bool) (session : Session) → BeganAt n session.transaction
     → begun (lonely n db s writes session) session ≡ begun w session
     → (obstacle w s session ≡ obstacle (lonely n db s writes session) s session) ⊎ (obstacle w s session ≡ Some SerializationFailure)

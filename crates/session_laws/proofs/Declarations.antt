@@ -1,4 +1,5 @@
--- What a text declares is right: CHECKs can be read, and columns that are named by their places are there.
+-- What a text declares is right: CHECKs can be read, and columns that are named by their places are
+-- there.
 use Rattle.std.proofs.Common.{◌≡◌, refl, sym, ◌∙◌, subst, ℕ, true, List, length, Some, Ok, Err}
 use Rattle.std.specs.FinMap.{get}
 use Rattle.sqlval.specs.declared.schema.Schema.{Schema}

@@ -1,4 +1,5 @@
--- What a reply's effect leaves is good, where the session's transaction and the one in which its statement runs are.
+-- What a reply's effect leaves is good, where the session's transaction and the one in which its
+-- statement runs are.
 use Rattle.std.proofs.Common.{◌≡◌, [], ◌∷◌, ◌++◌, Option, Some, None, subst}
 use Rattle.refusals.specs.declared.refusal.Refusal.{Refusal}
 use Rattle.lexer.specs.Token.{Bytes}

@@ -1,4 +1,5 @@
--- A session with a transaction has READ WRITE as the mode of its next one, whatever a statement does.
+-- A session with a transaction has READ WRITE as the mode of its next one, whatever a statement
+-- does.
 use Rattle.std.proofs.Common.{◌≡◌, [], ◌∷◌, ◌++◌, Option, Some, None, refl, subst, sym}
 use Rattle.refusals.specs.declared.refusal.Refusal.{Refusal}
 use Rattle.lexer.specs.Token.{Bytes}

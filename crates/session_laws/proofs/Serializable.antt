@@ -45,7 +45,8 @@ one_more x (y ∷ ys) = let e : length (ys ++ x ∷ []) ≡ length ys + 1 = one_
 
 -- ---- what the events so far have come to
 
--- a talk, run alone in the world in which its transaction began, leads to the session as it stands now
+-- a talk, run alone in the world in which its transaction began, leads to the session as it stands
+-- now
 pub record InTalk (rules : Rules) (s : ℕ) (talk : Talk) (writes : Bool) (session : Session) (t : Transaction) : Type 0 where
   pub says : Says rules (lonely t.beginning t.found s false talk.before) s talk.said (lonely t.beginning t.found s writes session)
 

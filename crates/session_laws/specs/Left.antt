@@ -21,7 +21,8 @@ pub record HasRolledBack (old : World) (s : ℕ) (new : World) : Type 0 where
   pub stands : get old.sessions s ≡ Some session
   pub leaves : new ≡ rolled_back old s session
 
--- The world is as before, but that the session, which has a transaction, has closed this cursor, which was open.
+-- The world is as before, but that the session, which has a transaction, has closed this cursor,
+-- which was open.
 pub record HasClosed (old : World) (s : ℕ) (name : Name) (new : World) : Type 0 where
   pub session : Session
   pub stands : get old.sessions s ≡ Some session
@@ -30,7 +31,8 @@ pub record HasClosed (old : World) (s : ℕ) (name : Name) (new : World) : Type 
   pub was_open : is_open transaction name ≡ true
   pub leaves : new ≡ with_session old s (active session (without_cursor transaction name))
 
--- The world is as it was; or a serialization failure has rolled back the session's transaction; or a FETCH has closed its cursor.
+-- The world is as it was; or a serialization failure has rolled back the session's transaction; or
+-- a FETCH has closed its cursor.
 abbrev pub LeavesAlmostAll : World → ℕ → Bytes → Refusal → World → Type 0
 LeavesAlmostAll old s text refusal new =
     (new ≡ old)

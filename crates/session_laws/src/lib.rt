@@ -1,4 +1,5 @@
-//! Laws that follow from the definitions of sessions, runs and scripts.
+//! Laws that follow from the definitions of sessions, runs and scripts, and of scripts over a
+//! device that is closed and opened again. Nothing of it runs.
 #![tactic(auto)]
 
 mod life_laws;

@@ -23,5 +23,6 @@ pub record GivesRows (rules : Rules) (db : Database) (x : OrderedQuery) (rows : 
 pub data RefusesQuery (rules : Rules) (db : Database) (x : OrderedQuery) (refusal : Refusal) : Type 0 where
   withheld : IsReserved refusal → RefusesQuery rules db x refusal
   wrong : IsReason rules db (asks.Query x) refusal → RefusesQuery rules db x refusal
-  raises : (query : typed.OrderedQuery) (fault : Fault) → Means rules db (asks.Query x) (does.Query query) → refusal ≡ refusal_of fault
+  raises : (query : typed.OrderedQuery) (fault : Fault) → Means rules db (asks.Query x) (does.Query query)
+      → refusal ≡ refusal_of fault
       → Answers (Err fault) (denotes db query) → RefusesQuery rules db x refusal

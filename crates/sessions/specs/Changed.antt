@@ -1,4 +1,5 @@
--- What a change leaves of a store, and what it may be refused for (ISO/IEC 9075:1992, 11.3, 11.18, 13.7, 13.8, 13.10).
+-- What a change leaves of a store, and what it may be refused for (ISO/IEC 9075:1992, 11.3, 11.18,
+-- 13.7, 13.8, 13.10).
 use Rattle.std.specs.Prelude.{◌≡◌, ℕ, Option}
 use Rattle.refusals.specs.declared.refusal.Refusal.{Refusal}
 use Rattle.refusals.specs.declared.refusal.Refusal.TheVariants.{Violated}
@@ -27,8 +28,10 @@ pub record HasChanged (rules : Rules) (old : Stored) (change : Change) (reply : 
 -- what may stand in place of any reply; a fault; or a constraint that is violated
 pub data RefusesChange (rules : Rules) (db : Database) (change : Change) (refusal : Refusal) : Type 0 where
   withheld : IsReserved refusal → RefusesChange rules db change refusal
-  raises : (fault : Fault) → refusal ≡ refusal_of fault → IsRaised (changed rules.check db change) fault → RefusesChange rules db change refusal
-  violates : (name : Name) → refusal ≡ Violated name → IsNamed (changed rules.check db change) name → RefusesChange rules db change refusal
+  raises : (fault : Fault) → refusal ≡ refusal_of fault → IsRaised (changed rules.check db change) fault
+      → RefusesChange rules db change refusal
+  violates : (name : Name) → refusal ≡ Violated name → IsNamed (changed rules.check db change) name
+      → RefusesChange rules db change refusal
 
 -- the statement stands for a change, which is carried out
 pub record MakesChange (rules : Rules) (old : Stored) (x : Statement) (reply : Reply) (new : Stored) : Type 0 where
@@ -40,4 +43,5 @@ pub record MakesChange (rules : Rules) (old : Stored) (x : Statement) (reply : R
 pub data RefusesStatement (rules : Rules) (db : Database) (x : Statement) (refusal : Refusal) : Type 0 where
   withheld : IsReserved refusal → RefusesStatement rules db x refusal
   wrong : IsReason rules db x refusal → RefusesStatement rules db x refusal
-  refused : (change : Change) → Means rules db x (does.Change change) → RefusesChange rules db change refusal → RefusesStatement rules db x refusal
+  refused : (change : Change) → Means rules db x (does.Change change) → RefusesChange rules db change refusal
+      → RefusesStatement rules db x refusal

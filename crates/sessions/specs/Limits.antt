@@ -1,4 +1,5 @@
--- Which calls may be refused by a limit of what the store counts: its pages, private pages, kept page images.
+-- Which calls may be refused by a limit of what the store counts: its pages, private pages, kept
+-- page images.
 use Rattle.std.specs.Prelude.{◌≡◌, ℕ, true}
 use Rattle.lexer.specs.Token.{Bytes}
 use Rattle.ast.specs.declared.statement.Statement.{Statement}

@@ -15,7 +15,8 @@ number_of session = session.number
 abbrev pub world_of : {S L D : Type 0} → (S → Stored) → Core S L D → World
 world_of shows core = shown (shows core.store) core.writer core.slots.modes
 
--- Its store can be read, the versions and the writer are in order, and no reader is left of a session that does not stand.
+-- Its store can be read, the versions and the writer are in order, and no reader is left of a
+-- session that does not stand.
 pub record IsSound {S L D : Type 0} (is_sound : S → Type 0) (shows : S → Stored) (core : Core S L D) : Type 0 where
   pub store : is_sound core.store
   pub order : IsOrderly (shows core.store) core.writer

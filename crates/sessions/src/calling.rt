@@ -33,7 +33,8 @@ pub(crate) fn call<S: Store, L: Language + Changes<S>>(
     session: u64,
     text: &[u8],
 ) -> Reply
-    ensures moves { (rules : Rules) → AreRules rules → S.is_sound store.old → IsOrderly (S.shows store.old) writer.old → IsGood rules.check (seen_in (S.shows store.old) writer.old session)
+    ensures moves { (rules : Rules) → AreRules rules → S.is_sound store.old → IsOrderly (S.shows store.old) writer.old
+        → IsGood rules.check (seen_in (S.shows store.old) writer.old session)
         → Moves rules session text.now result (S.shows store.old) writer.old mode.old (S.shows store.new) writer.new mode.new }
     ensures device { Counts result (S.refused store.old) (S.refused store.new) }
     ensures limits { IfRefused result (TellsReached (CallReaches (S.counted store.old) (S.shows store.old).commits text.now)) }
@@ -60,7 +61,9 @@ fn carry_out<S: Store, L: Language + Changes<S>>(
     session: u64,
     statement: &Statement,
 ) -> Reply
-    ensures moves { (rules : Rules) (text : Bytes) → AreRules rules → IsRead text statement.now → (IsRollback text → ⊥) → S.is_sound store.old → IsOrderly (S.shows store.old) writer.old → IsGood rules.check (seen_in (S.shows store.old) writer.old session)
+    ensures moves { (rules : Rules) (text : Bytes) → AreRules rules → IsRead text statement.now → (IsRollback text → ⊥)
+        → S.is_sound store.old → IsOrderly (S.shows store.old) writer.old
+        → IsGood rules.check (seen_in (S.shows store.old) writer.old session)
         → Moves rules session text result (S.shows store.old) writer.old mode.old (S.shows store.new) writer.new mode.new }
     ensures device { Counts result (S.refused store.old) (S.refused store.new) }
     ensures limits { IfRefused result (TellsReached (StatementReaches (S.counted store.old) (S.shows store.old).commits statement.now)) }

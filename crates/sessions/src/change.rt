@@ -31,8 +31,9 @@ use store::{Store, View};
 use transactions::{comes_too_late, refusal_of, take_back};
 use typing::{Change, Typed};
 
-/// A change. In a transaction that only reads it is refused (25000). Where it comes too late it is refused (40001), and the session's transaction is rolled back. It begins a
-/// transaction where the session has none, but not where it is refused; the session is the writer then.
+/// A change. In a transaction that only reads it is refused (25000). Where it comes too late it is
+/// refused (40001), and the session's transaction is rolled back. It begins a transaction where the
+/// session has none, but not where it is refused; the session is the writer then.
 pub(crate) fn change<S: Store, L: Language + Changes<S>>(
     alloc: Global,
     language: &L,
@@ -42,8 +43,10 @@ pub(crate) fn change<S: Store, L: Language + Changes<S>>(
     session: u64,
     statement: &Statement,
 ) -> Reply
-    ensures moves { (rules : Rules) (text : Bytes) → AreRules rules → is_change statement.now ≡ true → IsRead text statement.now → (IsRollback text → ⊥)
-        → S.is_sound store.old → IsOrderly (S.shows store.old) writer.old → IsGood rules.check (seen_in (S.shows store.old) writer.old session)
+    ensures moves { (rules : Rules) (text : Bytes) → AreRules rules → is_change statement.now ≡ true
+        → IsRead text statement.now → (IsRollback text → ⊥)
+        → S.is_sound store.old → IsOrderly (S.shows store.old) writer.old
+        → IsGood rules.check (seen_in (S.shows store.old) writer.old session)
         → Moves rules session text result (S.shows store.old) writer.old mode (S.shows store.new) writer.new mode }
     ensures device { Counts result (S.refused store.old) (S.refused store.new) }
     ensures sound { S.is_sound store.old → S.is_sound store.new }
@@ -89,9 +92,11 @@ fn make<S: Store, L: Language + Changes<S>>(
     store: &mut S,
     statement: &Statement,
 ) -> Result<Reply, Refusal>
-    ensures changes { IfOk result (λ reply. (rules : Rules) → AreRules rules → is_change statement.now ≡ true → S.is_sound store.old → IsGood rules.check (database_of (S.shows store.old).working)
+    ensures changes { IfOk result (λ reply. (rules : Rules) → AreRules rules → is_change statement.now ≡ true
+        → S.is_sound store.old → IsGood rules.check (database_of (S.shows store.old).working)
         → MakesChange rules (S.shows store.old) statement.now reply (S.shows store.new)) }
-    ensures refused { IfErr result (λ refusal. (rules : Rules) → AreRules rules → is_change statement.now ≡ true → S.is_sound store.old → IsGood rules.check (database_of (S.shows store.old).working)
+    ensures refused { IfErr result (λ refusal. (rules : Rules) → AreRules rules → is_change statement.now ≡ true
+        → S.is_sound store.old → IsGood rules.check (database_of (S.shows store.old).working)
         → RefusesStatement rules (database_of (S.shows store.old).working) statement.now refusal) }
     ensures accepted { IfOk result (λ reply. IfRefused reply (λ refusal. ⊥)) }
     ensures device { IfErr result (λ refusal. refusal ≡ Disk → HasRisen (S.refused store.old) (S.refused store.new)) }
@@ -115,10 +120,18 @@ fn make_typed<S: Store, L: Language + Changes<S>>(
     store: &mut S,
     typed: Typed,
 ) -> Result<Reply, Refusal>
-    ensures changes { IfOk result (λ reply. (rules : Rules) (x : Tree) (change : Typing) → AreRules rules → typed ≡ does.Change change → S.is_sound store.old → IsSchemaOf (S.prepared store.old) (database_of (S.shows store.old).working)
-        → IsGood rules.check (database_of (S.shows store.old).working) → Means rules (database_of (S.shows store.old).working) x (does.Change change) → HasChanged rules (S.shows store.old) change reply (S.shows store.new)) }
-    ensures refused { IfErr result (λ refusal. (rules : Rules) (x : Tree) (change : Typing) → AreRules rules → typed ≡ does.Change change → S.is_sound store.old → IsSchemaOf (S.prepared store.old) (database_of (S.shows store.old).working)
-        → IsGood rules.check (database_of (S.shows store.old).working) → Means rules (database_of (S.shows store.old).working) x (does.Change change) → RefusesChange rules (database_of (S.shows store.old).working) change refusal) }
+    ensures changes { IfOk result (λ reply. (rules : Rules) (x : Tree) (change : Typing) → AreRules rules
+        → typed ≡ does.Change change → S.is_sound store.old
+        → IsSchemaOf (S.prepared store.old) (database_of (S.shows store.old).working)
+        → IsGood rules.check (database_of (S.shows store.old).working)
+        → Means rules (database_of (S.shows store.old).working) x (does.Change change)
+        → HasChanged rules (S.shows store.old) change reply (S.shows store.new)) }
+    ensures refused { IfErr result (λ refusal. (rules : Rules) (x : Tree) (change : Typing) → AreRules rules
+        → typed ≡ does.Change change → S.is_sound store.old
+        → IsSchemaOf (S.prepared store.old) (database_of (S.shows store.old).working)
+        → IsGood rules.check (database_of (S.shows store.old).working)
+        → Means rules (database_of (S.shows store.old).working) x (does.Change change)
+        → RefusesChange rules (database_of (S.shows store.old).working) change refusal) }
     ensures accepted { IfOk result (λ reply. IfRefused reply (λ refusal. ⊥)) }
     ensures device { IfErr result (λ refusal. refusal ≡ Disk → HasRisen (S.refused store.old) (S.refused store.new)) }
     ensures same { S.is_sound store.old → OnErr result (SameButMark (S.shows store.old) (S.shows store.new)) }
@@ -133,7 +146,8 @@ fn make_typed<S: Store, L: Language + Changes<S>>(
 
 /// The change that a statement stands for.
 fn change_of(typed: Typed) -> Option<Change>
-    ensures { MatchOption result ((change : Typing) → typed ≡ does.Change change → ⊥) (λ change. typed ≡ does.Change change) }
+    ensures { MatchOption result ((change : Typing) → typed ≡ does.Change change
+        → ⊥) (λ change. typed ≡ does.Change change) }
 {
     match typed {
         Typed::Change(change) => Some(change),

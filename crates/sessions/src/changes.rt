@@ -20,17 +20,23 @@ use typing::Change;
 
 /// What carries out changes of the tables of a store.
 pub trait Changes<S: Store>: Drop {
-    /// Carries out a change that was typed over the newest version with its changes, whose schema is the one that is ready. What is answered is no refusal. A refusal leaves all as it was, but for the mark; it is
-    /// that of the device only where a call of the device was refused.
+    /// Carries out a change that was typed over the newest version with its changes, whose schema
+    /// is the one that is ready. What is answered is no refusal. A refusal leaves all as it was,
+    /// but for the mark; it is that of the device only where a call of the device was refused.
     fn make(&self, alloc: Global, store: &mut S, change: Change) -> Result<Reply, Refusal>
-        ensures changes { IfOk result (λ reply. (rules : Rules) (x : Tree) → AreRules rules → S.is_sound store.old → IsSchemaOf (S.prepared store.old) (database_of (S.shows store.old).working)
-            → IsGood rules.check (database_of (S.shows store.old).working) → Means rules (database_of (S.shows store.old).working) x (does.Change change)
+        ensures changes { IfOk result (λ reply. (rules : Rules) (x : Tree) → AreRules rules → S.is_sound store.old
+            → IsSchemaOf (S.prepared store.old) (database_of (S.shows store.old).working)
+            → IsGood rules.check (database_of (S.shows store.old).working)
+            → Means rules (database_of (S.shows store.old).working) x (does.Change change)
             → HasChanged rules (S.shows store.old) change reply (S.shows store.new)) }
-        ensures refused { IfErr result (λ refusal. (rules : Rules) (x : Tree) → AreRules rules → S.is_sound store.old → IsSchemaOf (S.prepared store.old) (database_of (S.shows store.old).working)
-            → IsGood rules.check (database_of (S.shows store.old).working) → Means rules (database_of (S.shows store.old).working) x (does.Change change)
+        ensures refused { IfErr result (λ refusal. (rules : Rules) (x : Tree) → AreRules rules → S.is_sound store.old
+            → IsSchemaOf (S.prepared store.old) (database_of (S.shows store.old).working)
+            → IsGood rules.check (database_of (S.shows store.old).working)
+            → Means rules (database_of (S.shows store.old).working) x (does.Change change)
             → RefusesChange rules (database_of (S.shows store.old).working) change refusal) }
         ensures accepted { IfOk result (λ reply. IfRefused reply (λ refusal. ⊥)) }
-        ensures device { IfErr result (λ refusal. refusal ≡ Disk → HasRisen (S.refused store.old) (S.refused store.new)) }
+        ensures device { IfErr result (λ refusal. refusal ≡ Disk
+            → HasRisen (S.refused store.old) (S.refused store.new)) }
         ensures same { S.is_sound store.old → OnErr result (SameButMark (S.shows store.old) (S.shows store.new)) }
         ensures sound { S.is_sound store.old → S.is_sound store.new }
         ensures counts { S.refused store.old ≤ S.refused store.new };

@@ -12,7 +12,8 @@ use std::alloc::Global;
 use store::{Returned, Store};
 use transactions::{drop_session, refusal_of};
 
-/// A session of a core, from `new_session` to `end_session`: the least number that no other had when it was made.
+/// A session of a core, from `new_session` to `end_session`: the least number that no other had
+/// when it was made.
 #[derive(Clone, Copy, PartialEq, Eq)]
 pub struct SessionId {
     number: u64,
@@ -56,17 +57,25 @@ impl<S: Store, L: Language + Changes<S>> Core<S, L> {
     ghost use Rattle.sessions.specs.Seen.{seen_in};
     ghost use Rattle.sessions.specs.OfCore.{IsSound, StandAlike, StandBeside, number_of, world_of};
 
-    /// Carries out a statement of this session, and answers its reply. A call of a session that has ended is refused by `session`, and nothing changes.
+    /// Carries out a statement of this session, and answers its reply. A call of a session that has
+    /// ended is refused by `session`, and nothing changes.
     ///
-    /// ROLLBACK takes no memory and always succeeds. A refusal is that of the device only where a call of the device was refused. A limit of what the store counts (pages, private pages, kept page images) is
-    /// told only of a change, or of a COMMIT where the store reaches it. That the database which the statement sees is good is a law of runs; a change relies on it.
+    /// ROLLBACK takes no memory and always succeeds. A refusal is that of the device only where a
+    /// call of the device was refused. A limit of what the store counts (pages, private pages, kept
+    /// page images) is told only of a change, or of a COMMIT where the store reaches it. That the
+    /// database which the statement sees is good is a law of runs; a change relies on it.
     pub fn step(&mut self, session: SessionId, text: &[u8]) -> Reply
-        ensures step { (rules : Rules) → AreRules rules → IsSound S.is_sound S.shows self.old → is_live (world_of S.shows self.old) (number_of session) ≡ true
-            → IsGood rules.check (seen_in (S.shows self.old.store) self.old.writer (number_of session)) → Step rules (world_of S.shows self.old) (number_of session) text.now result (world_of S.shows self.new) }
-        ensures sound { (rules : Rules) → AreRules rules → IsSound S.is_sound S.shows self.old → IsGood rules.check (seen_in (S.shows self.old.store) self.old.writer (number_of session))
+        ensures step { (rules : Rules) → AreRules rules → IsSound S.is_sound S.shows self.old
+            → is_live (world_of S.shows self.old) (number_of session) ≡ true
+            → IsGood rules.check (seen_in (S.shows self.old.store) self.old.writer (number_of session))
+            → Step rules (world_of S.shows self.old) (number_of session) text.now result (world_of S.shows self.new) }
+        ensures sound { (rules : Rules) → AreRules rules → IsSound S.is_sound S.shows self.old
+            → IsGood rules.check (seen_in (S.shows self.old.store) self.old.writer (number_of session))
             → IsSound S.is_sound S.shows self.new }
-        ensures rolled_back { IsRollback text.now → is_live (world_of S.shows self.old) (number_of session) ≡ true → result ≡ Reply.Done }
-        ensures ended { is_live (world_of S.shows self.old) (number_of session) ≡ false → (result ≡ Reply.Refused (Invalid reason.Session)) × (self.new ≡ self.old) }
+        ensures rolled_back { IsRollback text.now → is_live (world_of S.shows self.old) (number_of session) ≡ true
+            → result ≡ Reply.Done }
+        ensures ended { is_live (world_of S.shows self.old) (number_of session) ≡ false
+            → (result ≡ Reply.Refused (Invalid reason.Session)) × (self.new ≡ self.old) }
         ensures live { StandAlike (world_of S.shows self.old) (world_of S.shows self.new) }
         ensures device { Counts result (S.refused self.old.store) (S.refused self.new.store) }
         ensures limits { IfRefused result (TellsReached (CallReaches (S.counted self.old.store) (S.shows self.old.store).commits text.now)) }
@@ -88,13 +97,16 @@ impl<S: Store, L: Language + Changes<S>> Core<S, L> {
         reply
     }
 
-    /// A new session without a transaction. Refused by the limit `sessions` exactly where 64 stand, and nothing changes then.
+    /// A new session without a transaction. Refused by the limit `sessions` exactly where 64 stand,
+    /// and nothing changes then.
     pub fn new_session(&mut self) -> Result<SessionId, Refusal>
-        ensures makes { IsSound S.is_sound S.shows self.old → MatchResult result (λ session. MakesSession (world_of S.shows self.old) (Ok (number_of session)) (world_of S.shows self.new))
+        ensures makes { IsSound S.is_sound S.shows self.old
+            → MatchResult result (λ session. MakesSession (world_of S.shows self.old) (Ok (number_of session)) (world_of S.shows self.new))
             (λ refusal. MakesSession (world_of S.shows self.old) (Err refusal) (world_of S.shows self.new)) }
         ensures refused { IfErr result (λ refusal. (refusal ≡ Exceeded limit.Sessions) × (self.new ≡ self.old)) }
         ensures free { IfOk result (λ session. is_live (world_of S.shows self.old) (number_of session) ≡ false) }
-        ensures live { IfOk result (λ session. (is_live (world_of S.shows self.new) (number_of session) ≡ true) × StandBeside (number_of session) (world_of S.shows self.old) (world_of S.shows self.new)) }
+        ensures live { IfOk result (λ session. (is_live (world_of S.shows self.new) (number_of session) ≡ true)
+            × StandBeside (number_of session) (world_of S.shows self.old) (world_of S.shows self.new)) }
         ensures sound { IsSound S.is_sound S.shows self.old → IsSound S.is_sound S.shows self.new }
         ensures counts { S.refused self.new.store ≡ S.refused self.old.store }
     {
@@ -105,11 +117,14 @@ impl<S: Store, L: Language + Changes<S>> Core<S, L> {
         Ok(SessionId { number })
     }
 
-    /// Rolls back the session's transaction, and ends the session. Takes no memory. Where the session has ended already, nothing changes.
+    /// Rolls back the session's transaction, and ends the session. Takes no memory. Where the
+    /// session has ended already, nothing changes.
     pub fn end_session(&mut self, session: SessionId)
-        ensures drops { is_live (world_of S.shows self.old) (number_of session) ≡ true → DropsSession (world_of S.shows self.old) (number_of session) (world_of S.shows self.new) }
+        ensures drops { is_live (world_of S.shows self.old) (number_of session) ≡ true
+            → DropsSession (world_of S.shows self.old) (number_of session) (world_of S.shows self.new) }
         ensures ended { is_live (world_of S.shows self.old) (number_of session) ≡ false → self.new ≡ self.old }
-        ensures live { (is_live (world_of S.shows self.new) (number_of session) ≡ false) × StandBeside (number_of session) (world_of S.shows self.old) (world_of S.shows self.new) }
+        ensures live { (is_live (world_of S.shows self.new) (number_of session) ≡ false)
+            × StandBeside (number_of session) (world_of S.shows self.old) (world_of S.shows self.new) }
         ensures sound { IsSound S.is_sound S.shows self.old → IsSound S.is_sound S.shows self.new }
         ensures counts { S.refused self.old.store ≤ S.refused self.new.store }
     {
@@ -120,16 +135,19 @@ impl<S: Store, L: Language + Changes<S>> Core<S, L> {
         self.slots.set(session.number, None);
     }
 
-    /// Writes some of what is committed and not on the device yet, and answers how many pages are left: less than before, or none. It is refused for want of memory or by
-    /// the device alone.
+    /// Writes some of what is committed and not on the device yet, and answers how many pages are
+    /// left: less than before, or none. It is refused for want of memory or by the device alone.
     pub fn flush(&mut self) -> Result<u32, Refusal>
         ensures flushes { MatchResult result (λ left. FlushesPages (world_of S.shows self.old) (Ok left) (world_of S.shows self.new))
             (λ refusal. FlushesPages (world_of S.shows self.old) (Err refusal) (world_of S.shows self.new)) }
         ensures left { IfOk result (λ left. left ≡ S.unwritten self.new.store) }
-        ensures less { OnOk result (0 < S.unwritten self.old.store → S.unwritten self.new.store < S.unwritten self.old.store) }
-        ensures same { (self.new.slots.modes ≡ self.old.slots.modes) × (self.new.writer ≡ self.old.writer) × (S.shows self.new.store ≡ S.shows self.old.store) }
+        ensures less { OnOk result (0 < S.unwritten self.old.store
+            → S.unwritten self.new.store < S.unwritten self.old.store) }
+        ensures same { (self.new.slots.modes ≡ self.old.slots.modes) × (self.new.writer ≡ self.old.writer)
+            × (S.shows self.new.store ≡ S.shows self.old.store) }
         ensures sound { IsSound S.is_sound S.shows self.old → IsSound S.is_sound S.shows self.new }
-        ensures device { IfErr result (λ refusal. refusal ≡ Disk → HasRisen (S.refused self.old.store) (S.refused self.new.store)) }
+        ensures device { IfErr result (λ refusal. refusal ≡ Disk
+            → HasRisen (S.refused self.old.store) (S.refused self.new.store)) }
         ensures counts { S.refused self.old.store ≤ S.refused self.new.store }
     {
         match self.store.flush() {
@@ -138,12 +156,15 @@ impl<S: Store, L: Language + Changes<S>> Core<S, L> {
         }
     }
 
-    /// Ends all sessions, writes all that is committed, and hands back the device. A refusal is that of the device; it hands back the core, whose sessions have ended. Takes no memory.
+    /// Ends all sessions, writes all that is committed, and hands back the device. A refusal is
+    /// that of the device; it hands back the core, whose sessions have ended. Takes no memory.
     pub fn close(self) -> Result<S::Device, Refused<Core<S, L>>>
-        ensures closed { IfOk result (λ device. IsSound S.is_sound S.shows self → S.saved device (world_of S.shows self).last) }
+        ensures closed { IfOk result (λ device. IsSound S.is_sound S.shows self
+            → S.saved device (world_of S.shows self).last) }
         ensures settled { IfOk result (λ device. S.settled device) }
         ensures counts { IfOk result (λ device. S.refused self.store ≤ S.calls_refused device) }
-        ensures fails { IfErr result (λ back. (back.refusal ≡ Disk) × (world_of S.shows back.value ≡ without_sessions (world_of S.shows self))) }
+        ensures fails { IfErr result (λ back. (back.refusal ≡ Disk)
+            × (world_of S.shows back.value ≡ without_sessions (world_of S.shows self))) }
         ensures sound { IfErr result (λ back. IsSound S.is_sound S.shows self → IsSound S.is_sound S.shows back.value) }
         ensures device { IfErr result (λ back. HasRisen (S.refused self.store) (S.refused back.value.store)) }
     {
@@ -172,8 +193,10 @@ impl<S: Store, L: Language + Changes<S>> Core<S, L> {
         }
     }
 
-    /// A core without sessions over the database that was saved on a device, with room for so many pages in memory. A device that cannot be read as a store's is refused. A refusal hands
-    /// the device back, saved as it was; where a database was saved on it, it is want of memory or the device, as of a flush.
+    /// A core without sessions over the database that was saved on a device, with room for so many
+    /// pages in memory. A device that cannot be read as a store's is refused. A refusal hands the
+    /// device back, saved as it was; where a database was saved on it, it is want of memory or the
+    /// device, as of a flush.
     pub fn open(
         alloc: Global,
         language: L,
@@ -182,14 +205,16 @@ impl<S: Store, L: Language + Changes<S>> Core<S, L> {
     ) -> Result<Core<S, L>, Refused<S::Device>>
         requires { (16 ≤ frames) × (frames ≤ 4096) }
         ensures room { IfOk result (λ core. S.room core.store ≡ frames) }
-        ensures opened { IfOk result (λ core. (db : Database) → S.saved device db → IsSound S.is_sound S.shows core × (world_of S.shows core ≡ opened db)) }
+        ensures opened { IfOk result (λ core. (db : Database) → S.saved device db
+            → IsSound S.is_sound S.shows core × (world_of S.shows core ≡ opened db)) }
         ensures empty { IfOk result (λ core. (k : ℕ) → is_live (world_of S.shows core) k ≡ false) }
         ensures readable { IfOk result (λ core. S.readable device) }
         ensures counts { IfOk result (λ core. S.calls_refused device ≤ S.refused core.store) }
         ensures left { IfErr result (λ back. (db : Database) → S.saved device db → S.saved back.value db) }
         ensures refused { IfErr result (λ back. (db : Database) → S.saved device db → IsReserved back.refusal) }
         ensures stops { IfErr result (λ back. (db : Database) → S.saved device db → StopsFlush back.refusal) }
-        ensures device { IfErr result (λ back. back.refusal ≡ Disk → HasRisen (S.calls_refused device) (S.calls_refused back.value)) }
+        ensures device { IfErr result (λ back. back.refusal ≡ Disk
+            → HasRisen (S.calls_refused device) (S.calls_refused back.value)) }
     {
         match S::open(alloc, device, frames) {
             Ok(store) => Ok(Core {

@@ -20,17 +20,20 @@ pub trait Language: Drop {
     fn is_rollback(&self, text: &[u8]) -> bool
         ensures { IsTrue result ↔ IsRollback text.now };
 
-    /// The statement of a text. A text that is no statement is refused by the first thing that is wrong with it; any may be refused for want of memory.
+    /// The statement of a text. A text that is no statement is refused by the first thing that is
+    /// wrong with it; any may be refused for want of memory.
     fn read(&self, alloc: Global, text: &[u8]) -> Result<Statement, Refusal>
         ensures read { IfOk result (λ x. IsRead text.now x) }
         ensures unread { IfErr result (λ refusal. refusal ≢ Memory → IsUnread text.now refusal) };
 
-    /// What a statement stands for over a schema: by the rules of names and types, or a reason of theirs against it; any may be refused for want of memory.
+    /// What a statement stands for over a schema: by the rules of names and types, or a reason of
+    /// theirs against it; any may be refused for want of memory.
     fn typed(&self, alloc: Global, statement: &Statement, schema: &Schema) -> Result<Typed, Refusal>
         ensures finds { Finds result (answered_found statement.now schema.now) };
 }
 
-/// What a statement stands for, as a language finds it. No reason against a statement is a refusal of the device, or a limit of the store: a law of the rules of names and types.
+/// What a statement stands for, as a language finds it. No reason against a statement is a refusal
+/// of the device, or a limit of the store: a law of the rules of names and types.
 pub(crate) fn typed_by<L: Language>(
     alloc: Global,
     language: &L,

@@ -32,7 +32,8 @@ use store::{Seen, Store, View};
 use transactions::{refusal_of, take_back, view_of};
 use typing::Typed;
 
-/// A query. It begins a transaction where the session has none, but not where it is refused. It is refused by no limit of the store.
+/// A query. It begins a transaction where the session has none, but not where it is refused. It is
+/// refused by no limit of the store.
 pub(crate) fn query<S: Store, L: Language>(
     alloc: Global,
     language: &L,
@@ -41,7 +42,8 @@ pub(crate) fn query<S: Store, L: Language>(
     session: u64,
     statement: &Statement,
 ) -> Reply
-    ensures moves { (rules : Rules) (text : Bytes) (x : OrderedQuery) (mode : Mode) → AreRules rules → statement.now ≡ asks.Query x → IsRead text (asks.Query x) → (IsRollback text → ⊥)
+    ensures moves { (rules : Rules) (text : Bytes) (x : OrderedQuery) (mode : Mode) → AreRules rules
+        → statement.now ≡ asks.Query x → IsRead text (asks.Query x) → (IsRollback text → ⊥)
         → S.is_sound store.old → IsOrderly (S.shows store.old) writer
         → Moves rules session text result (S.shows store.old) writer mode (S.shows store.new) writer mode }
     ensures device { Counts result (S.refused store.old) (S.refused store.new) }
@@ -70,9 +72,11 @@ fn rows_seen<S: Store, L: Language>(
     view: View,
     statement: &Statement,
 ) -> Result<Rows, Refusal>
-    ensures gives { IfOk result (λ rows. (rules : Rules) (x : OrderedQuery) → AreRules rules → statement.now ≡ asks.Query x → S.is_sound store.old
+    ensures gives { IfOk result (λ rows. (rules : Rules) (x : OrderedQuery) → AreRules rules
+        → statement.now ≡ asks.Query x → S.is_sound store.old
         → GivesRows rules (database_of (seen_by (S.shows store.old) view)) x rows) }
-    ensures refused { IfErr result (λ refusal. (rules : Rules) (x : OrderedQuery) → AreRules rules → statement.now ≡ asks.Query x → S.is_sound store.old
+    ensures refused { IfErr result (λ refusal. (rules : Rules) (x : OrderedQuery) → AreRules rules
+        → statement.now ≡ asks.Query x → S.is_sound store.old
         → RefusesQuery rules (database_of (seen_by (S.shows store.old) view)) x refusal) }
     ensures device { IfErr result (λ refusal. refusal ≡ Disk → HasRisen (S.refused store.old) (S.refused store.new)) }
     ensures limits { IfErr result TellsNoLimit }
@@ -96,8 +100,10 @@ fn evaluate<S: Store>(
     view: View,
     typed: &Typed,
 ) -> Result<Rows, Refusal>
-    ensures answers { IfOk result (λ rows. (query : Query) → typed.now ≡ does.Query query → S.is_sound store.old → Answers (Ok rows) (denotes (database_of (seen_by (S.shows store.old) view)) query)) }
-    ensures refused { IfErr result (λ refusal. (query : Query) → typed.now ≡ does.Query query → S.is_sound store.old → MayRefuse (denotes (database_of (seen_by (S.shows store.old) view)) query).unordered.faults refusal) }
+    ensures answers { IfOk result (λ rows. (query : Query) → typed.now ≡ does.Query query → S.is_sound store.old
+        → Answers (Ok rows) (denotes (database_of (seen_by (S.shows store.old) view)) query)) }
+    ensures refused { IfErr result (λ refusal. (query : Query) → typed.now ≡ does.Query query → S.is_sound store.old
+        → MayRefuse (denotes (database_of (seen_by (S.shows store.old) view)) query).unordered.faults refusal) }
     ensures device { IfErr result (λ refusal. refusal ≡ Disk → HasRisen (S.refused store.old) (S.refused store.new)) }
     ensures limits { IfErr result TellsNoLimit }
     ensures shows { S.shows store.new ≡ S.shows store.old }

@@ -1,4 +1,5 @@
--- What a core relies on: in every world of a legal history that begins with good databases, each session sees a good one.
+-- What a core relies on: in every world of a legal history that begins with good databases, each
+-- session sees a good one.
 use Rattle.std.proofs.Common.{◌≡◌, ℕ, true, List, Option, Some, None, Ok, Err, refl, sym, subst, ◌∙◌}
 use Rattle.std.specs.Prelude.{is_some}
 use Rattle.ast.specs.declared.statement.AccessMode.{AccessMode}

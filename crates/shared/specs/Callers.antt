@@ -16,7 +16,9 @@ stands_of (Stands p) = true
 
 -- the script of this number has run: its caller made its calls, with these answers
 abbrev pub HasPlayed : {J : Type 0} → List Script → ℕ → Option (Done J) → Type 0
-HasPlayed scripts k result = IfSome result (λ d. (d.client.who ≡ k) × Played (texts_at scripts k) d.client.mine d.answers.items)
+HasPlayed scripts k result = IfSome result (λ d. (d.client.who ≡ k)
+    × Played (texts_at scripts k) d.client.mine d.answers.items)
 
 abbrev pub AllPlayed : {J : Type 0} → List Script → List (Option (Done J)) → Type 0
-AllPlayed {J} scripts done = (k : ℕ) (d : Option (Done J)) → k < length done → HasPlayed scripts k (slice_index_or done k d)
+AllPlayed {J} scripts done = (k : ℕ) (d : Option (Done J)) → k < length done
+    → HasPlayed scripts k (slice_index_or done k d)

@@ -1,5 +1,6 @@
--- Histories of many callers of one core: what each was told, in one order; and which of them are legal (sessions are those of ISO/IEC 9075:1992, 4.30; that their calls
--- have one order is our own choice).
+-- Histories of many callers of one core: what each was told, in one order; and which of them are
+-- legal (sessions are those of ISO/IEC 9075:1992, 4.30; that their calls have one order is our own
+-- choice).
 use Rattle.std.specs.Prelude.{Option, Some, None, Ok, Err, ◌≡◌, ℕ, ◌+◌, ◌-◌, ◌^◌, ◌<◌, ◌≤◌, ◌==◌, min, Bool, true, false, not, ◌||◌, ◌&&◌, List, [], ◌∷◌, ◌++◌, map}
 use Rattle.refusals.specs.declared.refusal.Refusal.{Refusal}
 use Rattle.refusals.specs.declared.refusal.Refusal.TheVariants.{Disk, Exceeded}
@@ -24,7 +25,8 @@ event who act refused = record { who = who; act = act; refused = refused }
 
 -- ---- legal histories
 
--- What is told of an event of an engine. Of a call it is the reply, and not its effect; of a flush nobody is told, and closing and opening are no calls of a caller.
+-- What is told of an event of an engine. Of a call it is the reply, and not its effect; of a flush
+-- nobody is told, and closing and opening are no calls of a caller.
 abbrev pub told_of : runs.Event → List Act
 told_of (runs.Event.Makes (Ok s)) = Connects s ∷ []
 told_of (runs.Event.Makes (Err refusal)) = Refused refusal ∷ []
@@ -34,7 +36,8 @@ told_of (runs.Event.Flushes left) = []
 told_of (runs.Event.FailsToClose refusal) = []
 told_of runs.Event.Reopens = []
 
--- what is told of these events, the latest of which stands first, in the order in which they happened
+-- what is told of these events, the latest of which stands first, in the order in which they
+-- happened
 abbrev pub told_by : List runs.Event → List Act
 told_by [] = []
 told_by (e ∷ earlier) = told_by earlier ++ told_of e
@@ -43,7 +46,8 @@ told_by (e ∷ earlier) = told_by earlier ++ told_of e
 abbrev pub acts_of : List Event → List Act
 acts_of log = map (λ e. e.act) log
 
--- Some legal history of the engine, calls and flushes, leads from the one world to the other, and just this is told of it.
+-- Some legal history of the engine, calls and flushes, leads from the one world to the other, and
+-- just this is told of it.
 pub record IsTold (rules : Rules) (start : World) (log : List Event) (end : World) : Type 0 where
   pub events : List runs.Event
   pub legal : runs.IsLegal rules start events end
@@ -51,13 +55,17 @@ pub record IsTold (rules : Rules) (start : World) (log : List Event) (end : Worl
 
 -- what was told is told of some legal history that begins in this world
 abbrev pub IsLegal : World → List Event → Type 0
-IsLegal start log = (rules : Rules) → AreRules rules → IsGoodWorld rules.check start → (end : World) × IsTold rules start log end
+IsLegal start log = (rules : Rules) → AreRules rules → IsGoodWorld rules.check start
+    → (end : World) × IsTold rules start log end
 
--- a core whose world was this one is sound still, and some legal history of which this is told leads to its world
+-- a core whose world was this one is sound still, and some legal history of which this is told
+-- leads to its world
 abbrev pub Stays : World → List Event → Type 0 → World → Type 0
-Stays start log sound world = (rules : Rules) → AreRules rules → IsGoodWorld rules.check start → sound × IsTold rules start log world
+Stays start log sound world = (rules : Rules) → AreRules rules → IsGoodWorld rules.check start
+    → sound × IsTold rules start log world
 
--- one call of a core from a good world: it stays sound, and some event happens of which just this is told
+-- one call of a core from a good world: it stays sound, and some event happens of which just this
+-- is told
 pub record Happens (rules : Rules) (w : World) (act : Act) (w' : World) : Type 0 where
   pub event : runs.Event
   pub shared : (runs.is_call event || runs.is_flush event) ≡ true
@@ -127,10 +135,12 @@ TellsDevice (Refused refusal) before after = refusal ≡ Disk → HasRisen befor
 TellsDevice (Says id text reply) before after = Counts reply before after
 TellsDevice (Ends id) before after = Unit {0}
 
--- The counts after the calls do not fall, from the one before the history to the one that is reached now, and where a call is told X0002 the count rose since the call before it.
+-- The counts after the calls do not fall, from the one before the history to the one that is
+-- reached now, and where a call is told X0002 the count rose since the call before it.
 abbrev pub AllTellDevice : List Event → ℕ → ℕ → Type 0
 AllTellDevice [] before after = before ≤ after
-AllTellDevice (e ∷ es) before after = (before ≤ e.refused) × TellsDevice e.act before e.refused × AllTellDevice es e.refused after
+AllTellDevice (e ∷ es) before after = (before ≤ e.refused) × TellsDevice e.act before e.refused
+    × AllTellDevice es e.refused after
 
 abbrev pub is_disk : Refusal → Bool
 is_disk Disk = true
@@ -160,19 +170,22 @@ disks_told (e ∷ es) = one_if (tells_disk e.act) + disks_told es
 abbrev pub HasRisenBy : ℕ → ℕ → ℕ → Type 0
 HasRisenBy n before after = min (before + n) (2 ^ 64 - 1) ≤ after
 
--- The text may reach a limit of what the store counts, its pages, private pages or kept page images: a change each of them, and a COMMIT, which takes no private page, the others.
+-- The text may reach a limit of what the store counts, its pages, private pages or kept page
+-- images: a change each of them, and a COMMIT, which takes no private page, the others.
 abbrev pub MayReach : Bytes → StoreLimit → Type 0
 MayReach text which = (commits : ℕ) × CallReaches (λ _. Unit {0}) commits text which
 
--- a call tells such a limit only where its text may reach it; no session is made only where as many stand as may
+-- a call tells such a limit only where its text may reach it; no session is made only where as many
+-- stand as may
 abbrev pub TellsLimits : Act → Type 0
 TellsLimits (Connects id) = Unit {0}
 TellsLimits (Refused refusal) = refusal ≡ Exceeded limit.Sessions
 TellsLimits (Says id text reply) = IfRefused reply (TellsReached (MayReach text))
 TellsLimits (Ends id) = Unit {0}
 
--- The count of refused calls has not fallen since it was the one. X0002 was told of a call only where it rose with this call, and so of no more calls than the device refused; limits of
--- the store were told only of what may reach them.
+-- The count of refused calls has not fallen since it was the one. X0002 was told of a call only
+-- where it rose with this call, and so of no more calls than the device refused; limits of the
+-- store were told only of what may reach them.
 pub record IsCounted (before after : ℕ) (log : List Event) : Type 0 where
   pub least : before ≤ after
   pub told : AllTellDevice log before after

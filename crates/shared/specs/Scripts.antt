@@ -37,7 +37,8 @@ abbrev pub asks : List Event → List Ask
 asks [] = []
 asks (e ∷ es) = ask_of e.act ∷ asks es
 
--- The calls for one text, by whether the session stands: it is made where it does not, and the text is asked where it was made.
+-- The calls for one text, by whether the session stands: it is made where it does not, and the text
+-- is asked where it was made.
 abbrev pub asked : Bool → List ℕ → Answer → List Ask
 asked stands text (Err refusal) = refused refusal ∷ []
 asked false text (Ok reply) = joins ∷ says text reply ∷ []
@@ -61,8 +62,8 @@ abbrev pub closing : Bool → List Ask
 closing true = leaves ∷ []
 closing false = []
 
--- All calls of a script: its session is made before the first text for which it does not stand, every text for which it stands is asked once and in order, and at the end
--- the session is ended.
+-- All calls of a script: its session is made before the first text for which it does not stand,
+-- every text for which it stands is asked once and in order, and at the end the session is ended.
 abbrev pub expected : List (List ℕ) → List Answer → List Ask
 expected texts answers = opened false texts answers ++ closing (stood false answers)
 
@@ -107,7 +108,8 @@ abbrev pub AllTellDeviceIf : Type 0 → List Answer → Type 0
 AllTellDeviceIf has_refused [] = Unit {0}
 AllTellDeviceIf has_refused (a ∷ answers) = TellsDeviceIf has_refused a × AllTellDeviceIf has_refused answers
 
--- the answer to a text tells a limit of what the store counts only where the text may reach it; no session is made only where as many stand as may
+-- the answer to a text tells a limit of what the store counts only where the text may reach it; no
+-- session is made only where as many stand as may
 abbrev pub AnswerTellsLimits : List ℕ → Answer → Type 0
 AnswerTellsLimits text (Err refusal) = refusal ≡ Exceeded limit.Sessions
 AnswerTellsLimits text (Ok reply) = IfRefused reply (TellsReached (MayReach text))
@@ -121,20 +123,26 @@ AnswersTellLimits (text ∷ texts) (a ∷ answers) = AnswerTellsLimits text a ×
 abbrev pub store_of : {S L D : Type 0} → Core S L D → S
 store_of core = core.store
 
--- There is one history. Each call in it is a script's; of each script it has the calls of its texts, each once and in order, with the answers that are given, and no others.
--- Under the premise it is legal, and leads from the first world to the last.
+-- There is one history. Each call in it is a script's; of each script it has the calls of its
+-- texts, each once and in order, with the answers that are given, and no others. Under the premise
+-- it is legal, and leads from the first world to the last.
 pub record OneHistory (premise : Type 0) (start : World) (scripts : List Script) (replies : List Answers) (sound : Type 0) (end : World) : Type 0 where
   pub log : List Event
   pub all_of : AllOf (length scripts) log
   pub all : length replies ≡ length scripts
-  pub each : (k : ℕ) (answers : Answers) → slice_get replies k ≡ Some answers → Played (texts_at scripts k) (calls_by k log) answers.items
+  pub each : (k : ℕ) (answers : Answers) → slice_get replies k ≡ Some answers
+      → Played (texts_at scripts k) (calls_by k log) answers.items
   pub tells : premise → Stays start log sound end
 
--- There is one history of the scripts, from a core whose device had refused `before` calls to one whose device has refused `after`. X0002 is told in it, and is an answer, only where the
--- device refused a call; a limit of what the store counts is told in it, and is an answer, only where the text may reach it. No session stands then.
+-- There is one history of the scripts, from a core whose device had refused `before` calls to one
+-- whose device has refused `after`. X0002 is told in it, and is an answer, only where the device
+-- refused a call; a limit of what the store counts is told in it, and is an answer, only where the
+-- text may reach it. No session stands then.
 pub record RunSideBySide (premise : Type 0) (start : World) (before : ℕ) (scripts : List Script) (replies : List Answers) (sound : Type 0) (end : World) (after : ℕ) : Type 0 where
   pub history : OneHistory premise start scripts replies sound end
   pub counted : IsCounted before after history.log
   pub none_left : (id : ℕ) → is_live end id ≡ false
-  pub device : (k : ℕ) (answers : Answers) → slice_get replies k ≡ Some answers → AllTellDeviceIf (HasRisen before after) answers.items
-  pub limits : (k : ℕ) (answers : Answers) → slice_get replies k ≡ Some answers → AnswersTellLimits (texts_at scripts k) answers.items
+  pub device : (k : ℕ) (answers : Answers) → slice_get replies k ≡ Some answers
+      → AllTellDeviceIf (HasRisen before after) answers.items
+  pub limits : (k : ℕ) (answers : Answers) → slice_get replies k ≡ Some answers
+      → AnswersTellLimits (texts_at scripts k) answers.items

@@ -62,7 +62,8 @@ abbrev pub IsAt : List Event → ℕ → Option ℕ → Type 0
 IsAt log who None = Unit {0}
 IsAt log who (Some id) = holder_of id log ≡ Some who
 
--- A caller has seen a beginning of the history, and the calls that it made are all that the history has of it. Its session is the one that the history leaves to it, and no other is.
+-- A caller has seen a beginning of the history, and the calls that it made are all that the history
+-- has of it. Its session is the one that the history leaves to it, and no other is.
 pub record Calls (names : ℕ) (log : List Event) (v : View) : Type 0 where
   pub named : v.who < names
   pub saw : IsPrefix v.seen log
@@ -86,7 +87,8 @@ pub record Kept (words : List ℕ) (views : List View) : Type 0 where
   pub all_of : AllOf names log
   pub fits : (by : ℕ) (v : View) → get_elem? views by ≡ some v → Fits seat seats names log by v
 
--- the call may come next: a new session's number is nobody's, and its caller has none; and a call of a session is its caller's
+-- the call may come next: a new session's number is nobody's, and its caller has none; and a call
+-- of a session is its caller's
 abbrev pub May : View → Act → Type 0
 May v (Connects id) = (v.at ≡ None) × (holder_of id v.log ≡ None)
 May v (Refused refusal) = Unit {0}
@@ -107,8 +109,9 @@ Peeks v before after w = (w ≡ v) × Told v × AllOf v.names v.log
 
 -- ---- the locked value
 
--- The locked core's world is the one after the history that its pass knows, and the count is the history's length modulo 2^64. Which sessions stand is known also where
--- the premise does not hold, under which the core is sound and the history legal.
+-- The locked core's world is the one after the history that its pass knows, and the count is the
+-- history's length modulo 2^64. Which sessions stand is known also where the premise does not hold,
+-- under which the core is sound and the history legal.
 pub record IsDesk (premise : Type 0) (start : World) (callers : Option ℕ) (is_sound : Type 0) (world : World) (count : ℕ) (v : View) : Type 0 where
   pub keeps : v.keeps ≡ true
   pub counted : count ≡ length v.log % 2 ^ 64
@@ -135,9 +138,11 @@ IsNew who caller = (caller.who ≡ who) × (caller.seen ≡ []) × (caller.mine 
 
 -- so many of them, by their numbers
 abbrev pub AreNew : ℕ → List Past → Type 0
-AreNew count callers = (length callers ≡ count) × ((k : ℕ) (caller : Past) → slice_get callers k ≡ Some caller → IsNew k caller)
+AreNew count callers = (length callers ≡ count)
+    × ((k : ℕ) (caller : Past) → slice_get callers k ≡ Some caller → IsNew k caller)
 
--- a caller has seen a beginning of the history, in which its calls are those that it made; and the history leaves it no session
+-- a caller has seen a beginning of the history, in which its calls are those that it made; and the
+-- history leaves it no session
 pub record IsHeard (log : List Event) (caller : Past) : Type 0 where
   pub saw : IsPrefix caller.seen log
   pub made : calls_by caller.who log ≡ caller.mine
@@ -147,9 +152,11 @@ abbrev pub AllHeard : List Event → List Past → Type 0
 AllHeard log [] = Unit {0}
 AllHeard log (caller ∷ callers) = IsHeard log caller × AllHeard log callers
 
--- There is one history, in which each of these callers is heard; where it was settled how many callers there are, no other made a call in it. The device had refused `before` calls when it
--- began, and has refused `after` in the core that is handed back. The sessions that stand are those that the history leaves to somebody. Under the premise it is legal, and the world is the
--- one after it.
+-- There is one history, in which each of these callers is heard; where it was settled how many
+-- callers there are, no other made a call in it. The device had refused `before` calls when it
+-- began, and has refused `after` in the core that is handed back. The sessions that stand are those
+-- that the history leaves to somebody. Under the premise it is legal, and the world is the one
+-- after it.
 pub record HasHistory (premise : Type 0) (start : World) (before : ℕ) (settled : Option ℕ) (callers : List Past) (is_sound : Type 0) (world : World) (after : ℕ) : Type 0 where
   pub log : List Event
   pub heard : AllHeard log callers
@@ -158,8 +165,10 @@ pub record HasHistory (premise : Type 0) (start : World) (before : ℕ) (settled
   pub live : (id : ℕ) → is_live world id ≡ is_some (holder_of id log)
   pub tells : premise → Stays start log is_sound world
 
--- One call. The history after it begins with all that the caller had seen, and ends with the call. The calls of the caller in it are those that it made: those from before,
--- and this one. The device had refused `before` calls when the history began, and `refused` after this call. Under the premise the history is legal.
+-- One call. The history after it begins with all that the caller had seen, and ends with the call.
+-- The calls of the caller in it are those that it made: those from before, and this one. The device
+-- had refused `before` calls when the history began, and `refused` after this call. Under the
+-- premise the history is legal.
 pub record Extends (premise : Type 0) (start : World) (before : ℕ) (v : Past) (act : Act) (w : Past) : Type 0 where
   pub who : w.who ≡ v.who
   pub at : w.at ≡ at_after act v.at
@@ -171,7 +180,8 @@ pub record Extends (premise : Type 0) (start : World) (before : ℕ) (v : Past) 
   pub counted : IsCounted before refused w.seen
   pub legal : premise → IsLegal start w.seen
 
--- Its session was asked this, and this is the reply, which tells a limit of what the store counts only of a text that may reach it. ROLLBACK is always carried out.
+-- Its session was asked this, and this is the reply, which tells a limit of what the store counts
+-- only of a text that may reach it. ROLLBACK is always carried out.
 pub record Said (premise : Type 0) (start : World) (before : ℕ) (v : Past) (text : Bytes) (reply : Reply) (w : Past) : Type 0 where
   pub id : ℕ
   pub at : v.at ≡ Some id

@@ -4,7 +4,8 @@ use crate::rule::{Room, Token};
 use sessions::SessionId;
 use std::marker::{Model, PhantomData};
 
-/// A caller without a session. Contracts see which beginning of the history it has seen, and the calls that it made.
+/// A caller without a session. Contracts see which beginning of the history it has seen, and the
+/// calls that it made.
 #[derive(Drop)]
 pub struct Client<J: Room> {
     pub(crate) token: Token,
@@ -20,7 +21,8 @@ impl<J: Room> Model for Client<J> {
 
     ghost view = { λ c. past (cell_view c.token) };
 
-    ghost invariant = { λ c. (c.token.table_id ≡ J.table) × (c.token.me.1 ≡ []) × ((cell_view c.token).calls ≡ true) × ((cell_view c.token).at ≡ None) };
+    ghost invariant = { λ c. (c.token.table_id ≡ J.table) × (c.token.me.1 ≡ []) × ((cell_view c.token).calls ≡ true)
+        × ((cell_view c.token).at ≡ None) };
 }
 
 /// A caller with a session, which has to be ended: there is no other way to spend it.
@@ -40,5 +42,6 @@ impl<J: Room> Model for Session<J> {
 
     ghost view = { λ c. past (cell_view c.token) };
 
-    ghost invariant = { λ c. (c.token.table_id ≡ J.table) × (c.token.me.1 ≡ []) × ((cell_view c.token).calls ≡ true) × ((cell_view c.token).at ≡ Some (number_of c.id)) };
+    ghost invariant = { λ c. (c.token.table_id ≡ J.table) × (c.token.me.1 ≡ []) × ((cell_view c.token).calls ≡ true)
+        × ((cell_view c.token).at ≡ Some (number_of c.id)) };
 }

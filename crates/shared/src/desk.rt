@@ -31,7 +31,8 @@ pub(crate) enum Called<'a> {
     Ends(SessionId),
 }
 
-/// A core, the number of calls modulo 2^64, and the pass that knows the history. The core is as that history left it, and its device refused a call since where one was told X0002.
+/// A core, the number of calls modulo 2^64, and the pass that knows the history. The core is as
+/// that history left it, and its device refused a call since where one was told X0002.
 #[derive(Drop)]
 pub struct Desk<S: Store, L: Language + Changes<S>, J: Room> {
     core: Core<S, L>,
@@ -53,12 +54,14 @@ impl<S: Store, L: Language + Changes<S>, J: Room> Model for Desk<S, L, J> {
 
     ghost view = { λ d. (cell_view d.keeper).log };
 
-    ghost invariant = { λ d. (d.keeper.table_id ≡ J.table) × IsDesk J.premise J.start J.callers (IsSound S.is_sound S.shows d.core) (world_of S.shows d.core) d.count (cell_view d.keeper)
+    ghost invariant = { λ d. (d.keeper.table_id ≡ J.table)
+        × IsDesk J.premise J.start J.callers (IsSound S.is_sound S.shows d.core) (world_of S.shows d.core) d.count (cell_view d.keeper)
         × IsCounted J.refused (S.refused (store_of d.core)) (cell_view d.keeper).log };
 }
 
 impl<S: Store, L: Language + Changes<S>, J: Room> Desk<S, L, J> {
-    /// A core without sessions, and the first pass of a cell, from which the callers' passes were cut.
+    /// A core without sessions, and the first pass of a cell, from which the callers' passes were
+    /// cut.
     pub(crate) fn new(core: Core<S, L>, keeper: Token) -> Desk<S, L, J>
         requires core { (world_of S.shows core ≡ J.start) × ((id : ℕ) → is_live (world_of S.shows core) id ≡ false) }
         requires sound { J.premise → IsSound S.is_sound S.shows core }
@@ -80,9 +83,11 @@ impl<S: Store, L: Language + Changes<S>, J: Room> Desk<S, L, J> {
         ensures token { result.1.table_id ≡ J.table }
         ensures keeps { (cell_view result.1).keeps ≡ true }
         ensures all_of { (n : ℕ) → J.callers ≡ Some n → AllOf n (cell_view result.1).log }
-        ensures history { J.premise → Stays J.start (cell_view result.1).log (IsSound S.is_sound S.shows result.0) (world_of S.shows result.0) }
+        ensures history { J.premise
+            → Stays J.start (cell_view result.1).log (IsSound S.is_sound S.shows result.0) (world_of S.shows result.0) }
         ensures device { IsCounted J.refused (S.refused (store_of result.0)) (cell_view result.1).log }
-        ensures live { (id : ℕ) → is_live (world_of S.shows result.0) id ≡ is_some (holder_of id (cell_view result.1).log) }
+        ensures live { (id : ℕ)
+            → is_live (world_of S.shows result.0) id ≡ is_some (holder_of id (cell_view result.1).log) }
     {
         let Desk {
             core,
@@ -174,9 +179,11 @@ impl<S: Store, L: Language + Changes<S>, J: Room> Desk<S, L, J> {
 
 /// One caller more. Its number is how many there were.
 pub(crate) fn newcomer<J: Room>(cell: &Cell, keeper: &mut Token) -> Client<J>
-    requires cell { (keeper.old.table_id ≡ cell.now.table.shared.table_id) × (cell.now.table.shared.table_id ≡ J.table) }
+    requires cell { (keeper.old.table_id ≡ cell.now.table.shared.table_id)
+        × (cell.now.table.shared.table_id ≡ J.table) }
     requires view { (cell_view keeper.old).keeps ≡ true }
-    ensures keeper { (keeper.new.table_id ≡ keeper.old.table_id) × (cell_view keeper.new ≡ one_more (cell_view keeper.old)) }
+    ensures keeper { (keeper.new.table_id ≡ keeper.old.table_id)
+        × (cell_view keeper.new ≡ one_more (cell_view keeper.old)) }
     ensures caller { IsNew (cell_view keeper.old).names result }
 {
     let token = cell.split_pass::<Newcomer>(keeper);
@@ -186,11 +193,14 @@ pub(crate) fn newcomer<J: Room>(cell: &Cell, keeper: &mut Token) -> Client<J>
     }
 }
 
-/// The pass that knows the history takes a caller's in for good: its calls are those that it made, it has seen a beginning of the history, and no session of it stands.
+/// The pass that knows the history takes a caller's in for good: its calls are those that it made,
+/// it has seen a beginning of the history, and no session of it stands.
 pub(crate) fn hear<J: Room, R: Wait>(rt: &R, cell: &Cell, keeper: &mut Token, client: Client<J>)
-    requires cell { (keeper.old.table_id ≡ cell.now.table.shared.table_id) × (cell.now.table.shared.table_id ≡ J.table) }
+    requires cell { (keeper.old.table_id ≡ cell.now.table.shared.table_id)
+        × (cell.now.table.shared.table_id ≡ J.table) }
     requires view { (cell_view keeper.old).keeps ≡ true }
-    ensures keeper { (keeper.new.table_id ≡ keeper.old.table_id) × (cell_view keeper.new ≡ keeper_in (cell_view keeper.old)) }
+    ensures keeper { (keeper.new.table_id ≡ keeper.old.table_id)
+        × (cell_view keeper.new ≡ keeper_in (cell_view keeper.old)) }
     ensures made { calls_by client.who (cell_view keeper.old).log ≡ client.mine }
     ensures saw { IsPrefix client.seen (cell_view keeper.old).log }
     ensures idle { (id : ℕ) → holder_of id (cell_view keeper.old).log ≢ Some client.who }
@@ -200,9 +210,11 @@ pub(crate) fn hear<J: Room, R: Wait>(rt: &R, cell: &Cell, keeper: &mut Token, cl
     let _parted = cell.split_pass::<Guest>(keeper);
 }
 
-/// The pass under the lock takes in the caller's, and learns that its calls in the history are those that it made.
+/// The pass under the lock takes in the caller's, and learns that its calls in the history are
+/// those that it made.
 fn take_in<R: Wait>(rt: &R, cell: &Cell, keeper: &mut Token, caller: &mut Token)
-    requires cell { (keeper.old.table_id ≡ cell.now.table.shared.table_id) × (caller.old.table_id ≡ keeper.old.table_id) × (caller.old.me.1 ≡ []) }
+    requires cell { (keeper.old.table_id ≡ cell.now.table.shared.table_id) × (caller.old.table_id ≡ keeper.old.table_id)
+        × (caller.old.me.1 ≡ []) }
     requires views { ((cell_view keeper.old).keeps ≡ true) × ((cell_view caller.old).calls ≡ true) }
     ensures cell { (keeper.new.table_id ≡ keeper.old.table_id) × (caller.new.table_id ≡ keeper.old.table_id) }
     ensures view { cell_view keeper.new ≡ host (cell_view keeper.old) (cell_view caller.old) }
@@ -214,8 +226,8 @@ fn take_in<R: Wait>(rt: &R, cell: &Cell, keeper: &mut Token, caller: &mut Token)
     cell.load_as::<Peek, R>(rt, keeper);
 }
 
-/// Puts a call of the caller that was taken in at the end of the history, with what this core's device has refused, and gives the caller its pass back, which has then seen all of the
-/// history.
+/// Puts a call of the caller that was taken in at the end of the history, with what this core's
+/// device has refused, and gives the caller its pass back, which has then seen all of the history.
 fn record<S: Store, L: Language + Changes<S>, E: Asked, R: Wait>(
     rt: &R,
     cell: &Cell,
@@ -229,8 +241,10 @@ fn record<S: Store, L: Language + Changes<S>, E: Asked, R: Wait>(
     requires event { E.event ≡ event (cell_view keeper.old).who (act_of call) (S.refused (store_of _core.now)) }
     requires next { May (cell_view keeper.old) (act_of call) }
     requires count { count ≡ (length (cell_view keeper.old).log + 1) % 2 ^ 64 }
-    ensures keeper { (keeper.new.table_id ≡ keeper.old.table_id) × (cell_view keeper.new ≡ keeper_in (extended E.event (cell_view keeper.old))) }
-    ensures caller { (result.table_id ≡ keeper.old.table_id) × (result.me.1 ≡ []) × (cell_view result ≡ caller_in (extended E.event (cell_view keeper.old))) }
+    ensures keeper { (keeper.new.table_id ≡ keeper.old.table_id)
+        × (cell_view keeper.new ≡ keeper_in (extended E.event (cell_view keeper.old))) }
+    ensures caller { (result.table_id ≡ keeper.old.table_id) × (result.me.1 ≡ [])
+        × (cell_view result ≡ caller_in (extended E.event (cell_view keeper.old))) }
 {
     cell.swap_as::<Call<E>, R>(rt, keeper, [count]);
     cell.split_pass::<Guest>(keeper)

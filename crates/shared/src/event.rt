@@ -16,7 +16,8 @@ pub enum Act {
     Ends(u64),
 }
 
-/// A call of the caller of this number, and how many calls the device had refused after it, as the store counts them.
+/// A call of the caller of this number, and how many calls the device had refused after it, as the
+/// store counts them.
 pub struct Event {
     pub who: u64,
     pub act: Act,

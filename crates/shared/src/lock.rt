@@ -18,7 +18,8 @@ use std::alloc::{AllocError, Global};
 use std::sync::{Mutex, Wait};
 use store::Store;
 
-/// A core that threads share. Whenever the lock is free, the core is as the history of all calls left it, and the cell holds the number of those calls modulo 2^64.
+/// A core that threads share. Whenever the lock is free, the core is as the history of all calls
+/// left it, and the cell holds the number of those calls modulo 2^64.
 #[derive(Drop)]
 pub struct Shared<S: Store, L: Language + Changes<S>, J: Room> {
     pub(crate) cell: Cell,
@@ -27,7 +28,8 @@ pub struct Shared<S: Store, L: Language + Changes<S>, J: Room> {
 }
 
 impl<S: Store, L: Language + Changes<S>, J: Room> Shared<S, L, J> {
-    /// A core in which no session stands, to be shared by callers that are not settled before. The cell and its pass are new.
+    /// A core in which no session stands, to be shared by callers that are not settled before. The
+    /// cell and its pass are new.
     pub fn new(cell: Cell, keeper: Token, core: Core<S, L>) -> Shared<S, L, J>
         requires cell { (keeper.table_id ≡ cell.table.shared.table_id) × (cell.table.shared.table_id ≡ J.table) }
         requires view { cell_view keeper ≡ keeper_of 0 [] }
@@ -43,8 +45,9 @@ impl<S: Store, L: Language + Changes<S>, J: Room> Shared<S, L, J> {
         }
     }
 
-    /// A core in which no session stands, to be shared by so many callers, whose numbers are from 0, and by no others. The cell and its pass are new. Only want of memory is refused; the
-    /// core is dropped then.
+    /// A core in which no session stands, to be shared by so many callers, whose numbers are from
+    /// 0, and by no others. The cell and its pass are new. Only want of memory is refused; the core
+    /// is dropped then.
     pub fn with_callers(
         alloc: Global,
         cell: Cell,
@@ -66,8 +69,10 @@ impl<S: Store, L: Language + Changes<S>, J: Room> Shared<S, L, J> {
         Ok((Shared { cell, desk }, callers))
     }
 
-    /// The core, once no thread shares it: its world is the one after a legal history. Of each caller that is handed in this history has the calls that it made and no others, and it
-    /// begins with all that the caller has seen. Where the callers were settled, no other made a call in it. The core counts as many refused calls as were told X0002 at least.
+    /// The core, once no thread shares it: its world is the one after a legal history. Of each
+    /// caller that is handed in this history has the calls that it made and no others, and it
+    /// begins with all that the caller has seen. Where the callers were settled, no other made a
+    /// call in it. The core counts as many refused calls as were told X0002 at least.
     pub fn into_core<R: Wait>(self, rt: &R, callers: Vec<Client<J>>) -> Core<S, L>
         ensures { HasHistory J.premise J.start J.refused J.callers callers.items (IsSound S.is_sound S.shows result) (world_of S.shows result) (S.refused (store_of result)) }
     {
@@ -88,7 +93,8 @@ impl<S: Store, L: Language + Changes<S>, J: Room> Shared<S, L, J> {
         self.desk.lock(rt).newcomer(&self.cell)
     }
 
-    /// Makes the caller a session. Where that is refused, by the limit `sessions`, the caller comes back and may try again.
+    /// Makes the caller a session. Where that is refused, by the limit `sessions`, the caller comes
+    /// back and may try again.
     pub fn connect<R: Wait>(
         &self,
         rt: &R,
@@ -116,9 +122,11 @@ fn newcomers<J: Room>(
     keeper: &mut Token,
     count: usize,
 ) -> Result<Vec<Client<J>>, AllocError>
-    requires cell { (keeper.old.table_id ≡ cell.now.table.shared.table_id) × (cell.now.table.shared.table_id ≡ J.table) }
+    requires cell { (keeper.old.table_id ≡ cell.now.table.shared.table_id)
+        × (cell.now.table.shared.table_id ≡ J.table) }
     requires view { cell_view keeper.old ≡ keeper_of 0 [] }
-    ensures keeper { OnOk result ((keeper.new.table_id ≡ keeper.old.table_id) × (cell_view keeper.new ≡ keeper_of count [])) }
+    ensures keeper { OnOk result ((keeper.new.table_id ≡ keeper.old.table_id)
+        × (cell_view keeper.new ≡ keeper_of count [])) }
     ensures callers { IfOk result (λ v. AreNew count v.items) }
 {
     let mut callers = Vec::new(alloc);
@@ -130,8 +138,10 @@ fn newcomers<J: Room>(
 }
 
 impl<J: Room> Session<J> {
-    /// Carries out a statement, and answers its reply: the one that a step of the core gives there, in one legal history of the calls of all callers. That history begins with
-    /// all that this caller had seen, and ends with this call; its calls in it are those that it made. X0002 is told only where the device refused a call, and ROLLBACK always succeeds.
+    /// Carries out a statement, and answers its reply: the one that a step of the core gives there,
+    /// in one legal history of the calls of all callers. That history begins with all that this
+    /// caller had seen, and ends with this call; its calls in it are those that it made. X0002 is
+    /// told only where the device refused a call, and ROLLBACK always succeeds.
     pub fn execute<S: Store, L: Language + Changes<S>, R: Wait>(
         &mut self,
         rt: &R,

@@ -115,8 +115,9 @@ impl Split<View> for Guest {
     ghost right = { caller_in };
 }
 
-/// What is fixed as long as a lock lives: its cell, the world with which it began, how many calls the device had refused then, the premise under which its history is legal, and how many
-/// callers there are, where that is settled.
+/// What is fixed as long as a lock lives: its cell, the world with which it began, how many calls
+/// the device had refused then, the premise under which its history is legal, and how many callers
+/// there are, where that is settled.
 pub trait Room {
     ghost use Rattle.std.specs.Prelude.{Option, ℕ};
     ghost use Rattle.atomic_table.specs.Seated.{TableId};

@@ -24,12 +24,14 @@ use std::thread;
 use std::thread::Threads;
 use store::Store;
 
-/// Runs each script, a list of texts, on a thread of its own, all in sessions of this core, in which none stands; hands the core back with each script's answers, in the order of
-/// its texts.
+/// Runs each script, a list of texts, on a thread of its own, all in sessions of this core, in
+/// which none stands; hands the core back with each script's answers, in the order of its texts.
 ///
-/// A script's session is made just before a call for which it does not stand, and ended after the last; where none is made, the refusal is the text's answer, and the text is
-/// not carried out. There is one history of all calls: of each script it has these calls and no others, with these answers, and it is legal where the core was sound and its
-/// databases good. An answer is X0002 only where the device refused a call. Only want of memory is refused; the core is dropped then.
+/// A script's session is made just before a call for which it does not stand, and ended after the
+/// last; where none is made, the refusal is the text's answer, and the text is not carried out.
+/// There is one history of all calls: of each script it has these calls and no others, with these
+/// answers, and it is legal where the core was sound and its databases good. An answer is X0002
+/// only where the device refused a call. Only want of memory is refused; the core is dropped then.
 pub fn run_scripts<
     S: Store + Send,
     L: Language + Changes<S> + Send,
@@ -95,10 +97,13 @@ fn jobs_for<J: Room>(
     keeper: &mut Token,
     count: usize,
 ) -> Result<Vec<Job<J>>, AllocError>
-    requires cell { (keeper.old.table_id ≡ cell.now.table.shared.table_id) × (cell.now.table.shared.table_id ≡ J.table) }
+    requires cell { (keeper.old.table_id ≡ cell.now.table.shared.table_id)
+        × (cell.now.table.shared.table_id ≡ J.table) }
     requires view { cell_view keeper.old ≡ keeper_of 0 [] }
-    ensures keeper { OnOk result ((keeper.new.table_id ≡ keeper.old.table_id) × (cell_view keeper.new ≡ keeper_of count [])) }
-    ensures jobs { IfOk result (λ v. (length v.items ≡ count) × ((k : ℕ) (d : _) → k < length v.items → (slice_index_or v.items k d).number ≡ k)) }
+    ensures keeper { OnOk result ((keeper.new.table_id ≡ keeper.old.table_id)
+        × (cell_view keeper.new ≡ keeper_of count [])) }
+    ensures jobs { IfOk result (λ v. (length v.items ≡ count)
+        × ((k : ℕ) (d : _) → k < length v.items → (slice_index_or v.items k d).number ≡ k)) }
 {
     let mut jobs = Vec::new(alloc);
     for number in 0..count {
@@ -125,7 +130,8 @@ fn play_all<
 ) -> Result<Vec<Option<Done<J>>>, AllocError>
 where
     S::Device: Send,
-    requires { (length jobs.items ≡ length scripts.now) × ((k : ℕ) (d : _) → k < length jobs.items → (slice_index_or jobs.items k d).number ≡ k) }
+    requires { (length jobs.items ≡ length scripts.now)
+        × ((k : ℕ) (d : _) → k < length jobs.items → (slice_index_or jobs.items k d).number ≡ k) }
     ensures { IfOk result (λ v. (length v.items ≡ length scripts.now) × AllPlayed scripts.now v.items) }
 {
     thread::map_vec(
@@ -152,7 +158,8 @@ fn play<S: Store, L: Language + Changes<S>, J: Room, G: Gate, R: Wait>(
     job: Job<J>,
     script: &[Vec<u8>],
 ) -> Option<Done<J>>
-    ensures { IfSome result (λ d. (d.client.who ≡ job.number) × Played (texts_of script.now) d.client.mine d.answers.items) }
+    ensures { IfSome result (λ d. (d.client.who ≡ job.number)
+        × Played (texts_of script.now) d.client.mine d.answers.items) }
 {
     let Job { number, client } = job;
     let mut answers = Vec::new(alloc);
@@ -205,7 +212,8 @@ fn finish<S: Store, L: Language + Changes<S>, J: Room, R: Wait>(
     }
 }
 
-/// Takes the core from under the lock, and each script's answers: the history has heard of all that the scripts' callers did.
+/// Takes the core from under the lock, and each script's answers: the history has heard of all that
+/// the scripts' callers did.
 fn settle<S: Store, L: Language + Changes<S>, J: Room, R: Wait>(
     rt: &R,
     alloc: Global,

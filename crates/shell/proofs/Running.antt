@@ -79,7 +79,8 @@ device_told replies before start after back least more h = each_counted (2 ^ 64 
 
 -- ---- a run, by what it did
 
--- the store was closed: it counted what was refused since it was opened, and the device that it gave back counts as many
+-- the store was closed: it counted what was refused since it was opened, and the device that it
+-- gave back counts as many
 module _ (rules : Rules) (old : World) (streams : Streams) (status : ℕ) (is_told : Bool) (left : Left → Type 0) (before start after back : ℕ) where
   pub closed_run : (end : World) → before ≤ start → after ≤ back → CarriesOutOver rules streams old start status is_told end after
       → ((told : ℕ) → min (told + before) (2 ^ 64 - 1) ≤ back → left (Left.committed end.last told)) → Runs rules old streams status is_told left

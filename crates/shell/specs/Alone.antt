@@ -9,12 +9,15 @@ use Rattle.scripts.specs.Played.{Streams, between}
 use Rattle.shell.specs.Runs.{Runs, ScriptEnds, TellsBehind, database_in}
 use Rattle.shell.specs.Tells.{Tells}
 
--- How a run ends over any device that had refused no call. It was not opened: nothing was read, and the refusal is told. The store was closed behind the script. Or the device refused that it was
+-- How a run ends over any device that had refused no call. It was not opened: nothing was read, and
+-- the refusal is told. The store was closed behind the script. Or the device refused that it was
 -- closed, which is told behind the script.
 pub data EndsAlone (streams : Streams) (status : ℕ) : Type 0 where
-  not_opened : (is_told : Bool) (refusal : Refusal) → streams.left ≡ streams.given → Tells refusal is_told streams.held streams.holds → status ≡ 3 → EndsAlone streams status
+  not_opened : (is_told : Bool) (refusal : Refusal) → streams.left ≡ streams.given
+      → Tells refusal is_told streams.held streams.holds → status ≡ 3 → EndsAlone streams status
   closed : (is_told : Bool) (after : ℕ) → ScriptEnds streams 0 status is_told after → EndsAlone streams status
-  not_closed : (is_told was_told : Bool) (was after : ℕ) (mid : Option (List ℕ)) → ScriptEnds (between streams.given streams.left streams.held mid) 0 was was_told after
+  not_closed : (is_told was_told : Bool) (was after : ℕ) (mid : Option (List ℕ))
+      → ScriptEnds (between streams.given streams.left streams.held mid) 0 was was_told after
       → TellsBehind was_told is_told Disk mid streams.holds → status ≡ 3 → EndsAlone streams status
 
 -- It runs in this world, and leaves a good database, if any.

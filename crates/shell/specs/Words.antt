@@ -34,9 +34,11 @@ AsksForNone words count file = (count ≡ 256) × AsksFile words file
 -- the words behind `run`: `[--frames N | --frames=N] [FILE]`
 abbrev pub AsksBehind : List (List ℕ) → ℕ → Option (List ℕ) → Type 0
 AsksBehind [] count file = AsksForNone [] count file
-AsksBehind (word ∷ words) count file = AsksForNone (word ∷ words) count file ⊎ AsksInOne word words count file ⊎ AsksInTwo word words count file
+AsksBehind (word ∷ words) count file = AsksForNone (word ∷ words) count file ⊎ AsksInOne word words count file
+    ⊎ AsksInTwo word words count file
 
--- The words, of which the first is the program's name, ask for so many frames and this file, or none.
+-- The words, of which the first is the program's name, ask for so many frames and this file, or
+-- none.
 abbrev pub Asks : List (List ℕ) → ℕ → Option (List ℕ) → Type 0
 Asks [] count file = ⊥
 Asks (name ∷ []) count file = ⊥

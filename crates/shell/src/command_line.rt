@@ -13,9 +13,9 @@ use std::convert::AsStr;
 
 /// Reads the words of a command line of `sqlsh`, the program's name first.
 ///
-/// The answer is an error for all words but those that ask for a number of frames from 16 to 4,096, or say nothing of frames, and
-/// then for a file or none: also where they ask for help, which the error's text then is. Words that ask for that are read
-/// without memory.
+/// The answer is an error for all words but those that ask for a number of frames from 16 to 4,096,
+/// or say nothing of frames, and then for a file or none: also where they ask for help, which the
+/// error's text then is. Words that ask for that are read without memory.
 pub fn settings<'a, S: AsStr>(alloc: Global, words: &'a [S]) -> Result<Settings<'a>, Error>
     ensures asked { (count : ℕ) (file : Option (List ℕ)) → Asks (map S.text words.entry.now) count file
         → IsOkAnd result (λ settings. (settings.frames.count ≡ count) × (name_of settings.file ≡ file)) }
@@ -59,7 +59,8 @@ fn command_line<'a>(alloc: Global) -> Result<Command<'a>, Error> {
         .value_parser(value_parser!(u32).range(
             i64::from(LEAST_FRAMES)..=i64::from(GREATEST_FRAMES),
         ))
-        // `DEFAULT_FRAMES` as a text: `clap` borrows it, and one made of the number would take memory.
+        // `DEFAULT_FRAMES` as a text: `clap` borrows it, and one made of the number would take
+        // memory.
         .default_value("256");
     let file = Arg::new(alloc, "file").value_name("FILE").help(
         "The file that keeps the tables, made where there is none; without it they are gone at the end",

@@ -7,6 +7,7 @@ use frame_count::Frames;
 pub struct Settings<'a> {
     /// The frames of the pool.
     pub frames: Frames,
-    /// The name of the file that keeps the tables; where there is none, they are gone when the program ends.
+    /// The name of the file that keeps the tables; where there is none, they are gone when the
+    /// program ends.
     pub file: Option<&'a str>,
 }

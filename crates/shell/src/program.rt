@@ -30,9 +30,12 @@ use store::Store;
 /// The exit status of a command line that asks for nothing that there is.
 const WRONG_WORDS: u8 = 2;
 
-/// Does what the words of a command line of `sqlsh` ask for, of which the first is the program's name, from reader to writer, and answers the exit status. Words that ask for nothing that there
-/// is are told of on the runtime's own streams, with nothing read or written here: status 2, or 0 where they ask for help. Others run a script over the tables in FILE, where they name one,
-/// and else over new tables on a device in memory, and the status is that of the run. What a run leaves of its device, `run_over_pages` says, which hands it back; the device ends here.
+/// Does what the words of a command line of `sqlsh` ask for, of which the first is the program's
+/// name, from reader to writer, and answers the exit status. Words that ask for nothing that there
+/// is are told of on the runtime's own streams, with nothing read or written here: status 2, or 0
+/// where they ask for help. Others run a script over the tables in FILE, where they name one, and
+/// else over new tables on a device in memory, and the status is that of the run. What a run leaves
+/// of its device, `run_over_pages` says, which hands it back; the device ends here.
 ///
 /// That it is FILE that is opened is tested: what a file is, no contract of the runtime says.
 pub fn sqlsh<P: Files<File = File> + Print + Eprint + AllocGlobal, S: AsStr, R: Read, W: Write>(
@@ -46,7 +49,8 @@ pub fn sqlsh<P: Files<File = File> + Print + Eprint + AllocGlobal, S: AsStr, R: 
     ensures in_memory { (count : ℕ) → Asks (map S.text words.now) count None → (rules : Rules) → AreRules rules
         → RunsAlone rules new_world (between (R.remaining reader.old) (R.remaining reader.new) (W.contents writer.old) (W.contents writer.new)) result }
     ensures others { ((count : ℕ) (file : Option (List ℕ)) → Asks (map S.text words.now) count file → ⊥)
-        → (R.remaining reader.new ≡ R.remaining reader.old) × (W.contents writer.new ≡ W.contents writer.old) × ((result ≡ 0) ⊎ (result ≡ 2)) }
+        → (R.remaining reader.new ≡ R.remaining reader.old) × (W.contents writer.new ≡ W.contents writer.old)
+        × ((result ≡ 0) ⊎ (result ≡ 2)) }
 {
     match settings(rt.alloc(), words) {
         Ok(settings) => run_asked(rt, &settings, reader, writer),
@@ -54,7 +58,8 @@ pub fn sqlsh<P: Files<File = File> + Print + Eprint + AllocGlobal, S: AsStr, R: 
     }
 }
 
-/// Does what `sqlsh run` does: over the tables in FILE, where it is asked for, and else over tables on a device in memory.
+/// Does what `sqlsh run` does: over the tables in FILE, where it is asked for, and else over tables
+/// on a device in memory.
 fn run_asked<P: Files<File = File> + AllocGlobal, R: Read, W: Write>(
     rt: &P,
     settings: &Settings<'_>,
@@ -108,7 +113,8 @@ fn run_in_memory<R: Read, W: Write>(
     ended.status
 }
 
-/// Does what `sqlsh run` does over the tables in the pages of a device, as `run_to_end` does over any store, or says that the device could not be opened.
+/// Does what `sqlsh run` does over the tables in the pages of a device, as `run_to_end` does over
+/// any store, or says that the device could not be opened.
 pub fn run_over_pages<D: Disk + Drop, R: Read, W: Write>(
     alloc: Global,
     settings: &Settings<'_>,
@@ -117,7 +123,8 @@ pub fn run_over_pages<D: Disk + Drop, R: Read, W: Write>(
     writer: &mut W,
 ) -> EndedRun<Paged<D>>
     ensures status { IsStatus result.status }
-    ensures runs { IfOk device (λ device. (rules : Rules) (db : Database) → AreRules rules → ⟦<Paged<D> as Store>⟧.saved device db → IsGood rules.check db
+    ensures runs { IfOk device (λ device. (rules : Rules) (db : Database) → AreRules rules
+        → ⟦<Paged<D> as Store>⟧.saved device db → IsGood rules.check db
         → Runs rules (opened db) (between (R.remaining reader.old) (R.remaining reader.new) (W.contents writer.old) (W.contents writer.new)) result.status result.is_told
         (Leaves ⟦<Paged<D> as Store>⟧.saved D.settled D.refused (λ core. ⟦<Paged<D> as Store>⟧.refused (store_of core)) rules.check (D.refused device) result.device result.unclosed)) }
     ensures new { IfOk device (λ device. (rules : Rules) → AreRules rules → IsTrue D.is_honest → D.bytes device ≡ []
@@ -128,7 +135,8 @@ pub fn run_over_pages<D: Disk + Drop, R: Read, W: Write>(
     ensures unreadable { IfOk device (λ device. (⟦<Paged<D> as Store>⟧.readable device → ⊥)
         → IsNotOpened (between (R.remaining reader.old) (R.remaining reader.new) (W.contents writer.old) (W.contents writer.new)) result.status result.is_told
         (HasRefused D.refused (D.refused device) result.device)) }
-    ensures not_opened { OnErr device ((R.remaining reader.new ≡ R.remaining reader.old) × Tells Refusal.Disk result.is_told (W.contents writer.old) (W.contents writer.new) × (result.status ≡ 3)) }
+    ensures not_opened { OnErr device ((R.remaining reader.new ≡ R.remaining reader.old)
+        × Tells Refusal.Disk result.is_told (W.contents writer.old) (W.contents writer.new) × (result.status ≡ 3)) }
 {
     databases_stay_good();
     match device {
@@ -137,10 +145,13 @@ pub fn run_over_pages<D: Disk + Drop, R: Read, W: Write>(
     }
 }
 
-/// Prints help, or what is wrong with the words, and answers the exit status: 0 for help and 2 for a fault.
+/// Prints help, or what is wrong with the words, and answers the exit status: 0 for help and 2 for
+/// a fault.
 fn told<R: Print + Eprint>(rt: &R, error: &Error) -> u8
-    ensures help { (kind_of error.now ≡ ErrorKind.DisplayHelp) ⊎ (kind_of error.now ≡ ErrorKind.DisplayVersion) → result ≡ 0 }
-    ensures fault { kind_of error.now ≢ ErrorKind.DisplayHelp → kind_of error.now ≢ ErrorKind.DisplayVersion → result ≡ 2 }
+    ensures help { (kind_of error.now ≡ ErrorKind.DisplayHelp) ⊎ (kind_of error.now ≡ ErrorKind.DisplayVersion)
+        → result ≡ 0 }
+    ensures fault { kind_of error.now ≢ ErrorKind.DisplayHelp → kind_of error.now ≢ ErrorKind.DisplayVersion
+        → result ≡ 2 }
     ensures status { (result ≡ 0) ⊎ (result ≡ 2) }
 {
     let _ = error.print(rt);

@@ -26,7 +26,8 @@ use store::Store;
 /// The exit status where a reply was a refusal.
 const REFUSED: u8 = 1;
 
-/// The exit status where a store could not be opened or closed, or a script was not read or printed to its end.
+/// The exit status where a store could not be opened or closed, or a script was not read or printed
+/// to its end.
 pub(crate) const FAILED: u8 = 3;
 
 /// How a run ended.
@@ -34,9 +35,11 @@ pub(crate) const FAILED: u8 = 3;
 pub struct EndedRun<S: Store> {
     /// The exit status.
     pub status: u8,
-    /// Whether each line `ERROR` that had to be said of a fault was written whole and passed on: also where none had to be.
+    /// Whether each line `ERROR` that had to be said of a fault was written whole and passed on:
+    /// also where none had to be.
     pub is_told: bool,
-    /// The device: as it was where the store could not be opened, with all that is committed, and synced, where it was closed, and none where it could not be closed.
+    /// The device: as it was where the store could not be opened, with all that is committed, and
+    /// synced, where it was closed, and none where it could not be closed.
     pub device: Option<S::Device>,
     /// The core whose store could not be closed.
     pub unclosed: Option<Core<S>>,
@@ -47,19 +50,22 @@ pub struct EndedRun<S: Store> {
 struct EndedScript {
     /// The exit status.
     status: u8,
-    /// Whether the line that had to be said of a fault was written whole and passed on: also where none had to be.
+    /// Whether the line that had to be said of a fault was written whole and passed on: also where
+    /// none had to be.
     is_told: bool,
 }
 
-/// Does what `sqlsh run` does over the store on this device, from reader to writer: opens it, carries out the script
-/// and closes it. The exit status is 0; 1 where a reply was a refusal; 3 where the store could not be
-/// opened or closed, or the script was not read or printed to its end, which a line `ERROR` and the code then says
-/// where it can be written: `is_told` tells whether it was. The device is handed back, with what was committed last saved on it for the next run, and synced behind the last write;
-/// where the store could not be closed, the core is.
+/// Does what `sqlsh run` does over the store on this device, from reader to writer: opens it,
+/// carries out the script and closes it. The exit status is 0; 1 where a reply was a refusal; 3
+/// where the store could not be opened or closed, or the script was not read or printed to its end,
+/// which a line `ERROR` and the code then says where it can be written: `is_told` tells whether it
+/// was. The device is handed back, with what was committed last saved on it for the next run, and
+/// synced behind the last write; where the store could not be closed, the core is.
 ///
-/// Where a database was saved on the device, the store is refused for want of memory or by the device alone, and no reply is that the file is damaged. The device is said to have refused
-/// that the store was opened or closed, or a call of the script, only where what is handed back counts more refused calls than the device did. A device that cannot be read as a store's is
-/// not opened.
+/// Where a database was saved on the device, the store is refused for want of memory or by the
+/// device alone, and no reply is that the file is damaged. The device is said to have refused that
+/// the store was opened or closed, or a call of the script, only where what is handed back counts
+/// more refused calls than the device did. A device that cannot be read as a store's is not opened.
 pub fn run_to_end<S: Store, R: Read, W: Write>(
     alloc: Global,
     settings: &Settings<'_>,
@@ -94,7 +100,8 @@ pub fn run_to_end<S: Store, R: Read, W: Write>(
     }
 }
 
-/// Says why a store was not opened or closed, behind what was said before, and hands back the device or the core that there is.
+/// Says why a store was not opened or closed, behind what was said before, and hands back the
+/// device or the core that there is.
 pub(crate) fn failed<S: Store, W: Write>(
     refusal: Refusal,
     was_told: bool,
@@ -123,12 +130,14 @@ fn opened<S: Store>(
     device: S::Device,
 ) -> Result<Core<S>, Refused<S::Device>>
     ensures frames { IfOk result (λ core. S.room (store_of core) ≡ settings.now.frames.count) }
-    ensures opened { IfOk result (λ core. (db : Database) → S.saved device db → IsSound S.is_sound S.shows core × (world_of S.shows core ≡ opened db)) }
+    ensures opened { IfOk result (λ core. (db : Database) → S.saved device db
+        → IsSound S.is_sound S.shows core × (world_of S.shows core ≡ opened db)) }
     ensures empty { IfOk result (λ core. HasNoSession (world_of S.shows core)) }
     ensures readable { IfOk result (λ core. S.readable device) }
     ensures counts { IfOk result (λ core. S.calls_refused device ≤ S.refused (store_of core)) }
     ensures refused { IfErr result (λ back. (db : Database) → S.saved device db → StopsFlush back.refusal) }
-    ensures device { IfErr result (λ back. back.refusal ≡ Disk → HasRisen (S.calls_refused device) (S.calls_refused back.value)) }
+    ensures device { IfErr result (λ back. back.refusal ≡ Disk
+        → HasRisen (S.calls_refused device) (S.calls_refused back.value)) }
     ensures left { IfErr result (λ back. (db : Database) → S.saved device db → S.saved back.value db) }
 {
     Core::open(alloc, Sql, device, frames_of(settings))
@@ -156,7 +165,8 @@ fn carry_out<S: Store, R: Read, W: Write>(
         (S.refused (store_of core.old)) result.status result.is_told (world_of S.shows core.new) (S.refused (store_of core.new)) }
     ensures ends { ScriptEnds (between (R.remaining reader.old) (R.remaining reader.new) (W.contents writer.old) (W.contents writer.new)) (S.refused (store_of core.old))
         result.status result.is_told (S.refused (store_of core.new)) }
-    ensures settled { (rules : Rules) → AreRules rules → IsSettled S.is_sound S.shows rules.check core.old → IsSettled S.is_sound S.shows rules.check core.new }
+    ensures settled { (rules : Rules) → AreRules rules → IsSettled S.is_sound S.shows rules.check core.old
+        → IsSettled S.is_sound S.shows rules.check core.new }
     ensures counts { S.refused (store_of core.old) ≤ S.refused (store_of core.new) }
 {
     no_reply_is_damaged();
@@ -164,7 +174,8 @@ fn carry_out<S: Store, R: Read, W: Write>(
     ended(outcome, writer)
 }
 
-/// How a script ends that ended so. Of a fault it says `ERROR` and the code, where it can be written.
+/// How a script ends that ended so. Of a fault it says `ERROR` and the code, where it can be
+/// written.
 fn ended<W: Write>(outcome: Result<bool, ScriptFault>, writer: &mut W) -> EndedScript
     ensures status { result.status ≡ status_of outcome }
     ensures says { Says outcome result.is_told (W.contents writer.old) (W.contents writer.new) }

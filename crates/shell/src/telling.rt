@@ -9,8 +9,8 @@ use replies::{Reply, print_reply};
 use std::io;
 use std::io::{ErrorKind, Write};
 
-/// Prints the line of a refusal, and has the writer pass it on. The answer is an error where not all of the line was written, or it was not passed on. What was interrupted is tried
-/// again.
+/// Prints the line of a refusal, and has the writer pass it on. The answer is an error where not
+/// all of the line was written, or it was not passed on. What was interrupted is tried again.
 pub(crate) fn tell<W: Write>(refusal: Refusal, writer: &mut W) -> io::Result<()>
     ensures tells { Tells refusal (is_ok result) (W.contents writer.old) (W.contents writer.new) }
     ensures tried_again { IfErr result IsNoInterruption }

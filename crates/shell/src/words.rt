@@ -8,7 +8,8 @@ use crate::options::Settings;
 use frame_count::{DEFAULT_FRAMES, Frames};
 use std::convert::AsStr;
 
-/// The settings that the words ask for, of which the first is the program's name; or none, where they ask for nothing that there is.
+/// The settings that the words ask for, of which the first is the program's name; or none, where
+/// they ask for nothing that there is.
 pub(crate) fn settings_asked<'a, S: AsStr>(words: &'a [S]) -> Option<Settings<'a>>
     ensures asked { (count : ℕ) (file : Option (List ℕ)) → Asks (map S.text words.entry.now) count file
         → IsSomeAnd result (λ settings. (settings.frames.count ≡ count) × (name_of settings.file ≡ file)) }
@@ -58,9 +59,11 @@ fn default_frames<'a, S: AsStr>(words: &'a [S]) -> Option<Settings<'a>>
 
 /// The settings of so many frames, and of the words behind them.
 fn frames_and_file<'a, S: AsStr>(number: &str, words: &'a [S]) -> Option<Settings<'a>>
-    ensures asked { (count : ℕ) (file : Option (List ℕ)) → WritesFrames number.now count → AsksFile (map S.text words.entry.now) file
+    ensures asked { (count : ℕ) (file : Option (List ℕ)) → WritesFrames number.now count
+        → AsksFile (map S.text words.entry.now) file
         → IsSomeAnd result (λ settings. (settings.frames.count ≡ count) × (name_of settings.file ≡ file)) }
-    ensures found { IfSome result (λ settings. WritesFrames number.now settings.frames.count × AsksFile (map S.text words.entry.now) (name_of settings.file)) }
+    ensures found { IfSome result (λ settings. WritesFrames number.now settings.frames.count
+        × AsksFile (map S.text words.entry.now) (name_of settings.file)) }
 {
     with_file(Frames::written(number)?, words)
 }
@@ -69,7 +72,8 @@ fn frames_and_file<'a, S: AsStr>(number: &str, words: &'a [S]) -> Option<Setting
 fn with_file<'a, S: AsStr>(frames: Frames, words: &'a [S]) -> Option<Settings<'a>>
     ensures asked { (file : Option (List ℕ)) → AsksFile (map S.text words.entry.now) file
         → IsSomeAnd result (λ settings. (settings.frames ≡ frames) × (name_of settings.file ≡ file)) }
-    ensures found { IfSome result (λ settings. (settings.frames ≡ frames) × AsksFile (map S.text words.entry.now) (name_of settings.file)) }
+    ensures found { IfSome result (λ settings. (settings.frames ≡ frames)
+        × AsksFile (map S.text words.entry.now) (name_of settings.file)) }
 {
     let Some((word, more)) = words.split_first() else {
         return Some(Settings { frames, file: None });
@@ -84,7 +88,8 @@ fn with_file<'a, S: AsStr>(frames: Frames, words: &'a [S]) -> Option<Settings<'a
 fn with_name<'a>(frames: Frames, word: &'a str) -> Option<Settings<'a>>
     ensures asked { is_option word.entry.now ≡ false
         → IsSomeAnd result (λ settings. (settings.frames ≡ frames) × (name_of settings.file ≡ Some word.entry.now)) }
-    ensures found { IfSome result (λ settings. (settings.frames ≡ frames) × (is_option word.entry.now ≡ false) × (name_of settings.file ≡ Some word.entry.now)) }
+    ensures found { IfSome result (λ settings. (settings.frames ≡ frames) × (is_option word.entry.now ≡ false)
+        × (name_of settings.file ≡ Some word.entry.now)) }
 {
     if is_option(word) {
         None

@@ -1,4 +1,5 @@
--- Lists of readers: what is found in them, what is left after a change, and how many found a commit.
+-- Lists of readers: what is found in them, what is left after a change, and how many found a
+-- commit.
 use Rattle.std.proofs.Common.{◌≡◌, ◌≢◌, ◌∙◌, refl, sym, ap, subst, ℕ, zero, suc, ◌+◌, ◌-◌, ◌<◌, ◌==◌, Bool, true, false, not, ◌&&◌, cond, List, [], ◌∷◌, ◌++◌, map, take, drop, length, is_some, Option, Some, None, Result, Ok, Err, OnOk, OnErr, inl, inr, ◌⊎◌, get_or, arith}
 use Rattle.std.specs.Prelude.{⊤, slice_get, MatchOption, if◌then◌else◌}
 use Rattle.std.specs.List.{find, remove}

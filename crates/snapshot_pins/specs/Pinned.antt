@@ -26,4 +26,5 @@ pub record KeepsFound (numbers : FinMap nat_cmp ℕ) (old new : Versions) : Type
 
 -- a commit that a reader found is pinned
 abbrev pub FoundIsPinned : Type 0
-FoundIsPinned = (readers : Readers) (pins : ℕ → ℕ) (reader number : ℕ) → ArePinned readers pins → get (numbers_of readers) reader ≡ Some number → 0 < pins number
+FoundIsPinned = (readers : Readers) (pins : ℕ → ℕ) (reader number : ℕ) → ArePinned readers pins
+    → get (numbers_of readers) reader ≡ Some number → 0 < pins number

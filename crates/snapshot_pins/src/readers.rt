@@ -52,7 +52,8 @@ impl Readers {
         }
     }
 
-    /// The reader begins at the last commit and pins it, unless it has begun. Refuses for want of memory alone.
+    /// The reader begins at the last commit and pins it, unless it has begun. Refuses for want of
+    /// memory alone.
     pub fn begin<D: Disk>(&mut self, pool: &mut Pool<D>, reader: u64) -> Result<(), PoolError>
         requires { ArePinned self.old (versions_of pool.old).pins }
         ensures begun { OnOk result (numbers_of self.new ≡ with_reader (numbers_of self.old) reader (versions_of pool.old).last) }

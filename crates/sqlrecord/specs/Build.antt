@@ -32,7 +32,7 @@ slots_of at (cell ∷ cells) = two_bytes at ++ two_bytes (length cell) ++ slots_
 abbrev pub head_of : ℕ → ℕ → ℕ → ℕ → List ℕ
 head_of kind count low link = kind ∷ 0 ∷ (two_bytes count ++ two_bytes low ++ 0 ∷ 0 ∷ (to_be_bytes w32 link ++ 0 ∷ 0 ∷ 0 ∷ 0 ∷ []))
 
--- all bytes of a page of these cells: the first 16, the slots, zeros, and the cells one behind another up to the end.
--- They depend on nothing else, so nothing stays of what the page held before
+-- all bytes of a page of these cells: the first 16, the slots, zeros, and the cells one behind
+-- another up to the end. They depend on nothing else, so nothing stays of what the page held before
 abbrev pub page_of : ℕ → ℕ → List (List ℕ) → List ℕ
 page_of kind link cells = head_of kind (length cells) (4096 - total_of cells) link ++ slots_of (4096 - total_of cells) cells ++ replicate (4080 - 4 * length cells - total_of cells) 0 ++ flatten cells

@@ -16,7 +16,8 @@ abbrev pub biased : ℤ → ℕ
 biased (pos n) = 2 ^ 63 + n
 biased (negsuc n) = 2 ^ 63 - 1 - n
 
--- null is 0; an integer is 1 and its 8 bytes with the sign bit flipped, the highest first; a text is 2, its codes and 0
+-- null is 0; an integer is 1 and its 8 bytes with the sign bit flipped, the highest first; a text
+-- is 2, its codes and 0
 abbrev pub value_key : Value → List ℕ
 value_key Null = 0 ∷ []
 value_key (Int number) = 1 ∷ to_be_bytes w64 (biased number)
@@ -38,7 +39,8 @@ index_key_code key number = key_code key ++ number_code number
 abbrev pub byte_order : List ℕ → List ℕ → Ordering
 byte_order = slice_cmp nat_cmp
 
--- two keys, column by column: the first that differ decide, else a beginning is less than the longer one
+-- two keys, column by column: the first that differ decide, else a beginning is less than the
+-- longer one
 abbrev pub key_order : List Value → List Value → Ordering
 key_order [] [] = Equal
 key_order [] (y ∷ ys) = Less

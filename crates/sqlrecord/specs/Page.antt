@@ -1,7 +1,8 @@
--- A page of 4,096 bytes as a leaf or an inner node of a tree. Numbers are big-endian. Our own choice:
---   0 the kind, 1 leaf, 2 inner; 1 a zero; 2 to 3 the number of slots; 4 to 5 the lowest byte used by a cell, 4,096 if none;
---   6 to 7 zeros; 8 to 11 the link: a leaf's next leaf or 0, an inner page's leftmost child; 12 to 15 zeros;
---   from 16 on the slots, each the offset of a cell in two bytes and its length in two bytes.
+-- A page of 4,096 bytes as a leaf or an inner node of a tree. Numbers are big-endian. Our own
+--   choice: 0 the kind, 1 leaf, 2 inner; 1 a zero; 2 to 3 the number of slots; 4 to 5 the lowest
+--   byte used by a cell, 4,096 if none; 6 to 7 zeros; 8 to 11 the link: a leaf's next leaf or 0, an
+--   inner page's leftmost child; 12 to 15 zeros; from 16 on the slots, each the offset of a cell in
+--   two bytes and its length in two bytes.
 use Rattle.std.specs.Prelude.{◌≡◌, ℕ, zero, suc, ◌+◌, ◌*◌, ◌<◌, ◌≤◌, min, max, List, [], ◌∷◌, ◌++◌, length, drop, slice_index, slice_index_or, slice_range, IsTrue}
 use Rattle.std.specs.Int.{w32, from_be_bytes}
 use Rattle.std.specs.Ordering.{is_lt}
@@ -49,7 +50,8 @@ abbrev pub lowest_of : List ℕ → ℕ → ℕ
 lowest_of page zero = 4096
 lowest_of page (suc i) = min (lowest_of page i) (offset_of page i)
 
--- a cell: the key's length in two bytes, the key, and a leaf's value or an inner page's child in four bytes
+-- a cell: the key's length in two bytes, the key, and a leaf's value or an inner page's child in
+-- four bytes
 abbrev pub key_length_of : List ℕ → ℕ
 key_length_of cell = two_at cell 0
 
@@ -69,7 +71,8 @@ pub record IsCell (kind : PageKind) (cell : List ℕ) : Type 0 where
 -- cells of this kind, their keys strictly rising
 pub record AreCells (kind : PageKind) (cells : List (List ℕ)) : Type 0 where
   pub formed : (i : ℕ) → i < length cells → IsCell kind (slice_index_or cells i [])
-  pub rising : (i : ℕ) → i + 1 < length cells → IsTrue (is_lt (byte_order (key_of (slice_index_or cells i [])) (key_of (slice_index_or cells (i + 1) []))))
+  pub rising : (i : ℕ) → i + 1 < length cells
+      → IsTrue (is_lt (byte_order (key_of (slice_index_or cells i [])) (key_of (slice_index_or cells (i + 1) []))))
 
 -- the fixed fields
 pub record HasHead (page : List ℕ) (kind : PageKind) : Type 0 where

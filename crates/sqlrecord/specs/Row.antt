@@ -6,7 +6,8 @@ use Rattle.sqlval.specs.declared.value.Value.{Value}
 use Rattle.sqlval.specs.declared.value.Value.TheVariants.{Null, Int, Text}
 use Rattle.sqlrecord.specs.Storable.{IsStorable, AllStorable}
 
--- null is 0; an integer is 1 and its 8 bytes in two's complement, the highest first; a text is 2, its length in two bytes and its codes
+-- null is 0; an integer is 1 and its 8 bytes in two's complement, the highest first; a text is 2,
+-- its length in two bytes and its codes
 abbrev pub value_code : Value → List ℕ
 value_code Null = 0 ∷ []
 value_code (Int number) = 1 ∷ to_be_bytes w64 (cast_unsigned w64 number)

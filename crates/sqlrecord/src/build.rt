@@ -106,8 +106,8 @@ pub fn fits(cells: &[&[u8]]) -> bool
     true
 }
 
-/// Makes a page of these cells, which are those of its kind with their keys strictly rising. Nothing
-/// stays of what the page held before: between the slots and the cells are zeros.
+/// Makes a page of these cells, which are those of its kind with their keys strictly rising.
+/// Nothing stays of what the page held before: between the slots and the cells are zeros.
 pub fn build_page(page: &mut [u8; PAGE_SIZE], kind: PageKind, link: u32, cells: &[&[u8]])
     requires fits { Fits (lent cells.now) }
     requires cells { AreCells kind (lent cells.now) }

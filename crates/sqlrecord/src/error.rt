@@ -13,7 +13,8 @@ pub enum EncodeError {
     /// The limit `record`: the row's code would take more than 1,000 bytes.
     #[error("the row's code is longer than 1,000 bytes")]
     Record,
-    /// The limit `key`: the key's code, with the row number of an index key, would take more than 600 bytes.
+    /// The limit `key`: the key's code, with the row number of an index key, would take more than
+    /// 600 bytes.
     #[error("the key's code is longer than 600 bytes")]
     Key,
 }

@@ -55,7 +55,8 @@ fn put_values(code: &mut Vec<u8>, key: &[Value]) -> Result<(), AllocError>
 
 /// The code of a key.
 ///
-/// Refused for want of memory, and for the limit `key` just where it would take more than 600 bytes.
+/// Refused for want of memory, and for the limit `key` just where it would take more than 600
+/// bytes.
 pub fn encode_key(alloc: Global, key: &[Value]) -> Result<Items<u8>, EncodeError>
     ensures code { IfOk result (λ code. code ≡ key_code key.now) }
     ensures storable { OnOk result (AllStorable key.now) }
@@ -73,7 +74,8 @@ pub fn encode_key(alloc: Global, key: &[Value]) -> Result<Items<u8>, EncodeError
 
 /// The code of an index key: the key, and the number of its row.
 ///
-/// Refused for want of memory, and for the limit `key` just where it would take more than 600 bytes.
+/// Refused for want of memory, and for the limit `key` just where it would take more than 600
+/// bytes.
 pub fn encode_index_key(alloc: Global, key: &[Value], number: u64) -> Result<Items<u8>, EncodeError>
     ensures code { IfOk result (λ code. code ≡ index_key_code key.now number) }
     ensures storable { OnOk result (AllStorable key.now) }

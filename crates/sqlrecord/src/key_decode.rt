@@ -108,8 +108,8 @@ fn read_key(alloc: Global, bytes: &[u8]) -> Option<Items<Value>>
 
 /// The key of a code without a row number, of whatever length.
 ///
-/// Refused as `Damaged` just where the bytes are the code of no key, with and without memory; else for
-/// want of memory alone.
+/// Refused as `Damaged` just where the bytes are the code of no key, with and without memory; else
+/// for want of memory alone.
 pub fn decode_key(alloc: Global, bytes: &[u8]) -> Result<Items<Value>, DecodeError>
     ensures key { IfOk result (λ key. IsKeyOf bytes.now key) }
     ensures only { IfOk result (λ key. (other : List AnyValue) → IsKeyOf bytes.now other → other ≡ key) }
@@ -123,7 +123,8 @@ pub fn decode_key(alloc: Global, bytes: &[u8]) -> Result<Items<Value>, DecodeErr
 
 /// The row number at the end of an index key; `None` just where there are fewer than 8 bytes.
 pub fn row_number_of(bytes: &[u8]) -> Option<u64>
-    ensures some { IfSome result (λ number. (key : List AnyValue) (n : ℕ) → n < 2 ^ 64 → bytes.now ≡ index_key_code key n → number ≡ n) }
+    ensures some { IfSome result (λ number. (key : List AnyValue) (n : ℕ) → n < 2 ^ 64
+        → bytes.now ≡ index_key_code key n → number ≡ n) }
     ensures none { IsNone result ↔ (length bytes.now < 8) }
 {
     if bytes.len() < 8 {

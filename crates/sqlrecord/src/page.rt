@@ -90,7 +90,8 @@ impl<'a> SlotPage<'a> {
         key_in(self.cell(i))
     }
 
-    /// What stands in a cell behind its key: a leaf's value, or an inner page's child in four bytes.
+    /// What stands in a cell behind its key: a leaf's value, or an inner page's child in four
+    /// bytes.
     pub fn value(&self, i: usize) -> &'a [u8]
         requires { i < length self.now.cells }
         ensures value { result.now ≡ value_of (slice_index_or self.now.cells i []) }

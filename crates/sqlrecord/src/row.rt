@@ -36,7 +36,8 @@ fn put_value(code: &mut Vec<u8>, value: &Value) -> Result<(), AllocError>
 
 /// The code of a row.
 ///
-/// Refused for want of memory, and for the limit `record` just where it would take more than 1,000 bytes.
+/// Refused for want of memory, and for the limit `record` just where it would take more than 1,000
+/// bytes.
 pub fn encode_row(alloc: Global, row: &[Value]) -> Result<Items<u8>, EncodeError>
     ensures code { IfOk result (λ code. IsCodeOf code row.now) }
     ensures limit { IsErrOf result EncodeError.Record ↔ (1000 < row_length row.now) }
@@ -137,8 +138,8 @@ fn read_row(alloc: Global, bytes: &[u8]) -> Option<Items<Value>>
 
 /// The row of a code.
 ///
-/// Refused as `Damaged` just where the bytes are the code of no row, with and without memory; else for
-/// want of memory alone.
+/// Refused as `Damaged` just where the bytes are the code of no row, with and without memory; else
+/// for want of memory alone.
 pub fn decode_row(alloc: Global, bytes: &[u8]) -> Result<Items<Value>, DecodeError>
     ensures row { IfOk result (λ row. IsCodeOf bytes.now row) }
     ensures only { IfOk result (λ row. (other : List AnyValue) → IsCodeOf bytes.now other → other ≡ row) }

@@ -191,7 +191,8 @@ fn precedes_by_bytes(a: &[u8], b: &[u8]) -> bool
     !theirs.is_empty()
 }
 
-/// Whether a key comes before another. While both have eight bytes more, these are compared as numbers.
+/// Whether a key comes before another. While both have eight bytes more, these are compared as
+/// numbers.
 pub(crate) fn precedes(a: &[u8], b: &[u8]) -> bool
     ensures { result ≡ is_lt (byte_order a.now b.now) }
 {

@@ -13,7 +13,8 @@ ghost use Rattle.sqlval.specs.Comparison.{comparison, value_order, opposite};
 ghost use Rattle.sqlval.specs.Like.{Fits, is_like, is_wildcard};
 ghost use Rattle.sqlval.specs.Storing.{stored, fits_column};
 
-/// AND and OR each commute and associate, NOT undoes itself, and NOT of one connective is the other over NOTs.
+/// AND and OR each commute and associate, NOT undoes itself, and NOT of one connective is the other
+/// over NOTs.
 pub fn connectives()
     ensures and_commutes { (x y : Truth) → truth_and x y ≡ truth_and y x }
     ensures or_commutes { (x y : Truth) → truth_or x y ≡ truth_or y x }
@@ -24,7 +25,8 @@ pub fn connectives()
     ensures not_or { (x y : Truth) → truth_not (truth_or x y) ≡ truth_and (truth_not x) (truth_not y) }
 {}
 
-/// NOT of a comparison is the comparison by the opposite operator: `NOT x < y` is `x >= y`, also at nulls.
+/// NOT of a comparison is the comparison by the opposite operator: `NOT x < y` is `x >= y`, also at
+/// nulls.
 pub fn opposite_comparisons()
     ensures { (op : CompOp) (x y : Value) → truth_not (comparison op x y) ≡ comparison (opposite op) x y }
 {}
@@ -42,11 +44,14 @@ pub fn like_tests_the_meaning()
 
 /// A pattern without `%` and `_` fits itself alone.
 pub fn like_without_wildcards_is_equality()
-    ensures { (pattern text : List ℕ) → list_all (λ sign. not (is_wildcard sign)) pattern ≡ true → (IsTrue (is_like pattern text) ↔ (text ≡ pattern)) }
+    ensures { (pattern text : List ℕ) → list_all (λ sign. not (is_wildcard sign)) pattern ≡ true
+        → (IsTrue (is_like pattern text) ↔ (text ≡ pattern)) }
 {}
 
 /// What is stored fits its column, and what fits is stored as it is.
 pub fn stored_values_fit()
-    ensures fits { (value kept : Value) (column : ColumnType) → stored value column ≡ Ok kept → IsTrue (fits_column kept column) }
-    ensures kept { (value : Value) (column : ColumnType) → IsTrue (fits_column value column) → stored value column ≡ Ok value }
+    ensures fits { (value kept : Value) (column : ColumnType) → stored value column ≡ Ok kept
+        → IsTrue (fits_column kept column) }
+    ensures kept { (value : Value) (column : ColumnType) → IsTrue (fits_column value column)
+        → stored value column ≡ Ok value }
 {}

@@ -1,5 +1,5 @@
--- What the text of a call is read as: a statement, or the first refusal. (ISO/IEC 9075:1992, 20.1; the limits and the order of the
--- refusals are our own choice.)
+-- What the text of a call is read as: a statement, or the first refusal. (ISO/IEC 9075:1992, 20.1;
+-- the limits and the order of the refusals are our own choice.)
 use Rattle.std.specs.Prelude.{◌≡◌, ℕ, ◌<◌, ◌≤◌, List, length, Option, Some, None, IsSome}
 use Rattle.lexer.specs.declared.kinds.Token.{Token}
 use Rattle.refusals.specs.declared.refusal.Refusal.{Refusal}
@@ -25,7 +25,8 @@ deepest = 64
 abbrev pub longest_chain : ℕ
 longest_chain = 64
 
--- the text is short enough and has these tokens, whose words are all supported and whose parentheses are within the limit
+-- the text is short enough and has these tokens, whose words are all supported and whose
+-- parentheses are within the limit
 pub record IsSpelled (text : Bytes) (tokens : List Token) : Type 0 where
   pub short : length text ≤ longest_statement
   pub tokenized : AreTokens text tokens
@@ -42,15 +43,19 @@ pub record IsRead (text : Bytes) (x : Statement) : Type 0 where
 abbrev pub IsNoText : Option ℕ → Tokens → Type 0
 IsNoText chain tokens = (x : Statement) → IsText chain tokens x → ⊥
 
--- The text is refused before it is known what it asks for. The cases come in this order: in each, those before it do not hold.
+-- The text is refused before it is known what it asks for. The cases come in this order: in each,
+-- those before it do not hold.
 pub data IsUnread (text : Bytes) (refusal : Refusal) : Type 0 where
   too_long : longest_statement < length text → refusal ≡ Exceeded limit.Statement → IsUnread text refusal
   no_token : length text ≤ longest_statement → IsFirstFault text refusal → IsUnread text refusal
-  unsupported : (tokens : List Token) → length text ≤ longest_statement → AreTokens text tokens → IsSome (first_unsupported tokens)
+  unsupported : (tokens : List Token) → length text ≤ longest_statement → AreTokens text tokens
+      → IsSome (first_unsupported tokens)
       → refusal ≡ NotSupported → IsUnread text refusal
-  too_deep : (tokens : List Token) → length text ≤ longest_statement → AreTokens text tokens → first_unsupported tokens ≡ None
+  too_deep : (tokens : List Token) → length text ≤ longest_statement → AreTokens text tokens
+      → first_unsupported tokens ≡ None
       → (IsNestedWithin deepest (kinds_of tokens) → ⊥) → refusal ≡ Exceeded limit.Nesting → IsUnread text refusal
-  too_many_operands : (tokens : List Token) (x : Statement) → IsSpelled text tokens → IsNoText (Some longest_chain) (kinds_of tokens)
+  too_many_operands : (tokens : List Token) (x : Statement) → IsSpelled text tokens
+      → IsNoText (Some longest_chain) (kinds_of tokens)
       → IsText None (kinds_of tokens) x → refusal ≡ Exceeded limit.Chain → IsUnread text refusal
   no_statement : (tokens : List Token) → IsSpelled text tokens → IsNoText None (kinds_of tokens)
       → refusal ≡ Invalid Syntax → IsUnread text refusal

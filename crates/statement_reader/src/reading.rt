@@ -15,15 +15,18 @@ use std::alloc::Global;
 /// The greatest number of bytes of a statement.
 pub const LONGEST_STATEMENT: usize = 65_536;
 
-/// The statement of a text: its length is looked at first, then its tokens, its words and its grammar.
+/// The statement of a text: its length is looked at first, then its tokens, its words and its
+/// grammar.
 ///
-/// A text that is no statement is refused by the first thing that is wrong with it: X0003 `statement` for its
-/// length, 42000 or X0003 for its tokens, 0A000 for a word that is not supported, X0003 `nesting`, then X0003
-/// `chain` or 42000 `syntax`. Want of memory may stand in place of any answer.
+/// A text that is no statement is refused by the first thing that is wrong with it: X0003
+/// `statement` for its length, 42000 or X0003 for its tokens, 0A000 for a word that is not
+/// supported, X0003 `nesting`, then X0003 `chain` or 42000 `syntax`. Want of memory may stand in
+/// place of any answer.
 pub fn read_statement(alloc: Global, text: &[u8]) -> Result<Statement, Refusal>
     ensures read { IfOk result (λ x. IsRead text.now x) }
     ensures unread { IfErr result (λ refusal. refusal ≢ Memory → IsUnread text.now refusal) }
-    ensures only { (x : Tree) → IsRead text.now x → MatchResult result (λ found. found ≡ x) (λ refusal. refusal ≡ Memory) }
+    ensures only { (x : Tree) → IsRead text.now x
+        → MatchResult result (λ found. found ≡ x) (λ refusal. refusal ≡ Memory) }
 {
     if text.len() > LONGEST_STATEMENT {
         return Err(Refusal::Exceeded(Limit::Statement));

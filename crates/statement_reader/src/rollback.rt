@@ -7,7 +7,8 @@ ghost use Rattle.statement_definitions.specs.Rollback.{IsRollback, rollback_word
 use crate::reading::LONGEST_STATEMENT;
 use lexer::{Word, is_made_of};
 
-/// Whether the text is `ROLLBACK [WORK] [;]`, with white space and comments anywhere, in at most 65,536 bytes.
+/// Whether the text is `ROLLBACK [WORK] [;]`, with white space and comments anywhere, in at most
+/// 65,536 bytes.
 #[tactic(auto, using(crate::proofs::Rollbacks::rollback_iff, crate::proofs::Rollbacks::too_long))]
 pub fn is_rollback(text: &[u8]) -> bool
     ensures { IsTrue result ↔ IsRollback text.now }

@@ -1,4 +1,5 @@
--- Tables in pages: the pages of their trees are in use and apart, and tables stay where these pages do.
+-- Tables in pages: the pages of their trees are in use and apart, and tables stay where these pages
+-- do.
 use Rattle.std.proofs.Common.{◌≡◌, ℕ, zero, suc, List, [], ◌∷◌, ◌++◌, ◌⊎◌, inl, inr, IsSome, refl, sym, ap, subst, ◌∙◌, append_assoc}
 use Rattle.std.specs.List.{AllByRecursion}
 use Rattle.sqlval.specs.declared.schema.Table.{Table}

@@ -21,7 +21,8 @@ HoldsNoTablesIn pages root Whole = (tables : List TableAt) → HoldsTables pages
 
 -- the same, of tables among which that of a name has its rows at a root
 abbrev pub HoldsNoneAt : PageMap → ℕ → Name → ℕ → Type 0 → Type 0
-HoldsNoneAt pages root name from Whole = (tables : List TableAt) → HoldsTables pages root tables → root_named name (declared_of tables) ≡ Some from → Whole → ⊥
+HoldsNoneAt pages root name from Whole = (tables : List TableAt) → HoldsTables pages root tables
+    → root_named name (declared_of tables) ≡ Some from → Whole → ⊥
 
 -- a refusal of the space of pages, or for want of memory
 abbrev pub IsOfSpace : (SpaceError → Type 0) → Type 0 → ℕ → ℕ → AppendError → Type 0

@@ -1,4 +1,5 @@
--- The tables of a database in pages: the schema in one tree, and of each table its rows in another. Our own choice.
+-- The tables of a database in pages: the schema in one tree, and of each table its rows in another.
+-- Our own choice.
 use Rattle.std.specs.Prelude.{ℕ, ◌++◌, List, map}
 use Rattle.std.specs.List.{flat_map, AllByRecursion}
 use Rattle.std.specs.FinMap.{from_entries}
@@ -11,7 +12,8 @@ use Rattle.btree_read.specs.Lists.{Apart}
 use Rattle.catalog.specs.Held.{HoldsSchema}
 use Rattle.tablestore.specs.Held.{HoldsRows}
 
--- a table: what the catalogue declares, the root of its rows among it; the pages of the tree of its rows; and these
+-- a table: what the catalogue declares, the root of its rows among it; the pages of the tree of its
+-- rows; and these
 pub record TableAt : Type 0 where
   pub declared : Table
   pub owned : List ℕ
@@ -27,7 +29,8 @@ owned_by tables = flat_map (λ (t : TableAt). t.owned) tables
 abbrev pub HoldsIts : PageMap → TableAt → Type 0
 HoldsIts pages t = HoldsRows pages t.declared.root t.owned t.rows
 
--- the tree at the root has the schema, that of each table its rows, and no page belongs to two of these trees
+-- the tree at the root has the schema, that of each table its rows, and no page belongs to two of
+-- these trees
 pub record HoldsTables (pages : PageMap) (root : ℕ) (tables : List TableAt) : Type 0 where
   pub owned : List ℕ
   pub schema : HoldsSchema pages root owned (declared_of tables)

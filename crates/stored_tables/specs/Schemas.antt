@@ -76,7 +76,8 @@ with_its_table name root p = record {
   tables = record { name = name; columns = p.columns; constraints = p.constraints; indexes = p.indexes; root = root } ∷ p.tables;
 }
 
--- Before them what one record says. A record of a table has one value, of a column two, of a constraint three, and of an index four.
+-- Before them what one record says. A record of a table has one value, of a column two, of a
+-- constraint three, and of an index four.
 abbrev pub with_record : List ℕ → List Value → Parts → Parts
 with_record name row p =
     if length row == 1 then with_its_table name (number_of (at row 0)) p

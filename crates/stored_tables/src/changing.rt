@@ -21,12 +21,13 @@ use sqlval::Table;
 use std::alloc::Global;
 use tablestore::AppendError;
 
-/// Puts a new table without rows beside those that lie at a root, and answers the root. Where a table has that name, all
-/// stays.
+/// Puts a new table without rows beside those that lie at a root, and answers the root. Where a
+/// table has that name, all stays.
 ///
-/// Refused for want of memory, where the device refuses a call, at the limits of pages, as damaged only where no tables are
-/// held there or the list of free pages is none, and where one of the table's records is too long. After a refusal nothing is
-/// said of the pages but what every call of the space keeps.
+/// Refused for want of memory, where the device refuses a call, at the limits of pages, as damaged
+/// only where no tables are held there or the list of free pages is none, and where one of the
+/// table's records is too long. After a refusal nothing is said of the pages but what every call of
+/// the space keeps.
 pub fn create_table<S: PageSpace>(
     space: &mut S,
     alloc: Global,
@@ -56,7 +57,8 @@ fn put_root<S: PageSpace>(
     name: &Text,
     rows: u32,
 ) -> Result<u32, AppendError>
-    ensures set { (owned : List ℕ) (before behind : List AnyTable) (table : AnyTable) → HoldsSchema (S.pages space.old) root owned (before ++ table ∷ behind) → table.name ≡ name.now
+    ensures set { (owned : List ℕ) (before behind : List AnyTable) (table : AnyTable)
+        → HoldsSchema (S.pages space.old) root owned (before ++ table ∷ behind) → table.name ≡ name.now
         → IfOk result (schema.SchemaWritten (S.pages space.old) (S.pages space.new) owned (before ++ schema.with_root rows table ∷ behind)) }
     ensures whole { OnOk result (S.is_whole space.old → S.is_whole space.new) }
     ensures refusal { IfErr result (IsOfSpace (S.at_limit space.new) (schema.HoldsNoSchemaIn (S.pages space.old) root (S.is_whole space.old)) (S.refused space.old) (S.refused space.new)) }
@@ -80,9 +82,11 @@ fn append_at<S: PageSpace>(
     from: u32,
     rows: &[Row],
 ) -> Result<u32, AppendError>
-    ensures appended { (tables : List TableAt) → HoldsTables (S.pages space.old) root tables → root_named name.now (declared_of tables) ≡ Some from
+    ensures appended { (tables : List TableAt) → HoldsTables (S.pages space.old) root tables
+        → root_named name.now (declared_of tables) ≡ Some from
         → IfOk result (TablesWritten (S.pages space.new) (appended (contents_of tables) name.now rows.now)) }
-    ensures numbers { (tables : List TableAt) → HoldsTables (S.pages space.old) root tables → root_named name.now (declared_of tables) ≡ Some from
+    ensures numbers { (tables : List TableAt) → HoldsTables (S.pages space.old) root tables
+        → root_named name.now (declared_of tables) ≡ Some from
         → IfErr result (put.NumbersEnd (entries_of (get (contents_of tables) name.now)) (length rows.now)) }
     ensures whole { OnOk result (S.is_whole space.old → S.is_whole space.new) }
     ensures refusal { IfErr result (put.MayRefuse (S.at_limit space.new) (HoldsNoneAt (S.pages space.old) root name.now from (S.is_whole space.old)) (S.refused space.old) (S.refused space.new) rows.now) }
@@ -95,11 +99,13 @@ fn append_at<S: PageSpace>(
     }
 }
 
-/// Puts rows behind those of the table of a name, numbered on, and answers the root. Where no table has the name, all stays.
+/// Puts rows behind those of the table of a name, numbered on, and answers the root. Where no table
+/// has the name, all stays.
 ///
-/// Refused for want of memory, where the device refuses a call, at the limits of pages, as damaged only where no tables are
-/// held there or the list of free pages is none, where a row's code takes more than 1,000 bytes, and where the row numbers
-/// end, at 2^63. After a refusal nothing is said of the pages but what every call of the space keeps.
+/// Refused for want of memory, where the device refuses a call, at the limits of pages, as damaged
+/// only where no tables are held there or the list of free pages is none, where a row's code takes
+/// more than 1,000 bytes, and where the row numbers end, at 2^63. After a refusal nothing is said
+/// of the pages but what every call of the space keeps.
 pub fn append<S: PageSpace>(
     space: &mut S,
     alloc: Global,

@@ -8,7 +8,8 @@ ghost use Rattle.stored_tables.specs.Held.{TableAt, HoldsTables, contents_of};
 
 /// Tables stay where no page in use changes.
 pub fn tables_stay()
-    ensures { (old new : PageMap) (root : ℕ) (tables : List TableAt) → ((n : ℕ) → IsSome (old n) → new n ≡ old n) → HoldsTables old root tables → HoldsTables new root tables }
+    ensures { (old new : PageMap) (root : ℕ) (tables : List TableAt) → ((n : ℕ) → IsSome (old n) → new n ≡ old n)
+        → HoldsTables old root tables → HoldsTables new root tables }
 {}
 
 /// At root 0 pages hold no tables.
@@ -19,5 +20,6 @@ pub fn no_tables_at_first()
 
 /// The rows of each table stand in the order of their numbers, none of which comes twice.
 pub fn numbers_rise()
-    ensures { (pages : PageMap) (root : ℕ) (tables : List TableAt) (name : Name) (table : StoredTable) → HoldsTables pages root tables → get (contents_of tables) name ≡ Some table → Rises table.entries }
+    ensures { (pages : PageMap) (root : ℕ) (tables : List TableAt) (name : Name) (table : StoredTable)
+        → HoldsTables pages root tables → get (contents_of tables) name ≡ Some table → Rises table.entries }
 {}

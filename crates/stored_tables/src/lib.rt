@@ -1,4 +1,5 @@
-//! The tables of a database in a space of pages: a schema, and of each table its rows.
+//! The tables of a database in a space of pages: a schema, and of each table its rows. And what
+//! tables lie in pages, as a definition for all pages.
 #![tactic(auto)]
 
 mod changing;

@@ -38,7 +38,8 @@ pub(crate) fn table_root<R: PageReader>(
     root: u32,
     name: &Text,
 ) -> Result<Option<u32>, SpaceError>
-    ensures found { (tables : List TableAt) → HoldsTables (R.pages space.old) root tables → IfOk result (λ found. found ≡ root_named name.now (declared_of tables)) }
+    ensures found { (tables : List TableAt) → HoldsTables (R.pages space.old) root tables
+        → IfOk result (λ found. found ≡ root_named name.now (declared_of tables)) }
     ensures same { R.pages space.new ≡ R.pages space.old }
     ensures whole { R.is_whole space.old → R.is_whole space.new }
     ensures refusal { IfErr result (ReadRefused (HoldsNoTables (R.pages space.old) root) (R.refused space.old) (R.refused space.new)) }

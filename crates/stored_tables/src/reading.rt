@@ -17,13 +17,15 @@ use store::{Numbered, NumberedRow};
 
 /// The schema of the tables that lie at a root; root 0 is the schema without tables.
 ///
-/// Refused for want of memory, where the device refuses a call, and as damaged only where no tables are held there.
+/// Refused for want of memory, where the device refuses a call, and as damaged only where no tables
+/// are held there.
 pub fn read_schema<R: PageReader>(
     space: &mut R,
     alloc: Global,
     root: u32,
 ) -> Result<Schema, SpaceError>
-    ensures found { (tables : List TableAt) → HoldsTables (R.pages space.old) root tables → IfOk result (λ schema. IsSchemaOf schema (database_of (contents_of tables))) }
+    ensures found { (tables : List TableAt) → HoldsTables (R.pages space.old) root tables
+        → IfOk result (λ schema. IsSchemaOf schema (database_of (contents_of tables))) }
     ensures same { R.pages space.new ≡ R.pages space.old }
     ensures whole { R.is_whole space.old → R.is_whole space.new }
     ensures refusal { IfErr result (ReadRefused (HoldsNoTables (R.pages space.old) root) (R.refused space.old) (R.refused space.new)) }
@@ -45,7 +47,8 @@ pub fn scan<R: PageReader>(
     root: u32,
     name: &Text,
 ) -> Result<Numbered, SpaceError>
-    ensures rows { (tables : List TableAt) → HoldsTables (R.pages space.old) root tables → IfOk result (λ found. AreEntries found (entries_of (get (contents_of tables) name.now))) }
+    ensures rows { (tables : List TableAt) → HoldsTables (R.pages space.old) root tables
+        → IfOk result (λ found. AreEntries found (entries_of (get (contents_of tables) name.now))) }
     ensures same { R.pages space.new ≡ R.pages space.old }
     ensures whole { R.is_whole space.old → R.is_whole space.new }
     ensures refusal { IfErr result (ReadRefused (HoldsNoTables (R.pages space.old) root) (R.refused space.old) (R.refused space.new)) }
@@ -58,7 +61,8 @@ pub fn scan<R: PageReader>(
     }
 }
 
-/// The first row above a number of the table of a name, or the first of all; none where no table has the name.
+/// The first row above a number of the table of a name, or the first of all; none where no table
+/// has the name.
 ///
 /// Refused as `read_schema` is.
 pub fn next<R: PageReader>(
@@ -68,7 +72,8 @@ pub fn next<R: PageReader>(
     name: &Text,
     after: Option<u64>,
 ) -> Result<Option<NumberedRow>, SpaceError>
-    ensures row { (tables : List TableAt) → HoldsTables (R.pages space.old) root tables → IfOk result (λ found. IsEntry found (entry_after after (entries_of (get (contents_of tables) name.now)))) }
+    ensures row { (tables : List TableAt) → HoldsTables (R.pages space.old) root tables
+        → IfOk result (λ found. IsEntry found (entry_after after (entries_of (get (contents_of tables) name.now)))) }
     ensures same { R.pages space.new ≡ R.pages space.old }
     ensures whole { R.is_whole space.old → R.is_whole space.new }
     ensures refusal { IfErr result (ReadRefused (HoldsNoTables (R.pages space.old) root) (R.refused space.old) (R.refused space.new)) }

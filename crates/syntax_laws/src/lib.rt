@@ -1,4 +1,4 @@
-//! Laws of the definitions of tokens. Nothing of it runs.
+//! Laws of the definitions of tokens and of the grammar. Nothing of it runs.
 #![tactic(auto)]
 
 mod token_laws;

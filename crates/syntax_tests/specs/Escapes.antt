@@ -22,11 +22,12 @@ abbrev pub meaning : ℕ → ℕ
 meaning byte =
     if byte == 110 then 10 else (if byte == 116 then 9 else (if byte == 114 then 13 else byte))
 
--- what stands behind a backslash, the byte that it means, and what is left. An x (120) that has no two bytes behind
--- it means itself, and so does a backslash at the end
+-- what stands behind a backslash, the byte that it means, and what is left. An x (120) that has no
+-- two bytes behind it means itself, and so does a backslash at the end
 pub data Means : List ℕ → ℕ → List ℕ → Type 0 where
   sign : (byte : ℕ) (rest : List ℕ) → byte ≢ 120 → Means (byte ∷ rest) (meaning byte) rest
-  digits : (high low : ℕ) (rest : List ℕ) → Means (120 ∷ high ∷ low ∷ rest) (digit_value high * 16 + digit_value low) rest
+  digits : (high low : ℕ) (rest : List ℕ)
+      → Means (120 ∷ high ∷ low ∷ rest) (digit_value high * 16 + digit_value low) rest
   no_digits : (rest : List ℕ) → length rest < 2 → Means (120 ∷ rest) 120 rest
   at_end : Means [] 92 []
 
@@ -34,4 +35,5 @@ pub data Means : List ℕ → ℕ → List ℕ → Type 0 where
 pub data Spells : List ℕ → List ℕ → Type 0 where
   nothing : Spells [] []
   plain : (byte : ℕ) (line text : List ℕ) → byte ≢ 92 → Spells line text → Spells (byte ∷ line) (byte ∷ text)
-  special : (byte : ℕ) (after rest text : List ℕ) → Means after byte rest → Spells rest text → Spells (92 ∷ after) (byte ∷ text)
+  special : (byte : ℕ) (after rest text : List ℕ) → Means after byte rest → Spells rest text
+      → Spells (92 ∷ after) (byte ∷ text)

@@ -1,4 +1,5 @@
-//! Bytes that cannot stand in a line: `\n`, `\t`, `\r`, `\\`, and `\xNN` for the byte of two hexadecimal digits.
+//! Bytes that cannot stand in a line: `\n`, `\t`, `\r`, `\\`, and `\xNN` for the byte of two
+//! hexadecimal digits.
 
 ghost use Rattle.std.specs.Prelude.{◌≡◌, ◌≤◌, ◌<◌, ◌∷◌, ◌++◌, ℕ, List, IfOk, OnOk, length};
 ghost use Rattle.syntax_tests.specs.Escapes.{Means, Spells, digit_value, line_of, written};
@@ -20,8 +21,8 @@ pub fn unescaped(alloc: Global, line: &[u8]) -> Result<Vec<u8>, AllocError>
     Ok(text)
 }
 
-/// A text with each backslash written twice; the line stands for the text again. The answer is an error for want of
-/// memory alone.
+/// A text with each backslash written twice; the line stands for the text again. The answer is an
+/// error for want of memory alone.
 pub fn escaped(alloc: Global, text: &[u8]) -> Result<Vec<u8>, AllocError>
     ensures exact { IfOk result (λ line. line.items ≡ line_of text.now) }
     ensures read_back { IfOk result (λ line. Spells line.items text.now) }

@@ -1,5 +1,5 @@
-//! Prints, for each line of its input, the printed text of the statement that the line spells, or its refusal. A
-//! line that begins with `#` is a heading and comes out as it is.
+//! Prints, for each line of its input, the printed text of the statement that the line spells, or
+//! its refusal. A line that begins with `#` is a heading and comes out as it is.
 #![tactic(auto)]
 
 mod escapes;

@@ -1,4 +1,5 @@
--- The rows that evaluation gives for an INSERT (ISO/IEC 9075:1992, 13.8), and what is left of a store up to the order of rows.
+-- The rows that evaluation gives for an INSERT (ISO/IEC 9075:1992, 13.8), and what is left of a
+-- store up to the order of rows.
 use Rattle.std.specs.Prelude.{◌≡◌, ℕ, List, Option, Some, Ok}
 use Rattle.std.specs.FinMap.{get}
 use Rattle.sqlval.specs.Value.{Row}
@@ -27,7 +28,8 @@ pub record HasMore (db : Database) (name : Name) (rows : List Row) (made : Datab
   pub there : get db name ≡ Some table
   pub more : get made name ≡ Some (with_more table rows)
 
--- the newest version holds what the change makes of it, up to the order of rows; nothing else is changed, but the mark
+-- the newest version holds what the change makes of it, up to the order of rows; nothing else is
+-- changed, but the mark
 pub record HasAccepted (reading : CheckReading) (old : Stored) (change : Change) (reply : Reply) (new : Stored) : Type 0 where
   pub contents : Contents
   pub marked : Contents

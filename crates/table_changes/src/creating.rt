@@ -25,14 +25,17 @@ use store::Store;
 use transactions::refusal_of;
 use typing::CreateTable;
 
-/// CREATE TABLE: the table without rows, with an index for each PRIMARY KEY and each UNIQUE. It sets the mark. It is refused for want of memory, by the device or by a limit of the store;
-/// all is then as it was, but for the mark. A name that a table has, which the rules of names exclude, is refused as for want of memory. A table without rows violates no CHECK.
+/// CREATE TABLE: the table without rows, with an index for each PRIMARY KEY and each UNIQUE. It
+/// sets the mark. It is refused for want of memory, by the device or by a limit of the store; all
+/// is then as it was, but for the mark. A name that a table has, which the rules of names exclude,
+/// is refused as for want of memory. A table without rows violates no CHECK.
 pub fn create_table<S: Store>(
     alloc: Global,
     store: &mut S,
     table: CreateTable,
 ) -> Result<Reply, Refusal>
-    ensures changes { IfOk result (λ reply. (reading : CheckReading) → S.is_sound store.old → IsSchemaOf (S.prepared store.old) (database_of (S.shows store.old).working)
+    ensures changes { IfOk result (λ reply. (reading : CheckReading) → S.is_sound store.old
+        → IsSchemaOf (S.prepared store.old) (database_of (S.shows store.old).working)
         → HasChanged reading (S.shows store.old) (does.CreateTable table) reply (S.shows store.new)) }
     ensures refused { IfErr result (λ refusal. S.is_sound store.old → IsReserved refusal) }
     ensures accepted { IfOk result (λ reply. IfRefused reply (λ refusal. ⊥)) }

@@ -15,8 +15,10 @@ use refusals::Refusal;
 use std::alloc::Global;
 use store::Store;
 
-/// Whether it is known that the table of this name, which violates no constraint, violates none with these rows at its end. It is refused by a constraint that it then violates (23000), for want
-/// of memory or by the device. The store is left as it was. CHECKs are decided by what is given for them.
+/// Whether it is known that the table of this name, which violates no constraint, violates none
+/// with these rows at its end. It is refused by a constraint that it then violates (23000), for
+/// want of memory or by the device. The store is left as it was. CHECKs are decided by what is
+/// given for them.
 pub(crate) fn known_to_hold<S: Store, C: Checks>(
     alloc: Global,
     store: &mut S,
@@ -24,10 +26,16 @@ pub(crate) fn known_to_hold<S: Store, C: Checks>(
     rows: &[Row],
     checks: &C,
 ) -> Result<bool, Refusal>
-    ensures known { IfOk result (λ known. (reading : CheckReading) (made : Database) → S.is_sound store.old → Decided (C.decides checks.now reading) (database_of (S.shows store.old).working) name.now
-        → Holds reading (database_of (S.shows store.old).working) name.now → HasMore (database_of (S.shows store.old).working) name.now rows.now made → known ≡ true → Holds reading made name.now) }
-    ensures refused { IfErr result (λ refusal. (reading : CheckReading) (made : Database) → S.is_sound store.old → Decided (C.decides checks.now reading) (database_of (S.shows store.old).working) name.now
-        → Holds reading (database_of (S.shows store.old).working) name.now → HasMore (database_of (S.shows store.old).working) name.now rows.now made → Breaks reading made name.now refusal) }
+    ensures known { IfOk result (λ known. (reading : CheckReading) (made : Database) → S.is_sound store.old
+        → Decided (C.decides checks.now reading) (database_of (S.shows store.old).working) name.now
+        → Holds reading (database_of (S.shows store.old).working) name.now
+        → HasMore (database_of (S.shows store.old).working) name.now rows.now made → known ≡ true
+        → Holds reading made name.now) }
+    ensures refused { IfErr result (λ refusal. (reading : CheckReading) (made : Database) → S.is_sound store.old
+        → Decided (C.decides checks.now reading) (database_of (S.shows store.old).working) name.now
+        → Holds reading (database_of (S.shows store.old).working) name.now
+        → HasMore (database_of (S.shows store.old).working) name.now rows.now made
+        → Breaks reading made name.now refusal) }
     ensures shows { S.shows store.new ≡ S.shows store.old }
     ensures limits { IfErr result TellsNoLimit }
     ensures device { IfErr result (λ refusal. refusal ≡ Disk → HasRisen (S.refused store.old) (S.refused store.new)) }

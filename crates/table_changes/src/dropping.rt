@@ -16,10 +16,12 @@ use replies::Reply;
 use store::Store;
 use transactions::refusal_of;
 
-/// DROP TABLE: the table of this name goes, with its indexes. It sets the mark. It is refused for want of memory, by the device or by a limit of the store that it reached; all is
-/// then as it was, but for the mark.
+/// DROP TABLE: the table of this name goes, with its indexes. It sets the mark. It is refused for
+/// want of memory, by the device or by a limit of the store that it reached; all is then as it was,
+/// but for the mark.
 pub fn drop_table<S: Store>(store: &mut S, name: &Text) -> Result<Reply, Refusal>
-    ensures changes { IfOk result (λ reply. (reading : CheckReading) → S.is_sound store.old → HasChanged reading (S.shows store.old) (does.DropTable name.now) reply (S.shows store.new)) }
+    ensures changes { IfOk result (λ reply. (reading : CheckReading) → S.is_sound store.old
+        → HasChanged reading (S.shows store.old) (does.DropTable name.now) reply (S.shows store.new)) }
     ensures refused { IfErr result (λ refusal. S.is_sound store.old → IsReserved refusal) }
     ensures accepted { IfOk result (λ reply. IfRefused reply (λ refusal. ⊥)) }
     ensures limits { IfErr result (TellsReached (ChangingReaches (S.counted store.new))) }
@@ -37,10 +39,11 @@ pub fn drop_table<S: Store>(store: &mut S, name: &Text) -> Result<Reply, Refusal
     }
 }
 
-/// DROP INDEX: the index of this name goes. It sets the mark. It is refused for want of memory, by the device or by a limit of the store that it reached; all is then as it was, but for
-/// the mark.
+/// DROP INDEX: the index of this name goes. It sets the mark. It is refused for want of memory, by
+/// the device or by a limit of the store that it reached; all is then as it was, but for the mark.
 pub fn drop_index<S: Store>(store: &mut S, name: &Text) -> Result<Reply, Refusal>
-    ensures changes { IfOk result (λ reply. (reading : CheckReading) → S.is_sound store.old → HasChanged reading (S.shows store.old) (does.DropIndex name.now) reply (S.shows store.new)) }
+    ensures changes { IfOk result (λ reply. (reading : CheckReading) → S.is_sound store.old
+        → HasChanged reading (S.shows store.old) (does.DropIndex name.now) reply (S.shows store.new)) }
     ensures refused { IfErr result (λ refusal. S.is_sound store.old → IsReserved refusal) }
     ensures accepted { IfOk result (λ reply. IfRefused reply (λ refusal. ⊥)) }
     ensures limits { IfErr result (TellsReached (ChangingReaches (S.counted store.new))) }

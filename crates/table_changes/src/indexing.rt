@@ -19,16 +19,19 @@ use store::{Store, View};
 use transactions::refusal_of;
 use typing::CreateIndex;
 
-/// CREATE INDEX: an index of the rows that are there. It sets the mark. It is refused where some row's key is too long (X0003 `key`), for want of memory, by the device or by a limit of the
+/// CREATE INDEX: an index of the rows that are there. It sets the mark. It is refused where some
+/// row's key is too long (X0003 `key`), for want of memory, by the device or by a limit of the
 /// store; all is then as it was, but for the mark.
 pub fn create_index<S: Store>(
     alloc: Global,
     store: &mut S,
     index: CreateIndex,
 ) -> Result<Reply, Refusal>
-    ensures changes { IfOk result (λ reply. (reading : CheckReading) → S.is_sound store.old → IsSchemaOf (S.prepared store.old) (database_of (S.shows store.old).working)
+    ensures changes { IfOk result (λ reply. (reading : CheckReading) → S.is_sound store.old
+        → IsSchemaOf (S.prepared store.old) (database_of (S.shows store.old).working)
         → HasChanged reading (S.shows store.old) (does.CreateIndex index) reply (S.shows store.new)) }
-    ensures refused { IfErr result (λ refusal. (reading : CheckReading) → S.is_sound store.old → IsSchemaOf (S.prepared store.old) (database_of (S.shows store.old).working)
+    ensures refused { IfErr result (λ refusal. (reading : CheckReading) → S.is_sound store.old
+        → IsSchemaOf (S.prepared store.old) (database_of (S.shows store.old).working)
         → RefusesChange reading (database_of (S.shows store.old).working) (does.CreateIndex index) refusal) }
     ensures accepted { IfOk result (λ reply. IfRefused reply (λ refusal. ⊥)) }
     ensures limits { IfErr result (TellsReached (ChangingReaches (S.counted store.new))) }

@@ -23,8 +23,10 @@ use store::Store;
 use transactions::refusal_of;
 use typing::Insert;
 
-/// INSERT, where evaluation gave these rows: they come to the end of the table, which violates no constraint as it is, or it is refused: by a constraint that the table would violate (23000), for want of memory, by the device or
-/// by a limit of the store. CHECKs are decided by what is given for them. It sets the mark. Where a sound store refuses it, all is as it was, but for the mark.
+/// INSERT, where evaluation gave these rows: they come to the end of the table, which violates no
+/// constraint as it is, or it is refused: by a constraint that the table would violate (23000), for
+/// want of memory, by the device or by a limit of the store. CHECKs are decided by what is given
+/// for them. It sets the mark. Where a sound store refuses it, all is as it was, but for the mark.
 pub fn insert_rows<S: Store, C: Checks>(
     alloc: Global,
     store: &mut S,
@@ -32,10 +34,16 @@ pub fn insert_rows<S: Store, C: Checks>(
     rows: Rows,
     checks: &C,
 ) -> Result<Reply, Refusal>
-    ensures changes { IfOk result (λ reply. (reading : CheckReading) → S.is_sound store.old → Decided (C.decides checks.now reading) (database_of (S.shows store.old).working) insert.now.table
-        → Holds reading (database_of (S.shows store.old).working) insert.now.table → AreGiven reading (database_of (S.shows store.old).working) insert.now rows → HasAccepted reading (S.shows store.old) (does.Insert insert.now) reply (S.shows store.new)) }
-    ensures refused { IfErr result (λ refusal. (reading : CheckReading) → S.is_sound store.old → Decided (C.decides checks.now reading) (database_of (S.shows store.old).working) insert.now.table
-        → Holds reading (database_of (S.shows store.old).working) insert.now.table → AreGiven reading (database_of (S.shows store.old).working) insert.now rows → RefusesChange reading (database_of (S.shows store.old).working) (does.Insert insert.now) refusal) }
+    ensures changes { IfOk result (λ reply. (reading : CheckReading) → S.is_sound store.old
+        → Decided (C.decides checks.now reading) (database_of (S.shows store.old).working) insert.now.table
+        → Holds reading (database_of (S.shows store.old).working) insert.now.table
+        → AreGiven reading (database_of (S.shows store.old).working) insert.now rows
+        → HasAccepted reading (S.shows store.old) (does.Insert insert.now) reply (S.shows store.new)) }
+    ensures refused { IfErr result (λ refusal. (reading : CheckReading) → S.is_sound store.old
+        → Decided (C.decides checks.now reading) (database_of (S.shows store.old).working) insert.now.table
+        → Holds reading (database_of (S.shows store.old).working) insert.now.table
+        → AreGiven reading (database_of (S.shows store.old).working) insert.now rows
+        → RefusesChange reading (database_of (S.shows store.old).working) (does.Insert insert.now) refusal) }
     ensures accepted { IfOk result (λ reply. IfRefused reply (λ refusal. ⊥)) }
     ensures limits { IfErr result (TellsReached (StoringReaches (S.counted store.new) (get (S.shows store.old).working insert.now.table) rows)) }
     ensures device { IfErr result (λ refusal. refusal ≡ Disk → HasRisen (S.refused store.old) (S.refused store.new)) }

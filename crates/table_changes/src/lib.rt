@@ -1,4 +1,5 @@
-//! Changes of tables, over any store: what CREATE and DROP, and an INSERT of rows that are given, make of the newest version, or what they are refused for.
+//! Changes of tables, over any store: what CREATE and DROP, and an INSERT of rows that are given,
+//! make of the newest version, or what they are refused for.
 #![tactic(auto)]
 
 mod creating;

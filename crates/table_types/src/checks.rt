@@ -14,10 +14,11 @@ use sqlval::Schema;
 use std::alloc::Global;
 use typing::{Condition, Frame};
 
-/// What the condition of a CHECK stands for. It sees the columns of its own table alone, which `frame` has, and no other table. Grouping columns of
-/// `frame` are not looked at.
+/// What the condition of a CHECK stands for. It sees the columns of its own table alone, which
+/// `frame` has, and no other table. Grouping columns of `frame` are not looked at.
 ///
-/// Refused by a reason of names or types that holds of it; where several hold, by any of these. Refuses for want of memory too.
+/// Refused by a reason of names or types that holds of it; where several hold, by any of these.
+/// Refuses for want of memory too.
 pub fn typed_check(
     alloc: Global,
     frame: &Frame,

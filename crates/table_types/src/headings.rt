@@ -1,4 +1,5 @@
-//! What is known of the constraints of a CREATE TABLE before their rules are looked at, and their names.
+//! What is known of the constraints of a CREATE TABLE before their rules are looked at, and their
+//! names.
 
 ghost use Rattle.std.specs.Prelude.{◌≡◌, ◌≤◌, ◌<◌, ◌∷◌, ◌++◌, Ok, length, filter, map, if◌then◌else◌, IfOk, OnOk};
 ghost use Rattle.std.specs.Fmt.{decimal};
@@ -23,8 +24,8 @@ const MAXIMUM_CONSTRAINTS: usize = 32;
 /// The greatest number of indexes of a table.
 const MAXIMUM_INDEXES: usize = 8;
 
-/// What is known of a constraint before its rule is looked at: its name where one is written, whether it is a PRIMARY KEY, and
-/// whether it owns an index.
+/// What is known of a constraint before its rule is looked at: its name where one is written,
+/// whether it is a PRIMARY KEY, and whether it owns an index.
 #[derive(Drop)]
 pub struct Heading {
     pub name: Option<Text>,
@@ -34,7 +35,8 @@ pub struct Heading {
 
 /// The names of the constraints: the name given, or `#n` for the n-th of all.
 ///
-/// At most 32 constraints, no two of one name, at most 8 that own an index, and at most one PRIMARY KEY.
+/// At most 32 constraints, no two of one name, at most 8 that own an index, and at most one PRIMARY
+/// KEY.
 pub fn names_in(alloc: Global, elements: &[TableElement]) -> Result<Items<Text>, Refusal>
     ensures { Finds result (names_found (headings_from elements.now)) }
 {

@@ -22,8 +22,8 @@ use typing::CreateTable;
 
 /// What a CREATE TABLE stands for over a schema. A CHECK is kept as its printed text.
 ///
-/// Refused by a reason of names or types, or a limit, that holds of it; where several hold, by any of these. Refuses for want of
-/// memory too.
+/// Refused by a reason of names or types, or a limit, that holds of it; where several hold, by any
+/// of these. Refuses for want of memory too.
 pub fn typed_create_table(
     alloc: Global,
     tree: &ast::CreateTable,
@@ -44,7 +44,8 @@ fn made_table(
     name: &Name,
     parts: Result<((), (Items<Column>, Items<Constraint>)), Refusal>,
 ) -> Result<CreateTable, Refusal>
-    ensures { (x : Finding (Unit {0} × (List Column × List Constraint))) → Finds parts x → Finds result (made_table name.now x) }
+    ensures { (x : Finding (Unit {0} × (List Column × List Constraint))) → Finds parts x
+        → Finds result (made_table name.now x) }
 {
     let (_, (columns, constraints)) = parts?;
     Ok(CreateTable {

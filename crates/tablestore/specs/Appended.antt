@@ -12,7 +12,8 @@ use Rattle.tablestore.specs.declared.error.AppendError.{AppendError}
 use Rattle.tablestore.specs.declared.error.AppendError.TheVariants.{Space, Record, Number}
 use Rattle.tablestore.specs.Held.{HoldsRows}
 
--- The tree at the root now has these rows, in pages that it owned before or that were not in use; no other page in use has changed.
+-- The tree at the root now has these rows, in pages that it owned before or that were not in use;
+-- no other page in use has changed.
 pub record RowsWritten (old new : PageMap) (owned : List ℕ) (rows : List stored.Entry) (root : ℕ) : Type 0 where
   pub now_owned : List ℕ
   pub holds : HoldsRows new root now_owned rows
@@ -21,10 +22,11 @@ pub record RowsWritten (old new : PageMap) (owned : List ℕ) (rows : List store
 
 -- no rows are held there in a space whose list of free pages is one
 abbrev pub HoldsNoRowsIn : PageMap → ℕ → Type 0 → Type 0
-HoldsNoRowsIn pages root Whole = (owned : List ℕ) (rows : List stored.Entry) → HoldsRows pages root owned rows → Whole → ⊥
+HoldsNoRowsIn pages root Whole = (owned : List ℕ) (rows : List stored.Entry) → HoldsRows pages root owned rows
+    → Whole → ⊥
 
--- Why rows may be refused, with what is known where it was for damage and with the counts of refused device calls before and after: as a change of pages is,
--- and where a row is too long.
+-- Why rows may be refused, with what is known where it was for damage and with the counts of
+-- refused device calls before and after: as a change of pages is, and where a row is too long.
 abbrev pub MayRefuse : (SpaceError → Type 0) → Type 0 → ℕ → ℕ → List Row → AppendError → Type 0
 MayRefuse AtLimit Harm before after rows (Space fault) = ChangeRefused AtLimit Harm before after fault
 MayRefuse AtLimit Harm before after rows Record = HasLongRow rows

@@ -60,12 +60,13 @@ fn put_row<S: PageSpace>(
     }
 }
 
-/// Puts rows behind those of the tree at a root, numbered on, and answers the root; root 0 is the table without rows.
+/// Puts rows behind those of the tree at a root, numbered on, and answers the root; root 0 is the
+/// table without rows.
 ///
-/// Refused for want of memory, where the device refuses a call, at the limits of pages, as damaged only where no rows are
-/// held there or the list of free pages is none, where a row's code takes more than 1,000 bytes, and where the row numbers
-/// end, at 2^63. After a refusal nothing is said of the pages but
-/// what every call of the space keeps.
+/// Refused for want of memory, where the device refuses a call, at the limits of pages, as damaged
+/// only where no rows are held there or the list of free pages is none, where a row's code takes
+/// more than 1,000 bytes, and where the row numbers end, at 2^63. After a refusal nothing is said
+/// of the pages but what every call of the space keeps.
 pub fn append<S: PageSpace>(
     space: &mut S,
     alloc: Global,
@@ -74,7 +75,8 @@ pub fn append<S: PageSpace>(
 ) -> Result<u32, AppendError>
     ensures appended { (owned : List ℕ) (held : List stored.Entry) → HoldsRows (S.pages space.old) root owned held
         → IfOk result (RowsWritten (S.pages space.old) (S.pages space.new) owned (held ++ enumerate_from (stored.next_number held) rows.now)) }
-    ensures numbers { (owned : List ℕ) (held : List stored.Entry) → HoldsRows (S.pages space.old) root owned held → IfErr result (NumbersEnd held (length rows.now)) }
+    ensures numbers { (owned : List ℕ) (held : List stored.Entry) → HoldsRows (S.pages space.old) root owned held
+        → IfErr result (NumbersEnd held (length rows.now)) }
     ensures keeps { IfOk result (LosesNoPage (S.pages space.old) (S.pages space.new) root) }
     ensures whole { OnOk result (S.is_whole space.old → S.is_whole space.new) }
     ensures refusal { IfErr result (MayRefuse (S.at_limit space.new) (HoldsNoRowsIn (S.pages space.old) root (S.is_whole space.old)) (S.refused space.old) (S.refused space.new) rows.now) }

@@ -27,8 +27,8 @@ use std::alloc::Global;
 /// Takes the row of a number out of the tree at a root, and answers the root; where no row has the
 /// number, all stays. Root 0 is the table without rows.
 ///
-/// Refused for want of memory, where the device refuses a call, at the limit of private pages, and as
-/// damaged only where no rows are held there or the list of free pages is none. After a refusal
+/// Refused for want of memory, where the device refuses a call, at the limit of private pages, and
+/// as damaged only where no rows are held there or the list of free pages is none. After a refusal
 /// nothing is said of the pages but what every call of the space keeps.
 pub fn delete<S: PageSpace>(
     space: &mut S,
@@ -92,9 +92,9 @@ fn put_row<S: PageSpace>(
 /// row has the number, all stays.
 ///
 /// Refused for want of memory, where the device refuses a call, at the limits of pages, as damaged
-/// only where no rows are held there or the list of free pages is none, and where the row's code takes
-/// more than 1,000 bytes. After a refusal nothing is said of the pages but what every call of the
-/// space keeps.
+/// only where no rows are held there or the list of free pages is none, and where the row's code
+/// takes more than 1,000 bytes. After a refusal nothing is said of the pages but what every call of
+/// the space keeps.
 pub fn replace<S: PageSpace>(
     space: &mut S,
     alloc: Global,

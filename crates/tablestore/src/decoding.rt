@@ -18,8 +18,8 @@ use store::{Numbered, NumberedRow};
 /// How many bytes the key of a row has.
 const KEY_BYTES: usize = 8;
 
-/// The row number that a key in a table's tree is the code of; `None` where it is that of no row number: it has another length,
-/// or the number is 2^63 or more.
+/// The row number that a key in a table's tree is the code of; `None` where it is that of no row
+/// number: it has another length, or the number is 2^63 or more.
 fn number_of(key: &[u8]) -> Option<u64>
     ensures kept { (n : ℕ) → n < 2 ^ 63 → key.now ≡ number_code n → result ≡ Some n }
     ensures below { IfSome result (λ n. n < 2 ^ 63) }
@@ -37,7 +37,8 @@ fn number_of(key: &[u8]) -> Option<u64>
 
 /// The row of an entry, with its number.
 pub(crate) fn row_of_entry(alloc: Global, entry: &Entry) -> Result<NumberedRow, DecodeError>
-    ensures kept { (e : stored.Entry) → IsKept e → entry.now ≡ row_entry e → Gives result (λ found. entry_of found ≡ e) }
+    ensures kept { (e : stored.Entry) → IsKept e → entry.now ≡ row_entry e
+        → Gives result (λ found. entry_of found ≡ e) }
     ensures numbered { IfOk result (λ found. IsNumbered entry.now found.number) }
 {
     let Some(number) = number_of(entry.key.as_slice()) else {
@@ -49,7 +50,8 @@ pub(crate) fn row_of_entry(alloc: Global, entry: &Entry) -> Result<NumberedRow, 
 
 /// The rows of entries, with their numbers.
 pub(crate) fn rows_of_entries(alloc: Global, entries: &[Entry]) -> Result<Numbered, DecodeError>
-    ensures { (all : List stored.Entry) → AreKept all → entries.now ≡ entries_of all → Gives result (λ found. AreEntries found all) }
+    ensures { (all : List stored.Entry) → AreKept all → entries.now ≡ entries_of all
+        → Gives result (λ found. AreEntries found all) }
 {
     let mut numbers = Items::new(alloc);
     let mut rows = Items::new(alloc);
@@ -66,7 +68,8 @@ pub(crate) fn row_found(
     alloc: Global,
     found: &Option<Entry>,
 ) -> Result<Option<NumberedRow>, DecodeError>
-    ensures { (one : Option stored.Entry) → IfSome one IsKept → found.now ≡ option_map row_entry one → Gives result (λ given. IsEntry given one) }
+    ensures { (one : Option stored.Entry) → IfSome one IsKept → found.now ≡ option_map row_entry one
+        → Gives result (λ given. IsEntry given one) }
 {
     match found {
         None => Ok(None),

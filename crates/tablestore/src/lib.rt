@@ -1,4 +1,5 @@
-//! The rows of a table in a tree over pages, by their numbers.
+//! The rows of a table in a tree over pages, by their numbers: read, appended, replaced and
+//! deleted.
 #![tactic(auto)]
 
 mod appending;

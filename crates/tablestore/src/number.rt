@@ -31,9 +31,12 @@ fn ends_before<R: PageReader>(
     root: u32,
     number: u64,
 ) -> Result<bool, SpaceError>
-    ensures none { (owned : List ℕ) (rows : List stored.Entry) → HoldsRows (R.pages space.old) root owned rows → IfOk result (λ ends. ends ≡ true → stored.next_number rows ≤ number) }
-    ensures some { (owned : List ℕ) (rows : List stored.Entry) → HoldsRows (R.pages space.old) root owned rows → IfOk result (λ ends. ends ≡ false → number < stored.next_number rows) }
-    ensures past { (owned : List ℕ) (entries : List AnyEntry) → IsTree (R.pages space.old) root owned entries → IfOk result (λ ends. ends ≡ true → ArePast entries number) }
+    ensures none { (owned : List ℕ) (rows : List stored.Entry) → HoldsRows (R.pages space.old) root owned rows
+        → IfOk result (λ ends. ends ≡ true → stored.next_number rows ≤ number) }
+    ensures some { (owned : List ℕ) (rows : List stored.Entry) → HoldsRows (R.pages space.old) root owned rows
+        → IfOk result (λ ends. ends ≡ false → number < stored.next_number rows) }
+    ensures past { (owned : List ℕ) (entries : List AnyEntry) → IsTree (R.pages space.old) root owned entries
+        → IfOk result (λ ends. ends ≡ true → ArePast entries number) }
     ensures same { R.pages space.new ≡ R.pages space.old }
     ensures whole { R.is_whole space.old → R.is_whole space.new }
     ensures refusal { IfErr result (ReadRefused (HoldsNoRows (R.pages space.old) root) (R.refused space.old) (R.refused space.new)) }
@@ -44,11 +47,14 @@ fn ends_before<R: PageReader>(
     Ok(is_absent(&found))
 }
 
-/// The number of the next row of the tree at a root, and 2^63 where greater keys lie there, too. A tree is read from its least key
-/// on, so the number is looked for twice as far each time, and by halves once no row is found there.
+/// The number of the next row of the tree at a root, and 2^63 where greater keys lie there, too. A
+/// tree is read from its least key on, so the number is looked for twice as far each time, and by
+/// halves once no row is found there.
 fn number_behind<R: PageReader>(space: &mut R, alloc: Global, root: u32) -> Result<u64, SpaceError>
-    ensures found { (owned : List ℕ) (rows : List stored.Entry) → HoldsRows (R.pages space.old) root owned rows → IfOk result (λ number. number ≡ stored.next_number rows) }
-    ensures past { (owned : List ℕ) (entries : List AnyEntry) → IsTree (R.pages space.old) root owned entries → IfOk result (λ number. number < 2 ^ 63 → ArePast entries number) }
+    ensures found { (owned : List ℕ) (rows : List stored.Entry) → HoldsRows (R.pages space.old) root owned rows
+        → IfOk result (λ number. number ≡ stored.next_number rows) }
+    ensures past { (owned : List ℕ) (entries : List AnyEntry) → IsTree (R.pages space.old) root owned entries
+        → IfOk result (λ number. number < 2 ^ 63 → ArePast entries number) }
     ensures same { R.pages space.new ≡ R.pages space.old }
     ensures whole { R.is_whole space.old → R.is_whole space.new }
     ensures refusal { IfErr result (ReadRefused (HoldsNoRows (R.pages space.old) root) (R.refused space.old) (R.refused space.new)) }
@@ -68,8 +74,9 @@ fn number_behind<R: PageReader>(space: &mut R, alloc: Global, root: u32) -> Resu
     Ok(low)
 }
 
-/// The number of the next row of the tree at a root: 0 where there are no rows, else one more than the greatest number. Of whatever
-/// tree lies there, no key is the code of this number, or comes behind it.
+/// The number of the next row of the tree at a root: 0 where there are no rows, else one more than
+/// the greatest number. Of whatever tree lies there, no key is the code of this number, or comes
+/// behind it.
 ///
 /// Refused as `scan` is.
 pub fn next_number<R: PageReader>(
@@ -77,8 +84,10 @@ pub fn next_number<R: PageReader>(
     alloc: Global,
     root: u32,
 ) -> Result<u64, SpaceError>
-    ensures found { (owned : List ℕ) (rows : List stored.Entry) → HoldsRows (R.pages space.old) root owned rows → IfOk result (λ number. number ≡ stored.next_number rows) }
-    ensures past { (owned : List ℕ) (entries : List AnyEntry) → IsTree (R.pages space.old) root owned entries → IfOk result (ArePast entries) }
+    ensures found { (owned : List ℕ) (rows : List stored.Entry) → HoldsRows (R.pages space.old) root owned rows
+        → IfOk result (λ number. number ≡ stored.next_number rows) }
+    ensures past { (owned : List ℕ) (entries : List AnyEntry) → IsTree (R.pages space.old) root owned entries
+        → IfOk result (ArePast entries) }
     ensures same { R.pages space.new ≡ R.pages space.old }
     ensures whole { R.is_whole space.old → R.is_whole space.new }
     ensures refusal { IfErr result (ReadRefused (HoldsNoRows (R.pages space.old) root) (R.refused space.old) (R.refused space.new)) }

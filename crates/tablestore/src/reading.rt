@@ -16,9 +16,11 @@ use store::{Numbered, NumberedRow};
 
 /// All rows of the tree at a root, in the order of their numbers; root 0 is the table without rows.
 ///
-/// Refused for want of memory, where the device refuses a call, and as damaged only where no rows are held there.
+/// Refused for want of memory, where the device refuses a call, and as damaged only where no rows
+/// are held there.
 pub fn scan<R: PageReader>(space: &mut R, alloc: Global, root: u32) -> Result<Numbered, SpaceError>
-    ensures found { (owned : List ℕ) (rows : List stored.Entry) → HoldsRows (R.pages space.old) root owned rows → IfOk result (λ found. AreEntries found rows) }
+    ensures found { (owned : List ℕ) (rows : List stored.Entry) → HoldsRows (R.pages space.old) root owned rows
+        → IfOk result (λ found. AreEntries found rows) }
     ensures same { R.pages space.new ≡ R.pages space.old }
     ensures whole { R.is_whole space.old → R.is_whole space.new }
     ensures refusal { IfErr result (ReadRefused (HoldsNoRows (R.pages space.old) root) (R.refused space.old) (R.refused space.new)) }
@@ -40,7 +42,8 @@ fn entry_above<R: PageReader>(
     root: u32,
     number: u64,
 ) -> Result<Option<Entry>, SpaceError>
-    ensures found { (owned : List ℕ) (rows : List stored.Entry) → HoldsRows (R.pages space.old) root owned rows → IfOk result (λ found. found ≡ option_map row_entry (entry_after (Some number) rows)) }
+    ensures found { (owned : List ℕ) (rows : List stored.Entry) → HoldsRows (R.pages space.old) root owned rows
+        → IfOk result (λ found. found ≡ option_map row_entry (entry_after (Some number) rows)) }
     ensures same { R.pages space.new ≡ R.pages space.old }
     ensures whole { R.is_whole space.old → R.is_whole space.new }
     ensures refusal { IfErr result (ReadRefused (HoldsNoRows (R.pages space.old) root) (R.refused space.old) (R.refused space.new)) }
@@ -57,7 +60,8 @@ fn entry_behind<R: PageReader>(
     root: u32,
     after: Option<u64>,
 ) -> Result<Option<Entry>, SpaceError>
-    ensures found { (owned : List ℕ) (rows : List stored.Entry) → HoldsRows (R.pages space.old) root owned rows → IfOk result (λ found. found ≡ option_map row_entry (entry_after after rows)) }
+    ensures found { (owned : List ℕ) (rows : List stored.Entry) → HoldsRows (R.pages space.old) root owned rows
+        → IfOk result (λ found. found ≡ option_map row_entry (entry_after after rows)) }
     ensures same { R.pages space.new ≡ R.pages space.old }
     ensures whole { R.is_whole space.old → R.is_whole space.new }
     ensures refusal { IfErr result (ReadRefused (HoldsNoRows (R.pages space.old) root) (R.refused space.old) (R.refused space.new)) }
@@ -79,7 +83,8 @@ pub fn next<R: PageReader>(
     root: u32,
     after: Option<u64>,
 ) -> Result<Option<NumberedRow>, SpaceError>
-    ensures found { (owned : List ℕ) (rows : List stored.Entry) → HoldsRows (R.pages space.old) root owned rows → IfOk result (λ found. IsEntry found (entry_after after rows)) }
+    ensures found { (owned : List ℕ) (rows : List stored.Entry) → HoldsRows (R.pages space.old) root owned rows
+        → IfOk result (λ found. IsEntry found (entry_after after rows)) }
     ensures same { R.pages space.new ≡ R.pages space.old }
     ensures whole { R.is_whole space.old → R.is_whole space.new }
     ensures refusal { IfErr result (ReadRefused (HoldsNoRows (R.pages space.old) root) (R.refused space.old) (R.refused space.new)) }

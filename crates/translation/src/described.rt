@@ -9,7 +9,8 @@ use items::{Items, Text};
 use sqlval::{Constraint, Index, Rule, Schema, Table};
 use std::alloc::{AllocError, Global};
 
-/// What the schema knows of the table of this name; of a name that no table has, nothing but the name. Refuses for want of memory alone.
+/// What the schema knows of the table of this name; of a name that no table has, nothing but the
+/// name. Refuses for want of memory alone.
 pub fn describe(alloc: Global, schema: &Schema, name: &Text) -> Result<StoredTable, AllocError>
     ensures described { IfOk result (λ table. table ≡ described_in schema.now name.now) }
 {

@@ -20,7 +20,8 @@ pub fn filter(
     condition: Result<Condition, AllocError>,
     tree: Result<Tree, AllocError>,
 ) -> Result<Tree, AllocError>
-    ensures { (c : Truth) (x : Rows) → IfOk condition (λ a. a ≡ c) → IfOk tree (λ b. b ≡ x) → IfOk result (λ made. made ≡ t.Filter c x) }
+    ensures { (c : Truth) (x : Rows) → IfOk condition (λ a. a ≡ c) → IfOk tree (λ b. b ≡ x)
+        → IfOk result (λ made. made ≡ t.Filter c x) }
 {
     let (condition, tree) = both(boxed(alloc, condition), boxed(alloc, tree))?;
     Ok(Tree::Filter(condition, tree))
@@ -31,7 +32,8 @@ pub fn product(
     left: Result<Tree, AllocError>,
     right: Result<Tree, AllocError>,
 ) -> Result<Tree, AllocError>
-    ensures { (x y : Rows) → IfOk left (λ a. a ≡ x) → IfOk right (λ b. b ≡ y) → IfOk result (λ made. made ≡ t.Product x y) }
+    ensures { (x y : Rows) → IfOk left (λ a. a ≡ x) → IfOk right (λ b. b ≡ y)
+        → IfOk result (λ made. made ≡ t.Product x y) }
 {
     let (left, right) = both(boxed(alloc, left), boxed(alloc, right))?;
     Ok(Tree::Product(left, right))
@@ -43,7 +45,8 @@ pub fn inner(
     left: Result<Tree, AllocError>,
     right: Result<Tree, AllocError>,
 ) -> Result<Tree, AllocError>
-    ensures { (c : Truth) (x y : Rows) → IfOk on (λ d. d ≡ c) → IfOk left (λ a. a ≡ x) → IfOk right (λ b. b ≡ y) → IfOk result (λ made. made ≡ t.Inner c x y) }
+    ensures { (c : Truth) (x y : Rows) → IfOk on (λ d. d ≡ c) → IfOk left (λ a. a ≡ x) → IfOk right (λ b. b ≡ y)
+        → IfOk result (λ made. made ≡ t.Inner c x y) }
 {
     let (on, left, right) = three(boxed(alloc, on), boxed(alloc, left), boxed(alloc, right))?;
     Ok(Tree::Inner(on, left, right))
@@ -56,7 +59,8 @@ pub fn left_join(
     right: Result<Tree, AllocError>,
     width: usize,
 ) -> Result<Tree, AllocError>
-    ensures { (c : Truth) (x y : Rows) → IfOk on (λ d. d ≡ c) → IfOk left (λ a. a ≡ x) → IfOk right (λ b. b ≡ y) → IfOk result (λ made. made ≡ t.Left c x y width) }
+    ensures { (c : Truth) (x y : Rows) → IfOk on (λ d. d ≡ c) → IfOk left (λ a. a ≡ x) → IfOk right (λ b. b ≡ y)
+        → IfOk result (λ made. made ≡ t.Left c x y width) }
 {
     let (on, left, right) = three(boxed(alloc, on), boxed(alloc, left), boxed(alloc, right))?;
     Ok(Tree::Left {
@@ -73,7 +77,8 @@ pub fn group(
     functions: Result<Items<SetFunction>, AllocError>,
     rows: Result<Tree, AllocError>,
 ) -> Result<Tree, AllocError>
-    ensures { (cs : Option (List ℕ)) (fs : List Function) (x : Rows) → IfOk columns (λ a. a ≡ cs) → IfOk functions (λ b. b ≡ fs) → IfOk rows (λ d. d ≡ x) → IfOk result (λ made. made ≡ t.Group cs fs x) }
+    ensures { (cs : Option (List ℕ)) (fs : List Function) (x : Rows) → IfOk columns (λ a. a ≡ cs)
+        → IfOk functions (λ b. b ≡ fs) → IfOk rows (λ d. d ≡ x) → IfOk result (λ made. made ≡ t.Group cs fs x) }
 {
     let (columns, functions, rows) = three(columns, functions, boxed(alloc, rows))?;
     Ok(Tree::Group {
@@ -88,7 +93,8 @@ pub fn project(
     items: Result<Items<Expression>, AllocError>,
     tree: Result<Tree, AllocError>,
 ) -> Result<Tree, AllocError>
-    ensures { (es : List Value) (x : Rows) → IfOk items (λ a. a ≡ es) → IfOk tree (λ b. b ≡ x) → IfOk result (λ made. made ≡ t.Project es x) }
+    ensures { (es : List Value) (x : Rows) → IfOk items (λ a. a ≡ es) → IfOk tree (λ b. b ≡ x)
+        → IfOk result (λ made. made ≡ t.Project es x) }
 {
     let (items, tree) = both(items, boxed(alloc, tree))?;
     Ok(Tree::Project(items, tree))
@@ -118,7 +124,8 @@ pub fn sorted(
     keys: Result<Items<OrderKey>, AllocError>,
     tree: Result<Tree, AllocError>,
 ) -> Result<Tree, AllocError>
-    ensures { (ks : List Key) (x : Rows) → IfOk keys (λ a. a ≡ ks) → IfOk tree (λ b. b ≡ x) → IfOk result (λ made. made ≡ sorted_tree ks x) }
+    ensures { (ks : List Key) (x : Rows) → IfOk keys (λ a. a ≡ ks) → IfOk tree (λ b. b ≡ x)
+        → IfOk result (λ made. made ≡ sorted_tree ks x) }
 {
     let (keys, tree) = both(keys, tree)?;
     if keys.is_empty() {

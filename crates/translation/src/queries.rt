@@ -130,7 +130,8 @@ fn filtered(
     condition: &Option<Condition>,
     tree: Result<Tree, AllocError>,
 ) -> Result<Tree, AllocError>
-    ensures { (x : Rows) → IfOk tree (λ a. a ≡ x) → IfOk result (λ made. made ≡ filter_tree (option_map (tree_of_condition (described_in schema.now)) condition.now) x) }
+    ensures { (x : Rows) → IfOk tree (λ a. a ≡ x)
+        → IfOk result (λ made. made ≡ filter_tree (option_map (tree_of_condition (described_in schema.now)) condition.now) x) }
 {
     match condition {
         None => tree,
@@ -147,7 +148,8 @@ fn grouped(
     grouping: &Option<Grouping>,
     tree: Result<Tree, AllocError>,
 ) -> Result<Tree, AllocError>
-    ensures { (x : Rows) → IfOk tree (λ a. a ≡ x) → IfOk result (λ made. made ≡ grouped_tree (option_map (tree_of_grouping (described_in schema.now)) grouping.now) x) }
+    ensures { (x : Rows) → IfOk tree (λ a. a ≡ x)
+        → IfOk result (λ made. made ≡ grouped_tree (option_map (tree_of_grouping (described_in schema.now)) grouping.now) x) }
 {
     match grouping {
         None => tree,

@@ -1,4 +1,5 @@
--- The names of the stored tables that a tree reads, those of its subqueries too: a fold with a list of names in each place. A table that is read twice is named twice.
+-- The names of the stored tables that a tree reads, those of its subqueries too: a fold with a list
+-- of names in each place. A table that is read twice is named twice.
 use Rattle.std.specs.Prelude.{◌≡◌, ℕ, List, [], ◌∷◌, ◌++◌, flat_map, Contains}
 use Rattle.algebra.specs.declared.tree.Expression.{Expression, Expression-F, fold-Expression}
 use Rattle.algebra.specs.declared.tree.Condition.{Condition, Condition-F, fold-Condition}

@@ -9,7 +9,8 @@ use items::{Items, Text};
 use std::alloc::{AllocError, Global};
 use typing::Arithmetic;
 
-/// The names of the stored tables that a tree reads, those of its subqueries too, in the order of the tree: once for each time. Refuses for want of memory alone.
+/// The names of the stored tables that a tree reads, those of its subqueries too, in the order of
+/// the tree: once for each time. Refuses for want of memory alone.
 #[cycle(named)]
 #[tactic(auto, using(crate::proofs::Nodes::naming_nodes))]
 pub fn tables_in_tree(alloc: Global, tree: &Tree) -> Result<Items<Text>, AllocError>

@@ -20,7 +20,8 @@ pub fn joined(
     first: Result<Items<Text>, AllocError>,
     second: Result<Items<Text>, AllocError>,
 ) -> Result<Items<Text>, AllocError>
-    ensures { (a b : Names) → IfOk first (λ x. x ≡ a) → IfOk second (λ y. y ≡ b) → IfOk result (λ names. names ≡ a ++ b) }
+    ensures { (a b : Names) → IfOk first (λ x. x ≡ a) → IfOk second (λ y. y ≡ b)
+        → IfOk result (λ names. names ≡ a ++ b) }
 {
     let mut names = first?;
     names.append(second?)?;

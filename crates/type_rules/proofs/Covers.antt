@@ -1,4 +1,5 @@
--- A finding that another covers: it stands for the same, and each of its reasons is one of the other's. Parts may so be put together in another order.
+-- A finding that another covers: it stands for the same, and each of its reasons is one of the
+-- other's. Parts may so be put together in another order.
 use Rattle.std.proofs.Common.{◌≡◌, List, [], ◌∷◌, ◌++◌, Result, Ok, Err, ◌⊎◌, inl, inr}
 use Rattle.std.specs.Prelude.{IfOk}
 use Rattle.std.proofs.lemmas.List.Elements.{Contains-append_cases}

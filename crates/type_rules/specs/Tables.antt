@@ -29,9 +29,11 @@ join_sides found = found >>= (λ p. Ok (record { frame = side_by_side (p.0).fram
 -- whatever the two sides are
 abbrev pub CrossedFinds : Result TypedFrom Refusal → Result TypedFrom Refusal → Result TypedFrom Refusal → Type 0
 CrossedFinds left right result =
-    (l r : From) (outer : Scope) → Finds left (from_found l outer) → Finds right (from_found r outer) → Finds result (from_found (crossed l r) outer)
+    (l r : From) (outer : Scope) → Finds left (from_found l outer) → Finds right (from_found r outer)
+    → Finds result (from_found (crossed l r) outer)
 
 -- whatever the query is
 abbrev pub DerivedFinds : Result TypedQuery Refusal → Result TypedFrom Refusal → List ℕ → Type 0
 DerivedFinds query result shown =
-    (q : Scope → Finding TypedQuery) (outer : Scope) → Finds query (q outer) → Finds result (from_found (derived_table q shown) outer)
+    (q : Scope → Finding TypedQuery) (outer : Scope) → Finds query (q outer)
+    → Finds result (from_found (derived_table q shown) outer)

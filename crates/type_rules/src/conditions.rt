@@ -49,7 +49,8 @@ pub fn between(
     low: Result<TypedExpression, Refusal>,
     high: Result<TypedExpression, Refusal>,
 ) -> Result<Condition, Refusal>
-    ensures { (a b d : Finding TypedExpression) → Finds x a → Finds low b → Finds high d → Finds result (between is_negated a b d) }
+    ensures { (a b d : Finding TypedExpression) → Finds x a → Finds low b → Finds high d
+        → Finds result (between is_negated a b d) }
 {
     let x = x?;
     let low = boxed(alloc, of_type(low, x.value_type));
@@ -67,7 +68,8 @@ fn between_of(
     is_negated: bool,
     operands: Result<(Boxed<Expression>, (Boxed<Expression>, Boxed<Expression>)), Refusal>,
 ) -> Result<Condition, Refusal>
-    ensures { (p : Finding (Expression × (Expression × Expression))) → Finds operands p → Finds result (between_of is_negated p) }
+    ensures { (p : Finding (Expression × (Expression × Expression))) → Finds operands p
+        → Finds result (between_of is_negated p) }
 {
     let (x, (low, high)) = operands?;
     negated(alloc, is_negated, Condition::Between(x, low, high))
@@ -110,7 +112,8 @@ pub fn in_query(
     x: Result<TypedExpression, Refusal>,
     query: Result<(Query, ValueType), Refusal>,
 ) -> Result<Condition, Refusal>
-    ensures { (a : Finding TypedExpression) (q : Finding (Query × ValueType)) → Finds x a → Finds query q → Finds result (in_query is_negated a q) }
+    ensures { (a : Finding TypedExpression) (q : Finding (Query × ValueType)) → Finds x a → Finds query q
+        → Finds result (in_query is_negated a q) }
 {
     query_of(alloc, is_negated, both(x, query))
 }
@@ -120,7 +123,8 @@ fn query_of(
     is_negated: bool,
     parts: Result<(TypedExpression, (Query, ValueType)), Refusal>,
 ) -> Result<Condition, Refusal>
-    ensures { (p : Finding (TypedExpression × (Query × ValueType))) → Finds parts p → Finds result (query_of is_negated p) }
+    ensures { (p : Finding (TypedExpression × (Query × ValueType))) → Finds parts p
+        → Finds result (query_of is_negated p) }
 {
     let (x, (query, value_type)) = parts?;
     queried(alloc, is_negated, of_type(Ok(x), value_type), query)

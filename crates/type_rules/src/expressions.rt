@@ -21,7 +21,8 @@ pub fn calculation(
     first: Result<TypedExpression, Refusal>,
     others: Result<Items<(Arithmetic, Expression)>, Refusal>,
 ) -> Result<TypedExpression, Refusal>
-    ensures { (x : Finding TypedExpression) (y : Finding (List (Arithmetic × Expression))) → Finds first x → Finds others y → Finds result (calculation x y) }
+    ensures { (x : Finding TypedExpression) (y : Finding (List (Arithmetic × Expression))) → Finds first x
+        → Finds others y → Finds result (calculation x y) }
 {
     let first = boxed(alloc, of_type(first, ValueType::Integer));
     calculated(both(first, others))
@@ -33,7 +34,8 @@ pub fn concatenation(
     first: Result<TypedExpression, Refusal>,
     others: Result<Items<Expression>, Refusal>,
 ) -> Result<TypedExpression, Refusal>
-    ensures { (x : Finding TypedExpression) (y : Finding (List Expression)) → Finds first x → Finds others y → Finds result (concatenation x y) }
+    ensures { (x : Finding TypedExpression) (y : Finding (List Expression)) → Finds first x → Finds others y
+        → Finds result (concatenation x y) }
 {
     let first = boxed(alloc, of_type(first, ValueType::Text));
     concatenated(both(first, others))
@@ -152,7 +154,8 @@ pub fn after_sign(
 fn calculated(
     parts: Result<(Boxed<Expression>, Items<(Arithmetic, Expression)>), Refusal>,
 ) -> Result<TypedExpression, Refusal>
-    ensures { (x : Finding (Expression × List (Arithmetic × Expression))) → Finds parts x → Finds result (calculation_of x) }
+    ensures { (x : Finding (Expression × List (Arithmetic × Expression))) → Finds parts x
+        → Finds result (calculation_of x) }
 {
     let (first, operands) = parts?;
     Ok(TypedExpression {
@@ -184,7 +187,8 @@ fn operator_in_sum(operator: AddOperator) -> Result<Arithmetic, Refusal>
     }
 }
 
-/// The operator of a chain that says whether it is a sum or a concatenation; `None` where there is no chain.
+/// The operator of a chain that says whether it is a sum or a concatenation; `None` where there is
+/// no chain.
 pub fn first_operator(others: &[(AddOperator, Term)]) -> Option<AddOperator>
     ensures { result ≡ leading_operator others.now }
 {

@@ -1,5 +1,5 @@
-//! Parts that are found, put together. They are taken with their refusals: a caller that took them out by `?` would
-//! drop, at each, all that it owns, and be slow to prove.
+//! Parts that are found, put together. They are taken with their refusals: a caller that took them
+//! out by `?` would drop, at each, all that it owns, and be slow to prove.
 
 ghost use Rattle.typing.specs.Finding.{Finding, also};
 ghost use Rattle.typing.specs.Finds.{Finds};

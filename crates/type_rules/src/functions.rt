@@ -101,8 +101,8 @@ pub fn is_distinct(quantifier: Option<Quantifier>) -> bool
     }
 }
 
-/// What a set function stands for where it is written: its value in the row of the group. It may stand in a select list and HAVING
-/// alone.
+/// What a set function stands for where it is written: its value in the row of the group. It may
+/// stand in a select list and HAVING alone.
 pub fn value_seen(
     clause: Clause,
     aggregate: Result<(SetFunction, ValueType), Refusal>,

@@ -1,5 +1,5 @@
-//! What operators, predicates, tables, joins and SELECTs are found to be, given what their parts are found to be. Nothing here goes
-//! down a tree.
+//! What operators, predicates, tables, joins and SELECTs are found to be, given what their parts
+//! are found to be, and such parts put together. Nothing here goes down a tree.
 #![tactic(auto)]
 
 mod conditions;

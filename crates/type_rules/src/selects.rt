@@ -177,7 +177,8 @@ fn own_place(column: &Column, scope: &Scope) -> Result<usize, Refusal>
 pub fn settled(
     parts: Result<(Option<Condition>, (Items<SetFunction>, Groups)), Refusal>,
 ) -> Result<Settled, Refusal>
-    ensures { (x : Finding (Option Condition × (List SetFunction × Groups))) → Finds parts x → Finds result (settled x) }
+    ensures { (x : Finding (Option Condition × (List SetFunction × Groups))) → Finds parts x
+        → Finds result (settled x) }
 {
     let (filter, (functions, groups)) = parts?;
     Ok(Settled {

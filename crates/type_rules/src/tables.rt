@@ -39,7 +39,8 @@ pub fn stored(
     name: &Name,
     alias: &Option<Alias>,
 ) -> Result<TypedFrom, Refusal>
-    ensures { (outer : Frames) → Finds result (from_found (stored_table (stored_columns (known schema.now)) name.now (shown_name name.now alias.now)) outer) }
+    ensures { (outer : Frames)
+        → Finds result (from_found (stored_table (stored_columns (known schema.now)) name.now (shown_name name.now alias.now)) outer) }
 {
     let table = table_named(schema, name.as_text())?;
     let frame = frame_of(alloc, shown_name(name, alias), table)?;

@@ -205,7 +205,8 @@ compare-out by one other = search (rules, the_lemmas)
 
 ruleset typings_of_conditions = (typings, compare-out)
 
--- ---- several clauses, queries inside, and names across them, over N (A INTEGER, B INTEGER), S (A INTEGER, X INTEGER) and U (Y INTEGER)
+-- ---- several clauses, queries inside, and names across them, over N (A INTEGER, B INTEGER), S (A
+-- INTEGER, X INTEGER) and U (Y INTEGER)
 
 abbrev n : List ℕ
 n = 78 ∷ []
@@ -240,8 +241,8 @@ equal one other = test (predicate.Compare one written.Equal other)
 abbrev by : List ℕ → List Column
 by name = record { table = None; name = name } ∷ []
 
--- SELECT A + COUNT(*), (SELECT MIN(X) FROM S) FROM N GROUP BY A HAVING SUM(B) > COUNT(*): the set functions are numbered in the order of the text, after the key;
--- MIN stands in a group of its own
+-- SELECT A + COUNT(*), (SELECT MIN(X) FROM S) FROM N GROUP BY A HAVING SUM(B) > COUNT(*): the set
+-- functions are numbered in the order of the text, after the key; MIN stands in a group of its own
 pub set_functions_are_numbered : found_there (select
     (plus (primary.Column (record { table = None; name = a })) primary.CountRows
     ∷ of (primary.Subquery (select (of (primary.Aggregate function.Min None (column x)) ∷ []) (stored_table s' ∷ []) None [] None)) ∷ [])
@@ -297,7 +298,8 @@ pub column_of_a_derived_table : found_there (select (qualified d x ∷ [])
     })
 column_of_a_derived_table = simp typings
 
--- SELECT B FROM N LEFT JOIN S ON X = B LEFT JOIN U ON Y = X: the first right side has two columns, the second one
+-- SELECT B FROM N LEFT JOIN S ON X = B LEFT JOIN U ON Y = X: the first right side has two columns,
+-- the second one
 pub left_joins_have_widths : found_there (select (column b ∷ [])
     (roll-TableReference (record {
       first = source.Table n None;
@@ -310,7 +312,8 @@ pub left_joins_have_widths : found_there (select (column b ∷ [])
     })
 left_joins_have_widths = simp typings_of_conditions
 
--- SELECT (SELECT X FROM S WHERE X = N.B) FROM N GROUP BY B: a query in a grouped SELECT sees the key, of which B is the first
+-- SELECT (SELECT X FROM S WHERE X = N.B) FROM N GROUP BY B: a query in a grouped SELECT sees the
+-- key, of which B is the first
 pub key_seen_from_a_query : found_there (select
     (query_of (select (column x ∷ []) (stored_table s' ∷ []) (Some (equal (column x) (qualified n b))) [] None) ∷ []) (stored_table n ∷ []) None (by b) None)
     ≡ Ok (record {

@@ -1,5 +1,5 @@
--- Which forms are built so far: a statement with any other is refused as not supported, before its names, types and limits are looked at.
--- Our own choice.
+-- Which forms are built so far: a statement with any other is refused as not supported, before its
+-- names, types and limits are looked at. Our own choice.
 use Rattle.std.specs.Prelude.{Bool, true, false}
 use Rattle.ast.specs.declared.statement.Statement.{Statement}
 use Rattle.ast.specs.declared.statement.Statement.TheVariants as statement

@@ -25,8 +25,9 @@ check_found frame tree = (condition_part nothing_known tree).found (record { sco
 abbrev pub check_rule : Frame → Tree → Finding Rule
 check_rule frame tree = also (at_most 800 limit.Check (length (printed tree))) (check_found frame tree) >>= (λ p. Ok (rule.Check (printed tree)))
 
--- The text of a CHECK stands for this condition, in the table of this name with these columns: it has these tokens, they are a condition
--- with this tree, chains having at most 64 operands, and that is found to be the condition.
+-- The text of a CHECK stands for this condition, in the table of this name with these columns: it
+-- has these tokens, they are a condition with this tree, chains having at most 64 operands, and
+-- that is found to be the condition.
 pub record ReadsCheck (name : List ℕ) (columns : List Column) (text : List ℕ) (condition : Condition) : Type 0 where
   pub kinds : Tokens
   pub tree : Tree
@@ -37,4 +38,5 @@ pub record ReadsCheck (name : List ℕ) (columns : List Column) (text : List ℕ
 -- every text that stands for a condition is read as that one
 abbrev pub IsCheckReading : (List ℕ → List Column → List ℕ → Condition) → Type 0
 IsCheckReading reading =
-    (name : List ℕ) (columns : List Column) (text : List ℕ) (condition : Condition) → ReadsCheck name columns text condition → reading name columns text ≡ condition
+    (name : List ℕ) (columns : List Column) (text : List ℕ) (condition : Condition)
+    → ReadsCheck name columns text condition → reading name columns text ≡ condition

@@ -94,7 +94,8 @@ abbrev pub compared : Comparison → Finding TypedExpression → Finding TypedEx
 compared operator x y = alike x y >>= (λ p. Ok (condition.Compare (operator_of operator) p.0 p.1))
 
 -- BETWEEN compares its operand with both bounds
-abbrev pub between : Bool → Finding TypedExpression → Finding TypedExpression → Finding TypedExpression → Finding Condition
+abbrev pub between : Bool → Finding TypedExpression → Finding TypedExpression → Finding TypedExpression
+    → Finding Condition
 between is_negated x low high =
     also (alike x low) (alike x high) >>= (λ p. Ok (negated is_negated (condition.Between (p.0).0 (p.0).1 (p.1).1)))
 

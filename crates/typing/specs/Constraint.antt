@@ -1,4 +1,5 @@
--- The constraints of a CREATE TABLE (ISO/IEC 9075:1992, 11.4, 11.6, 11.7, 11.9), in the order of the text, those of columns among them.
+-- The constraints of a CREATE TABLE (ISO/IEC 9075:1992, 11.4, 11.6, 11.7, 11.9), in the order of
+-- the text, those of columns among them.
 use Rattle.std.specs.Prelude.{ℕ, ◌+◌, Bool, true, false, nat_le, List, [], ◌∷◌, ◌++◌, map, filter, length, Option, Some, None, Ok, if◌then◌else◌}
 use Rattle.std.specs.List.{position_from, zip}
 use Rattle.std.specs.Fmt.{decimal}
@@ -20,7 +21,8 @@ use Rattle.typing.specs.Finding.{Finding, ◌>>=◌, also, each, invalid}
 use Rattle.typing.specs.Table.{at_most, as_found, distinct_found}
 use Rattle.typing.specs.Check.{check_rule}
 
--- a constraint as it is written: its name, whether it is a PRIMARY KEY, whether it owns an index, and what its rule is found to be
+-- a constraint as it is written: its name, whether it is a PRIMARY KEY, whether it owns an index,
+-- and what its rule is found to be
 pub record Declared : Type 0 where
   pub name : Option (List ℕ)
   pub is_primary_key : Bool

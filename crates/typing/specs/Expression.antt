@@ -86,7 +86,8 @@ abbrev pub leading_operator : {A : Type 0} → List (AddOperator × A) → Optio
 leading_operator [] = None
 leading_operator ((operator, operand) ∷ others) = Some operator
 
-abbrev pub chain_led_by : Option AddOperator → Finding TypedExpression → List (AddOperator × Finding TypedExpression) → Finding TypedExpression
+abbrev pub chain_led_by : Option AddOperator → Finding TypedExpression → List (AddOperator × Finding TypedExpression)
+    → Finding TypedExpression
 chain_led_by None first others = first
 chain_led_by (Some add.Concatenate) first others = concatenation first (each (map text_operand others))
 chain_led_by (Some other) first others = calculation first (each (map sum_operand others))
@@ -95,6 +96,7 @@ abbrev pub sum_chain : Finding TypedExpression → List (AddOperator × Finding 
 sum_chain first others = chain_led_by (leading_operator others) first others
 
 -- a chain over `* /`
-abbrev pub product_chain : Finding TypedExpression → List (MultiplyOperator × Finding TypedExpression) → Finding TypedExpression
+abbrev pub product_chain : Finding TypedExpression → List (MultiplyOperator × Finding TypedExpression)
+    → Finding TypedExpression
 product_chain first [] = first
 product_chain first (other ∷ others) = calculation first (each (map product_operand (other ∷ others)))

@@ -1,6 +1,7 @@
--- What a part of a statement is found to be: what it stands for where nothing is wrong with it, and else what is wrong.
--- Where several things are wrong, each that is found is a reason; which one is shown is left open. What depends on a part that is wrong is not looked at
--- (`>>=`), and parts beside each other all are (`also`, `each`). All of this is our own choice.
+-- What a part of a statement is found to be: what it stands for where nothing is wrong with it, and
+-- else what is wrong. Where several things are wrong, each that is found is a reason; which one is
+-- shown is left open. What depends on a part that is wrong is not looked at (`>>=`), and parts
+-- beside each other all are (`also`, `each`). All of this is our own choice.
 use Rattle.std.specs.Prelude.{List, [], ◌∷◌, ◌++◌, Result, Ok, Err}
 use Rattle.refusals.specs.declared.reason.Reason.{Reason}
 use Rattle.refusals.specs.declared.limit.Limit.{Limit}
@@ -45,6 +46,7 @@ abbrev pub each : {A : Type 0} → List (Finding A) → Finding (List A)
 each [] = Ok []
 each (x ∷ xs) = before x (each xs)
 
--- a part that is wrong as a whole, as where it may not stand: that is a reason, and so is all that is wrong inside it
+-- a part that is wrong as a whole, as where it may not stand: that is a reason, and so is all that
+-- is wrong inside it
 abbrev pub misplaced : {A B : Type 0} → Reason → Finding A → Finding B
 misplaced reason part = Err (Invalid reason ∷ reasons_in part)

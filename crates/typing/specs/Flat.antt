@@ -1,4 +1,5 @@
--- Chains of AND and OR that hold none of their own kind: parentheses round an AND inside an AND change nothing, and leave no trace.
+-- Chains of AND and OR that hold none of their own kind: parentheses round an AND inside an AND
+-- change nothing, and leave no trace.
 use Rattle.std.specs.Prelude.{Bool, true, false, not}
 use Rattle.std.specs.List.{list_all}
 use Rattle.typing.specs.declared.typed.Condition.{Condition, Condition-F, out-Condition}

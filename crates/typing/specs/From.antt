@@ -17,8 +17,9 @@ use Rattle.typing.specs.Scope.{Scope}
 use Rattle.typing.specs.Part.{Plain, Part}
 use Rattle.typing.specs.Table.{offer_of}
 
--- A FROM or a part of it: its tables' names; and, in the FROMs of the outer queries, the columns that it offers, in order, and what it
--- stands for. What is wrong in an ON leaves the columns as they are.
+-- A FROM or a part of it: its tables' names; and, in the FROMs of the outer queries, the columns
+-- that it offers, in order, and what it stands for. What is wrong in an ON leaves the columns as
+-- they are.
 pub record From : Type 0 where
   pub names : List (List ℕ)
   pub columns : Scope → Finding (List Offer)
@@ -66,7 +67,8 @@ crossed left right = record {
   source = λ outer. also (left.source outer) (right.source outer) >>= (λ p. Ok (source.Product p.0 p.1));
 }
 
--- ON sees the tables on the left in its own reference and the one that it joins, and the outer queries
+-- ON sees the tables on the left in its own reference and the one that it joins, and the outer
+-- queries
 abbrev pub on_found : Part Condition → From → From → Scope → Finding Condition
 on_found on left right outer =
     joined_columns left right outer >>= (λ columns.

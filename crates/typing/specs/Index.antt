@@ -1,4 +1,5 @@
--- CREATE INDEX and DROP INDEX: our own. Index names are distinct over the whole database, and apart from those of tables.
+-- CREATE INDEX and DROP INDEX: our own. Index names are distinct over the whole database, and apart
+-- from those of tables.
 use Rattle.std.specs.Prelude.{ℕ, List, length, Ok, if◌then◌else◌}
 use Rattle.typing.specs.Known.{Known, KnownTable}
 use Rattle.refusals.specs.declared.limit.Limit.TheVariants as limit

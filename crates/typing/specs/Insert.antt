@@ -70,7 +70,8 @@ abbrev pub row_stored : Known → List Target → List StoredSource → Finding 
 row_stored known targets row =
     if length targets == length row then each (map (λ p. source_found known [] p.1 >>= stored_as (p.0).1) (zip targets row)) else misplaced Columns (sources_found known row)
 
-abbrev pub values_stored : Known → Finding (List Target) → List (List StoredSource) → Finding (List Target × InsertSource)
+abbrev pub values_stored : Known → Finding (List Target) → List (List StoredSource)
+    → Finding (List Target × InsertSource)
 values_stored known (Ok targets) values = each (map (row_stored known targets) values) >>= (λ stored. Ok (targets, from.Values stored))
 values_stored known (Err reasons) values = Err (reasons ++ reasons_in (each (map (sources_found known) values)))
 

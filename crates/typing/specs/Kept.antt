@@ -21,7 +21,8 @@ use Rattle.typing.specs.Check.{ReadsCheck, check_found}
 use Rattle.typing.specs.Printed.{printed}
 use Rattle.typing.specs.Table.{frame_of}
 
--- The text has some tokens, and then tokens that begin with a condition that has the tree `x`, as in a CHECK.
+-- The text has some tokens, and then tokens that begin with a condition that has the tree `x`, as
+-- in a CHECK.
 pub record IsConditionIn (limit : Option ℕ) (x : Condition) (text : List ℕ) : Type 0 where
   pub before : Tokens
   pub from : Tokens
@@ -62,7 +63,8 @@ pub record IsKept (table : CreateTable) (x : Condition) : Type 0 where
   pub found : check_found (frame_of table.name table.columns) x ≡ Ok condition
   pub reads : ReadsCheck table.name table.columns (printed x) condition
 
--- The table keeps the texts of the CHECKs that are written, in their order, and each stands for what its CHECK is found to be.
+-- The table keeps the texts of the CHECKs that are written, in their order, and each stands for
+-- what its CHECK is found to be.
 pub record AreChecksKept (tree : Tree) (table : CreateTable) : Type 0 where
   pub texts : kept_texts table.constraints ≡ map printed (checks_of tree.elements)
   pub each : All (IsKept table) (checks_of tree.elements)

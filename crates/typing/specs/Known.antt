@@ -1,4 +1,5 @@
--- What the rules of names and types know of a schema: what its names mean. Pages, roots, the order of tables and who owns an index are no part of it.
+-- What the rules of names and types know of a schema: what its names mean. Pages, roots, the order
+-- of tables and who owns an index are no part of it.
 use Rattle.std.specs.Prelude.{ℕ, Bool, false, not, is_none, List, length, slice_get, Option, Some, None}
 use Rattle.std.specs.List.{position_from}
 use Rattle.std.specs.Option.{option_map}

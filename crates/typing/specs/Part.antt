@@ -1,13 +1,14 @@
--- Where an expression or a condition stands in a statement, and what is found of it there (ISO/IEC 9075:1992, 6.5, 7.6 and 7.8, for where a set function
--- may stand).
+-- Where an expression or a condition stands in a statement, and what is found of it there (ISO/IEC
+-- 9075:1992, 6.5, 7.6 and 7.8, for where a set function may stand).
 use Rattle.std.specs.Prelude.{ℕ, ◌+◌, List, [], ◌∷◌, ◌++◌, map, flat_map, length, Option, Some, None, Ok}
 use Rattle.std.specs.List.{zip}
 use Rattle.typing.specs.declared.typed.SetFunction.{SetFunction}
 use Rattle.typing.specs.Finding.{Finding, ◌>>=◌}
 use Rattle.typing.specs.Scope.{Scope}
 
--- Where it stands: in a select list or HAVING, where the values of its set functions stand in the row that is seen, from this place on (0, and no matter, where there is none);
--- in WHERE or ON, or as a source, where no set function may stand; in the argument of a set function; in a CHECK.
+-- Where it stands: in a select list or HAVING, where the values of its set functions stand in the
+-- row that is seen, from this place on (0, and no matter, where there is none); in WHERE or ON, or
+-- as a source, where no set function may stand; in the argument of a set function; in a CHECK.
 pub data Clause : Type 0 where
   Shown : (first : ℕ) → Clause
   Plain : Clause
@@ -23,8 +24,8 @@ pub record View : Type 0 where
 abbrev pub FunctionFinding : Type 0
 FunctionFinding = Scope → Finding SetFunction
 
--- A part of a SELECT: the name of the column that it is, if it is one alone; its set functions in the order of the text, those of
--- queries inside it left out; and what it is found to be.
+-- A part of a SELECT: the name of the column that it is, if it is one alone; its set functions in
+-- the order of the text, those of queries inside it left out; and what it is found to be.
 pub record Part (A : Type 0) : Type 0 where
   pub name : Option (List ℕ)
   pub functions : List FunctionFinding
@@ -64,7 +65,8 @@ of_one made x = part x.functions (λ view. made (x.found view))
 abbrev pub of_two : {A B C : Type 0} → (Finding A → Finding B → Finding C) → Part A → Part B → Part C
 of_two made x y = part (x.functions ++ y.functions) (λ view. made (x.found view) (y.found (past x view)))
 
-abbrev pub of_three : {A B C D : Type 0} → (Finding A → Finding B → Finding C → Finding D) → Part A → Part B → Part C → Part D
+abbrev pub of_three : {A B C D : Type 0} → (Finding A → Finding B → Finding C → Finding D) → Part A → Part B
+    → Part C → Part D
 of_three made x y z =
     part (x.functions ++ y.functions ++ z.functions) (λ view. made (x.found view) (y.found (past x view)) (z.found (past y (past x view))))
 
@@ -72,13 +74,15 @@ abbrev pub of_all : {A B : Type 0} → (List (Finding A) → Finding B) → List
 of_all made xs = part (functions_of xs) (λ view. made (in_turn xs view))
 
 -- a chain: a first operand, and operators with their operands
-abbrev pub of_chain : {O A B : Type 0} → (Finding A → List (O × Finding A) → Finding B) → Part A → List (O × Part A) → Part B
+abbrev pub of_chain : {O A B : Type 0} → (Finding A → List (O × Finding A) → Finding B) → Part A
+    → List (O × Part A) → Part B
 of_chain made first others =
     part (first.functions ++ functions_of (map (λ other. other.1) others))
     (λ view. made (first.found view) (zip (map (λ other. other.0) others) (in_turn (map (λ other. other.1) others) (past first view))))
 
 -- a chain of one operand is that operand
-abbrev pub if_chain : {O A : Type 0} → (Finding A → List (O × Finding A) → Finding A) → Part A → List (O × Part A) → Part A
+abbrev pub if_chain : {O A : Type 0} → (Finding A → List (O × Finding A) → Finding A) → Part A
+    → List (O × Part A) → Part A
 if_chain made first [] = first
 if_chain made first (other ∷ others) = of_chain made first (other ∷ others)
 

@@ -81,7 +81,8 @@ seen_in (Some key) depth found = in_key found.value_type depth (position_from (�
 abbrev pub column_in : Column → Scope → Finding TypedExpression
 column_in column scope = located column scope >>= (λ l. seen_in l.frame.key l.depth l.column)
 
--- ---- columns of the SELECT's own FROM: GROUP BY takes no other, nor does the argument of a set function
+-- ---- columns of the SELECT's own FROM: GROUP BY takes no other, nor does the argument of a set
+-- function
 
 abbrev pub only_own : ℕ → Found → Finding Found
 only_own zero found = Ok found

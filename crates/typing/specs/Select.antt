@@ -1,5 +1,6 @@
--- SELECT: its select list, groups and HAVING (ISO/IEC 9075:1992, 7.7 to 7.9). A SELECT is grouped where it has GROUP BY, HAVING or a
--- set function; HAVING and the select list then see, of each group, the key and the values of the set functions.
+-- SELECT: its select list, groups and HAVING (ISO/IEC 9075:1992, 7.7 to 7.9). A SELECT is grouped
+-- where it has GROUP BY, HAVING or a set function; HAVING and the select list then see, of each
+-- group, the key and the values of the set functions.
 use Rattle.std.specs.Prelude.{ℕ, ◌+◌, ◌==◌, Bool, true, false, not, ◌&&◌, is_none, List, [], ◌∷◌, map, length, Option, Some, None, Ok}
 use Rattle.sqlval.specs.declared.value.ValueType.{ValueType}
 use Rattle.refusals.specs.declared.limit.Limit.TheVariants as limit

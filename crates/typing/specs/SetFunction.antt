@@ -1,4 +1,5 @@
--- Set functions, columns and queries inside an expression, by the clause in which they stand (ISO/IEC 9075:1992, 6.4, 6.5, 7.11).
+-- Set functions, columns and queries inside an expression, by the clause in which they stand
+-- (ISO/IEC 9075:1992, 6.4, 6.5, 7.11).
 use Rattle.std.specs.Prelude.{Bool, true, false, [], ◌∷◌, Option, Some, None, Ok}
 use Rattle.sqlval.specs.declared.value.ValueType.{ValueType}
 use Rattle.sqlval.specs.declared.value.ValueType.TheVariants.{Integer}
@@ -33,7 +34,8 @@ column_part column = record { name = Some column.name; functions = []; found = �
 
 -- ---- queries inside
 
--- The argument of a set function has none (6.5). A CHECK has none either, which is our own choice: it sees no other table, and is not looked into further.
+-- The argument of a set function has none (6.5). A CHECK has none either, which is our own choice:
+-- it sees no other table, and is not looked into further.
 abbrev pub query_seen : {A : Type 0} → Clause → Finding A → Finding A
 query_seen (Shown first) query = query
 query_seen Plain query = query
@@ -73,7 +75,8 @@ aggregate_found function quantifier argument scope =
 abbrev pub count_rows : Scope → Finding Aggregate
 count_rows scope = Ok (CountRows, Integer)
 
--- a set function stands for its value in the row of the group; in a CHECK, too, it is not looked into
+-- a set function stands for its value in the row of the group; in a CHECK, too, it is not looked
+-- into
 abbrev pub value_seen : Clause → Finding Aggregate → Finding TypedExpression
 value_seen (Shown first) aggregate = aggregate >>= (λ a. Ok (column_at a.1 0 first))
 value_seen Plain aggregate = misplaced Grouping aggregate

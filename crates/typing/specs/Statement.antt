@@ -28,7 +28,8 @@ mode_of written.ReadWrite = mode.ReadWrite
 abbrev pub changes : Finding Change → Finding Typed
 changes found = found >>= (λ c. Ok (typed.Change c))
 
--- each kind of statement; a cursor's query is typed at each OPEN, and the cursor's name is the session's
+-- each kind of statement; a cursor's query is typed at each OPEN, and the cursor's name is the
+-- session's
 abbrev pub found_over : Known → Statement → Finding Typed
 found_over k (statement.Query tree) = ordered_found k tree >>= (λ q. Ok (typed.Query q))
 found_over k (statement.Explain tree) = ordered_found k tree >>= (λ q. Ok (typed.Explain q))

@@ -1,4 +1,5 @@
--- The tokens of a tree, as the grammar writes them: the printed text of a CHECK is those of its condition. Our own choice.
+-- The tokens of a tree, as the grammar writes them: the printed text of a CHECK is those of its
+-- condition. Our own choice.
 use Rattle.std.specs.Prelude.{Bool, true, false, List, [], ◌∷◌, ◌++◌, flat_map, Option, Some, None}
 use Rattle.lexer.specs.declared.kinds.Kind.{Kind}
 use Rattle.lexer.specs.declared.kinds.Kind.TheVariants as kind

@@ -1,5 +1,5 @@
--- What expressions, conditions and queries of a text stand for: a step for each kind of node, in which each part stands as what it
--- is found to be, and the fold of these steps.
+-- What expressions, conditions and queries of a text stand for: a step for each kind of node, in
+-- which each part stands as what it is found to be, and the fold of these steps.
 use Rattle.std.specs.Prelude.{◌∷◌, map, Option, Some, None, Ok}
 use Rattle.typing.specs.Known.{Known}
 use Rattle.sqlval.specs.declared.value.Value.TheVariants as value
@@ -40,7 +40,8 @@ use Rattle.typing.specs.SetOperator.{operation, intersection, set_chain, of_one_
 abbrev pub ExpressionPart : Type 0
 ExpressionPart = Part TypedExpression
 
--- what stands after a sign: the sign belongs to a number, and is an operator before anything else: our own choice
+-- what stands after a sign: the sign belongs to a number, and is an operator before anything else:
+-- our own choice
 abbrev pub SignedPart : Type 0
 SignedPart = Option Sign → ExpressionPart
 
@@ -53,7 +54,8 @@ QueryFinding = Scope → Finding TypedQuery
 
 -- a node whose parts stand as what they are found to be
 abbrev pub Layer : ((A B C D E F G H I J K L M N O P Q : Type 0) → Type 0) → Type 0
-Layer T = T (From → From) QueryFinding ConditionPart SignedPart From QueryFinding ConditionPart ConditionPart ExpressionPart ExpressionPart ConditionPart QueryFinding QueryFinding (Part ShownItem) From ExpressionPart ConditionPart
+Layer T = T (From
+    → From) QueryFinding ConditionPart SignedPart From QueryFinding ConditionPart ConditionPart ExpressionPart ExpressionPart ConditionPart QueryFinding QueryFinding (Part ShownItem) From ExpressionPart ConditionPart
 
 -- ---- expressions
 

@@ -1,5 +1,5 @@
--- UPDATE and DELETE (ISO/IEC 9075:1992, 13.7, 13.10). Their conditions and sources see the columns of the table, also
--- with its name before them, which is our own choice.
+-- UPDATE and DELETE (ISO/IEC 9075:1992, 13.7, 13.10). Their conditions and sources see the columns
+-- of the table, also with its name before them, which is our own choice.
 use Rattle.std.specs.Prelude.{List, [], ◌∷◌, map, Option, Some, None, Ok}
 use Rattle.sqlval.specs.declared.schema.Column.{Column}
 use Rattle.typing.specs.Known.{Known, KnownTable}

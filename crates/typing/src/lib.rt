@@ -1,6 +1,8 @@
-//! The typed trees of the whole language, and which of them each statement stands for over a schema.
+//! The typed trees of the whole language, and which of them each statement stands for over a
+//! schema.
 //!
-//! The trees are data; the rules of names and types are definitions, in `specs`. No function here does anything.
+//! The trees are data; the rules of names and types are definitions, in `specs`. No function here
+//! does anything.
 #![tactic(auto)]
 
 pub mod laws;

@@ -4,7 +4,8 @@ use crate::typed::{Condition, Expression, Query, SetFunction, Source};
 use items::{Items, Text};
 use sqlval::ValueType;
 
-/// A column that a FROM offers: the name of its table there, its own name if it has one, and its type.
+/// A column that a FROM offers: the name of its table there, its own name if it has one, and its
+/// type.
 #[derive(Drop)]
 pub struct Offer {
     pub table: Text,
@@ -12,9 +13,10 @@ pub struct Offer {
     pub value_type: ValueType,
 }
 
-/// What a SELECT shows to a place inside it: the tables of its FROM, and their columns in order. Where the place stands in
-/// the select list or HAVING of a grouped SELECT, `key` has the grouping columns, by their places in FROM's row: only these
-/// may be named there, and the row that is seen begins with their values.
+/// What a SELECT shows to a place inside it: the tables of its FROM, and their columns in order.
+/// Where the place stands in the select list or HAVING of a grouped SELECT, `key` has the grouping
+/// columns, by their places in FROM's row: only these may be named there, and the row that is seen
+/// begins with their values.
 #[derive(Drop)]
 pub struct Frame {
     pub tables: Items<Text>,
@@ -82,8 +84,8 @@ pub struct ShownItem {
     pub value_type: ValueType,
 }
 
-/// What the groups of a SELECT, its select list and HAVING are found to be. `key` has the grouping columns, by their places
-/// in FROM's row; `None` where the SELECT is not grouped.
+/// What the groups of a SELECT, its select list and HAVING are found to be. `key` has the grouping
+/// columns, by their places in FROM's row; `None` where the SELECT is not grouped.
 #[derive(Drop)]
 pub struct Groups {
     pub key: Option<Items<usize>>,
@@ -91,7 +93,8 @@ pub struct Groups {
     pub having: Option<Condition>,
 }
 
-/// What depends on the columns that the FROM of a SELECT offers: WHERE, the set functions, and the rest.
+/// What depends on the columns that the FROM of a SELECT offers: WHERE, the set functions, and the
+/// rest.
 #[derive(Drop)]
 pub struct Settled {
     pub filter: Option<Condition>,

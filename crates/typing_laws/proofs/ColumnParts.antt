@@ -1,4 +1,5 @@
--- Parts of a text that are well typed wherever they stand, with the types of their set functions, and what is put together of them one after the other.
+-- Parts of a text that are well typed wherever they stand, with the types of their set functions,
+-- and what is put together of them one after the other.
 use Rattle.std.proofs.Common.{◌≡◌, refl, ap, ap₂, sym, ◌∙◌, subst, ℕ, suc, ◌+◌, List, [], ◌∷◌, ◌++◌, map, length, length-append, append_assoc, Ok, Err, Option, Some, None, IfOk, slice_get, arith}
 use Rattle.std.specs.Prelude.{Bool}
 use Rattle.std.specs.List.{AllByRecursion, zip}
@@ -45,7 +46,8 @@ stand-split first (x ∷ xs) ys rows h =
     let both = stand-split (first + 1) xs ys rows h.1 in
     ((h.0, both.0), subst (λ n. StandFrom n ys rows) e both.1)
 
--- what is known where a part stands in such a clause: in a select list or HAVING the values of its set functions stand from a place on; the argument of a set function sees no groups
+-- what is known where a part stands in such a clause: in a select list or HAVING the values of its
+-- set functions stand from a place on; the argument of a set function sees no groups
 abbrev pub MayStand : Clause → Scope → List ValueType → Rows → Type 0
 MayStand (Shown first) scope types rows = StandFrom first types rows
 MayStand Plain scope types rows = Unit {0}

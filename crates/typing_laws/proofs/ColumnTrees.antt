@@ -1,4 +1,5 @@
--- Every expression, condition and query that is found is well typed: by induction over the syntax trees.
+-- Every expression, condition and query that is found is well typed: by induction over the syntax
+-- trees.
 use Rattle.std.proofs.Common.{◌≡◌, refl, ap, subst, Option, Some, None, List, [], ◌∷◌, map, Ok}
 use Rattle.sqlval.specs.declared.value.Value.TheVariants as value
 use Rattle.typing.specs.declared.typed.Expression.TheVariants as expression

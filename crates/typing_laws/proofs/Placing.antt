@@ -1,4 +1,5 @@
--- The values of a SELECT's set functions stand in its select list and in HAVING in the order of the text.
+-- The values of a SELECT's set functions stand in its select list and in HAVING in the order of the
+-- text.
 use Rattle.std.proofs.Common.{◌≡◌, refl, sym, ap, ◌∙◌, subst, ℕ, suc, Bool, true, false, List, [], ◌∷◌, ◌++◌, map, length, Ok, Err, Option, Some, None, append-nil, arith, rules}
 use Rattle.std.specs.Prelude.{flat_map}
 use Rattle.std.specs.List.{AllByRecursion, range_with_len}

@@ -1,4 +1,5 @@
--- In every expression, condition and item of a text the values of its set functions stand one after the other: by induction over the trees.
+-- In every expression, condition and item of a text the values of its set functions stand one after
+-- the other: by induction over the trees.
 use Rattle.std.proofs.Common.{◌≡◌, ◌≤◌, refl, sym, ap, ◌∙◌, subst, ℕ, List, [], ◌∷◌, ◌++◌, map, length, Ok, Err, Option, Some, Bool, append-nil}
 use Rattle.std.specs.List.{AllByRecursion, range_with_len}
 use Rattle.std.proofs.lemmas.Bool.{le-ltb}

@@ -1,4 +1,5 @@
--- Parts of a text, each with the places of the values of its set functions, and what is put together of them one after the other.
+-- Parts of a text, each with the places of the values of its set functions, and what is put
+-- together of them one after the other.
 use Rattle.std.proofs.Common.{◌≡◌, ◌≤◌, refl, sym, ap, ◌∙◌, subst, ℕ, zero, suc, ◌+◌, List, [], ◌∷◌, ◌++◌, map, length, Ok, Err, Option, Some, None, arith}
 use Rattle.std.specs.Prelude.{flat_map}
 use Rattle.std.specs.List.{AllByRecursion, range_with_len, zip}

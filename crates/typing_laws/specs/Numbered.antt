@@ -21,7 +21,8 @@ use Rattle.typing.specs.Scope.{Scope}
 use Rattle.typing.specs.SetFunction.{aggregate_found, count_rows}
 use Rattle.typing.specs.Typing.{expression_part, reference_part}
 
--- what a set function of the text is found to be, in the FROMs that its SELECT sees; nothing else is one
+-- what a set function of the text is found to be, in the FROMs that its SELECT sees; nothing else
+-- is one
 abbrev pub function_meant : Known → PrimaryLayer → Scope → Finding SetFunction
 function_meant known Primary-F.CountRows scope = count_rows scope >>= (λ found. Ok found.0)
 function_meant known (Primary-F.Aggregate function quantifier argument) scope = aggregate_found function quantifier (expression_part known argument) scope >>= (λ found. Ok found.0)
@@ -32,7 +33,8 @@ abbrev pub functions_grouped : Option Grouping → List SetFunction
 functions_grouped None = []
 functions_grouped (Some grouping) = (out-Grouping grouping).functions
 
-abbrev pub functions_selected : Query-F Condition Expression Query SetFunction Source Grouping Item Select → List SetFunction
+abbrev pub functions_selected : Query-F Condition Expression Query SetFunction Source Grouping Item Select
+    → List SetFunction
 functions_selected (Query-F.Select select) = functions_grouped (out-Select select).grouping
 functions_selected (Query-F.Combined first others) = []
 
@@ -43,7 +45,8 @@ functions_of query = functions_selected (out-Query query)
 abbrev pub from_in : Known → Tree → From
 from_in known tree = from_of (map (reference_part known) (out-Tree tree).from)
 
--- The set functions of a typed SELECT are those of its text, each as it is found over the rows of FROM: as many, in the same order.
+-- The set functions of a typed SELECT are those of its text, each as it is found over the rows of
+-- FROM: as many, in the same order.
 pub record IsNumbered (known : Known) (tree : Tree) (outer : Scope) (found : TypedQuery) (text : List Primary) : Type 0 where
   pub columns : List Offer
   pub offered : (from_in known tree).columns outer ≡ Ok columns

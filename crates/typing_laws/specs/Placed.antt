@@ -1,5 +1,6 @@
--- Where the values of a SELECT's set functions stand in its select list and in HAVING (ISO/IEC 9075:1992, 6.5, 7.8 and 7.9). Both see, of each group, a row
--- that begins with the group's key: a column of this row past the key is the value of a set function.
+-- Where the values of a SELECT's set functions stand in its select list and in HAVING (ISO/IEC
+-- 9075:1992, 6.5, 7.8 and 7.9). Both see, of each group, a row that begins with the group's key: a
+-- column of this row past the key is the value of a set function.
 use Rattle.std.specs.Prelude.{◌≡◌, ℕ, zero, suc, nat_lt, ◌≤◌, ◌++◌, List, [], ◌∷◌, map, flat_map, length, Option, Some, None, Ok, if◌then◌else◌, Contains}
 use Rattle.std.specs.List.{range_with_len}
 use Rattle.ast.specs.declared.tree.Condition.{Condition as WrittenCondition}
@@ -126,11 +127,13 @@ key_width query = width_selected (out-Query query)
 
 -- ---- laws
 
--- In a select list and HAVING the places past the key stand in order, as many as there are set functions, each once.
+-- In a select list and HAVING the places past the key stand in order, as many as there are set
+-- functions, each once.
 abbrev pub IsPlaced : Known → Tree → Scope → TypedQuery → Type 0
 IsPlaced known tree outer found = value_places found.query ≡ range_with_len (key_width found.query) (length (functions_of found.query))
 
--- An expression of the text that stands where the values go on from a place has those of the set functions that are written in it, and no others.
+-- An expression of the text that stands where the values go on from a place has those of the set
+-- functions that are written in it, and no others.
 abbrev pub IsExpressionPlaced : Known → Written → Frame → Scope → List ℕ → ℕ → TypedExpression → List Primary → Type 0
 IsExpressionPlaced known tree frame outer key first found functions =
     frame.key ≡ Some key → length key ≤ first
@@ -146,7 +149,8 @@ IsConditionPlaced known tree frame outer key first found functions =
     → Lists (node.condition tree ∷ []) functions
     → places_asked (length key) found ≡ range_with_len first (length functions)
 
--- The row of a group has at these places the values of the set functions over the rows of the group, in their order.
+-- The row of a group has at these places the values of the set functions over the rows of the
+-- group, in their order.
 abbrev pub IsValued : Tables → Grouping → Env → List Row → Row → Row → Type 0
 IsValued tables grouping env rows key row =
     let columns = (out-Grouping grouping).columns in

@@ -6,7 +6,8 @@ use Rattle.refusals.specs.declared.refusal.Refusal.TheVariants.{Invalid, Exceede
 use Rattle.refusals.specs.declared.limit.Limit.TheVariants as counted
 use Rattle.typing.specs.Finding.{Finding}
 
--- a fault of names or types, or a limit of what is written: no want of memory, no device, no limit of what a store counts, no fault of evaluation, and no form that is not supported
+-- a fault of names or types, or a limit of what is written: no want of memory, no device, no limit
+-- of what a store counts, no fault of evaluation, and no form that is not supported
 abbrev pub is_reason : Refusal → Bool
 is_reason (Invalid reason) = true
 is_reason (Exceeded counted.Pages) = false

@@ -51,7 +51,8 @@ pub record IsAssignmentWell (known : Known) (row : List ValueType) (assignment :
 pub record IsUpdateWell (known : Known) (update : Update) : Type 0 where
   pub table : KnownTable
   pub is_there : known.table update.table ≡ Some table
-  pub assignments : (assignment : Assignment) → Contains update.assignments assignment → IsAssignmentWell known (column_types table.columns) assignment
+  pub assignments : (assignment : Assignment) → Contains update.assignments assignment
+      → IsAssignmentWell known (column_types table.columns) assignment
   pub filter : IsFilter known (column_types table.columns ∷ []) update.filter
 
 -- the filter sees a row of the table

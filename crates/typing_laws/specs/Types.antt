@@ -1,4 +1,5 @@
--- Values and rows of given types. Types are those of values, an integer or a text, whatever its length.
+-- Values and rows of given types. Types are those of values, an integer or a text, whatever its
+-- length.
 use Rattle.std.specs.Prelude.{◌≡◌, ◌⊎◌, ℕ, List, [], ◌∷◌, All, Some}
 use Rattle.sqlval.specs.declared.value.Value.{Value}
 use Rattle.sqlval.specs.declared.value.Value.TheVariants.{Null}
@@ -31,4 +32,5 @@ SeesRows _ _ = ⊥
 
 -- each table that is known has rows of its columns' types
 abbrev pub HoldsTypes : Known → Tables → Type 0
-HoldsTypes known tables = (name : List ℕ) (table : KnownTable) → known.table name ≡ Some table → AreRows (column_types table.columns) (tables name)
+HoldsTypes known tables = (name : List ℕ) (table : KnownTable) → known.table name ≡ Some table
+    → AreRows (column_types table.columns) (tables name)

@@ -1,4 +1,5 @@
-//! Laws of the rules of names and types as a whole. Nothing of it runs.
+//! Laws of names and types: reasons of refusals, well typed trees, set functions, and values of
+//! their types. Nothing of it runs.
 #![tactic(auto)]
 
 mod column_laws;

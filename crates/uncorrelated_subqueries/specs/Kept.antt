@@ -1,6 +1,8 @@
--- A tree in which subqueries stand as what they give, where that lasts: where a subquery names no column outside itself and no fault ends its list, it is the same at every row.
--- A scalar one then is its value, IN stands over a list of values, and EXISTS is true or false. Subqueries are taken from the innermost outwards.
--- (ISO/IEC 9075:1992, 7.11, 8.4, 8.8, have a subquery evaluated wherever it is asked. A fault is raised there alone, so a subquery with one stays what it is.)
+-- A tree in which subqueries stand as what they give, where that lasts: where a subquery names no
+-- column outside itself and no fault ends its list, it is the same at every row. A scalar one then
+-- is its value, IN stands over a list of values, and EXISTS is true or false. Subqueries are taken
+-- from the innermost outwards. (ISO/IEC 9075:1992, 7.11, 8.4, 8.8, have a subquery evaluated
+-- wherever it is asked. A fault is raised there alone, so a subquery with one stays what it is.)
 use Rattle.std.specs.Prelude.{Bool, true, false, List, [], ◌∷◌, Option, Some, None, option_and_then}
 use Rattle.std.specs.Option.{option_map}
 use Rattle.sqlval.specs.declared.value.Value.{Value}
@@ -38,7 +40,8 @@ lasting_rows tables tree = where_closed (depths_in_tree tree) (unfaulted (tree_l
 
 -- ---- subqueries, or what they give
 
--- null where there is no row; more than one row is a fault, which is raised where the subquery is asked
+-- null where there is no row; more than one row is a fault, which is raised where the subquery is
+-- asked
 abbrev pub value_of_rows : List Row → Option Value
 value_of_rows [] = Some Null
 value_of_rows (row ∷ []) = Some (cell row 0)

@@ -11,8 +11,8 @@ use denote::{Rows, Stop, Tables};
 use executor::{Env, Listed, tree_listed};
 use std::alloc::{AllocError, Global};
 
-/// The rows that a subquery gives at every row, listed once; `None` where it names a column outside itself, or a fault ends its list.
-/// Refuses for want of memory alone.
+/// The rows that a subquery gives at every row, listed once; `None` where it names a column outside
+/// itself, or a fault ends its list. Refuses for want of memory alone.
 pub fn lasting_rows<S: Tables>(
     alloc: Global,
     tables: &S,

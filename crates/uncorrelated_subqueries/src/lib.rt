@@ -1,4 +1,5 @@
-//! Trees whose subqueries stand as what they give, where no row round them changes that: so it is found once for a statement, and not once a row.
+//! Trees whose subqueries stand as what they give, where no row round them changes that: so it is
+//! found once for a statement, and not once a row.
 #![tactic(auto)]
 
 mod keeping;

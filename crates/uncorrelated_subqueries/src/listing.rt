@@ -11,8 +11,9 @@ use denote::{Stop, Tables};
 use executor::{Env, Listed, tree_listed};
 use std::alloc::Global;
 
-/// What a tree lists that stands in no other: its rows in order, up to the first fault. A subquery that names no column outside itself is listed once for all rows,
-/// before them; one whose list a fault ends is listed again where it is asked, and its fault is raised there alone.
+/// What a tree lists that stands in no other: its rows in order, up to the first fault. A subquery
+/// that names no column outside itself is listed once for all rows, before them; one whose list a
+/// fault ends is listed again where it is asked, and its fault is raised there alone.
 pub fn listed_once<S: Tables>(alloc: Global, tables: &S, tree: &Tree) -> Result<Listed, Stop>
     ensures lists { Lists result (tree_listing (S.rows_of tables.now) tree.now []) }
 {

@@ -21,7 +21,8 @@ pub fn set_of(
     left: Result<Boxed<Tree>, AllocError>,
     right: Result<Boxed<Tree>, AllocError>,
 ) -> Result<Tree, AllocError>
-    ensures { (x y : Rows) → IfOk left (λ a. a ≡ x) → IfOk right (λ b. b ≡ y) → IfOk result (λ made. made ≡ t.Set operation x y) }
+    ensures { (x y : Rows) → IfOk left (λ a. a ≡ x) → IfOk right (λ b. b ≡ y)
+        → IfOk result (λ made. made ≡ t.Set operation x y) }
 {
     let (left, right) = both(left, right)?;
     Ok(Tree::Set(operation, left, right))
@@ -72,7 +73,8 @@ pub fn index_loop_of(
     table: &StoredTable,
     columns: &Items<usize>,
 ) -> Result<Tree, AllocError>
-    ensures { (c : Truth) (x : Rows) → IfOk sides (λ a. a.0 ≡ c) → IfOk sides (λ a. a.1 ≡ x) → IfOk result (λ made. made ≡ t.IndexLoop c x places.now table.now columns.now) }
+    ensures { (c : Truth) (x : Rows) → IfOk sides (λ a. a.0 ≡ c) → IfOk sides (λ a. a.1 ≡ x)
+        → IfOk result (λ made. made ≡ t.IndexLoop c x places.now table.now columns.now) }
 {
     let table = copied_table(alloc, table);
     let places = Items::from_slice(alloc, places.as_slice());
@@ -97,7 +99,8 @@ pub fn hash_join_of(
     left_places: &Items<usize>,
     right_places: &Items<usize>,
 ) -> Result<Tree, AllocError>
-    ensures { (c : Truth) (x y : Rows) → IfOk sides (λ a. a.0 ≡ c) → IfOk sides (λ a. a.1 ≡ x) → IfOk sides (λ a. a.2 ≡ y) → IfOk result (λ made. made ≡ t.HashJoin c x y left_places.now right_places.now) }
+    ensures { (c : Truth) (x y : Rows) → IfOk sides (λ a. a.0 ≡ c) → IfOk sides (λ a. a.1 ≡ x)
+        → IfOk sides (λ a. a.2 ≡ y) → IfOk result (λ made. made ≡ t.HashJoin c x y left_places.now right_places.now) }
 {
     let left_places = Items::from_slice(alloc, left_places.as_slice());
     let (left_places, right_places) = both(
@@ -118,7 +121,8 @@ pub fn filter_of(
     condition: Result<Boxed<Condition>, AllocError>,
     rows: Result<Boxed<Tree>, AllocError>,
 ) -> Result<Tree, AllocError>
-    ensures { (c : Truth) (x : Rows) → IfOk condition (λ a. a ≡ c) → IfOk rows (λ b. b ≡ x) → IfOk result (λ made. made ≡ t.Filter c x) }
+    ensures { (c : Truth) (x : Rows) → IfOk condition (λ a. a ≡ c) → IfOk rows (λ b. b ≡ x)
+        → IfOk result (λ made. made ≡ t.Filter c x) }
 {
     let (condition, rows) = both(condition, rows)?;
     Ok(Tree::Filter(condition, rows))
@@ -128,7 +132,8 @@ pub fn product_of(
     left: Result<Boxed<Tree>, AllocError>,
     right: Result<Boxed<Tree>, AllocError>,
 ) -> Result<Tree, AllocError>
-    ensures { (x y : Rows) → IfOk left (λ a. a ≡ x) → IfOk right (λ b. b ≡ y) → IfOk result (λ made. made ≡ t.Product x y) }
+    ensures { (x y : Rows) → IfOk left (λ a. a ≡ x) → IfOk right (λ b. b ≡ y)
+        → IfOk result (λ made. made ≡ t.Product x y) }
 {
     let (left, right) = both(left, right)?;
     Ok(Tree::Product(left, right))
@@ -137,7 +142,8 @@ pub fn product_of(
 pub fn inner_of(
     sides: Result<(Boxed<Condition>, Boxed<Tree>, Boxed<Tree>), AllocError>,
 ) -> Result<Tree, AllocError>
-    ensures { (c : Truth) (x y : Rows) → IfOk sides (λ a. a.0 ≡ c) → IfOk sides (λ a. a.1 ≡ x) → IfOk sides (λ a. a.2 ≡ y) → IfOk result (λ made. made ≡ t.Inner c x y) }
+    ensures { (c : Truth) (x y : Rows) → IfOk sides (λ a. a.0 ≡ c) → IfOk sides (λ a. a.1 ≡ x)
+        → IfOk sides (λ a. a.2 ≡ y) → IfOk result (λ made. made ≡ t.Inner c x y) }
 {
     let (on, left, right) = sides?;
     Ok(Tree::Inner(on, left, right))
@@ -147,7 +153,8 @@ pub fn left_join_of(
     sides: Result<(Boxed<Condition>, Boxed<Tree>, Boxed<Tree>), AllocError>,
     width: usize,
 ) -> Result<Tree, AllocError>
-    ensures { (c : Truth) (x y : Rows) → IfOk sides (λ a. a.0 ≡ c) → IfOk sides (λ a. a.1 ≡ x) → IfOk sides (λ a. a.2 ≡ y) → IfOk result (λ made. made ≡ t.Left c x y width) }
+    ensures { (c : Truth) (x y : Rows) → IfOk sides (λ a. a.0 ≡ c) → IfOk sides (λ a. a.1 ≡ x)
+        → IfOk sides (λ a. a.2 ≡ y) → IfOk result (λ made. made ≡ t.Left c x y width) }
 {
     let (on, left, right) = sides?;
     Ok(Tree::Left {
@@ -161,7 +168,8 @@ pub fn left_join_of(
 pub fn half_of(
     sides: Result<(Boxed<Condition>, Boxed<Tree>, Boxed<Tree>), AllocError>,
 ) -> Result<Tree, AllocError>
-    ensures { (c : Truth) (x y : Rows) → IfOk sides (λ a. a.0 ≡ c) → IfOk sides (λ a. a.1 ≡ x) → IfOk sides (λ a. a.2 ≡ y) → IfOk result (λ made. made ≡ t.Half c x y) }
+    ensures { (c : Truth) (x y : Rows) → IfOk sides (λ a. a.0 ≡ c) → IfOk sides (λ a. a.1 ≡ x)
+        → IfOk sides (λ a. a.2 ≡ y) → IfOk result (λ made. made ≡ t.Half c x y) }
 {
     let (on, left, right) = sides?;
     Ok(Tree::Half(on, left, right))
@@ -170,7 +178,8 @@ pub fn half_of(
 pub fn opposite_half_of(
     sides: Result<(Boxed<Condition>, Boxed<Tree>, Boxed<Tree>), AllocError>,
 ) -> Result<Tree, AllocError>
-    ensures { (c : Truth) (x y : Rows) → IfOk sides (λ a. a.0 ≡ c) → IfOk sides (λ a. a.1 ≡ x) → IfOk sides (λ a. a.2 ≡ y) → IfOk result (λ made. made ≡ t.OppositeHalf c x y) }
+    ensures { (c : Truth) (x y : Rows) → IfOk sides (λ a. a.0 ≡ c) → IfOk sides (λ a. a.1 ≡ x)
+        → IfOk sides (λ a. a.2 ≡ y) → IfOk result (λ made. made ≡ t.OppositeHalf c x y) }
 {
     let (on, left, right) = sides?;
     Ok(Tree::OppositeHalf(on, left, right))
@@ -181,7 +190,8 @@ pub fn group_of(
     functions: Result<Items<SetFunction>, AllocError>,
     rows: Result<Boxed<Tree>, AllocError>,
 ) -> Result<Tree, AllocError>
-    ensures { (cs : Option (List ℕ)) (fs : List Function) (x : Rows) → IfOk columns (λ a. a ≡ cs) → IfOk functions (λ b. b ≡ fs) → IfOk rows (λ d. d ≡ x) → IfOk result (λ made. made ≡ t.Group cs fs x) }
+    ensures { (cs : Option (List ℕ)) (fs : List Function) (x : Rows) → IfOk columns (λ a. a ≡ cs)
+        → IfOk functions (λ b. b ≡ fs) → IfOk rows (λ d. d ≡ x) → IfOk result (λ made. made ≡ t.Group cs fs x) }
 {
     let (columns, functions, rows) = three(columns, functions, rows)?;
     Ok(Tree::Group {
@@ -195,7 +205,8 @@ pub fn project_of(
     items: Result<Items<Expression>, AllocError>,
     rows: Result<Boxed<Tree>, AllocError>,
 ) -> Result<Tree, AllocError>
-    ensures { (es : List Operand) (x : Rows) → IfOk items (λ a. a ≡ es) → IfOk rows (λ b. b ≡ x) → IfOk result (λ made. made ≡ t.Project es x) }
+    ensures { (es : List Operand) (x : Rows) → IfOk items (λ a. a ≡ es) → IfOk rows (λ b. b ≡ x)
+        → IfOk result (λ made. made ≡ t.Project es x) }
 {
     let (items, rows) = both(items, rows)?;
     Ok(Tree::Project(items, rows))
@@ -211,7 +222,8 @@ pub fn sort_of(
     keys: Result<Items<OrderKey>, AllocError>,
     rows: Result<Boxed<Tree>, AllocError>,
 ) -> Result<Tree, AllocError>
-    ensures { (ks : List Key) (x : Rows) → IfOk keys (λ a. a ≡ ks) → IfOk rows (λ b. b ≡ x) → IfOk result (λ made. made ≡ t.Sort ks x) }
+    ensures { (ks : List Key) (x : Rows) → IfOk keys (λ a. a ≡ ks) → IfOk rows (λ b. b ≡ x)
+        → IfOk result (λ made. made ≡ t.Sort ks x) }
 {
     let (keys, rows) = both(keys, rows)?;
     Ok(Tree::Sort(keys, rows))
@@ -223,7 +235,8 @@ pub fn member_of(
     members: Result<Boxed<Tree>, AllocError>,
     rows: Result<Boxed<Tree>, AllocError>,
 ) -> Result<Tree, AllocError>
-    ensures { (o : Operand) (x y : Rows) → IfOk operand (λ a. a ≡ o) → IfOk members (λ b. b ≡ x) → IfOk rows (λ d. d ≡ y) → IfOk result (λ made. made ≡ t.Member o negated x y) }
+    ensures { (o : Operand) (x y : Rows) → IfOk operand (λ a. a ≡ o) → IfOk members (λ b. b ≡ x)
+        → IfOk rows (λ d. d ≡ y) → IfOk result (λ made. made ≡ t.Member o negated x y) }
 {
     let (operand, members, rows) = three(operand, members, rows)?;
     Ok(Tree::Member {

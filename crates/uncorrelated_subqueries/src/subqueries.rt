@@ -26,7 +26,8 @@ pub fn scalar_of<S: Tables>(
     tables: &S,
     tree: Result<Boxed<Tree>, AllocError>,
 ) -> Result<Expression, AllocError>
-    ensures { (x : Subquery) → IfOk tree (λ a. a ≡ x) → IfOk result (λ made. made ≡ kept_scalar (lasting_rows (S.rows_of tables.now) x) x) }
+    ensures { (x : Subquery) → IfOk tree (λ a. a ≡ x)
+        → IfOk result (λ made. made ≡ kept_scalar (lasting_rows (S.rows_of tables.now) x) x) }
 {
     let value = lasting_value(alloc, tables, &tree);
     scalar_or_value(value, tree)
@@ -36,7 +37,8 @@ fn scalar_or_value(
     value: Result<Option<Value>, AllocError>,
     tree: Result<Boxed<Tree>, AllocError>,
 ) -> Result<Expression, AllocError>
-    ensures { (v : Option Held) (x : Subquery) → IfOk value (λ a. a ≡ v) → IfOk tree (λ b. b ≡ x) → IfOk result (λ made. made ≡ scalar_or_value v x) }
+    ensures { (v : Option Held) (x : Subquery) → IfOk value (λ a. a ≡ v) → IfOk tree (λ b. b ≡ x)
+        → IfOk result (λ made. made ≡ scalar_or_value v x) }
 {
     let (value, tree) = both(value, tree)?;
     match value {
@@ -50,7 +52,8 @@ fn lasting_value<S: Tables>(
     tables: &S,
     tree: &Result<Boxed<Tree>, AllocError>,
 ) -> Result<Option<Value>, AllocError>
-    ensures { (x : Subquery) → IfOk tree.now (λ a. a ≡ x) → IfOk result (λ value. value ≡ option_and_then value_of_rows (lasting_rows (S.rows_of tables.now) x)) }
+    ensures { (x : Subquery) → IfOk tree.now (λ a. a ≡ x)
+        → IfOk result (λ value. value ≡ option_and_then value_of_rows (lasting_rows (S.rows_of tables.now) x)) }
 {
     match tree {
         Err(_) => Err(AllocError),
@@ -62,7 +65,8 @@ fn value_of_found(
     alloc: Global,
     rows: Result<Option<Rows>, AllocError>,
 ) -> Result<Option<Value>, AllocError>
-    ensures { (found : Option (List ValueRow)) → IfOk rows (λ a. a ≡ found) → IfOk result (λ value. value ≡ option_and_then value_of_rows found) }
+    ensures { (found : Option (List ValueRow)) → IfOk rows (λ a. a ≡ found)
+        → IfOk result (λ value. value ≡ option_and_then value_of_rows found) }
 {
     match rows {
         Err(_) => Err(AllocError),
@@ -100,7 +104,8 @@ pub fn in_of<S: Tables>(
     operand: Result<Boxed<Expression>, AllocError>,
     tree: Result<Boxed<Tree>, AllocError>,
 ) -> Result<Condition, AllocError>
-    ensures { (x : Operand) (y : Subquery) → IfOk operand (λ a. a ≡ x) → IfOk tree (λ b. b ≡ y) → IfOk result (λ made. made ≡ kept_in (lasting_rows (S.rows_of tables.now) y) x y) }
+    ensures { (x : Operand) (y : Subquery) → IfOk operand (λ a. a ≡ x) → IfOk tree (λ b. b ≡ y)
+        → IfOk result (λ made. made ≡ kept_in (lasting_rows (S.rows_of tables.now) y) x y) }
 {
     let values = lasting_values(alloc, tables, &tree);
     query_or_list(values, operand, tree)
@@ -111,7 +116,8 @@ fn query_or_list(
     operand: Result<Boxed<Expression>, AllocError>,
     tree: Result<Boxed<Tree>, AllocError>,
 ) -> Result<Condition, AllocError>
-    ensures { (vs : Option (List Held)) (x : Operand) (y : Subquery) → IfOk values (λ a. a ≡ vs) → IfOk operand (λ b. b ≡ x) → IfOk tree (λ d. d ≡ y) → IfOk result (λ made. made ≡ query_or_list vs x y) }
+    ensures { (vs : Option (List Held)) (x : Operand) (y : Subquery) → IfOk values (λ a. a ≡ vs)
+        → IfOk operand (λ b. b ≡ x) → IfOk tree (λ d. d ≡ y) → IfOk result (λ made. made ≡ query_or_list vs x y) }
 {
     let (values, operand, tree) = three(values, operand, tree)?;
     match values {
@@ -125,7 +131,8 @@ fn lasting_values<S: Tables>(
     tables: &S,
     tree: &Result<Boxed<Tree>, AllocError>,
 ) -> Result<Option<Items<Value>>, AllocError>
-    ensures { (x : Subquery) → IfOk tree.now (λ a. a ≡ x) → IfOk result (λ values. values ≡ option_map first_column (lasting_rows (S.rows_of tables.now) x)) }
+    ensures { (x : Subquery) → IfOk tree.now (λ a. a ≡ x)
+        → IfOk result (λ values. values ≡ option_map first_column (lasting_rows (S.rows_of tables.now) x)) }
 {
     match tree {
         Err(_) => Err(AllocError),
@@ -137,7 +144,8 @@ fn values_of_found(
     alloc: Global,
     rows: Result<Option<Rows>, AllocError>,
 ) -> Result<Option<Items<Value>>, AllocError>
-    ensures { (found : Option (List ValueRow)) → IfOk rows (λ a. a ≡ found) → IfOk result (λ values. values ≡ option_map first_column found) }
+    ensures { (found : Option (List ValueRow)) → IfOk rows (λ a. a ≡ found)
+        → IfOk result (λ values. values ≡ option_map first_column found) }
 {
     match rows {
         Err(_) => Err(AllocError),
@@ -165,7 +173,8 @@ pub fn exists_of<S: Tables>(
     tables: &S,
     tree: Result<Boxed<Tree>, AllocError>,
 ) -> Result<Condition, AllocError>
-    ensures { (x : Subquery) → IfOk tree (λ a. a ≡ x) → IfOk result (λ made. made ≡ kept_exists (lasting_rows (S.rows_of tables.now) x) x) }
+    ensures { (x : Subquery) → IfOk tree (λ a. a ≡ x)
+        → IfOk result (λ made. made ≡ kept_exists (lasting_rows (S.rows_of tables.now) x) x) }
 {
     let truth = lasting_truth(alloc, tables, &tree);
     exists_or_truth(alloc, truth, tree)
@@ -176,7 +185,8 @@ fn exists_or_truth(
     truth: Result<Option<bool>, AllocError>,
     tree: Result<Boxed<Tree>, AllocError>,
 ) -> Result<Condition, AllocError>
-    ensures { (t : Option Bool) (x : Subquery) → IfOk truth (λ a. a ≡ t) → IfOk tree (λ b. b ≡ x) → IfOk result (λ made. made ≡ exists_or_truth t x) }
+    ensures { (t : Option Bool) (x : Subquery) → IfOk truth (λ a. a ≡ t) → IfOk tree (λ b. b ≡ x)
+        → IfOk result (λ made. made ≡ exists_or_truth t x) }
 {
     let (truth, tree) = both(truth, tree)?;
     match truth {
@@ -200,7 +210,8 @@ fn lasting_truth<S: Tables>(
     tables: &S,
     tree: &Result<Boxed<Tree>, AllocError>,
 ) -> Result<Option<bool>, AllocError>
-    ensures { (x : Subquery) → IfOk tree.now (λ a. a ≡ x) → IfOk result (λ truth. truth ≡ option_map has_rows (lasting_rows (S.rows_of tables.now) x)) }
+    ensures { (x : Subquery) → IfOk tree.now (λ a. a ≡ x)
+        → IfOk result (λ truth. truth ≡ option_map has_rows (lasting_rows (S.rows_of tables.now) x)) }
 {
     match tree {
         Err(_) => Err(AllocError),
@@ -209,7 +220,8 @@ fn lasting_truth<S: Tables>(
 }
 
 fn truth_of_found(rows: Result<Option<Rows>, AllocError>) -> Result<Option<bool>, AllocError>
-    ensures { (found : Option (List ValueRow)) → IfOk rows (λ a. a ≡ found) → IfOk result (λ truth. truth ≡ option_map has_rows found) }
+    ensures { (found : Option (List ValueRow)) → IfOk rows (λ a. a ≡ found)
+        → IfOk result (λ truth. truth ≡ option_map has_rows found) }
 {
     match rows {
         Err(_) => Err(AllocError),

@@ -1,4 +1,5 @@
--- Changes of rows that keep the keys of each, and let in none that violates a constraint alone, break no constraint of the table.
+-- Changes of rows that keep the keys of each, and let in none that violates a constraint alone,
+-- break no constraint of the table.
 use Rattle.std.proofs.Common.{◌≡◌, ◌∙◌, refl, sym, ap, subst, ℕ, suc, ◌+◌, ◌<◌, ◌≤◌, Bool, true, false, cond, ◌&&◌, ◌||◌, List, [], ◌∷◌, map, drop, drop-cons, get_or, length, Some, arith}
 use Rattle.std.specs.Prelude.{filter}
 use Rattle.std.proofs.lemmas.List.{drop_all}

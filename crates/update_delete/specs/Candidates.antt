@@ -1,4 +1,5 @@
--- The rows among which a change by a condition looks for those that it touches (ISO/IEC 9075:1992, 13.7, 13.10). That an index is asked for them is our own choice.
+-- The rows among which a change by a condition looks for those that it touches (ISO/IEC 9075:1992,
+-- 13.7, 13.10). That an index is asked for them is our own choice.
 use Rattle.std.specs.Prelude.{◌≡◌, ℕ, Bool, true, false, List, filter, slice_get, Contains, Option, Some, Ok}
 use Rattle.std.specs.Option.{option_map}
 use Rattle.sqlval.specs.declared.schema.Index.{Index}
@@ -16,7 +17,8 @@ use Rattle.key_lookups.specs.Sought.{key_sought}
 use Rattle.update_delete.specs.declared.candidates.LookUp.{LookUp}
 use Rattle.update_delete.specs.Given.{touched_given}
 
--- the rows of a table that pass a test; at no other one is the condition true, nor does it raise a fault there
+-- the rows of a table that pass a test; at no other one is the condition true, nor does it raise a
+-- fault there
 pub record AreCandidates (table : Option StoredTable) (tree : Option Condition) (found : Numbered) : Type 0 where
   pub test : Row → Bool
   pub others : (tables : Tables) (row : Row) → test row ≡ false → touched_given tables tree row ≡ Ok false

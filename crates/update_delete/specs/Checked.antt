@@ -7,4 +7,5 @@ use Rattle.query_answers.specs.Sources.{AreChecksOf}
 
 -- these are trees of the conditions of the CHECKs of the table of this name, if there is one
 abbrev pub AreChecksFor : CheckReading → Database → Name → List Condition → Type 0
-AreChecksFor reading db name trees = (table : Table) → get db name ≡ Some table → AreChecksOf (checks_of reading name table) trees
+AreChecksFor reading db name trees = (table : Table) → get db name ≡ Some table
+    → AreChecksOf (checks_of reading name table) trees

@@ -1,4 +1,5 @@
--- Changes of rows that keep keys (ISO/IEC 9075:1992, 11.7). That keys which stay are not looked at again is our own choice.
+-- Changes of rows that keep keys (ISO/IEC 9075:1992, 11.7). That keys which stay are not looked at
+-- again is our own choice.
 use Rattle.std.specs.Prelude.{◌≡◌, ℕ, Bool, true, false, List, [], ◌∷◌, Some}
 use Rattle.std.specs.List.{list_all}
 use Rattle.std.specs.Ordering.{is_eq}
@@ -20,7 +21,8 @@ pub record KeepsRule (reading : CheckReading) (name : Name) (table : Table) (rul
 
 abbrev pub Keeps : CheckReading → Name → Table → List Constraint → Row → Row → Type 0
 Keeps reading name table [] row new = Unit {0}
-Keeps reading name table (constraint ∷ constraints) row new = KeepsRule reading name table constraint.rule row new × Keeps reading name table constraints row new
+Keeps reading name table (constraint ∷ constraints) row new = KeepsRule reading name table constraint.rule row new
+    × Keeps reading name table constraints row new
 
 -- so it is of each row that becomes another, the n-th by the n-th change
 abbrev pub KeepsBy : (Row → Row → Type 0) → Row → RowChange → Type 0

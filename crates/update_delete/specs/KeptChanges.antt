@@ -1,4 +1,5 @@
--- A change in which subqueries that name no column outside themselves stand as what they give, so that they are listed once for all its rows.
+-- A change in which subqueries that name no column outside themselves stand as what they give, so
+-- that they are listed once for all its rows.
 use Rattle.std.specs.Prelude.{Option, map}
 use Rattle.std.specs.Option.{option_map}
 use Rattle.algebra.specs.declared.tree.Condition.{Condition}

@@ -1,4 +1,5 @@
--- What changes of the rows of a table make of a store, one after another by the numbers of the rows (ISO/IEC 9075:1992, 13.7, 13.10).
+-- What changes of the rows of a table make of a store, one after another by the numbers of the rows
+-- (ISO/IEC 9075:1992, 13.7, 13.10).
 use Rattle.std.specs.Prelude.{ℕ, List, [], ◌∷◌}
 use Rattle.denote.specs.Database.{Name}
 use Rattle.store.specs.Contents.{Contents, replaced, deleted}

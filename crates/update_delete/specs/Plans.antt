@@ -16,13 +16,15 @@ use Rattle.update_delete.specs.Made.{all_made}
 use Rattle.update_delete.specs.RowChanges.{is_change, rows_new, IsShort, AreChanges}
 use Rattle.update_delete.specs.declared.planned.Planned.{Planned}
 
--- The table is there. The planned changes make of a store what changes of all rows of the table make, of which some may stay; and these leave the rows that it has by the definitions. Where these
--- are to be looked at, they are, in some order, the others and the new ones.
+-- The table is there. The planned changes make of a store what changes of all rows of the table
+-- make, of which some may stay; and these leave the rows that it has by the definitions. Where
+-- these are to be looked at, they are, in some order, the others and the new ones.
 pub record IsMeant (reading : CheckReading) (c : Contents) (change : Change) (name : Name) (planned : Planned) : Type 0 where
   pub table : Table
   pub there : get (database_of c) name ≡ Some table
   pub all : List RowChange
-  pub made_so : (k : Contents) → all_made name planned.numbers planned.changes k ≡ all_made name (map (λ (e : Entry). e.0) (entries_of (get c name))) all k
+  pub made_so : (k : Contents)
+      → all_made name planned.numbers planned.changes k ≡ all_made name (map (λ (e : Entry). e.0) (entries_of (get c name))) all k
   pub short : Every (IsShort table.indexes) planned.changes
   pub left : List Row
   pub count : ℕ
@@ -33,18 +35,23 @@ pub record IsMeant (reading : CheckReading) (c : Contents) (change : Change) (na
   pub means : changed reading (database_of c) change ≡ with_rows reading (database_of c) name table left count
 
 -- the table that would be violates no constraint
-abbrev pub LeavesGood : (reading : CheckReading) (c : Contents) (change : Change) (name : Name) (planned : Planned) → IsMeant reading c change name planned → Type 0
+abbrev pub LeavesGood : (reading : CheckReading) (c : Contents) (change : Change) (name : Name) (planned : Planned)
+    → IsMeant reading c change name planned → Type 0
 LeavesGood reading c change name planned meant = violated_by reading name (record meant.table { rows = meant.left }) ≡ []
 
 -- the others violate none
-abbrev pub OthersGood : (reading : CheckReading) (c : Contents) (change : Change) (name : Name) (planned : Planned) → IsMeant reading c change name planned → Type 0
+abbrev pub OthersGood : (reading : CheckReading) (c : Contents) (change : Change) (name : Name) (planned : Planned)
+    → IsMeant reading c change name planned → Type 0
 OthersGood reading c change name planned meant = violated_by reading name (record meant.table { rows = meant.others }) ≡ []
 
--- Where the table violates none as it is, the others violate none, and where it is said to be sure, neither does the table that would be.
+-- Where the table violates none as it is, the others violate none, and where it is said to be sure,
+-- neither does the table that would be.
 pub record IsHarmless (reading : CheckReading) (c : Contents) (change : Change) (name : Name) (planned : Planned) : Type 0 where
   pub meant : IsMeant reading c change name planned
-  pub others_good : planned.harmless ≡ false → Holds reading (database_of c) name → OthersGood reading c change name planned meant
-  pub leaves_good : planned.harmless ≡ true → Holds reading (database_of c) name → LeavesGood reading c change name planned meant
+  pub others_good : planned.harmless ≡ false → Holds reading (database_of c) name
+      → OthersGood reading c change name planned meant
+  pub leaves_good : planned.harmless ≡ true → Holds reading (database_of c) name
+      → LeavesGood reading c change name planned meant
 
 -- where no table has the name, nothing is planned and nothing changes
 abbrev pub IsPlanned : CheckReading → Contents → Change → Name → Option Planned → Type 0

@@ -12,7 +12,8 @@ use Rattle.update_delete.specs.RowChanges.{rows_new}
 abbrev pub IsNumberedOut : Option StoredTable → Type 0
 IsNumberedOut table = 2 ^ 63 < next_number (entries_of table) + 1
 
--- where rows are put in the place of others: what the store counts, and the greatest row number, which a store may miss for each row that it is given
+-- where rows are put in the place of others: what the store counts, and the greatest row number,
+-- which a store may miss for each row that it is given
 abbrev pub ReplacingReaches : (StoreLimit → Type 0) → Type 0 → StoreLimit → Type 0
 ReplacingReaches counted numbered_out which = ChangingReaches counted which ⊎ ((which ≡ limit.Pages) × numbered_out)
 

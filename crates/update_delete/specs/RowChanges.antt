@@ -51,7 +51,8 @@ is_change (Becomes row) = true
 abbrev pub IsShort : List IndexDeclaration → RowChange → Type 0
 IsShort indexes Stays = Unit {0}
 IsShort indexes Goes = Unit {0}
-IsShort indexes (Becomes row) = (record_faults row ≡ []) × (flat_map (λ index. key_faults row index.columns) indexes ≡ [])
+IsShort indexes (Becomes row) = (record_faults row ≡ [])
+    × (flat_map (λ index. key_faults row index.columns) indexes ≡ [])
 
 -- changes of a table's rows that leave these rows and touch so many
 pub record AreChanges (table : Table) (changes : List RowChange) (left : List Row) (count : ℕ) : Type 0 where

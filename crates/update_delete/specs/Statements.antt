@@ -1,4 +1,5 @@
--- The trees of an UPDATE and of a DELETE (ISO/IEC 9075:1992, 13.7, 13.10), and the tables that they name.
+-- The trees of an UPDATE and of a DELETE (ISO/IEC 9075:1992, 13.7, 13.10), and the tables that they
+-- name.
 use Rattle.std.specs.Prelude.{◌≡◌, ℕ, List, [], ◌++◌, map, Option, Some, None}
 use Rattle.std.specs.Option.{option_map}
 use Rattle.typing.specs.declared.statement.Update.{Update}

@@ -19,7 +19,8 @@ use query_answers::LentTables;
 use sqlval::{Column, ColumnType, Value, store_as};
 use std::alloc::{AllocError, Global};
 
-/// A row with the values of the sources, as their columns hold them, and its old values in the other columns; or one of the faults of all columns.
+/// A row with the values of the sources, as their columns hold them, and its old values in the
+/// other columns; or one of the faults of all columns.
 pub(crate) fn assigned_row(
     alloc: Global,
     lent: &LentTables,

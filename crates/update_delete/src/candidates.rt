@@ -27,8 +27,9 @@ pub(crate) struct LookUp {
     pub(crate) key: Row,
 }
 
-/// The rows of the table of this name that its first index finds for whose columns the condition asks for a key; without such an index all rows. At no other row is the condition true, nor does it
-/// raise a fault there.
+/// The rows of the table of this name that its first index finds for whose columns the condition
+/// asks for a key; without such an index all rows. At no other row is the condition true, nor does
+/// it raise a fault there.
 pub(crate) fn candidates<S: Store>(
     alloc: Global,
     store: &mut S,

@@ -24,9 +24,11 @@ use replies::Reply;
 use std::alloc::Global;
 use store::Store;
 
-/// Makes of the rows of a table what is planned: all of it, where the table then violates no constraint; else nothing. The table, which violates none as it is, is not looked at where what is
-/// planned is sure to be harmless; where few rows change, only these are, and the keys of the new ones are looked up; else all of it is. It sets the mark. It is refused by a constraint that the table would
-/// violate (23000), for want of memory, by the device or by a limit of the store.
+/// Makes of the rows of a table what is planned: all of it, where the table then violates no
+/// constraint; else nothing. The table, which violates none as it is, is not looked at where what
+/// is planned is sure to be harmless; where few rows change, only these are, and the keys of the
+/// new ones are looked up; else all of it is. It sets the mark. It is refused by a constraint that
+/// the table would violate (23000), for want of memory, by the device or by a limit of the store.
 pub(crate) fn carry_out<S: Store, C: Checks>(
     alloc: Global,
     store: &mut S,
@@ -34,13 +36,18 @@ pub(crate) fn carry_out<S: Store, C: Checks>(
     planned: Planned,
     checks: &C,
 ) -> Result<Reply, Refusal>
-    ensures changes { IfOk result (λ reply. (reading : CheckReading) (change : Change) → S.is_sound store.old → Decided (C.decides checks.now reading) (database_of (S.shows store.old).working) name.now
-        → Holds reading (database_of (S.shows store.old).working) name.now → IsHarmless reading (S.shows store.old).working change name.now planned
+    ensures changes { IfOk result (λ reply. (reading : CheckReading) (change : Change) → S.is_sound store.old
+        → Decided (C.decides checks.now reading) (database_of (S.shows store.old).working) name.now
+        → Holds reading (database_of (S.shows store.old).working) name.now
+        → IsHarmless reading (S.shows store.old).working change name.now planned
         → HasChanged reading (S.shows store.old) change reply (S.shows store.new)) }
-    ensures refused { IfErr result (λ refusal. (reading : CheckReading) (change : Change) → S.is_sound store.old → Decided (C.decides checks.now reading) (database_of (S.shows store.old).working) name.now
-        → IsMeant reading (S.shows store.old).working change name.now planned → RefusesChange reading (database_of (S.shows store.old).working) change refusal) }
+    ensures refused { IfErr result (λ refusal. (reading : CheckReading) (change : Change) → S.is_sound store.old
+        → Decided (C.decides checks.now reading) (database_of (S.shows store.old).working) name.now
+        → IsMeant reading (S.shows store.old).working change name.now planned
+        → RefusesChange reading (database_of (S.shows store.old).working) change refusal) }
     ensures accepted { IfOk result (λ reply. IfRefused reply (λ refusal. ⊥)) }
-    ensures limits { IfErr result (TellsReached (MakingReaches (S.counted store.new) planned.changes (S.is_sound store.old → IsNumberedOut (get (S.shows store.old).working name.now)))) }
+    ensures limits { IfErr result (TellsReached (MakingReaches (S.counted store.new) planned.changes (S.is_sound store.old
+        → IsNumberedOut (get (S.shows store.old).working name.now)))) }
     ensures device { IfErr result (λ refusal. refusal ≡ Disk → HasRisen (S.refused store.old) (S.refused store.new)) }
     ensures same { S.is_sound store.old → OnErr result (SameButMark (S.shows store.old) (S.shows store.new)) }
     ensures sound { S.is_sound store.old → S.is_sound store.new }

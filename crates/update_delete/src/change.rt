@@ -12,7 +12,8 @@ pub enum RowChange {
     Becomes(Row),
 }
 
-/// The trees of an UPDATE. In each row that it touches the column at the n-th of `columns` gets the value of the n-th of `sources`.
+/// The trees of an UPDATE. In each row that it touches the column at the n-th of `columns` gets the
+/// value of the n-th of `sources`.
 #[derive(Drop)]
 pub struct RowUpdate {
     /// It touches the rows at which this is true; without one, every row.

@@ -34,19 +34,24 @@ use std::alloc::Global;
 use store::{Numbered, Store};
 use typing::Delete;
 
-/// DELETE from a table that violates no constraint: the rows that its condition touches go, so that it violates none. The condition sees the tables as they were. It is refused by a fault of its evaluation over all rows; for want of memory, by the device or by a limit of the store. Whether a CHECK is violated is decided by `checks`. It sets the mark. Where a sound store refuses it, all
-/// is as it was, but for the mark.
+/// DELETE from a table that violates no constraint: the rows that its condition touches go, so that
+/// it violates none. The condition sees the tables as they were. It is refused by a fault of its
+/// evaluation over all rows; for want of memory, by the device or by a limit of the store. Whether
+/// a CHECK is violated is decided by `checks`. It sets the mark. Where a sound store refuses it,
+/// all is as it was, but for the mark.
 pub fn delete_rows<S: Store, C: Checks>(
     alloc: Global,
     store: &mut S,
     delete: &Delete,
     checks: &C,
 ) -> Result<Reply, Refusal>
-    ensures changes { IfOk result (λ reply. (reading : CheckReading) → S.is_sound store.old → IsSchemaOf (S.prepared store.old) (database_of (S.shows store.old).working)
+    ensures changes { IfOk result (λ reply. (reading : CheckReading) → S.is_sound store.old
+        → IsSchemaOf (S.prepared store.old) (database_of (S.shows store.old).working)
         → Decided (C.decides checks.now reading) (database_of (S.shows store.old).working) delete.now.table
         → Holds reading (database_of (S.shows store.old).working) delete.now.table
         → HasChanged reading (S.shows store.old) (does.Delete delete.now) reply (S.shows store.new)) }
-    ensures refused { IfErr result (λ refusal. (reading : CheckReading) → S.is_sound store.old → IsSchemaOf (S.prepared store.old) (database_of (S.shows store.old).working)
+    ensures refused { IfErr result (λ refusal. (reading : CheckReading) → S.is_sound store.old
+        → IsSchemaOf (S.prepared store.old) (database_of (S.shows store.old).working)
         → Decided (C.decides checks.now reading) (database_of (S.shows store.old).working) delete.now.table
         → RefusesChange reading (database_of (S.shows store.old).working) (does.Delete delete.now) refusal) }
     ensures accepted { IfOk result (λ reply. IfRefused reply (λ refusal. ⊥)) }
@@ -63,16 +68,19 @@ pub fn delete_rows<S: Store, C: Checks>(
     }
 }
 
-/// What becomes of the rows that the condition may touch, where the others stay; nothing where no table has the name. The store is left as it was.
+/// What becomes of the rows that the condition may touch, where the others stay; nothing where no
+/// table has the name. The store is left as it was.
 fn planned_deletion<S: Store>(
     alloc: Global,
     store: &mut S,
     delete: &Delete,
 ) -> Result<Option<Planned>, Refusal>
-    ensures planned { IfOk result (λ planned. (reading : CheckReading) → S.is_sound store.old → IsSchemaOf (S.prepared store.old) (database_of (S.shows store.old).working)
+    ensures planned { IfOk result (λ planned. (reading : CheckReading) → S.is_sound store.old
+        → IsSchemaOf (S.prepared store.old) (database_of (S.shows store.old).working)
         → IsPlanned reading (S.shows store.old).working (does.Delete delete.now) delete.now.table planned) }
     ensures spares { IfOk result (λ planned. IfSome planned (λ p. rows_new p.changes ≡ [])) }
-    ensures refused { IfErr result (λ refusal. (reading : CheckReading) → S.is_sound store.old → IsSchemaOf (S.prepared store.old) (database_of (S.shows store.old).working)
+    ensures refused { IfErr result (λ refusal. (reading : CheckReading) → S.is_sound store.old
+        → IsSchemaOf (S.prepared store.old) (database_of (S.shows store.old).working)
         → RefusesChange reading (database_of (S.shows store.old).working) (does.Delete delete.now) refusal) }
     ensures limits { IfErr result TellsNoLimit }
     ensures device { IfErr result (λ refusal. refusal ≡ Disk → HasRisen (S.refused store.old) (S.refused store.new)) }
@@ -104,13 +112,19 @@ fn all_deletions(
     lent: &LentTables,
     found: Numbered,
 ) -> Result<Option<Planned>, Refusal>
-    ensures planned { IfOk result (λ planned. (reading : CheckReading) (c : Contents) → IsSchemaOf schema.now (database_of c)
-        → IsFilterOf delete.now.filter filter.now → Agree (rows_lent lent.now.tables) (rows_in (database_of c)) (tables_in_filter filter.now)
-        → AreCandidates (get c delete.now.table) filter.now found → IsPlanned reading c (does.Delete delete.now) delete.now.table planned) }
+    ensures planned { IfOk result (λ planned. (reading : CheckReading) (c : Contents)
+        → IsSchemaOf schema.now (database_of c)
+        → IsFilterOf delete.now.filter filter.now
+        → Agree (rows_lent lent.now.tables) (rows_in (database_of c)) (tables_in_filter filter.now)
+        → AreCandidates (get c delete.now.table) filter.now found
+        → IsPlanned reading c (does.Delete delete.now) delete.now.table planned) }
     ensures spares { IfOk result (λ planned. IfSome planned (λ p. rows_new p.changes ≡ [])) }
-    ensures refused { IfErr result (λ refusal. (reading : CheckReading) (c : Contents) → IsSchemaOf schema.now (database_of c)
-        → IsFilterOf delete.now.filter filter.now → Agree (rows_lent lent.now.tables) (rows_in (database_of c)) (tables_in_filter filter.now)
-        → AreCandidates (get c delete.now.table) filter.now found → RefusesChange reading (database_of c) (does.Delete delete.now) refusal) }
+    ensures refused { IfErr result (λ refusal. (reading : CheckReading) (c : Contents)
+        → IsSchemaOf schema.now (database_of c)
+        → IsFilterOf delete.now.filter filter.now
+        → Agree (rows_lent lent.now.tables) (rows_in (database_of c)) (tables_in_filter filter.now)
+        → AreCandidates (get c delete.now.table) filter.now found
+        → RefusesChange reading (database_of c) (does.Delete delete.now) refusal) }
     ensures limits { IfErr result TellsNoLimit }
     ensures device { IfErr result (λ refusal. refusal ≡ Disk → ⊥) }
 {

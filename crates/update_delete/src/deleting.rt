@@ -27,17 +27,22 @@ use std::alloc::Global;
 use tree_tables::{listings_read_their_tables, values_read_their_tables};
 use uncorrelated_subqueries::kept_trees_mean_the_same;
 
-/// What becomes of each of these rows by a DELETE: they are the rows of a table that pass a test, at no other of which the condition is true or raises a fault, so that the others stay; or one of the
-/// faults of its condition at all rows. `filter` is the tree of the condition, and `lent` the tables that it names.
+/// What becomes of each of these rows by a DELETE: they are the rows of a table that pass a test,
+/// at no other of which the condition is true or raises a fault, so that the others stay; or one of
+/// the faults of its condition at all rows. `filter` is the tree of the condition, and `lent` the
+/// tables that it names.
 pub fn deletions(
     alloc: Global,
     lent: &LentTables,
     filter: &Option<Condition>,
     rows: &[Row],
 ) -> Result<Items<RowChange>, Stop>
-    ensures gives { (tables : Tables) (table : Table) (d : Delete) (test : AnyRow → Bool) → rows.now ≡ list_filter test table.rows
-        → ((row : AnyRow) → test row ≡ false → touched_given (rows_lent lent.now.tables) filter.now row ≡ Ok false) → Agree (rows_lent lent.now.tables) tables (tables_in_filter filter.now)
-        → IsFilterOf d.filter filter.now → GivesChanges (λ changes found. AreDeletions table (spread test table.rows changes) found) result (deleted_rows tables table d) }
+    ensures gives { (tables : Tables) (table : Table) (d : Delete) (test : AnyRow → Bool)
+        → rows.now ≡ list_filter test table.rows
+        → ((row : AnyRow) → test row ≡ false → touched_given (rows_lent lent.now.tables) filter.now row ≡ Ok false)
+        → Agree (rows_lent lent.now.tables) tables (tables_in_filter filter.now)
+        → IsFilterOf d.filter filter.now
+        → GivesChanges (λ changes found. AreDeletions table (spread test table.rows changes) found) result (deleted_rows tables table d) }
     ensures spares { IfOk result (λ changes. rows_new changes ≡ []) }
 {
     evaluation_keeps_the_meaning();

@@ -14,7 +14,8 @@ use sqlval::{Constraint, Rule, Table, Value};
 use std::alloc::Global;
 use std::slice::from_ref;
 
-/// Whether it is sure that a table which violates no constraint violates none after these changes of some of its rows, the n-th of the n-th: each row that becomes another keeps its keys, and the
+/// Whether it is sure that a table which violates no constraint violates none after these changes
+/// of some of its rows, the n-th of the n-th: each row that becomes another keeps its keys, and the
 /// new one violates no constraint alone.
 pub(crate) fn are_harmless<C: Checks>(
     alloc: Global,
@@ -23,7 +24,8 @@ pub(crate) fn are_harmless<C: Checks>(
     rows: &Rows,
     changes: &Items<RowChange>,
 ) -> Result<bool, Refusal>
-    ensures sure { IfOk result (λ sure. (reading : CheckReading) (name : Name) (whole : List AnyRow) → C.decides checks.now reading name table.now.columns table.now.constraints → sure ≡ true
+    ensures sure { IfOk result (λ sure. (reading : CheckReading) (name : Name) (whole : List AnyRow)
+        → C.decides checks.now reading name table.now.columns table.now.constraints → sure ≡ true
         → KeepAll (Keeps reading name (table_of table.now whole) table.now.constraints) rows.now changes.now) }
     ensures refused { IfErr result (λ refusal. refusal ≡ Memory) }
 {
@@ -49,7 +51,8 @@ fn is_harmless<C: Checks>(
     row: &[Value],
     change: &RowChange,
 ) -> Result<bool, Refusal>
-    ensures sure { IfOk result (λ sure. (reading : CheckReading) (name : Name) (whole : List AnyRow) → C.decides checks.now reading name table.now.columns table.now.constraints → sure ≡ true
+    ensures sure { IfOk result (λ sure. (reading : CheckReading) (name : Name) (whole : List AnyRow)
+        → C.decides checks.now reading name table.now.columns table.now.constraints → sure ≡ true
         → KeepsBy (Keeps reading name (table_of table.now whole) table.now.constraints) row.now change.now) }
     ensures refused { IfErr result (λ refusal. refusal ≡ Memory) }
 {
@@ -68,7 +71,8 @@ fn may_replace<C: Checks>(
     row: &[Value],
     new: &Row,
 ) -> Result<bool, Refusal>
-    ensures sure { IfOk result (λ sure. (reading : CheckReading) (name : Name) (whole : List AnyRow) → C.decides checks.now reading name table.now.columns table.now.constraints → sure ≡ true
+    ensures sure { IfOk result (λ sure. (reading : CheckReading) (name : Name) (whole : List AnyRow)
+        → C.decides checks.now reading name table.now.columns table.now.constraints → sure ≡ true
         → Keeps reading name (table_of table.now whole) table.now.constraints row.now new.now) }
     ensures refused { IfErr result (λ refusal. refusal ≡ Memory) }
 {

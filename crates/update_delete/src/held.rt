@@ -13,7 +13,8 @@ use query_answers::LentTables;
 use sqlval::{Table, Truth, Value};
 use std::alloc::Global;
 
-/// Whether a table may hold a row, but for its constraints: each CHECK can be evaluated there, and the row and its keys are short enough; or one of the faults.
+/// Whether a table may hold a row, but for its constraints: each CHECK can be evaluated there, and
+/// the row and its keys are short enough; or one of the faults.
 pub(crate) fn may_hold(
     alloc: Global,
     table: &Table,

@@ -1,4 +1,5 @@
-//! UPDATE and DELETE, over any store: what becomes of all rows is found first, by operator trees over rows that are lent; then it is made.
+//! UPDATE and DELETE, over any store: what becomes of all rows is found first, by operator trees
+//! over rows that are lent; then it is made.
 #![tactic(auto)]
 
 mod assigned;

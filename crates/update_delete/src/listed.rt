@@ -1,4 +1,5 @@
-//! The trees of a change with the subqueries that name no column outside themselves as what they give.
+//! The trees of a change with the subqueries that name no column outside themselves as what they
+//! give.
 ghost use Rattle.std.specs.Prelude.{◌≡◌, IfOk, map};
 ghost use Rattle.uncorrelated_subqueries.specs.Kept.{kept_expression};
 ghost use Rattle.query_answers.specs.Lent.{rows_lent};
@@ -42,7 +43,8 @@ fn kept_sources(
     Ok(made)
 }
 
-/// The trees of an UPDATE whose subqueries are listed once for all rows. Refuses for want of memory alone.
+/// The trees of an UPDATE whose subqueries are listed once for all rows. Refuses for want of memory
+/// alone.
 pub(crate) fn kept_update(
     alloc: Global,
     lent: &LentTables,

@@ -17,18 +17,22 @@ use refusals::Refusal;
 use store::Store;
 use transactions::refusal_of;
 
-/// Makes of the rows with these numbers what they become, the n-th by the n-th change. It is refused for want of memory, by the device or by a limit of the store: of rows and keys only where
-/// some row is too long.
+/// Makes of the rows with these numbers what they become, the n-th by the n-th change. It is
+/// refused for want of memory, by the device or by a limit of the store: of rows and keys only
+/// where some row is too long.
 pub(crate) fn make_changes<S: Store>(
     store: &mut S,
     name: &Text,
     numbers: &[u64],
     changes: Items<RowChange>,
 ) -> Result<(), Refusal>
-    ensures shows { S.is_sound store.old → OnOk result (S.shows store.new ≡ working_on (S.shows store.old) (all_made name.now numbers.now changes (S.shows store.old).working)) }
+    ensures shows { S.is_sound store.old
+        → OnOk result (S.shows store.new ≡ working_on (S.shows store.old) (all_made name.now numbers.now changes (S.shows store.old).working)) }
     ensures undone { S.is_sound store.old → OnErr result (S.shows store.new ≡ undone (S.shows store.old)) }
-    ensures refused { IfErr result (λ refusal. S.is_sound store.old → Every (IsShort (indexes_of (get (S.shows store.old).working name.now))) changes → IsReserved refusal) }
-    ensures limits { IfErr result (TellsReached (MakingReaches (S.counted store.new) changes (S.is_sound store.old → IsNumberedOut (get (S.shows store.old).working name.now)))) }
+    ensures refused { IfErr result (λ refusal. S.is_sound store.old
+        → Every (IsShort (indexes_of (get (S.shows store.old).working name.now))) changes → IsReserved refusal) }
+    ensures limits { IfErr result (TellsReached (MakingReaches (S.counted store.new) changes (S.is_sound store.old
+        → IsNumberedOut (get (S.shows store.old).working name.now)))) }
     ensures device { IfErr result (λ refusal. refusal ≡ Disk → HasRisen (S.refused store.old) (S.refused store.new)) }
     ensures sound { S.is_sound store.old → S.is_sound store.new }
     ensures counts { S.refused store.old ≤ S.refused store.new }
@@ -52,9 +56,11 @@ fn make_change<S: Store>(
     number: u64,
     change: RowChange,
 ) -> Result<(), Refusal>
-    ensures shows { S.is_sound store.old → OnOk result (S.shows store.new ≡ working_on (S.shows store.old) (made_one name.now number change (S.shows store.old).working)) }
+    ensures shows { S.is_sound store.old
+        → OnOk result (S.shows store.new ≡ working_on (S.shows store.old) (made_one name.now number change (S.shows store.old).working)) }
     ensures undone { OnErr result (S.shows store.new ≡ undone (S.shows store.old)) }
-    ensures refused { IfErr result (λ refusal. S.is_sound store.old → IsShort (indexes_of (get (S.shows store.old).working name.now)) change → IsReserved refusal) }
+    ensures refused { IfErr result (λ refusal. S.is_sound store.old
+        → IsShort (indexes_of (get (S.shows store.old).working name.now)) change → IsReserved refusal) }
     ensures limits { IfErr result (TellsReached (MakingReaches (S.counted store.new) (change ∷ []) (IsNumberedOut (get (S.shows store.old).working name.now)))) }
     ensures device { IfErr result (λ refusal. refusal ≡ Disk → HasRisen (S.refused store.old) (S.refused store.new)) }
     ensures sound { S.is_sound store.old → S.is_sound store.new }

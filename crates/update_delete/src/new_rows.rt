@@ -20,7 +20,8 @@ use sqlval::Value;
 use std::alloc::{AllocError, Global};
 use store::Store;
 
-/// Copies of the new rows of these changes, where the table has to be decided on and they are few beside its rows; else nothing. The store is left as it was.
+/// Copies of the new rows of these changes, where the table has to be decided on and they are few
+/// beside its rows; else nothing. The store is left as it was.
 pub(crate) fn rows_to_look_up<S: Store>(
     alloc: Global,
     store: &mut S,
@@ -82,7 +83,8 @@ fn new_row(change: &RowChange) -> Option<&Row>
     }
 }
 
-/// Keeps what was changed since the mark, where the table of this name now violates no constraint; else goes back to the mark. Where there are rows to look up, these are the new ones, and only
+/// Keeps what was changed since the mark, where the table of this name now violates no constraint;
+/// else goes back to the mark. Where there are rows to look up, these are the new ones, and only
 /// they are looked at; else the table is looked at unless it is known to violate none.
 pub(crate) fn settle_new<S: Store, C: Checks>(
     alloc: Global,
@@ -93,12 +95,16 @@ pub(crate) fn settle_new<S: Store, C: Checks>(
     rows: &Option<Rows>,
 ) -> Result<(), Refusal>
     ensures kept { OnOk result (S.shows store.new ≡ S.shows store.old) }
-    ensures holds { OnOk result ((reading : CheckReading) → S.is_sound store.old → Decided (C.decides checks.now reading) (database_of (S.shows store.old).working) name.now
+    ensures holds { OnOk result ((reading : CheckReading) → S.is_sound store.old
+        → Decided (C.decides checks.now reading) (database_of (S.shows store.old).working) name.now
         → (known ≡ true → Holds reading (database_of (S.shows store.old).working) name.now)
-        → IfSome rows.now (λ new. OthersHold reading (database_of (S.shows store.old).working) name.now new) → Holds reading (database_of (S.shows store.old).working) name.now) }
+        → IfSome rows.now (λ new. OthersHold reading (database_of (S.shows store.old).working) name.now new)
+        → Holds reading (database_of (S.shows store.old).working) name.now) }
     ensures undone { OnErr result (S.shows store.new ≡ undone (S.shows store.old)) }
-    ensures refused { IfErr result (λ refusal. (reading : CheckReading) → S.is_sound store.old → Decided (C.decides checks.now reading) (database_of (S.shows store.old).working) name.now
-        → IfSome rows.now (λ new. AreAmong (database_of (S.shows store.old).working) name.now new) → Breaks reading (database_of (S.shows store.old).working) name.now refusal) }
+    ensures refused { IfErr result (λ refusal. (reading : CheckReading) → S.is_sound store.old
+        → Decided (C.decides checks.now reading) (database_of (S.shows store.old).working) name.now
+        → IfSome rows.now (λ new. AreAmong (database_of (S.shows store.old).working) name.now new)
+        → Breaks reading (database_of (S.shows store.old).working) name.now refusal) }
     ensures limits { IfErr result TellsNoLimit }
     ensures device { IfErr result (λ refusal. refusal ≡ Disk → HasRisen (S.refused store.old) (S.refused store.new)) }
     ensures sound { S.is_sound store.old → S.is_sound store.new }

@@ -3,7 +3,8 @@
 use crate::change::RowChange;
 use items::Items;
 
-/// Rows of a table by their numbers, and at the same place in another list what becomes of each; the others stay.
+/// Rows of a table by their numbers, and at the same place in another list what becomes of each;
+/// the others stay.
 #[derive(Drop)]
 pub struct Planned {
     pub numbers: Items<u64>,

@@ -24,7 +24,8 @@ pub(crate) fn lent_to_delete<S: Store>(
     store: &mut S,
     filter: &Option<Condition>,
 ) -> Result<LentTables, Refusal>
-    ensures lent { S.is_sound store.old → IfOk result (λ lent. Agree (rows_lent lent.tables) (rows_in (database_of (S.shows store.old).working)) (tables_in_filter filter.now)) }
+    ensures lent { S.is_sound store.old
+        → IfOk result (λ lent. Agree (rows_lent lent.tables) (rows_in (database_of (S.shows store.old).working)) (tables_in_filter filter.now)) }
     ensures refused { IfErr result (λ refusal. S.is_sound store.old → IsReserved refusal) }
     ensures limits { IfErr result TellsNoLimit }
     ensures device { IfErr result (λ refusal. refusal ≡ Disk → HasRisen (S.refused store.old) (S.refused store.new)) }
@@ -46,7 +47,8 @@ pub(crate) fn lent_to_update<S: Store>(
     store: &mut S,
     update: &RowUpdate,
 ) -> Result<LentTables, Refusal>
-    ensures lent { S.is_sound store.old → IfOk result (λ lent. Agree (rows_lent lent.tables) (rows_in (database_of (S.shows store.old).working)) (tables_in_update update.now)) }
+    ensures lent { S.is_sound store.old
+        → IfOk result (λ lent. Agree (rows_lent lent.tables) (rows_in (database_of (S.shows store.old).working)) (tables_in_update update.now)) }
     ensures refused { IfErr result (λ refusal. S.is_sound store.old → IsReserved refusal) }
     ensures limits { IfErr result TellsNoLimit }
     ensures device { IfErr result (λ refusal. refusal ≡ Disk → HasRisen (S.refused store.old) (S.refused store.new)) }

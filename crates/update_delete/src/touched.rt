@@ -12,7 +12,8 @@ use query_answers::LentTables;
 use sqlval::{Truth, Value};
 use std::alloc::Global;
 
-/// Whether a row is touched: without a condition each is, else those at which it is true; or one of the faults of the condition.
+/// Whether a row is touched: without a condition each is, else those at which it is true; or one of
+/// the faults of the condition.
 pub(crate) fn is_touched(
     alloc: Global,
     lent: &LentTables,

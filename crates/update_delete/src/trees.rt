@@ -25,7 +25,8 @@ use translation::{translate_condition, translate_expression};
 use tree_tables::{tables_in_condition, tables_in_expression};
 use typing::{Assignment, Update};
 
-/// The tree of the condition of an UPDATE or a DELETE that was typed over this schema. Refuses for want of memory alone.
+/// The tree of the condition of an UPDATE or a DELETE that was typed over this schema. Refuses for
+/// want of memory alone.
 pub fn filter_tree(
     alloc: Global,
     schema: &Schema,
@@ -121,17 +122,21 @@ fn names_in_update(alloc: Global, update: &RowUpdate) -> Result<Items<Text>, All
     Ok(names)
 }
 
-/// The tables that a condition names, each read once. It is refused for what the store is refused for.
+/// The tables that a condition names, each read once. It is refused for what the store is refused
+/// for.
 pub fn tables_for_filter<R: Reading>(
     alloc: Global,
     reading: &mut R,
     filter: &Option<Condition>,
 ) -> Result<LentTables, Refusal>
-    ensures lent { R.is_sound reading.old → IfOk result (λ lent. Agree (rows_lent lent.tables) (rows_found (R.shows reading.old).contents) (tables_in_filter filter.now)) }
-    ensures read { R.is_sound reading.old → IfOk result (λ _. (R.shows reading.new).read ≤ (R.shows reading.old).read + rows_under (rows_found (R.shows reading.old).contents) (tables_in_filter filter.now)) }
+    ensures lent { R.is_sound reading.old
+        → IfOk result (λ lent. Agree (rows_lent lent.tables) (rows_found (R.shows reading.old).contents) (tables_in_filter filter.now)) }
+    ensures read { R.is_sound reading.old
+        → IfOk result (λ _. (R.shows reading.new).read ≤ (R.shows reading.old).read + rows_under (rows_found (R.shows reading.old).contents) (tables_in_filter filter.now)) }
     ensures refused { IfErr result (λ refusal. R.is_sound reading.old → IsReserved refusal) }
     ensures limits { IfErr result TellsNoLimit }
-    ensures counts { IfErr result (λ refusal. refusal ≡ Disk → HasRisen (R.shows reading.old).refused (R.shows reading.new).refused) }
+    ensures counts { IfErr result (λ refusal. refusal ≡ Disk
+        → HasRisen (R.shows reading.old).refused (R.shows reading.new).refused) }
     ensures follows { R.follows reading.old reading.new }
 {
     let names = match names_in_filter(alloc, filter) {
@@ -141,17 +146,21 @@ pub fn tables_for_filter<R: Reading>(
     lent_tables(alloc, reading, names.as_slice())
 }
 
-/// The tables that the trees of an UPDATE name, each read once. It is refused for what the store is refused for.
+/// The tables that the trees of an UPDATE name, each read once. It is refused for what the store is
+/// refused for.
 pub fn tables_for_update<R: Reading>(
     alloc: Global,
     reading: &mut R,
     update: &RowUpdate,
 ) -> Result<LentTables, Refusal>
-    ensures lent { R.is_sound reading.old → IfOk result (λ lent. Agree (rows_lent lent.tables) (rows_found (R.shows reading.old).contents) (tables_in_update update.now)) }
-    ensures read { R.is_sound reading.old → IfOk result (λ _. (R.shows reading.new).read ≤ (R.shows reading.old).read + rows_under (rows_found (R.shows reading.old).contents) (tables_in_update update.now)) }
+    ensures lent { R.is_sound reading.old
+        → IfOk result (λ lent. Agree (rows_lent lent.tables) (rows_found (R.shows reading.old).contents) (tables_in_update update.now)) }
+    ensures read { R.is_sound reading.old
+        → IfOk result (λ _. (R.shows reading.new).read ≤ (R.shows reading.old).read + rows_under (rows_found (R.shows reading.old).contents) (tables_in_update update.now)) }
     ensures refused { IfErr result (λ refusal. R.is_sound reading.old → IsReserved refusal) }
     ensures limits { IfErr result TellsNoLimit }
-    ensures counts { IfErr result (λ refusal. refusal ≡ Disk → HasRisen (R.shows reading.old).refused (R.shows reading.new).refused) }
+    ensures counts { IfErr result (λ refusal. refusal ≡ Disk
+        → HasRisen (R.shows reading.old).refused (R.shows reading.new).refused) }
     ensures follows { R.follows reading.old reading.new }
 {
     let names = match names_in_update(alloc, update) {

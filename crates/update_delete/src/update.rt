@@ -37,10 +37,13 @@ use std::alloc::Global;
 use store::{Numbered, Store};
 use typing::Update;
 
-/// UPDATE: each row that its condition touches gets the values of its sources, all at once, and where no row is touched nothing changes. Conditions and sources see the tables as they were.
-/// It is refused by a fault of its evaluation over all rows, or else by a constraint that the table would violate (23000); for want of memory, by the device or by a limit of the store. `trees`
-/// are those of the conditions of the table's CHECKs, which are evaluated at each new row; whether one is violated is decided by `checks`. It sets the mark. Where a sound store refuses it, all
-/// is as it was, but for the mark.
+/// UPDATE: each row that its condition touches gets the values of its sources, all at once, and
+/// where no row is touched nothing changes. Conditions and sources see the tables as they were. It
+/// is refused by a fault of its evaluation over all rows, or else by a constraint that the table
+/// would violate (23000); for want of memory, by the device or by a limit of the store. `trees` are
+/// those of the conditions of the table's CHECKs, which are evaluated at each new row; whether one
+/// is violated is decided by `checks`. It sets the mark. Where a sound store refuses it, all is as
+/// it was, but for the mark.
 pub fn update_rows<S: Store, C: Checks>(
     alloc: Global,
     store: &mut S,
@@ -48,17 +51,20 @@ pub fn update_rows<S: Store, C: Checks>(
     trees: &[Condition],
     checks: &C,
 ) -> Result<Reply, Refusal>
-    ensures changes { IfOk result (λ reply. (reading : CheckReading) → S.is_sound store.old → IsSchemaOf (S.prepared store.old) (database_of (S.shows store.old).working)
+    ensures changes { IfOk result (λ reply. (reading : CheckReading) → S.is_sound store.old
+        → IsSchemaOf (S.prepared store.old) (database_of (S.shows store.old).working)
         → Decided (C.decides checks.now reading) (database_of (S.shows store.old).working) update.now.table
         → AreChecksFor reading (database_of (S.shows store.old).working) update.now.table trees.now
         → Holds reading (database_of (S.shows store.old).working) update.now.table
         → HasChanged reading (S.shows store.old) (does.Update update.now) reply (S.shows store.new)) }
-    ensures refused { IfErr result (λ refusal. (reading : CheckReading) → S.is_sound store.old → IsSchemaOf (S.prepared store.old) (database_of (S.shows store.old).working)
+    ensures refused { IfErr result (λ refusal. (reading : CheckReading) → S.is_sound store.old
+        → IsSchemaOf (S.prepared store.old) (database_of (S.shows store.old).working)
         → Decided (C.decides checks.now reading) (database_of (S.shows store.old).working) update.now.table
         → AreChecksFor reading (database_of (S.shows store.old).working) update.now.table trees.now
         → RefusesChange reading (database_of (S.shows store.old).working) (does.Update update.now) refusal) }
     ensures accepted { IfOk result (λ reply. IfRefused reply (λ refusal. ⊥)) }
-    ensures limits { IfErr result (TellsReached (ReplacingReaches (S.counted store.new) (S.is_sound store.old → IsNumberedOut (get (S.shows store.old).working update.now.table)))) }
+    ensures limits { IfErr result (TellsReached (ReplacingReaches (S.counted store.new) (S.is_sound store.old
+        → IsNumberedOut (get (S.shows store.old).working update.now.table)))) }
     ensures device { IfErr result (λ refusal. refusal ≡ Disk → HasRisen (S.refused store.old) (S.refused store.new)) }
     ensures same { S.is_sound store.old → OnErr result (SameButMark (S.shows store.old) (S.shows store.new)) }
     ensures sound { S.is_sound store.old → S.is_sound store.new }
@@ -71,7 +77,8 @@ pub fn update_rows<S: Store, C: Checks>(
     }
 }
 
-/// What becomes of the rows that the condition may touch, where the others stay; nothing where no table has the name. The store is left as it was.
+/// What becomes of the rows that the condition may touch, where the others stay; nothing where no
+/// table has the name. The store is left as it was.
 fn planned_update<S: Store, C: Checks>(
     alloc: Global,
     store: &mut S,
@@ -79,11 +86,13 @@ fn planned_update<S: Store, C: Checks>(
     trees: &[Condition],
     checks: &C,
 ) -> Result<Option<Planned>, Refusal>
-    ensures planned { IfOk result (λ planned. (reading : CheckReading) → S.is_sound store.old → IsSchemaOf (S.prepared store.old) (database_of (S.shows store.old).working)
+    ensures planned { IfOk result (λ planned. (reading : CheckReading) → S.is_sound store.old
+        → IsSchemaOf (S.prepared store.old) (database_of (S.shows store.old).working)
         → Decided (C.decides checks.now reading) (database_of (S.shows store.old).working) update.now.table
         → AreChecksFor reading (database_of (S.shows store.old).working) update.now.table trees.now
         → IsPlanned reading (S.shows store.old).working (does.Update update.now) update.now.table planned) }
-    ensures refused { IfErr result (λ refusal. (reading : CheckReading) → S.is_sound store.old → IsSchemaOf (S.prepared store.old) (database_of (S.shows store.old).working)
+    ensures refused { IfErr result (λ refusal. (reading : CheckReading) → S.is_sound store.old
+        → IsSchemaOf (S.prepared store.old) (database_of (S.shows store.old).working)
         → AreChecksFor reading (database_of (S.shows store.old).working) update.now.table trees.now
         → RefusesChange reading (database_of (S.shows store.old).working) (does.Update update.now) refusal) }
     ensures limits { IfErr result TellsNoLimit }
@@ -127,13 +136,20 @@ fn all_updates<C: Checks>(
     lent: &LentTables,
     found: Numbered,
 ) -> Result<Option<Planned>, Refusal>
-    ensures planned { IfOk result (λ planned. (reading : CheckReading) (c : Contents) → IsSchemaOf schema.now (database_of c)
-        → Decided (C.decides checks.now reading) (database_of c) update.now.table → AreChecksFor reading (database_of c) update.now.table trees.now
-        → IsUpdateOf update.now made.now → Agree (rows_lent lent.now.tables) (rows_in (database_of c)) (tables_in_update made.now)
-        → AreCandidates (get c update.now.table) made.now.filter found → IsPlanned reading c (does.Update update.now) update.now.table planned) }
-    ensures refused { IfErr result (λ refusal. (reading : CheckReading) (c : Contents) → IsSchemaOf schema.now (database_of c) → AreChecksFor reading (database_of c) update.now.table trees.now
-        → IsUpdateOf update.now made.now → Agree (rows_lent lent.now.tables) (rows_in (database_of c)) (tables_in_update made.now)
-        → AreCandidates (get c update.now.table) made.now.filter found → RefusesChange reading (database_of c) (does.Update update.now) refusal) }
+    ensures planned { IfOk result (λ planned. (reading : CheckReading) (c : Contents)
+        → IsSchemaOf schema.now (database_of c)
+        → Decided (C.decides checks.now reading) (database_of c) update.now.table
+        → AreChecksFor reading (database_of c) update.now.table trees.now
+        → IsUpdateOf update.now made.now
+        → Agree (rows_lent lent.now.tables) (rows_in (database_of c)) (tables_in_update made.now)
+        → AreCandidates (get c update.now.table) made.now.filter found
+        → IsPlanned reading c (does.Update update.now) update.now.table planned) }
+    ensures refused { IfErr result (λ refusal. (reading : CheckReading) (c : Contents)
+        → IsSchemaOf schema.now (database_of c) → AreChecksFor reading (database_of c) update.now.table trees.now
+        → IsUpdateOf update.now made.now
+        → Agree (rows_lent lent.now.tables) (rows_in (database_of c)) (tables_in_update made.now)
+        → AreCandidates (get c update.now.table) made.now.filter found
+        → RefusesChange reading (database_of c) (does.Update update.now) refusal) }
     ensures limits { IfErr result TellsNoLimit }
     ensures device { IfErr result (λ refusal. refusal ≡ Disk → ⊥) }
 {

@@ -30,10 +30,12 @@ use std::alloc::Global;
 use tree_tables::{listings_read_their_tables, values_read_their_tables};
 use uncorrelated_subqueries::kept_trees_mean_the_same;
 
-/// What becomes of each of these rows by an UPDATE: they are the rows of a table that pass a test, at no other of which the condition is true or raises a fault, so that the others stay; or one of the
-/// faults of all rows: of the condition, of a source, of storing, of a CHECK that cannot be evaluated at the new row, or of
-/// the length of that row or of a key of it. Each row is seen as it was. `update` has the trees of the statement, `lent` the tables that these name, and `checks` the trees of the conditions
-/// of the table's CHECKs. There are as many as rows.
+/// What becomes of each of these rows by an UPDATE: they are the rows of a table that pass a test,
+/// at no other of which the condition is true or raises a fault, so that the others stay; or one of
+/// the faults of all rows: of the condition, of a source, of storing, of a CHECK that cannot be
+/// evaluated at the new row, or of the length of that row or of a key of it. Each row is seen as it
+/// was. `update` has the trees of the statement, `lent` the tables that these name, and `checks`
+/// the trees of the conditions of the table's CHECKs. There are as many as rows.
 pub fn updates(
     alloc: Global,
     lent: &LentTables,
@@ -42,8 +44,11 @@ pub fn updates(
     update: &RowUpdate,
     rows: &[Row],
 ) -> Result<Items<RowChange>, Stop>
-    ensures gives { (tables : Tables) (conditions : List Asked) (u : Update) (whole : List AnyRow) (test : AnyRow → Bool) → rows.now ≡ filter test whole
-        → ((row : AnyRow) → test row ≡ false → touched_given (rows_lent lent.now.tables) update.now.filter row ≡ Ok false) → Agree (rows_lent lent.now.tables) tables (tables_in_update update.now)
+    ensures gives { (tables : Tables) (conditions : List Asked) (u : Update) (whole : List AnyRow) (test : AnyRow → Bool)
+        → rows.now ≡ filter test whole
+        → ((row : AnyRow) → test row ≡ false
+        → touched_given (rows_lent lent.now.tables) update.now.filter row ≡ Ok false)
+        → Agree (rows_lent lent.now.tables) tables (tables_in_update update.now)
         → IsUpdateOf u update.now → AreChecksOf conditions checks.now
         → GivesChanges (λ changes found. AreUpdates (table_of table.now whole) (spread test whole changes) found) result (updated_rows conditions tables (table_of table.now whole) u) }
     ensures as_many { IfOk result (λ changes. length changes ≡ length rows.now) }

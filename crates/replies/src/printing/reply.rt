@@ -13,7 +13,8 @@ use sqlval::Value;
 use std::io;
 use std::io::Write;
 
-/// Writes the text of a reply, each line with a line feed. Where the writer refuses, it has a beginning of it.
+/// Writes the text of a reply, each line with a line feed. Where the writer refuses, it has a
+/// beginning of it.
 pub fn print_reply<W: Write>(reply: &Reply, writer: &mut W) -> io::Result<()>
     ensures writes { Writes (W.contents writer.old) (W.contents writer.new) (is_ok result) (printed_reply reply.now) }
     ensures tried_again { IfErr result IsNoInterruption }

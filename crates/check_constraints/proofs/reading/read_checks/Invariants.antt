@@ -4,7 +4,8 @@ use Rattle.denote.specs.Database.{CheckReading, AreReadable}
 use Rattle.check_constraints.specs.Conditions.{AllStand, conditions_of}
 use Rattle.check_constraints.proofs.reading.read_checks.Given as goal
 
--- the conditions of the constraints so far, whose texts stand for them; where all can be read, so can those that are left
+-- the conditions of the constraints so far, whose texts stand for them; where all can be read, so
+-- can those that are left
 abbrev pub invariant-loop-constraint : goal.invariant-loop-constraint
 invariant-loop-constraint l = record {
   rules : (reading : CheckReading) → IsCheckReading reading

@@ -4,7 +4,8 @@ use Rattle.sessions.specs.OfCore.{world_of}
 use Rattle.scripts.specs.Settled.{IsKept, store_of}
 use Rattle.scripts.proofs.script.flush_all.Given as goal
 
--- so many pages are left; the world is the same, what is kept stays kept, and the count of refusals has not fallen
+-- so many pages are left; the world is the same, what is kept stays kept, and the count of refusals
+-- has not fallen
 abbrev pub invariant-loop-left : goal.invariant-loop-left
 invariant-loop-left g l = record {
   left : l.left ≡ g.S.Store.unwritten (store_of l.core);

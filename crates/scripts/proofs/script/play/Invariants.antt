@@ -5,7 +5,8 @@ use Rattle.scripts.specs.Settled.{HoldAll, IsKept, IsKeptBy, store_of}
 use Rattle.scripts.specs.Playing.{IsReading, Start}
 use Rattle.scripts.proofs.script.play.Given as goal
 
--- The pieces that end in what was read were carried out; the core is kept, the script has each session that stands, and the count of refusals has not fallen.
+-- The pieces that end in what was read were carried out; the core is kept, the script has each
+-- session that stands, and the count of refusals has not fallen.
 abbrev pub invariant-loop : goal.invariant-loop
 invariant-loop g l = record {
   plays : (start : Start) → IsKeptBy g.S.Store.is_sound g.S.Store.shows start.known l.fn.core

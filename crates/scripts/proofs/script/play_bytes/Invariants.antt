@@ -5,7 +5,8 @@ use Rattle.scripts.specs.Settled.{HoldAll, IsKept, IsKeptBy, store_of}
 use Rattle.scripts.specs.Playing.{IsPlaying, Start}
 use Rattle.scripts.proofs.script.play_bytes.Given as goal
 
--- The pieces that end in the bytes so far were carried out; the core is kept, the script has each session that stands, and the count of refusals has not fallen.
+-- The pieces that end in the bytes so far were carried out; the core is kept, the script has each
+-- session that stands, and the count of refusals has not fallen.
 abbrev pub invariant-loop-byte : goal.invariant-loop-byte
 invariant-loop-byte g l = record {
   plays : (start : Start) (input : List ℕ) → IsKeptBy g.S.Store.is_sound g.S.Store.shows start.known l.fn.core

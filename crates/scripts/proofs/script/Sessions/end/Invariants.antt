@@ -6,7 +6,8 @@ use Rattle.scripts.specs.Playing.{AreLive, numbers_of}
 use Rattle.scripts.proofs.Ending.{EndsFrom}
 use Rattle.scripts.proofs.script.Sessions.end.Given as goal
 
--- each session that stands is one of those that are left, the core is kept, and the count of refusals has not fallen
+-- each session that stands is one of those that are left, the core is kept, and the count of
+-- refusals has not fallen
 abbrev pub invariant-loop-slot : goal.invariant-loop-slot
 invariant-loop-slot g l = record {
   ends : AreLive (world_of g.S.Store.shows l.fn.core) (numbers_of l.self.standing)
