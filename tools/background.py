@@ -1,13 +1,17 @@
 #!/usr/bin/env python3
 """The proofs that go on behind a program which was built without them.
 
-  tools/background.py --start PROGRAM    writes on standard error that nothing is proved of the program, and how many of it and
-                                         the crates below it are proved by now, and has the others proved at a low priority,
-                                         if that is not under way. What that says goes to out/proofs.log. Where a crate was
-                                         refused, and no source has changed since, it is named and nothing is begun
-  tools/background.py --stop             ends these proofs. What they proved is kept; the next --start goes on with the rest.
-                                         Proofs that were not begun so are waited for
+  tools/background.py --start PROGRAM    writes on standard error that nothing is proved of the
+                                         program, and how many of it and the crates below it are;
+                                         has the others proved, if that is not under way
+  tools/background.py --stop             ends these proofs. What they proved is kept, and the next
+                                         --start goes on with the rest. Proofs that were not begun
+                                         so are waited for
+
+They have the lowest priority, and what they say goes to out/proofs.log. Where a crate was refused,
+and no source has changed since, --start names it and begins nothing.
 """
+import contextlib
 import fcntl
 import os
 import re
@@ -37,14 +41,14 @@ def is_under_way():
 
 
 def refused(rtlib, crates):
-    """The crate that the last run in the background refused, where no source has changed since that began."""
+    """The crate that the last run in the background refused, where no source has changed since that
+    began."""
     if not os.path.isfile(LOG):
         return None
     with open(LOG, encoding="utf-8") as log:
-        found = re.search(r"^refused: (\w+)\n\Z", log.read(), re.M)
+        found = re.search(r"\A\d+ (\d+)\n(?:.*\n)*refused: (\w+)\n\Z", log.read())
     files = [TOP + "/crates.txt", *(file for it in crates for file in rtlib.files_of(it.folder))]
-    begun = os.stat(LOCK).st_mtime_ns
-    return found[1] if found and all(os.stat(it).st_mtime_ns <= begun for it in files) else None
+    return found[2] if found and all(os.stat(it).st_mtime_ns <= int(found[1]) for it in files) else None
 
 
 def start(program):
@@ -52,8 +56,8 @@ def start(program):
     if not shutil.which("rt"):
         print("NOT PROVED: nothing is proved of this program, and without the toolchain's command rt nothing will be.", file=sys.stderr)
         return 0
-    rtlib = toolchain().rtlib
-    crates = crates_of(rtlib, TOP, [program])
+    rt = toolchain()
+    rtlib, crates = rt.rtlib, crates_of(rt, TOP, [program])
     count = "%d of %d crates" % (sum(is_proved(rtlib, it) for it in crates), len(crates))
     bad = None if is_under_way() else refused(rtlib, crates)
     more = "the proof of %s was refused (out/proofs.log)" % bad if bad else "the proofs go on behind it (out/proofs.log)"
@@ -65,19 +69,19 @@ def start(program):
 
 
 def prove(program):
-    """Proves the program and the crates below it, at a low priority. Of two that begin at once the second ends."""
-    if is_under_way():
-        return 0
+    """Proves the program and the crates below it, at a low priority. Of two that begin at once the
+    second ends."""
     os.nice(19)
-    with the_only_run() as begun:
+    with contextlib.suppress(BlockingIOError), the_only_run(waits=False) as begun:
         log = os.open(LOG, os.O_WRONLY | os.O_CREAT | os.O_TRUNC, 0o644)
         for it in (1, 2):
             os.dup2(log, it)
-        print("--prove %d" % os.getpid(), flush=True)
-        is_well = prove_crates(toolchain().rtlib, [program])
+        print(os.getpid(), begun, flush=True)
+        is_well = prove_crates(toolchain(), [program])
         if is_well:
             set_time(program, begun)
         return 0 if is_well else 1
+    return 0
 
 
 def stop():
@@ -85,8 +89,8 @@ def stop():
     if is_under_way() and os.path.isfile(LOG):
         with open(LOCK, encoding="utf-8") as held, open(LOG, encoding="utf-8") as log:
             number = held.read().strip()
-            # Only the process that holds the lock, and only where it is one of these.
-            if log.readline() == "--prove %s\n" % number:
+            # Who proves in the foreground writes no such line.
+            if number and log.readline().split()[:1] == [number]:
                 os.kill(int(number), signal.SIGTERM)
     with the_only_run():
         return 0

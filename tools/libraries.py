@@ -1,14 +1,17 @@
 #!/usr/bin/env python3
-"""The crates of the repository, and the proof of the libraries below some of them, several side by side.
+"""The crates of the repository, and the proof of those below some of them, several side by side.
 
-  tools/libraries.py CRATE ..    proves the libraries below these crates, each in its folder, and those of these crates that
-                                 are programs, which it builds too. What is proved as it stands is not proved again; what
-                                 was changed since, or stands on what was, is. First it says how many crates these are, and
-                                 about how long they take. The status is 0 where all are proved, 1 where one was refused,
-                                 and 2 where a word names no crate. A second such run waits until the first has ended
+  tools/libraries.py CRATE ..    proves the libraries below these crates, each in its folder, and
+                                 of these crates the programs, which it also builds
 
-The toolchain's own command for one crate proves the libraries below it one after another. Here each is proved as soon as
-those below it are, first the one with the longest way to the top. JOBS=N in the environment proves N at a time.
+Only what is not proved as it stands is proved: what is new, was changed, or stands on what was.
+How many crates that are is said first, and about how long they take. The status is 0 where all are
+proved, 1 where one was refused, and 2 where a word names no crate. A second such run waits until
+the first has ended. What the toolchain says of a crate goes to out/proofs/CRATE.log.
+
+The toolchain's own command for one crate proves the libraries below it one after another. Here
+each is proved as soon as those below it are, first the one with the longest way to the top. JOBS=N
+in the environment proves N at a time.
 """
 import contextlib
 import fcntl
@@ -18,7 +21,6 @@ import re
 import shutil
 import signal
 import sys
-import tempfile
 from concurrent.futures import FIRST_COMPLETED, ThreadPoolExecutor, wait
 
 sys.dont_write_bytecode = True
@@ -28,11 +30,13 @@ from toolchain import crates_of, read_anew, toolchain  # noqa: E402
 TOP = os.path.dirname(os.path.dirname(os.path.realpath(__file__)))
 # What one check takes, in bytes, where it takes much.
 MEMORY_OF_A_CHECK = 4 * 1024 ** 3
-# The processor minutes that the proof of sqlsh and all below it took, on a fast machine and on a slow one (2026-11-26), and
-# the lines that they had, counted as in `lines_of`.
+# The processor minutes that the proof of sqlsh and all below it took, on a fast machine and on a
+# slow one (2026-11-26), and the lines that they had, counted as in `lines_of`.
 MINUTES, LINES = (158, 216), 67288
 # Held by whoever proves crates in their folders, with the number of its process.
 LOCK = TOP + "/out/proofs.lock"
+# What the toolchain said of each crate there.
+LOGS = TOP + "/out/proofs"
 TARGET = "x86_64-unknown-linux-gnu"
 
 
@@ -59,7 +63,8 @@ def below(crates, libraries):
 
 
 def at_a_time():
-    """How many checks there is room for: JOBS of the environment, or as many as there are processors, and fewer where memory is short."""
+    """How many checks there is room for: JOBS of the environment, or as many as there are
+    processors, and fewer where memory is short."""
     given = os.environ.get("JOBS", "")
     if given.isdigit() and int(given):
         return int(given)
@@ -69,7 +74,8 @@ def at_a_time():
 
 
 def copy_crate(room, crate, kept=()):
-    """Copies what the crate is made of into the room, and these folders of its out/, if they are all there and it is proved already."""
+    """Copies what the crate is made of into the room, and these folders of its out/, if they are
+    all there and it is proved already."""
     whole, part = "%s/crates/%s" % (TOP, crate), "%s/crates/%s" % (room, crate)
     shutil.copytree(whole, part, ignore=shutil.ignore_patterns("out"))
     if os.path.isfile(whole + "/out/rlib/stamp") and all(os.path.isdir("%s/out/%s" % (whole, it)) for it in kept):
@@ -84,7 +90,8 @@ def list_crates(room, crates):
 
 
 def lines_of(crate):
-    """The lines of code that stand for the work of the crate's proof: each crate costs some by itself."""
+    """The lines of code that stand for the work of the crate's proof: each crate costs some by
+    itself."""
     return 300 + crate.count(rb"\n")
 
 
@@ -98,14 +105,17 @@ def ways_up(crates):
 
 
 def prove(crate, log):
-    """Proves a crate, and builds it where it is a library. What the toolchain says stands in the log. Returns whether it is proved."""
+    """Proves a crate, and builds it where it is a library. What the toolchain says stands in the
+    log. Returns whether it is proved."""
     with open(log, "w", encoding="utf-8") as crate.out:
         status = crate.check(["--jobs", "1"]) if crate.is_program else crate.build_rlib(["--jobs", "1"], False)
         return status == 0
 
 
 def prove_all(crates, room, tell, afterwards=None, takes=None, prove=prove, proved=()):
-    """Proves these crates but for those that are proved, each once those below it are, and does for each what comes afterwards, where no other waits to be proved: first where that takes longest. Returns the one that was refused first, if any."""
+    """Proves these crates but for those that are proved, each once those below it are, and does for
+    each what comes afterwards, where no other waits to be proved: first where that takes longest.
+    Returns the one that was refused first, if any."""
     ways, proved, refused, running, behind = ways_up(crates), set(proved), None, {}, []
     left = sorted((it for it in crates if it.name not in proved), key=lambda it: -ways[it.name])
     lanes = at_a_time()
@@ -136,13 +146,15 @@ def show(room, refused):
 
 
 def build(room, wanted, tell=lambda name: None, afterwards=None, takes=lambda name: 0):
-    """Proves these libraries, whose copies stand in the room, where that is not done, and does for each what comes afterwards; `takes` says how long that is. Tells of each once it is proved. Returns whether all are."""
+    """Proves these libraries, whose copies stand in the room, where that is not done, and does for
+    each what comes afterwards; `takes` says how long that is. Tells of each once it is proved.
+    Returns whether all are."""
     shutil.copy(TOP + "/HANDLES", room)
     list_crates(room, wanted)
-    rtlib = toolchain().rtlib
+    rt = toolchain()
     # It sets a signal's handler, which only the main thread may.
-    rtlib.guarded()
-    refused = prove_all(crates_of(rtlib, room, wanted), room, tell, afterwards, takes)
+    rt.rtlib.guarded()
+    refused = prove_all(crates_of(rt, room, wanted), room, tell, afterwards, takes)
     if refused:
         show(room, refused)
     return not refused
@@ -157,7 +169,8 @@ def is_proved(rtlib, crate):
 
 
 def build_program(rtlib, crate):
-    """Proves, compiles and links a program, and leaves what the toolchain does, which by that knows it for built. Returns the status."""
+    """Proves, compiles and links a program, and leaves what the toolchain does, which by that knows
+    it for built. Returns the status."""
     program, digest, kit = "out/" + crate.name, crate.stamp(), rtlib.KIT
     status = crate.compile(["--jobs", "1"], program + ".o")
     words = ["--target", TARGET, "--toolchain", kit + "/toolchain", "-o", program + ".new", program + ".o"]
@@ -171,11 +184,13 @@ def build_program(rtlib, crate):
 
 
 def prove_here(rtlib, crate, log):
-    """Proves a crate in its folder, where no other run does that just now, and builds it. Returns whether it is proved as it stands."""
+    """Proves a crate in its folder, where no other run does that just now, and builds it. Returns
+    whether it is proved as it stands."""
     held = os.open(crate.folder, os.O_RDONLY)
     try:
-        # The toolchain locks the folders of crates so.
-        fcntl.flock(held, fcntl.LOCK_EX)
+        # The toolchain locks the folders of crates so; some file systems have no locks.
+        with contextlib.suppress(OSError):
+            fcntl.flock(held, fcntl.LOCK_EX)
         with open(log, "w", encoding="utf-8") as crate.out, read_anew(crate):
             if is_proved(rtlib, crate):
                 return True
@@ -188,47 +203,57 @@ def prove_here(rtlib, crate, log):
         os.close(held)
 
 
-def minutes(crates, left):
-    """About how many minutes of the clock the proofs of the crates that are left take, on a fast machine and on a slow one."""
+def minutes(left):
+    """About how many minutes of the clock the proofs of the crates that are left take, on a fast
+    machine and on a slow one."""
     lanes, work = at_a_time(), sum(map(lines_of, left))
     # Of several lanes some stand still now and then.
     lines = max(*ways_up(left).values(), work / lanes * (1.1 if lanes > 1 else 1))
     return [max(1, round(it * lines / LINES)) for it in MINUTES]
 
 
-def prove_crates(rtlib, names):
-    """Proves in their folders these crates and those below them, where they are not proved as they stand. Returns whether all are."""
-    # It sets a signal's handler, which only the main thread may.
+def prove_crates(rt, names, hint=""):
+    """Proves in their folders these crates and those below them, where they are not proved as they
+    stand. Returns whether all are."""
+    # Python would wait for the proofs that run.
+    signal.signal(signal.SIGINT, signal.SIG_DFL)
+    rtlib = rt.rtlib
     rtlib.guarded()
-    crates = crates_of(rtlib, TOP, names)
+    crates = crates_of(rt, TOP, names)
     left = [it for it in crates if not is_proved(rtlib, it)]
     if not left:
         return True
-    count = "%d of %d crates have" % (len(left), len(crates)) if len(crates) > 1 else "One crate has"
-    print("%s to be proved first: about %d to %d minutes, %d at a time." % (count, *minutes(crates, left), at_a_time()), file=sys.stderr, flush=True)
+    words = (len(crates), len(left), *minutes(left), at_a_time())
+    print("Of %d crates %d have to be proved first: about %d to %d minutes, %d at a time." % words,
+          hint, sep="", file=sys.stderr, flush=True)
     proved = {it.name for it in crates} - {it.name for it in left}
 
     def tell(name):
         proved.add(name)
-        print("proved %s (crate %d of %d)" % (name, len(proved), len(crates)), file=sys.stderr, flush=True)
+        print("proved %s (crate %d of %d)" % (name, len(proved), len(crates)), file=sys.stderr,
+              flush=True)
 
-    with tempfile.TemporaryDirectory(prefix="libraries-") as room:
-        refused = prove_all(crates, room, tell, prove=functools.partial(prove_here, rtlib), proved=set(proved))
-        if refused:
-            show(room, refused)
-            print("refused: %s" % refused.name, file=sys.stderr)
+    os.makedirs(LOGS, exist_ok=True)
+    refused = prove_all(crates, LOGS, tell, prove=functools.partial(prove_here, rtlib), proved=set(proved))
+    if refused:
+        show(LOGS, refused)
+        print("refused: %s" % refused.name, file=sys.stderr)
     return not refused
 
 
 @contextlib.contextmanager
-def the_only_run():
-    """Here no other run proves crates so; one that does now is waited for. Gives the time at which it began, in nanoseconds."""
+def the_only_run(waits=True):
+    """Here no other run proves crates so; one that does now is waited for, or is a BlockingIOError.
+    Gives the time at which it began, in nanoseconds."""
     os.makedirs(os.path.dirname(LOCK), exist_ok=True)
     with open(LOCK, "a+", encoding="utf-8") as held:
         try:
             fcntl.flock(held, fcntl.LOCK_EX | fcntl.LOCK_NB)
         except BlockingIOError:
-            print("Proofs are under way already (out/proofs.log); waiting for their end.", file=sys.stderr, flush=True)
+            if not waits:
+                raise
+            print("Proofs are under way already (out/proofs.log): they are waited for.",
+                  file=sys.stderr, flush=True)
             fcntl.flock(held, fcntl.LOCK_EX)
         held.truncate(0)
         held.write("%d\n" % os.getpid())
@@ -237,7 +262,8 @@ def the_only_run():
 
 
 def set_time(name, begun):
-    """Gives a program that is built the time at which the run began: a source that was changed since is newer."""
+    """Gives a program that is built the time at which the run began: a source that was changed
+    since is newer."""
     program = "%s/crates/%s/out/%s" % (TOP, name, name)
     if os.path.isfile(program):
         os.utime(program, ns=(begun, begun))
@@ -248,10 +274,10 @@ def main(words):
     if not words or unknown:
         print(__doc__, end="")
         return 2
-    # Python would wait for the proofs that run.
-    signal.signal(signal.SIGINT, signal.SIG_DFL)
+    programs = [it for it in words if os.path.isfile("%s/%s" % (TOP, it))]
+    hint = "\nTo start at once, with nothing proved: ./%s --unproved .." % programs[0] if programs else ""
     with the_only_run() as begun:
-        is_well = prove_crates(toolchain().rtlib, words)
+        is_well = prove_crates(toolchain(), words, hint)
         for name in words if is_well else []:
             set_time(name, begun)
     return 0 if is_well else 1

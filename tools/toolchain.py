@@ -1,7 +1,7 @@
 """The toolchain's command as a module that computes each digest of a crate once in a run.
 
-The toolchain computes the digest of a crate, and the list of all that is below it, by a recursion over crates.txt that
-remembers nothing: as often as there are ways down to each crate.
+The toolchain computes the digest of a crate, and the list of all that is below it, by a recursion
+over crates.txt that remembers nothing: as often as there are ways down to each crate.
 """
 import contextlib
 import importlib.machinery
@@ -27,7 +27,8 @@ def toolchain():
 
 
 def keep_digests(crate_type):
-    """Has the digest of each crate kept by its folder, and the list of the crates below it by the crate."""
+    """Has the digest of each crate kept by its folder, and the list of the crates below it by the
+    crate."""
     stamp, below = crate_type.stamp, crate_type.below
 
     def kept_stamp(crate):
@@ -45,8 +46,9 @@ def keep_digests(crate_type):
 
 @contextlib.contextmanager
 def read_anew(crate):
-    """Here, in this thread, the crate's digest is computed each time of its files as they are, over the kept ones of the crates
-    below it: the toolchain compares one from before a proof with one from after it."""
+    """Here, in this thread, the crate's digest is computed each time of its files as they are, over
+    the kept ones of the crates below it: the toolchain compares one from before a proof with one
+    from after it."""
     PROVED_NOW.crate = crate
     try:
         yield
@@ -54,12 +56,15 @@ def read_anew(crate):
         PROVED_NOW.crate = None
 
 
-def crates_of(rtlib, top, names):
+def crates_of(rt, top, names):
     """These crates of the repository and those below them, each after those on which it stands."""
     known, found = {}, []
+    # A program's digest has also what its files say of how it is run.
+    read_files = getattr(rt, "read_files", lambda crate: None)
     for name in names:
         folder = "%s/crates/%s" % (top, name)
         if folder not in known:
-            known[folder] = rtlib.Crate(folder, top, known)
+            known[folder] = rt.rtlib.Crate(folder, top, known)
+            read_files(known[folder])
         found += [it for it in [*known[folder].below(), known[folder]] if it not in found]
     return found
