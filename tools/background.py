@@ -19,6 +19,7 @@ import shutil
 import signal
 import subprocess
 import sys
+import time
 
 sys.dont_write_bytecode = True
 sys.path.insert(0, os.path.dirname(os.path.realpath(__file__)))
@@ -46,7 +47,7 @@ def refused(rtlib, crates):
     if not os.path.isfile(LOG):
         return None
     with open(LOG, encoding="utf-8") as log:
-        found = re.search(r"\A\d+ (\d+)\n(?:.*\n)*refused: (\w+)\n\Z", log.read())
+        found = re.search(r"\A(\d+)\n(?:.*\n)*refused: (\w+)\n\Z", log.read())
     files = [TOP + "/crates.txt", *(file for it in crates for file in rtlib.files_of(it.folder))]
     return found[2] if found and all(os.stat(it).st_mtime_ns <= int(found[1]) for it in files) else None
 
@@ -54,7 +55,7 @@ def refused(rtlib, crates):
 def start(program):
     """Tells how far the proofs are, and has them go on."""
     if not shutil.which("rt"):
-        print("NOT PROVED: nothing is proved of this program, and without the toolchain's command rt nothing will be.", file=sys.stderr)
+        print("NOT PROVED: nothing is proved of this program, and nothing will be without rt.", file=sys.stderr)
         return 0
     rt = toolchain()
     rtlib, crates = rt.rtlib, crates_of(rt, TOP, [program])
@@ -76,7 +77,7 @@ def prove(program):
         log = os.open(LOG, os.O_WRONLY | os.O_CREAT | os.O_TRUNC, 0o644)
         for it in (1, 2):
             os.dup2(log, it)
-        print(os.getpid(), begun, flush=True)
+        print(begun, flush=True)
         is_well = prove_crates(toolchain(), [program])
         if is_well:
             set_time(program, begun)
@@ -84,16 +85,29 @@ def prove(program):
     return 0
 
 
+def in_background(number):
+    """Whether the process of this number proves crates in the background of this repository."""
+    try:
+        with open("/proc/%s/cmdline" % number, "rb") as it:
+            words = it.read().decode("utf-8", "replace").split("\0")
+    except OSError:
+        return False
+    return "--prove" in words and os.path.realpath(__file__) in words
+
+
 def stop():
     """Ends the proofs in the background, and waits until nothing is proved so."""
-    if is_under_way() and os.path.isfile(LOG):
-        with open(LOCK, encoding="utf-8") as held, open(LOG, encoding="utf-8") as log:
+    is_told = False
+    while is_under_way():
+        with open(LOCK, encoding="utf-8") as held:
             number = held.read().strip()
-            # Who proves in the foreground writes no such line.
-            if number and log.readline().split()[:1] == [number]:
-                os.kill(int(number), signal.SIGTERM)
-    with the_only_run():
-        return 0
+        if in_background(number):
+            os.kill(int(number), signal.SIGTERM)
+        elif not is_told:
+            print("Proofs are under way: they are waited for.", file=sys.stderr, flush=True)
+            is_told = True
+        time.sleep(0.2)
+    return 0
 
 
 def main(words):
