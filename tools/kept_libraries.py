@@ -7,22 +7,15 @@
 With this the gate's own proof of a crate serves the checks of the crates above it. A crate's own first check still proves it from nothing. The libraries hold statements alone: a program
 is built of them by the gate, and not by a check.
 """
-import importlib.machinery
 import os
 import shutil
 import sys
-import types
+
+sys.dont_write_bytecode = True
+sys.path.insert(0, os.path.dirname(os.path.realpath(__file__)))
+from toolchain import toolchain  # noqa: E402
 
 TOP = os.path.dirname(os.path.dirname(os.path.realpath(__file__)))
-
-
-def toolchain():
-    """The toolchain's command, as a module."""
-    path = os.path.realpath(shutil.which("rt"))
-    module = types.ModuleType("toolchain")
-    module.__file__ = path
-    importlib.machinery.SourceFileLoader("toolchain", path).exec_module(module)
-    return module
 
 
 def is_given(crate, key, rt):
