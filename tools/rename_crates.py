@@ -47,7 +47,6 @@ ORDER = [
     ("9. Below `store`: from a device to tables, lowest first", "disk pagefile pool snapshot_pins page_space memory_space overlay sqlrecord btree_read btree btree_remove catalog_records catalog tablestore index_trees stored_tables database_trees index_lookups database_versions paged_store"),
     ("10. Laws: what shows that the definitions say what they should", "syntax_laws typing_laws operator_laws denote_laws algebra_laws order_laws check_laws session_laws rule_laws lives"),
     ("11. Beside the program: trees printed and copied", "printer round_trip ast_copies syntax_tests"),
-    ("12. Tests", "value_tests statement_tests storage_tests page_space_tests refused_read_tests shared_tests script_tests"),
 ]
 TARGETS = set(NAMES.values())
 
@@ -97,7 +96,7 @@ class Home:
     def __init__(self, top):
         self.top = top
         self.lines = entries(top + "/crates.txt")
-        self.tests = entries(top + "/tests/crates.txt")
+        self.tests = entries(top + "/tests/libraries.txt")
         self.given = {it: self.names_given(it) for it in {*NAMES, *TARGETS} if os.path.isfile("%s/crates/%s/src/lib.rt" % (top, it))}
 
     def names_given(self, crate):
@@ -155,11 +154,11 @@ class Home:
         return text
 
 
-def in_crate(top, crate):
-    for at, inner, names in os.walk("%s/crates/%s" % (top, crate)):
+def in_crate(top, crate, folder="crates"):
+    for at, inner, names in os.walk("%s/%s/%s" % (top, folder, crate)):
         inner[:] = [it for it in inner if it != "out"]
         for name in names:
-            yield os.path.relpath(at + "/" + name, "%s/crates/%s" % (top, crate))
+            yield os.path.relpath(at + "/" + name, "%s/%s/%s" % (top, folder, crate))
 
 
 def new_place(crate, path):
@@ -223,11 +222,11 @@ def prose(text):
     return text
 
 
-def rename_texts(home, crates):
+def rename_texts(home, folder, crates):
     for crate in crates:
-        for path in in_crate(home.top, crate):
-            full = "%s/crates/%s/%s" % (home.top, crate, path)
-            is_code = path.endswith((".rt", ".antt", ".edit"))
+        for path in in_crate(home.top, crate, folder):
+            full = "%s/%s/%s/%s" % (home.top, folder, crate, path)
+            is_code = path.endswith((".rt", ".antt", ".edit", ".rt.txt", ".antt.txt"))
             if is_code or path.endswith(".md"):
                 before = read(full)
                 after = prose(home.code(crate, before) if is_code else before)
@@ -252,15 +251,19 @@ def write_list(home):
             words, deps = left.pop(name)
             deps = sorted(set(deps) - {name}, key=lambda it: (it not in places, places.get(it, 0), it))
             text += " ".join([name, *words]) + ":" + "".join(" " + it for it in deps) + "\n"
-    if left:
-        raise SystemExit("no heading has %s" % ", ".join(left))
+    for name, (words, deps) in left.items():
+        text += " ".join(["\n" + name, *words]) + ":" + "".join(" " + it for it in dict.fromkeys(deps)) + "\n"
     write(home.top + "/crates.txt", text)
 
 
 def main(words):
     top = os.path.realpath(words[0]) if words else os.path.dirname(HERE)
     home = Home(top)
-    rename_texts(home, [it for it in home.lines if os.path.isdir("%s/crates/%s" % (top, it))])
+    if not any(it in NAMES for it in home.lines):
+        print("All crates have their names.")
+        return 0
+    rename_texts(home, "crates", [it for it in home.lines if os.path.isdir("%s/crates/%s" % (top, it))])
+    rename_texts(home, "tests", [it for it in home.tests if os.path.isdir("%s/tests/%s" % (top, it))])
     for crate in NAMES:
         if os.path.isdir("%s/crates/%s" % (top, crate)):
             move_crate(home, crate)
