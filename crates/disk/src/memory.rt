@@ -1,6 +1,7 @@
 ghost use Rattle.std.specs.Prelude.{◌≡◌, ◌+◌, ◌-◌, ◌++◌, take, drop, replicate, ◌<◌, ◌≤◌, ◌↔◌, [], true, false, length, IsOk, IfErr, OnOk, OnErr};
 ghost use Rattle.disk.specs.Causes.{IsOfMemory};
 ghost use Rattle.disk.specs.Contents.{Holds, overwritten, resized};
+ghost use Rattle.disk.specs.Keeping.{not_durable};
 ghost use Rattle.disk.specs.Refused.{CountsRefusal, HasRisen};
 
 use crate::{Disk, DiskError};
@@ -8,11 +9,13 @@ use std::alloc::{AllocError, Global};
 use std::marker::Model;
 
 /// A device in memory. It is honest, and refuses only for want of memory and a read past its end.
+/// It keeps nothing over a crash, so it is not durable.
 #[derive(Drop)]
 pub struct MemDisk {
     bytes: Vec<u8>,
     refused: u64,
     synced: u64,
+    writes: u64,
     settled: bool,
 }
 
@@ -21,25 +24,32 @@ impl Model for MemDisk {
 
     ghost Value = { Held };
 
-    ghost view = { λ d. record { bytes = d.bytes.items; refused = d.refused; synced = d.synced; settled = d.settled } };
+    ghost view = { λ d. record {
+      bytes = d.bytes.items;
+      refused = d.refused;
+      synced = d.synced;
+      writes = d.writes;
+      settled = d.settled;
+    } };
 }
 
 impl MemDisk {
     /// An empty device.
     pub fn new(alloc: Global) -> MemDisk
-        ensures { result ≡ record { bytes = []; refused = 0; synced = 0; settled = false } }
+        ensures { result ≡ record { bytes = []; refused = 0; synced = 0; writes = 0; settled = false } }
     {
         MemDisk::from_bytes(Vec::new(alloc))
     }
 
     /// A device that holds these bytes.
     pub fn from_bytes(bytes: Vec<u8>) -> MemDisk
-        ensures { result ≡ record { bytes = bytes.items; refused = 0; synced = 0; settled = false } }
+        ensures { result ≡ record { bytes = bytes.items; refused = 0; synced = 0; writes = 0; settled = false } }
     {
         MemDisk {
             bytes,
             refused: 0,
             synced: 0,
+            writes: 0,
             settled: false,
         }
     }
@@ -98,9 +108,25 @@ impl Disk for MemDisk {
 
     ghost bytes = { λ d. d.bytes };
 
+    ghost is_durable = { false };
+
+    ghost may_leave = { λ _ _. ⊥ };
+
+    ghost moment = { λ _. 0 };
+
+    ghost left_since = { λ _ _ _. ⊥ };
+
+    ghost read_is_left = { λ d durable. not_durable durable };
+
+    ghost counts_now = { λ d t c durable. not_durable durable };
+
+    ghost only_now = { λ d c durable. not_durable durable };
+
     ghost refused = { λ d. d.refused };
 
     ghost synced = { λ d. d.synced };
+
+    ghost writes = { λ d. d.writes };
 
     ghost settled = { λ d. d.settled ≡ true };
 
@@ -122,6 +148,7 @@ impl Disk for MemDisk {
         ensures same { self.new.bytes ≡ self.old.bytes }
         ensures count { CountsRefusal result self.old.refused self.new.refused }
         ensures synced { self.new.synced ≡ self.old.synced }
+        ensures writes { self.new.writes ≡ self.old.writes }
         ensures settled { self.new.settled ≡ self.old.settled }
     {
         let len = self.bytes.len();
@@ -140,7 +167,9 @@ impl Disk for MemDisk {
         ensures unchanged { OnErr result (self.new.bytes ≡ self.old.bytes) }
         ensures count { CountsRefusal result self.old.refused self.new.refused }
         ensures synced { self.new.synced ≡ self.old.synced }
+        ensures writes { HasRisen self.old.writes self.new.writes }
     {
+        self.writes = self.writes.saturating_add(1);
         self.settled = false;
         match overwrite(&mut self.bytes, at as usize, from) {
             Ok(()) => Ok(()),
@@ -155,7 +184,9 @@ impl Disk for MemDisk {
         ensures unchanged { OnErr result (self.new.bytes ≡ self.old.bytes) }
         ensures count { CountsRefusal result self.old.refused self.new.refused }
         ensures synced { self.new.synced ≡ self.old.synced }
+        ensures writes { HasRisen self.old.writes self.new.writes }
     {
+        self.writes = self.writes.saturating_add(1);
         self.settled = false;
         match self.bytes.resize(len as usize, 0) {
             Ok(()) => Ok(()),
@@ -169,6 +200,7 @@ impl Disk for MemDisk {
         ensures same { self.new.bytes ≡ self.old.bytes }
         ensures count { self.new.refused ≡ self.old.refused }
         ensures synced { HasRisen self.old.synced self.new.synced }
+        ensures writes { self.new.writes ≡ self.old.writes }
         ensures settles { self.new.settled ≡ true }
     {
         // There is no medium beneath it.
