@@ -1,0 +1,118 @@
+-- The same of a device that has added an outcome, and what is found after a crash.
+use Rattle.std.proofs.Common.{◌≡◌, ◌≢◌, ◌⊎◌, inl, inr, ⊎_elim, ℕ, zero, suc, ◌+◌, ◌-◌, ◌<◌, ◌≤◌, List, [], ◌∷◌, ◌++◌, length, get_or, take, drop, refl, sym, ◌∙◌, ap, subst, arith, length-append}
+use Rattle.std.specs.Prelude.{Bool, true, false, max, replicate, nat_eq, nat_lt, if◌then◌else◌, Result, Ok, Err, OnOk, OnErr}
+use Rattle.disk.specs.Contents.{IsTorn, resized, overwritten}
+use Rattle.disk.specs.Crashes.{Bytes, Elapses, Follows, Only, IsSpread, IsCut}
+use Rattle.disk.proofs.ContentsLemmas.{length_resized, length_overwritten, overwritten_torn}
+use Rattle.crash_disk.specs.declared.outcome.Outcome.{Outcome}
+use Rattle.crash_disk.specs.Outcomes.{IsWithin, in_range, InRange, has_length, IsSized, IsLeft, Agrees, HadOne, newest, Adds, AddsSynced}
+use Rattle.crash_disk.proofs.RangeLemmas.{IsMore}
+use Rattle.crash_disk.proofs.TimeLemmas.{newest_push, elapses_to, newest_then, newest_at}
+use Rattle.crash_disk.proofs.OutcomeLemmas.{spread_follows, cut_follows, more_agrees, torn_agrees, cut_agrees, synced_only, synced_agrees}
+
+-- ---- by the outcome that was added
+
+pub added : {E : Type 0} (result : Result (Unit {0}) E) (first : Outcome) (old new : List Outcome) (next : Outcome) (range : ℕ × ℕ) (len : ℕ) → OnOk result (new ≡ old ++ next ∷ [])
+    → next.synced.items ≡ (newest first old).synced.items
+    → next.ranges.items ≡ (newest first old).ranges.items ++ range ∷ []
+    → next.lengths.items ≡ (newest first old).lengths.items ++ len ∷ []
+    → OnOk result (Adds first old new range len)
+added (Ok done) first old new next range len is synced ranges lengths = record { next = next; is = is; synced = synced; ranges = ranges; lengths = lengths }
+added (Err e) first old new next range len is synced ranges lengths = tt
+
+pub added_synced : {E : Type 0} (result : Result (Unit {0}) E) (old new : List Outcome) (next : Outcome) (bytes : Bytes) → OnOk result (new ≡ old ++ next ∷ [])
+    → next.synced.items ≡ bytes → next.ranges.items ≡ [] → next.lengths.items ≡ []
+    → OnOk result (AddsSynced old new bytes)
+added_synced (Ok done) old new next bytes is synced ranges lengths = record { next = next; is = is; synced = synced; ranges = ranges; lengths = lengths }
+added_synced (Err e) old new next bytes is synced ranges lengths = tt
+
+is_more : (first : Outcome) (old new : List Outcome) (a b len : ℕ) → (added : Adds first old new (a, b) len)
+    → IsMore (newest first old) added.next a b len
+is_more first old new a b len added = record { synced = added.synced; ranges = added.ranges; lengths = added.lengths }
+
+newest_is : (first : Outcome) (old new : List Outcome) (a b len : ℕ) → (added : Adds first old new (a, b) len)
+    → newest first new ≡ added.next
+newest_is first old new a b len added = newest_then first old new added.next added.is
+
+pub add_elapses : (first : Outcome) (old new : List Outcome) (range : ℕ × ℕ) (len : ℕ) → Adds first old new range len
+    → Elapses (length old) (length new) (λ t c. HadOne (drop t (first ∷ old)) c) (λ t c. HadOne (drop t (first ∷ new)) c) (IsLeft (newest first new))
+add_elapses first old new range len added = elapses_to first old new added.next added.is
+
+pub add_write_follows : (first : Outcome) (old new : List Outcome) (file : Bytes) (at n end len : ℕ)
+    → Adds first old new (at, end) len → end ≡ at + n → len ≡ max (length file) end → Agrees (newest first old) file
+    → Follows (IsSpread (length file) at n) (IsLeft (newest first old)) (IsLeft (newest first new))
+add_write_follows first old new file at n end len added e l agrees =
+    subst (λ (o : Outcome). Follows (IsSpread (length file) at n) (IsLeft (newest first old)) (IsLeft o)) (sym (newest_is first old new at end len added))
+    (spread_follows (newest first old) added.next file at n
+    (record { synced = added.synced; ranges = added.ranges ∙ ap (λ (k : ℕ). (newest first old).ranges.items ++ (at, k) ∷ []) e; lengths = added.lengths ∙ ap (λ (k : ℕ). (newest first old).lengths.items ++ k ∷ []) (l ∙ ap (max (length file)) e) })
+    agrees)
+
+pub add_write_agrees : {E : Type 0} (result : Result (Unit {0}) E) (first : Outcome) (old new : List Outcome) (file after bytes : Bytes) (at end len : ℕ) → Adds first old new (at, end) len
+    → end ≡ at + length bytes → len ≡ max (length file) end → Agrees (newest first old) file
+    → OnOk result (after ≡ overwritten file at bytes) → OnErr result (after ≡ file) → Agrees (newest first new) after
+add_write_agrees (Ok done) first old new file after bytes at end len added e l agrees ok err =
+    subst (λ (o : Outcome). Agrees o after) (sym (newest_is first old new at end len added))
+    (subst (λ (f : Bytes). Agrees added.next f) (sym ok)
+    (torn_agrees (newest first old) added.next file (overwritten file at bytes) at (length bytes) len
+    (record { synced = added.synced; ranges = added.ranges ∙ ap (λ (k : ℕ). (newest first old).ranges.items ++ (at, k) ∷ []) e; lengths = added.lengths })
+    agrees (overwritten_torn file bytes at) (length_overwritten file bytes at ∙ ap (max (length file)) (sym e) ∙ sym l)))
+add_write_agrees (Err refusal) first old new file after bytes at end len added e l agrees ok err =
+    subst (λ (o : Outcome). Agrees o after) (sym (newest_is first old new at end len added))
+    (subst (λ (f : Bytes). Agrees added.next f) (sym err) (more_agrees (newest first old) added.next file at end len (is_more first old new at end len added) agrees))
+
+pub add_cut_follows : (first : Outcome) (old new : List Outcome) (file : Bytes) (n end : ℕ)
+    → Adds first old new (n, end) n → end ≡ length (newest first old).synced.items → Agrees (newest first old) file
+    → Follows (IsCut n) (IsLeft (newest first old)) (IsLeft (newest first new))
+add_cut_follows first old new file n end added e agrees =
+    subst (λ (o : Outcome). Follows (IsCut n) (IsLeft (newest first old)) (IsLeft o)) (sym (newest_is first old new n end n added))
+    (cut_follows (newest first old) added.next file n
+    (record { synced = added.synced; ranges = added.ranges ∙ ap (λ (k : ℕ). (newest first old).ranges.items ++ (n, k) ∷ []) e; lengths = added.lengths })
+    agrees)
+
+pub add_cut_agrees : {E : Type 0} (result : Result (Unit {0}) E) (first : Outcome) (old new : List Outcome) (file after : Bytes) (n end : ℕ) → Adds first old new (n, end) n
+    → end ≡ length (newest first old).synced.items → Agrees (newest first old) file
+    → OnOk result (after ≡ resized file n) → OnErr result (after ≡ file) → Agrees (newest first new) after
+add_cut_agrees (Ok done) first old new file after n end added e agrees ok err =
+    subst (λ (o : Outcome). Agrees o after) (sym (newest_is first old new n end n added))
+    (subst (λ (f : Bytes). Agrees added.next f) (sym ok)
+    (cut_agrees (newest first old) added.next file n
+    (record { synced = added.synced; ranges = added.ranges ∙ ap (λ (k : ℕ). (newest first old).ranges.items ++ (n, k) ∷ []) e; lengths = added.lengths })
+    agrees))
+add_cut_agrees (Err refusal) first old new file after n end added e agrees ok err =
+    subst (λ (o : Outcome). Agrees o after) (sym (newest_is first old new n end n added))
+    (subst (λ (f : Bytes). Agrees added.next f) (sym err) (more_agrees (newest first old) added.next file n end n (is_more first old new n end n added) agrees))
+
+pub add_synced_only : (first : Outcome) (old new : List Outcome) (file : Bytes) → AddsSynced old new file
+    → Only file (IsLeft (newest first new))
+add_synced_only first old new file added =
+    subst (λ (o : Outcome). Only file (IsLeft o)) (sym (newest_then first old new added.next added.is)) (synced_only added.next file added.synced added.ranges added.lengths)
+
+pub add_synced_agrees : (first : Outcome) (old new : List Outcome) (file : Bytes) → AddsSynced old new file
+    → Agrees (newest first new) file
+add_synced_agrees first old new file added = subst (λ (o : Outcome). Agrees o file) (sym (newest_then first old new added.next added.is)) (synced_agrees added.next file added.synced)
+
+pub add_synced_crash : (first : Outcome) (old new : List Outcome) (file : Bytes) → AddsSynced old new file
+    → Agrees (newest first old) file → (c : Bytes) → IsLeft (newest first new) c → IsLeft (newest first old) c
+add_synced_crash first old new file added agrees c left = subst (IsLeft (newest first old)) (sym (add_synced_only first old new file added c left)) agrees.left
+
+pub add_synced_elapses : (first : Outcome) (old new : List Outcome) (file : Bytes) → AddsSynced old new file
+    → Elapses (length old) (length new) (λ t c. HadOne (drop t (first ∷ old)) c) (λ t c. HadOne (drop t (first ∷ new)) c) (IsLeft (newest first new))
+add_synced_elapses first old new file added = elapses_to first old new added.next added.is
+
+-- ---- what is found
+
+pub filled_left : (o : Outcome) (file mid found : Bytes) (from top : ℕ) → Agrees o file → from ≡ length o.synced.items
+    → length mid ≡ length file → ((i : ℕ) → (IsWithin from top i → ⊥) → get_or mid i 0 ≡ get_or file i 0)
+    → length found ≡ length mid → ((i : ℕ) → (InRange o.ranges.items i → ⊥) → get_or found i 0 ≡ get_or mid i 0)
+    → IsLeft o found
+filled_left o file mid found from top agrees start one outside two out = record {
+  size = subst (λ (k : ℕ). IsSized o k) (sym (two ∙ one)) agrees.left.size;
+  kept = λ i below within none. out i none ∙ outside i (λ is. omega (arith, is.0, below, start)) ∙ agrees.left.kept i below (omega (arith, one, two, within)) none;
+}
+
+pub of_ok : {E X : Type 0} (result : Result (Unit {0}) E) → OnOk result X → result ≡ Ok tt → X
+of_ok {E} {X} result h is = subst (λ (r : Result (Unit {0}) E). OnOk r X) is h
+
+pub on_any : {E X : Type 0} (result : Result (Unit {0}) E) → X → OnOk result X
+on_any (Ok done) x = x
+on_any (Err e) x = tt

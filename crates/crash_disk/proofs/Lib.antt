@@ -1,0 +1,4 @@
+mod TimeLemmas
+mod RangeLemmas
+mod OutcomeLemmas
+mod AddedLemmas
