@@ -1,13 +1,13 @@
 -- The same of a device that has added an outcome, and what is found after a crash.
-use Rattle.std.proofs.Common.{◌≡◌, ◌≢◌, ◌⊎◌, inl, inr, ⊎_elim, ℕ, zero, suc, ◌+◌, ◌-◌, ◌<◌, ◌≤◌, List, [], ◌∷◌, ◌++◌, length, get_or, take, drop, refl, sym, ◌∙◌, ap, subst, arith, length-append}
-use Rattle.std.specs.Prelude.{Bool, true, false, max, replicate, nat_eq, nat_lt, if◌then◌else◌, Result, Ok, Err, OnOk, OnErr}
-use Rattle.disk.specs.Contents.{IsTorn, resized, overwritten}
+use Rattle.std.proofs.Common.{◌≡◌, ℕ, ◌+◌, List, [], ◌∷◌, ◌++◌, length, get_or, drop, sym, ◌∙◌, ap, subst, arith}
+use Rattle.std.specs.Prelude.{max, Result, Ok, Err, OnOk, OnErr}
+use Rattle.disk.specs.Contents.{resized, overwritten}
 use Rattle.disk.specs.Crashes.{Bytes, Elapses, Follows, Only, IsSpread, IsCut}
-use Rattle.disk.proofs.ContentsLemmas.{length_resized, length_overwritten, overwritten_torn}
+use Rattle.disk.proofs.ContentsLemmas.{length_overwritten, overwritten_torn}
 use Rattle.crash_disk.specs.declared.outcome.Outcome.{Outcome}
-use Rattle.crash_disk.specs.Outcomes.{IsWithin, in_range, InRange, has_length, IsSized, IsLeft, Agrees, HadOne, newest, Adds, AddsSynced}
+use Rattle.crash_disk.specs.Outcomes.{IsWithin, InRange, IsSized, IsLeft, Agrees, HadOne, newest, Adds, AddsSynced}
 use Rattle.crash_disk.proofs.RangeLemmas.{IsMore}
-use Rattle.crash_disk.proofs.TimeLemmas.{newest_push, elapses_to, newest_then, newest_at}
+use Rattle.crash_disk.proofs.TimeLemmas.{elapses_to, newest_then}
 use Rattle.crash_disk.proofs.OutcomeLemmas.{spread_follows, cut_follows, more_agrees, torn_agrees, cut_agrees, synced_only, synced_agrees}
 
 -- ---- by the outcome that was added

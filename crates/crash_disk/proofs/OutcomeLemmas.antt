@@ -1,15 +1,15 @@
 -- What a crash may leave after a write, a change of the length or a sync, by what it might have left before.
-use Rattle.std.proofs.Common.{◌≡◌, ◌≢◌, ◌⊎◌, inl, inr, ⊎_elim, ℕ, zero, suc, ◌+◌, ◌-◌, ◌<◌, ◌≤◌, List, [], ◌∷◌, ◌++◌, length, get_or, take, drop, refl, sym, ◌∙◌, ap, subst, arith, length-append}
-use Rattle.std.specs.Prelude.{Bool, true, false, max, replicate, nat_eq, nat_lt, if◌then◌else◌, Result, Ok, Err, OnOk, OnErr}
-use Rattle.std.proofs.lemmas.Bool.{cases_lt, cases_eq}
+use Rattle.std.proofs.Common.{◌≡◌, ◌⊎◌, inl, inr, ⊎_elim, ℕ, zero, suc, ◌+◌, ◌-◌, ◌<◌, ◌≤◌, List, [], ◌∷◌, length, get_or, take, refl, sym, ◌∙◌, ap, subst, arith}
+use Rattle.std.specs.Prelude.{true, false, max, replicate, nat_lt, if◌then◌else◌}
+use Rattle.std.proofs.lemmas.Bool.{cases_lt}
 use Rattle.std.proofs.lemmas.Bool.Decides.{nat_tests}
-use Rattle.std.proofs.lemmas.List.{take_all, drop_all, length-take, length-drop, ext_get_or, get_or-take, get_or_append_left}
-use Rattle.disk.specs.Contents.{IsTorn, resized, overwritten}
-use Rattle.disk.specs.Crashes.{Bytes, Elapses, Follows, Only, IsSpread, IsCut}
-use Rattle.disk.proofs.ContentsLemmas.{length_resized, length_overwritten, overwritten_torn}
+use Rattle.std.proofs.lemmas.List.{length-take, ext_get_or, get_or-take, get_or_append_left}
+use Rattle.disk.specs.Contents.{IsTorn, resized}
+use Rattle.disk.specs.Crashes.{Bytes, Follows, Only, IsSpread, IsCut}
+use Rattle.disk.proofs.ContentsLemmas.{length_resized}
 use Rattle.crash_disk.specs.declared.outcome.Outcome.{Outcome}
-use Rattle.crash_disk.specs.Outcomes.{IsWithin, in_range, InRange, has_length, IsSized, IsLeft, Agrees, HadOne, newest, Adds, AddsSynced}
-use Rattle.crash_disk.proofs.RangeLemmas.{range_cases1, range_first, range_next, range_at, length_cases1, length_first, IsMore, more_old, more_new, not_more, sized_old, sized_new, sized_cases}
+use Rattle.crash_disk.specs.Outcomes.{InRange, has_length, IsSized, IsLeft, Agrees}
+use Rattle.crash_disk.proofs.RangeLemmas.{length_cases1, length_first, IsMore, more_old, more_new, not_more, sized_old, sized_new, sized_cases}
 
 -- ---- a list by its elements
 

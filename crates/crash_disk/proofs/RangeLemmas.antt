@@ -1,10 +1,10 @@
 -- Ranges and lengths, and an outcome that has one of each more than another.
-use Rattle.std.proofs.Common.{◌≡◌, ◌≢◌, ◌⊎◌, inl, inr, ⊎_elim, ℕ, zero, suc, ◌+◌, ◌-◌, ◌<◌, ◌≤◌, List, [], ◌∷◌, ◌++◌, length, get_or, take, drop, refl, sym, ◌∙◌, ap, subst, arith, length-append}
-use Rattle.std.specs.Prelude.{Bool, true, false, max, replicate, nat_eq, nat_lt, if◌then◌else◌, Result, Ok, Err, OnOk, OnErr}
+use Rattle.std.proofs.Common.{◌≡◌, ◌≢◌, ◌⊎◌, inl, inr, ⊎_elim, ℕ, zero, suc, ◌<◌, ◌≤◌, List, [], ◌∷◌, ◌++◌, length, get_or, sym, ◌∙◌, ap, subst, arith}
+use Rattle.std.specs.Prelude.{true, false}
 use Rattle.std.proofs.lemmas.Bool.{cases_lt, cases_eq}
 use Rattle.std.proofs.lemmas.Bool.Decides.{nat_tests}
 use Rattle.crash_disk.specs.declared.outcome.Outcome.{Outcome}
-use Rattle.crash_disk.specs.Outcomes.{IsWithin, in_range, InRange, has_length, IsSized, IsLeft, Agrees, HadOne, newest, Adds, AddsSynced}
+use Rattle.crash_disk.specs.Outcomes.{IsWithin, in_range, InRange, has_length, IsSized}
 
 -- in the first range or in another
 pub range_cases1 : (r : ℕ × ℕ) (rs : List (ℕ × ℕ)) (i : ℕ) → InRange (r ∷ rs) i → IsWithin r.0 r.1 i ⊎ InRange rs i

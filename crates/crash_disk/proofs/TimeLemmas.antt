@@ -1,9 +1,8 @@
 -- One outcome more behind those that a device has had.
-use Rattle.std.proofs.Common.{◌≡◌, ◌≢◌, ◌⊎◌, inl, inr, ⊎_elim, ℕ, zero, suc, ◌+◌, ◌-◌, ◌<◌, ◌≤◌, List, [], ◌∷◌, ◌++◌, length, get_or, take, drop, refl, sym, ◌∙◌, ap, subst, arith, length-append}
-use Rattle.std.specs.Prelude.{Bool, true, false, max, replicate, nat_eq, nat_lt, if◌then◌else◌, Result, Ok, Err, OnOk, OnErr}
-use Rattle.disk.specs.Crashes.{Bytes, Elapses, Follows, Only, IsSpread, IsCut}
+use Rattle.std.proofs.Common.{◌≡◌, ◌⊎◌, inl, inr, ⊎_elim, ℕ, zero, suc, ◌-◌, ◌<◌, ◌≤◌, List, [], ◌∷◌, ◌++◌, length, get_or, drop, refl, sym, ◌∙◌, ap, subst, arith, length-append}
+use Rattle.disk.specs.Crashes.{Bytes, Elapses}
 use Rattle.crash_disk.specs.declared.outcome.Outcome.{Outcome}
-use Rattle.crash_disk.specs.Outcomes.{IsWithin, in_range, InRange, has_length, IsSized, IsLeft, Agrees, HadOne, newest, Adds, AddsSynced}
+use Rattle.crash_disk.specs.Outcomes.{IsLeft, HadOne, newest}
 
 pub newest_push : (o : Outcome) (ps : List Outcome) (q : Outcome) → newest o (ps ++ q ∷ []) ≡ q
 newest_push o [] q = refl

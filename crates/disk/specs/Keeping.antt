@@ -1,8 +1,7 @@
 -- Which calls of a device keep a property of all that a crash may leave: laws that each layer above
 -- composes its calls by.
-use Rattle.std.specs.Prelude.{◌≡◌, ◌⊎◌, ℕ, ◌+◌, ◌≤◌, Bool, true, false}
+use Rattle.std.specs.Prelude.{◌≡◌, ℕ, ◌≤◌, true, false}
 use Rattle.std.proofs.Common.{inl, inr, ⊎_elim, arith, refl}
-use Rattle.disk.specs.Contents.{IsTorn}
 use Rattle.disk.specs.Crashes.{Bytes, Elapses, LeavesOnly, Always, Follows, Keeps, IsSpread, IsCut}
 
 -- a device that is not durable owes no law of crashes

@@ -1,11 +1,10 @@
 -- Writes that a crash may cut, as changes of pages and of the parts of page 0.
-use Rattle.std.proofs.Common.{◌≡◌, ◌≢◌, ℕ, ◌+◌, ◌-◌, ◌*◌, ◌<◌, ◌≤◌, List, length, get_or, refl, sym, ap, ◌∙◌, inl, inr, arith, Some}
-use Rattle.std.specs.Prelude.{◌⊎◌, slice_range, IsSome}
+use Rattle.std.proofs.Common.{◌≡◌, ℕ, ◌+◌, ◌-◌, ◌*◌, ◌<◌, ◌≤◌, List, length, get_or, sym, ap, ◌∙◌, inl, inr, arith, Some}
+use Rattle.std.specs.Prelude.{◌⊎◌, slice_range}
 use Rattle.std.proofs.lemmas.List.{ext_get_or}
 use Rattle.std.proofs.lemmas.List.Edits.{length-between, get_or-between}
 use Rattle.disk.specs.Crashes.{IsSpread, IsCut}
 use Rattle.pagefile.specs.Header.{header_size}
-use Rattle.pagefile.specs.Pages.{page_of, KeepsOthers}
 use Rattle.pagefile.specs.Parts.{IsSpreadPage, IsSpreadPart, IsCutTo, IsSpreadGate, IsSpreadStart, IsSpreadVersioned, gate_at}
 use Rattle.pagefile.proofs.PageLemmas.{torn_keeps, page_there, page_within}
 

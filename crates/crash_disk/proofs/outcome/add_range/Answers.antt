@@ -1,4 +1,4 @@
-use Rattle.std.proofs.Common.{◌≡◌, ◌∙◌, ◌++◌, ◌∷◌, [], ap, length}
+use Rattle.std.proofs.Common.{◌≡◌, ◌∙◌, ◌++◌, ◌∷◌, [], ap}
 use Rattle.crash_disk.specs.declared.outcome.Outcome.{Outcome}
 use Rattle.crash_disk.specs.Outcomes.{newest}
 use Rattle.crash_disk.proofs.AddedLemmas.{added}

@@ -1,4 +1,4 @@
-use Rattle.std.proofs.Common.{◌∙◌, subst, sym}
+use Rattle.std.proofs.Common.{subst, sym}
 use Rattle.crash_disk.specs.Outcomes.{AddsSynced, Agrees, newest}
 use Rattle.crash_disk.proofs.AddedLemmas.{add_synced_only, add_synced_agrees, add_synced_crash, add_synced_elapses, of_ok, on_any}
 use Rattle.crash_disk.proofs.device.CrashDiskDisk.sync.Goals as goal
