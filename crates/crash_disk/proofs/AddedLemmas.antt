@@ -1,12 +1,14 @@
 -- The same of a device that has added an outcome, and what is found after a crash.
-use Rattle.std.proofs.Common.{◌≡◌, ℕ, ◌+◌, List, [], ◌∷◌, ◌++◌, length, get_or, drop, sym, ◌∙◌, ap, subst, arith}
-use Rattle.std.specs.Prelude.{max, Result, Ok, Err, OnOk, OnErr}
+use Rattle.std.proofs.Common.{◌≡◌, ◌⊎◌, inl, inr, ℕ, suc, ◌+◌, ◌<◌, ◌≤◌, List, [], ◌∷◌, ◌++◌, length, get_or, take, drop, sym, ◌∙◌, ap, subst, arith}
+use Rattle.std.specs.Prelude.{true, false, max, Result, Ok, Err, OnOk, OnErr}
+use Rattle.std.proofs.Math.Seq.{take-suc}
+use Rattle.std.proofs.lemmas.Bool.{cases_Bool, cases_lt}
 use Rattle.disk.specs.Contents.{resized, overwritten}
 use Rattle.disk.specs.Crashes.{Bytes, Elapses, Follows, Only, IsSpread, IsCut}
 use Rattle.disk.proofs.ContentsLemmas.{length_overwritten, overwritten_torn}
 use Rattle.crash_disk.specs.declared.outcome.Outcome.{Outcome}
-use Rattle.crash_disk.specs.Outcomes.{IsWithin, InRange, IsSized, IsLeft, Agrees, HadOne, newest, Adds, AddsSynced}
-use Rattle.crash_disk.proofs.RangeLemmas.{IsMore}
+use Rattle.crash_disk.specs.Outcomes.{IsWithin, in_range, InRange, IsFilled, IsSized, IsLeft, Agrees, HadOne, newest, Adds, AddsSynced}
+use Rattle.crash_disk.proofs.RangeLemmas.{IsMore, range_cases}
 use Rattle.crash_disk.proofs.TimeLemmas.{elapses_to, newest_then}
 use Rattle.crash_disk.proofs.OutcomeLemmas.{spread_follows, cut_follows, more_agrees, torn_agrees, cut_agrees, synced_only, synced_agrees}
 
@@ -109,6 +111,51 @@ filled_left o file mid found from top agrees start one outside two out = record 
   size = subst (λ (k : ℕ). IsSized o k) (sym (two ∙ one)) agrees.left.size;
   kept = λ i below within none. out i none ∙ outside i (λ is. omega (arith, is.0, below, start)) ∙ agrees.left.kept i below (omega (arith, one, two, within)) none;
 }
+
+-- one range more is filled
+pub filled_next : (ranges : List (ℕ × ℕ)) (k : ℕ) (d : ℕ × ℕ) (old new : Bytes) → k < length ranges
+    → length new ≡ length old
+    → ((i : ℕ) → IsWithin (get_or ranges k d).0 (get_or ranges k d).1 i → i < length new → get_or new i 0 ≡ 165)
+    → ((i : ℕ) → (IsWithin (get_or ranges k d).0 (get_or ranges k d).1 i → ⊥) → get_or new i 0 ≡ get_or old i 0)
+    → ((i : ℕ) → i < length old → InRange (take k ranges) i → get_or old i 0 ≡ 165)
+    → (i : ℕ) → i < length new → InRange (take (k + 1) ranges) i → get_or new i 0 ≡ 165
+filled_next ranges k d old new less size inside outside so_far i within is =
+    by (cases_lt i (get_or ranges k d).0) (cases_lt i (get_or ranges k d).1)
+    (range_cases (take k ranges) (get_or ranges k d) i (subst (λ (l : List (ℕ × ℕ)). InRange l i) next is))
+  where
+    next : take (k + 1) ranges ≡ take k ranges ++ get_or ranges k d ∷ []
+    next = let one : k + 1 ≡ suc k = omega arith in ap (λ (n : ℕ). take n ranges) one ∙ take-suc ranges k d less
+
+    kept : InRange (take k ranges) i ⊎ IsWithin (get_or ranges k d).0 (get_or ranges k d).1 i
+        → (IsWithin (get_or ranges k d).0 (get_or ranges k d).1 i → ⊥) → get_or new i 0 ≡ 165
+    kept (inl before) out = outside i out ∙ so_far i (omega (arith, size, within)) before
+    kept (inr here) out = absurd (out here)
+
+    by : (i < (get_or ranges k d).0) ⊎ ((get_or ranges k d).0 ≤ i) → (i < (get_or ranges k d).1) ⊎ ((get_or ranges k d).1 ≤ i)
+        → InRange (take k ranges) i ⊎ IsWithin (get_or ranges k d).0 (get_or ranges k d).1 i → get_or new i 0 ≡ 165
+    by (inl low) other found = kept found (λ here. omega (arith, low, here.0))
+    by (inr low) (inr past) found = kept found (λ here. omega (arith, past, here.1))
+    by (inr low) (inl high) found = inside i (low, high) within
+
+-- all that a crash may leave as any bytes is filled
+pub filled_all : (o : Outcome) (mid found : Bytes) (from top : ℕ) → from ≡ length o.synced.items → top ≡ length mid
+    → ((i : ℕ) → IsWithin from top i → i < length mid → get_or mid i 0 ≡ 165) → length found ≡ length mid
+    → ((i : ℕ) → i < length found → InRange o.ranges.items i → get_or found i 0 ≡ 165)
+    → ((i : ℕ) → (InRange o.ranges.items i → ⊥) → get_or found i 0 ≡ get_or mid i 0) → IsFilled o found
+filled_all o mid found from top start end first size inside outside = record {
+  ranges = inside;
+  behind = λ i within behind. by i within behind (cases_Bool (in_range o.ranges.items i));
+}
+  where
+    by : (i : ℕ) → i < length found → length o.synced.items ≤ i
+        → (in_range o.ranges.items i ≡ true) ⊎ (in_range o.ranges.items i ≡ false) → get_or found i 0 ≡ 165
+    by i within behind (inl is) = inside i within is
+    by i within behind (inr none) =
+        outside i (λ is. not (sym is ∙ none))
+        ∙ first i (omega (arith, start, behind), omega (arith, end, size, within)) (omega (arith, size, within))
+      where
+        not : true ≡ false → ⊥
+        not e = cc
 
 pub of_ok : {E X : Type 0} (result : Result (Unit {0}) E) → OnOk result X → result ≡ Ok tt → X
 of_ok {E} {X} result h is = subst (λ (r : Result (Unit {0}) E). OnOk r X) is h

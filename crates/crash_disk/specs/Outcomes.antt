@@ -1,5 +1,5 @@
--- What a crash may leave of a device in memory that keeps what it might have left: an outcome for each
--- of its calls that changed that, so that these are functions of its fields.
+-- What a crash may leave of a device in memory that keeps what it might have left: an outcome for
+-- each of its calls that changed that, so that these are functions of its fields.
 use Rattle.std.specs.Prelude.{◌≡◌, ◌⊎◌, Bool, true, false, nat_eq, nat_lt, if◌then◌else◌, ℕ, zero, suc, ◌<◌, ◌≤◌, List, [], ◌∷◌, ◌++◌, length, drop, slice_index}
 use Rattle.std.proofs.Common.{arith}
 use mathlib.Core.Logic.{inl, inr}
@@ -34,8 +34,13 @@ pub record IsLeft (o : Outcome) (c : Bytes) : Type 0 where
   pub kept : (i : ℕ) → i < length o.synced.items → i < length c → (InRange o.ranges.items i → ⊥)
       → slice_index c i ≡ slice_index o.synced.items i
 
--- A crash may leave what a read gives. What was synced behind the end of that lies in a range: a write
--- past the end after a cut puts zeros there.
+-- the byte a5 in each range of this outcome, and behind the bytes that were synced
+pub record IsFilled (o : Outcome) (c : Bytes) : Type 0 where
+  pub ranges : (i : ℕ) → i < length c → InRange o.ranges.items i → slice_index c i ≡ 165
+  pub behind : (i : ℕ) → i < length c → length o.synced.items ≤ i → slice_index c i ≡ 165
+
+-- A crash may leave what a read gives. What was synced behind the end of that lies in a range: a
+-- write past the end after a cut puts zeros there.
 pub record Agrees (o : Outcome) (file : Bytes) : Type 0 where
   pub left : IsLeft o file
   pub past : (i : ℕ) → i < length o.synced.items → length file ≤ i → InRange o.ranges.items i

@@ -2,7 +2,7 @@ ghost use Rattle.std.specs.Prelude.{◌≡◌, ◌⊎◌, ◌≤◌, ◌-◌, �
 ghost use Rattle.disk.specs.Causes.{IsInjected, IsOfMemory};
 ghost use Rattle.disk.specs.Crashes.{Only};
 ghost use Rattle.disk.specs.Refused.{CountsRefusal};
-ghost use Rattle.crash_disk.specs.Outcomes.{newest, IsLeft, HadOne, Agrees, had_newest, only_newest};
+ghost use Rattle.crash_disk.specs.Outcomes.{newest, IsLeft, IsFilled, HadOne, Agrees, had_newest, only_newest};
 
 use crate::outcome::{Outcome, add_range, add_synced, all_synced, filled, latest};
 use disk::{Disk, DiskError, MemDisk};
@@ -20,11 +20,12 @@ pub enum Fill {
     Other,
 }
 
-/// A device in memory that loses power before one of its calls, and is then found as a crash leaves it.
+/// A device in memory that loses power before one of its calls, and is then found as a crash leaves
+/// it.
 ///
-/// It is honest and durable: it keeps what a crash at each moment might have left, as the bytes that
-/// were synced last with the ranges and lengths of each call since then. So a call that writes takes
-/// as much memory as those bytes.
+/// It is honest and durable: it keeps what a crash at each moment might have left, as the bytes
+/// that were synced last with the ranges and lengths of each call since then. So a call that writes
+/// takes as much memory as those bytes.
 #[derive(Drop)]
 pub struct CrashDisk {
     alloc: Global,
@@ -90,8 +91,8 @@ fn counted_end(refused: &mut u64, end: Option<u64>) -> Result<u64, DiskError>
 impl CrashDisk {
     ghost use Rattle.crash_disk.specs.Device.{bytes_of, outcome_of, synced_of, left_of, fill_of};
 
-    /// A device of these bytes, all of them synced, that loses power before its `n`-th call, counted
-    /// from 1; before the first one too where `n` is 0.
+    /// A device of these bytes, all of them synced, that loses power before its `n`-th call,
+    /// counted from 1; before the first one too where `n` is 0.
     pub fn new(alloc: Global, bytes: Vec<u8>, n: u64, fill: Fill) -> Result<CrashDisk, AllocError>
         ensures bytes { IfOk result (λ d. bytes_of d ≡ bytes.items) }
         ensures left { IfOk result (λ d. left_of d ≡ n - 1) }
@@ -115,6 +116,8 @@ impl CrashDisk {
         ensures left { IfOk result (λ d. IsLeft (outcome_of self) d.bytes) }
         ensures old { IfOk result (λ d. fill_of self ≡ Fill.Old → d.bytes ≡ synced_of self) }
         ensures new { IfOk result (λ d. fill_of self ≡ Fill.New → d.bytes ≡ bytes_of self) }
+        ensures other { IfOk result (λ d. fill_of self ≡ Fill.Other → IsFilled (outcome_of self) d.bytes) }
+        ensures other_size { IfOk result (λ d. fill_of self ≡ Fill.Other → length d.bytes ≡ length (bytes_of self)) }
     {
         let CrashDisk {
             alloc,

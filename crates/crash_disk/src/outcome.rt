@@ -2,7 +2,7 @@
 ghost use Rattle.std.specs.Prelude.{◌≡◌, ◌≤◌, ◌<◌, ◌++◌, ◌∷◌, ℕ, [], length, slice_index, IfOk, IfErr, OnOk, OnErr};
 ghost use Rattle.disk.specs.Refused.{CountsRefusal};
 ghost use Rattle.disk.specs.Causes.{IsOfMemory};
-ghost use Rattle.crash_disk.specs.Outcomes.{newest, Adds, AddsSynced, InRange, IsWithin, IsLeft, Agrees};
+ghost use Rattle.crash_disk.specs.Outcomes.{newest, Adds, AddsSynced, InRange, IsWithin, IsLeft, IsFilled, Agrees};
 
 use disk::DiskError;
 use std::alloc::{AllocError, Global};
@@ -10,8 +10,8 @@ use std::alloc::{AllocError, Global};
 /// The byte that fills a range that was not synced.
 const OTHER_BYTE: u8 = 0xa5;
 
-/// What a crash may leave: the bytes that were synced last, the ranges that may hold any bytes since
-/// then, and the lengths that the device was to have since then.
+/// What a crash may leave: the bytes that were synced last, the ranges that may hold any bytes
+/// since then, and the lengths that the device was to have since then.
 #[derive(Drop)]
 pub struct Outcome {
     /// The bytes that were synced last.
@@ -113,6 +113,7 @@ pub(crate) fn add_synced(
 /// Fills a range with the byte a5, as far as the bytes go.
 pub(crate) fn fill_range(bytes: &mut [u8], from: u64, to: u64)
     ensures size { length bytes.new ≡ length bytes.old }
+    ensures inside { (i : ℕ) → IsWithin from to i → i < length bytes.new → slice_index bytes.new i ≡ 165 }
     ensures outside { (i : ℕ) → (IsWithin from to i → ⊥) → slice_index bytes.new i ≡ slice_index bytes.old i }
 {
     let to = (to as usize).min(bytes.len());
@@ -124,6 +125,7 @@ pub(crate) fn fill_range(bytes: &mut [u8], from: u64, to: u64)
 /// Fills ranges with the byte a5.
 pub(crate) fn fill_ranges(bytes: &mut [u8], ranges: &[(u64, u64)])
     ensures size { length bytes.new ≡ length bytes.old }
+    ensures inside { (i : ℕ) → i < length bytes.new → InRange ranges.now i → slice_index bytes.new i ≡ 165 }
     ensures outside { (i : ℕ) → (InRange ranges.now i → ⊥) → slice_index bytes.new i ≡ slice_index bytes.old i }
 {
     for (from, to) in ranges {
@@ -135,16 +137,20 @@ pub(crate) fn fill_ranges(bytes: &mut [u8], ranges: &[(u64, u64)])
 fn fill_all(bytes: &mut [u8], o: &Outcome)
     requires { Agrees o.now bytes.old }
     ensures left { IsLeft o.now bytes.new }
+    ensures filled { IsFilled o.now bytes.new }
     ensures size { length bytes.new ≡ length bytes.old }
 {
-    fill_range(bytes, o.synced.len() as u64, u64::MAX);
+    let end = bytes.len() as u64;
+    fill_range(bytes, o.synced.len() as u64, end);
     fill_ranges(bytes, o.ranges.as_slice());
 }
 
 /// A copy of bytes with the byte a5 where a crash may leave any.
 pub(crate) fn filled(alloc: Global, o: &Outcome, bytes: &[u8]) -> Result<Vec<u8>, AllocError>
     requires { Agrees o.now bytes.now }
-    ensures { IfOk result (λ v. IsLeft o.now v.items) }
+    ensures left { IfOk result (λ v. IsLeft o.now v.items) }
+    ensures filled { IfOk result (λ v. IsFilled o.now v.items) }
+    ensures size { IfOk result (λ v. length v.items ≡ length bytes.now) }
 {
     let mut found = bytes.to_vec(alloc)?;
     fill_all(found.as_mut_slice(), o);
