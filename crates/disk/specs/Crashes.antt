@@ -20,9 +20,9 @@ abbrev pub Always : (Bytes → Type 0) → (Bytes → Type 0) → Type 0
 Always outcomes P = (c : Bytes) → outcomes c → P c
 
 -- A write of n bytes at an offset, not synced yet, to a device that reads as so many bytes. In its
--- range there may be any bytes, and outside nothing changes. Where the range lies within the device,
--- no length changes either: in an outcome that is shorter, since the device's length is not synced,
--- what lies behind its end is just not there.
+-- range there may be any bytes, and outside nothing changes. Where the range lies within the
+-- device, no length changes either: in an outcome that is shorter, since the device's length is not
+-- synced, what lies behind its end is just not there.
 pub record IsSpread (size at n : ℕ) (old new : Bytes) : Type 0 where
   pub torn : IsTorn at n old new
   pub within : at + n ≤ size → length new ≡ length old
@@ -60,8 +60,8 @@ abbrev pub Keeps : {D : Type 0} → (D → ℕ) → (D → ℕ → Bytes → Typ
 Keeps moment left_since may_leave old new P =
     Always (may_leave old) P → Always (may_leave new) P × LeavesOnly moment left_since old new P
 
--- The device that is found after a crash of another: it reads as one of the outcomes, and a crash of
--- it leaves none that the other could not have left.
+-- The device that is found after a crash of another: it reads as one of the outcomes, and a crash
+-- of it leaves none that the other could not have left.
 pub record IsRestarted {D : Type 0} (bytes : D → Bytes) (may_leave : D → Bytes → Type 0) (old new : D) : Type 0 where
   pub found : may_leave old (bytes new)
   pub left : (c : Bytes) → may_leave new c → may_leave old c

@@ -45,7 +45,8 @@ pub record RefusesOne {D T : Type 0} (result : Result T DiskError) (old new : Fa
   pub torn : new.torn ≡ old.torn
   pub counted : HasRisen old.refused new.refused
 
--- a call that it passes on: it refuses nothing of itself, so a refusal is the inner device's, as is the cause
+-- a call that it passes on: it refuses nothing of itself, so a refusal is the inner device's, as is
+-- the cause
 pub record PassesOn {D T : Type 0} (refused : D → ℕ) (told : D → DiskError → Type 0) (result : Result T DiskError)
     (old new : FaultyDisk D) : Type 0 where
   pub waiting : new.waiting ≡ old.waiting - 1

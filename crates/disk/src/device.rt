@@ -11,22 +11,24 @@ use crate::DiskError;
 /// Its contract is what is known of a device: always, that each refused call raises the count of
 /// refused calls and no other call does, that each sync raises the count of syncs and nothing else
 /// does, that each write and each change of the length raises the count of writes and nothing else
-/// does, that a sync settles what was written, which reading leaves so, and that a cause is one that
-/// the device told; of an honest one, what each call gives and leaves; of one that always reads,
-/// that it does; and of a durable one, what a crash may leave of it.
-/// Offsets and lengths are in bytes.
+/// does, that a sync settles what was written, which reading leaves so, and that a cause is one
+/// that the device told; of an honest one, what each call gives and leaves; of one that always
+/// reads, that it does; and of a durable one, what a crash may leave of it. Offsets and lengths are
+/// in bytes.
 pub trait Disk {
-    /// Whether it gives back what was last written. Each law on bytes holds of an honest device alone.
+    /// Whether it gives back what was last written. Each law on bytes holds of an honest device
+    /// alone.
     ghost is_honest: { Bool };
 
-    /// Whether it always tells its length, and reads what lies within it. So a layer above can promise
-    /// which answer must come of such a device, and not only when it may.
+    /// Whether it always tells its length, and reads what lies within it. So a layer above can
+    /// promise which answer must come of such a device, and not only when it may.
     ghost always_reads: { Bool };
 
     /// Its bytes, as a read gives them.
     ghost bytes: { Self → List ℕ };
 
-    /// Whether it keeps its bytes over a crash. Each law on crashes holds of a durable device alone.
+    /// Whether it keeps its bytes over a crash. Each law on crashes holds of a durable device
+    /// alone.
     ghost is_durable: { Bool };
 
     /// The bytes that a crash now may leave: one of these is found after it.
@@ -35,7 +37,8 @@ pub trait Disk {
     /// The moment, as a number that does not fall.
     ghost moment: { Self → ℕ };
 
-    /// The bytes that a crash at a moment since that one might have left, within a call or between two.
+    /// The bytes that a crash at a moment since that one might have left, within a call or between
+    /// two.
     ghost left_since: { Self → ℕ → Bytes → Type 0 };
 
     /// How many calls it has refused. The count stays at 2^64 - 1 once it is there.
@@ -44,17 +47,17 @@ pub trait Disk {
     /// How many times it was synced. The count stays at 2^64 - 1 once it is there.
     ghost synced: { Self → ℕ };
 
-    /// How many times it was to be written or given a length, refused calls among them, since they may
-    /// have changed bytes. So a layer above can promise that it wrote nothing. The count stays at
-    /// 2^64 - 1 once it is there.
+    /// How many times it was to be written or given a length, refused calls among them, since they
+    /// may have changed bytes. So a layer above can promise that it wrote nothing. The count stays
+    /// at 2^64 - 1 once it is there.
     ghost writes: { Self → ℕ };
 
-    /// Whether it was synced, and nothing was to be written since. So a layer above can promise that it
-    /// syncs behind its last write.
+    /// Whether it was synced, and nothing was to be written since. So a layer above can promise
+    /// that it syncs behind its last write.
     ghost settled: { Self → Type 0 };
 
-    /// Whether this may be the cause that it told for the last call that it refused. So a layer above
-    /// that promises such a cause has not made one up.
+    /// Whether this may be the cause that it told for the last call that it refused. So a layer
+    /// above that promises such a cause has not made one up.
     ghost told: { Self → Cause → Type 0 };
 
     /// The number of bytes.

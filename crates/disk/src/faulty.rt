@@ -11,8 +11,8 @@ use std::io::ErrorKind;
 
 /// A device that refuses one call of another device, for tests and for theorems about refusals.
 ///
-/// It passes all calls on but that one. Of a write that it refuses the first `torn` bytes go out, at
-/// most all of them, and no others. It is as honest, and as durable, as the device under it.
+/// It passes all calls on but that one. Of a write that it refuses the first `torn` bytes go out,
+/// at most all of them, and no others. It is as honest, and as durable, as the device under it.
 #[derive(Drop)]
 pub struct FaultyDisk<D: Disk> {
     inner: D,

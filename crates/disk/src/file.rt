@@ -12,10 +12,10 @@ use std::os::unix::fs::FileExt;
 
 /// A file of the operating system.
 ///
-/// No contract can say what a file gives, takes or keeps, so a `FileDisk` claims to be neither honest
-/// nor durable: what is proved of every such device speaks of a file under the premise that it is one.
-/// That it counts its refused calls, its syncs and its writes is proved; that the system was asked is
-/// tested alone.
+/// No contract can say what a file gives, takes or keeps, so a `FileDisk` claims to be neither
+/// honest nor durable: what is proved of every such device speaks of a file under the premise that
+/// it is one. That it counts its refused calls, its syncs and its writes is proved; that the system
+/// was asked is tested alone.
 #[derive(Drop)]
 pub struct FileDisk {
     file: File,
@@ -47,8 +47,8 @@ impl FileDisk {
         }
     }
 
-    /// Opens the file at this path to read and write, and makes it where there is none. Refused where
-    /// the system does not open it so, and where another process has it open as a device.
+    /// Opens the file at this path to read and write, and makes it where there is none. Refused
+    /// where the system does not open it so, and where another process has it open as a device.
     pub fn open<R: Files<File = File>>(rt: &R, path: &str) -> Result<FileDisk, DiskError>
         ensures fresh { IfOk result
             (λ disk. disk ≡ record { refused = 0; synced = 0; writes = 0; settled = false }) }

@@ -1,6 +1,6 @@
--- What a write that a crash may cut changes of a file, by its pages and by the parts of page 0. Behind
--- the header, which a version keeps, page 0 has four bytes that name a block and one byte that is a
--- gate: zeros in a file of format 1, which a journal writes.
+-- What a write that a crash may cut changes of a file, by its pages and by the parts of page 0.
+-- Behind the header, which a version keeps, page 0 has four bytes that name a block and one byte
+-- that is a gate: zeros in a file of format 1, which a journal writes.
 use Rattle.std.specs.Prelude.{◌≡◌, ◌⊎◌, ℕ, ◌+◌, ◌*◌, ◌<◌, ◌≤◌, List, length, slice_range, IsSome}
 use Rattle.pagefile.specs.Header.{header_size}
 use Rattle.pagefile.specs.Pages.{page_of, KeepsOthers}
@@ -25,13 +25,14 @@ gate_part file = slice_range file gate_at (gate_at + 1)
 abbrev pub KeepsPages : List ℕ → List ℕ → Type 0
 KeepsPages old new = (m : ℕ) → 0 < m → IsSome (page_of old m) → page_of new m ≡ page_of old m
 
--- A write of page n to a file that reads as so many bytes: every other page stays, and a page that lies
--- within the file changes no length.
+-- A write of page n to a file that reads as so many bytes: every other page stays, and a page that
+-- lies within the file changes no length.
 pub record IsSpreadPage (size n : ℕ) (old new : List ℕ) : Type 0 where
   pub others : KeepsOthers n old new
   pub within : 4096 * n + 4096 ≤ size → length new ≡ length old
 
--- A write of n bytes at an offset of page 0: every other page stays, and each part of the file outside.
+-- A write of n bytes at an offset of page 0: every other page stays, and each part of the file
+-- outside.
 pub record IsSpreadPart (at n : ℕ) (old new : List ℕ) : Type 0 where
   pub pages : KeepsPages old new
   pub parts : (a b : ℕ) → a ≤ b → b ≤ length old → (b ≤ at) ⊎ (at + n ≤ a) → slice_range new a b ≡ slice_range old a b

@@ -11,8 +11,9 @@ use disk::{Disk, DiskError};
 
 /// A file of numbered pages over a device.
 ///
-/// To its callers it is the device under it, whose bytes are a map from page numbers to pages. What is
-/// said of pages holds where the device is honest, and what is said of crashes where it is durable.
+/// To its callers it is the device under it, whose bytes are a map from page numbers to pages. What
+/// is said of pages holds where the device is honest, and what is said of crashes where it is
+/// durable.
 #[derive(Drop)]
 pub struct PageFile<D: Disk> {
     disk: D,
@@ -56,8 +57,8 @@ impl<D: Disk> PageFile<D> {
 
     /// Makes a new file of one page, in the place of what the device held.
     ///
-    /// Refused where the device refuses a call, and then the device is handed back as it was or with
-    /// 4,096 bytes.
+    /// Refused where the device refuses a call, and then the device is handed back as it was or
+    /// with 4,096 bytes.
     pub fn create(mut disk: D) -> Result<PageFile<D>, Refused<D, DiskError>>
         ensures made { IfOk result (λ file. IsTrue D.is_honest → D.bytes (disk_of file) ≡ header_bytes FileHeader.NEW) }
         ensures whole { IfOk result (λ file. IsTrue D.is_honest → IsWhole (D.bytes (disk_of file)) FileHeader.NEW) }
@@ -85,9 +86,10 @@ impl<D: Disk> PageFile<D> {
 
     /// Opens the file that a device holds, and gives its header too.
     ///
-    /// `Damaged` where the length is not the page count times 4,096, the magic differs, the page count
-    /// is 0 or above 65,536, or one of the two page numbers is not below it; a device that always reads
-    /// is refused for nothing else. A refusal hands the device back. The device keeps its bytes.
+    /// `Damaged` where the length is not the page count times 4,096, the magic differs, the page
+    /// count is 0 or above 65,536, or one of the two page numbers is not below it; a device that
+    /// always reads is refused for nothing else. A refusal hands the device back. The device keeps
+    /// its bytes.
     pub fn open(mut disk: D) -> Result<(PageFile<D>, FileHeader), Refused<D, OpenError>>
         ensures whole { IfOk result (λ opened. IsTrue D.is_honest → IsWhole (D.bytes disk) opened.1) }
         ensures bounds { IfOk result (λ opened. IsInBounds opened.1) }
@@ -176,8 +178,8 @@ impl<D: Disk> PageFile<D> {
         self.disk.write_at(at as u64, bytes)
     }
 
-    /// Cuts the file to so many pages, or lengthens it by pages of zeros. A refused call leaves the old
-    /// length or the new one.
+    /// Cuts the file to so many pages, or lengthens it by pages of zeros. A refused call leaves the
+    /// old length or the new one.
     pub fn set_page_count(&mut self, count: u32) -> Result<(), DiskError>
         ensures resized { OnOk result (IsTrue D.is_honest
             → D.bytes (disk_of self.new) ≡ resized (D.bytes (disk_of self.old)) (4096 * count)) }
