@@ -1,4 +1,5 @@
--- What a crash may leave after a write, a change of the length or a sync, by what it might have left before.
+-- What a crash may leave after a write, a change of the length or a sync, by what it might have
+-- left before.
 use Rattle.std.proofs.Common.{◌≡◌, ◌⊎◌, inl, inr, ⊎_elim, ℕ, zero, suc, ◌+◌, ◌-◌, ◌<◌, ◌≤◌, List, [], ◌∷◌, length, get_or, take, refl, sym, ◌∙◌, ap, subst, arith}
 use Rattle.std.specs.Prelude.{true, false, max, replicate, nat_lt, if◌then◌else◌}
 use Rattle.std.proofs.lemmas.Bool.{cases_lt}
@@ -111,7 +112,8 @@ cut_follows was next file n m agrees c left = by (sized_cases was next n (length
     )
     by (inr new) = (longer, long_left, record { size = inr new; front = λ i a b less. front i (omega (arith, size, a)) less })
       where
-        -- c may be shorter than the file was: what is missing is as it was synced, or as it was read
+        -- c may be shorter than the file was: what is missing is as it was synced, or as it was
+        -- read
         f : ℕ → ℕ
         f i = if nat_lt i n then get_or c i 0 else get_or file i 0
 
