@@ -1,0 +1,3 @@
+//! What rules over operator trees are: when a tree may stand for another, and what each rule makes
+//! of a node. Definitions alone, in `specs/`: nothing of it runs.
+#![tactic(auto)]
