@@ -1,0 +1,15 @@
+pub mod Opened
+pub mod Begun
+pub mod Layers
+pub mod LeftNodes
+pub mod JoinNodes
+pub mod Wholes
+pub mod Blocks
+pub mod TurnLemmas
+pub mod Aboves
+pub mod IndexNodes
+pub mod KeyedJoins
+pub mod Rising
+pub mod Pairings
+pub mod Climbing
+pub mod Sought
