@@ -1,0 +1,2 @@
+mod MovedNodes
+mod Sifted

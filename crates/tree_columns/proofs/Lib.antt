@@ -1,0 +1,7 @@
+mod NamedNodes
+pub mod Opened
+mod PlainConditions
+mod QuietNodes
+mod RaisingAlike
+mod WidthNodes
+mod ToldWidths
