@@ -1,0 +1,3 @@
+mod Integers
+mod Codes
+mod Fields
