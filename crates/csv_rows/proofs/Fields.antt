@@ -1,5 +1,5 @@
 -- The fields of a record one after another.
-use Rattle.std.proofs.Common.{◌≡◌, ℕ, zero, suc, ◌+◌, List, [], ◌∷◌, ◌++◌, length, take, map, Some, None, refl, ap, sym, ◌∙◌, arith}
+use Rattle.std.proofs.Common.{◌≡◌, ℕ, zero, suc, List, [], ◌∷◌, ◌++◌, take, map, Some, None, refl, ap}
 use Rattle.csv.specs.Records.{field_at}
 use Rattle.sqlval.specs.declared.value.Value.{Value}
 use Rattle.sqlrecord.specs.Storable.{AllStorable, IsStorable}

@@ -1,3 +1,4 @@
 mod Integers
 mod Codes
 mod Fields
+mod Records

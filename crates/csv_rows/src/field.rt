@@ -12,7 +12,8 @@ use std::alloc::{AllocError, Global};
 /// The value that is printed so; `None` where none is. Refuses for want of memory alone.
 pub fn value_of(alloc: Global, field: &[u8]) -> Result<Option<Value>, AllocError>
     ensures sound { IfOk result (λ found. (value : Held) → found ≡ Some value → printed_value value ≡ field.now) }
-    ensures again { (value : Held) → IsStorable value → printed_value value ≡ field.now → IfOk result (λ found. found ≡ Some value) }
+    ensures again { (value : Held) → IsStorable value → printed_value value ≡ field.now
+        → IfOk result (λ found. found ≡ Some value) }
 {
     if field == b"NULL".as_slice() {
         return Ok(Some(Value::Null));

@@ -34,7 +34,8 @@ fn natural_of(text: &str) -> Option<u64>
 /// The integer below zero that is printed as a minus and this number; `None` where none is.
 fn negated(number: u64) -> Option<i64>
     ensures sound { IfSome result (λ below. signed_decimal below ≡ 45 ∷ decimal number) }
-    ensures again { (below : ℤ) → FitsSigned w64 below → signed_decimal below ≡ 45 ∷ decimal number → result ≡ Some below }
+    ensures again { (below : ℤ) → FitsSigned w64 below → signed_decimal below ≡ 45 ∷ decimal number
+        → result ≡ Some below }
 {
     let before = i64::try_from(number.checked_sub(1)?).ok()?;
     Some(-1 - before)

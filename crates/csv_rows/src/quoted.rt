@@ -10,7 +10,8 @@ use std::alloc::{AllocError, Global};
 /// The text that is printed so; `None` where none is.
 pub(crate) fn text_of(alloc: Global, field: &[u8]) -> Result<Option<Text>, AllocError>
     ensures sound { IfOk result (λ found. (codes : List ℕ) → found ≡ Some codes → printed_text codes ≡ field.now) }
-    ensures again { (codes : List ℕ) → is_text codes ≡ true → printed_text codes ≡ field.now → IfOk result (λ text. text ≡ Some codes) }
+    ensures again { (codes : List ℕ) → is_text codes ≡ true → printed_text codes ≡ field.now
+        → IfOk result (λ text. text ≡ Some codes) }
 {
     let Some(inner) = between_quotes(field) else {
         return Ok(None);
@@ -24,7 +25,8 @@ pub(crate) fn text_of(alloc: Global, field: &[u8]) -> Result<Option<Text>, Alloc
 /// What stands between the first byte and the last, where both are quotes.
 fn between_quotes(field: &[u8]) -> Option<&[u8]>
     ensures sound { IfSome result (λ inner. (39 ∷ inner.now) ++ 39 ∷ [] ≡ field.now) }
-    ensures again { (inner : List ℕ) → (39 ∷ inner) ++ 39 ∷ [] ≡ field.now → option_map (λ found. found.now) result ≡ Some inner }
+    ensures again { (inner : List ℕ) → (39 ∷ inner) ++ 39 ∷ [] ≡ field.now
+        → option_map (λ found. found.now) result ≡ Some inner }
 {
     let (first, rest) = field.split_first()?;
     let (last, inner) = rest.split_last()?;
@@ -54,9 +56,5 @@ fn codes_of(alloc: Global, inner: &[u8]) -> Result<Option<Items<u8>>, AllocError
         }
         rest = after;
     }
-    if pending {
-        Ok(None)
-    } else {
-        Ok(Some(codes))
-    }
+    if pending { Ok(None) } else { Ok(Some(codes)) }
 }

@@ -14,8 +14,10 @@ use std::alloc::{AllocError, Global};
 /// The row whose values are printed so; `None` where some field is no printed value. Refuses for
 /// want of memory alone.
 pub fn row_of(alloc: Global, fields: &ByteRecord) -> Result<Option<Items<Value>>, AllocError>
-    ensures sound { IfOk result (λ found. (row : List Held) → found ≡ Some row → map printed_value row ≡ fields_of fields.now) }
-    ensures again { (row : List Held) → AllStorable row → map printed_value row ≡ fields_of fields.now → IfOk result (λ found. found ≡ Some row) }
+    ensures sound { IfOk result (λ found. (row : List Held) → found ≡ Some row
+        → map printed_value row ≡ fields_of fields.now) }
+    ensures again { (row : List Held) → AllStorable row → map printed_value row ≡ fields_of fields.now
+        → IfOk result (λ found. found ≡ Some row) }
 {
     let mut row = Items::new(alloc);
     for field in fields {

@@ -1,6 +1,5 @@
-use Rattle.std.proofs.Common.{◌≡◌, ◌∷◌, [], ◌++◌, refl, sym, ap, ◌∙◌, rules, arith, drop, get_or}
+use Rattle.std.proofs.Common.{◌≡◌, ◌∷◌, [], refl, sym, ap, ◌∙◌, rules, arith, get_or}
 use Rattle.sqlval.specs.declared.value.Value.TheVariants.{Null, Int, Text}
-use Rattle.replies.specs.Printed.{quotes_doubled}
 use Rattle.csv_rows.proofs.Integers.{begins}
 use Rattle.csv_rows.proofs.field.value_of.Goals as goal
 

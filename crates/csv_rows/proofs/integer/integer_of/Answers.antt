@@ -1,4 +1,4 @@
-use Rattle.std.proofs.Common.{◌≡◌, ◌≢◌, ℕ, List, ◌∷◌, sym, suc, ◌∙◌, subst, rules, arith, ap}
+use Rattle.std.proofs.Common.{◌≡◌, sym, suc, ◌∙◌, subst, rules, arith}
 use Rattle.std.specs.Str.{IsUtf8}
 use Rattle.std.proofs.lemmas.Str.{IsUtf8-from_ascii}
 use Rattle.std.proofs.lemmas.Str.Pattern.{strip_prefix_char}

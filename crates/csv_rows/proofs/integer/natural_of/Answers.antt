@@ -1,4 +1,4 @@
-use Rattle.std.proofs.Common.{◌≡◌, ◌<◌, ◌^◌, rules, arith, sym}
+use Rattle.std.proofs.Common.{rules, sym}
 use Rattle.std.proofs.lemmas.Fmt.{parse-decimal}
 use Rattle.csv_rows.proofs.integer.natural_of.Goals as goal
 

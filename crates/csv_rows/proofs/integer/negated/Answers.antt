@@ -1,4 +1,4 @@
-use Rattle.std.proofs.Common.{◌≡◌, rules, arith}
+use Rattle.std.proofs.Common.{rules, arith}
 use Rattle.csv_rows.proofs.Integers.{below_zero}
 use Rattle.csv_rows.proofs.integer.negated.Goals as goal
 

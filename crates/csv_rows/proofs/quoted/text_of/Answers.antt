@@ -1,4 +1,4 @@
-use Rattle.std.proofs.Common.{◌≡◌, ◌∷◌, ◌++◌, [], List, ℕ, Some, None, refl, sym, ap, ◌∙◌, rules, false}
+use Rattle.std.proofs.Common.{◌≡◌, ◌∷◌, ◌++◌, [], Some, None, refl, sym, ap, ◌∙◌, rules, false}
 use Rattle.replies.specs.Printed.{quotes_doubled}
 use Rattle.csv_rows.specs.Undoubled.{undoubled}
 use Rattle.csv_rows.proofs.Codes.{read_codes, codes_again, as_text-is}

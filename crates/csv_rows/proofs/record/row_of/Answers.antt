@@ -1,8 +1,6 @@
-use Rattle.std.proofs.Common.{◌≡◌, ℕ, suc, ◌+◌, List, [], ◌∷◌, ◌++◌, map, take, Some, None, sym, ap, refl, subst, ◌∙◌, rules}
+use Rattle.std.proofs.Common.{◌≡◌, suc, [], ◌∷◌, ◌++◌, map, take, Some, None, sym, ap, ◌∙◌, rules}
 use Rattle.std.proofs.lemmas.List.{map-append}
 use Rattle.csv.specs.Records.{fields_of, field_at}
-use Rattle.sqlval.specs.declared.value.Value.{Value}
-use Rattle.sqlrecord.specs.Storable.{AllStorable}
 use Rattle.replies.specs.Printed.{printed_value}
 use Rattle.csv_rows.proofs.Fields.{take-field, take-fields, take-row, printed_at}
 use Rattle.csv_rows.proofs.record.row_of.Goals as goal
@@ -16,11 +14,10 @@ loop-field-preserved c =
     let here : field_at fields at ≡ Some c.in-Some.field.now = search rules in
     let next : c.next.new.self.at ≡ suc at = search rules in
     let printed : printed_value c.in-Some-2.value ≡ c.in-Some.field.now = search rules in
-    let row : c.push.new.self ≡ c.loop-field.row ++ c.in-Some-2.value ∷ [] = search rules in
-    (
+    let row : c.push.new.self ≡ c.loop-field.row ++ c.in-Some-2.value ∷ [] = search rules in (
       same,
       ap (map printed_value) row ∙ map-append printed_value c.loop-field.row (c.in-Some-2.value ∷ []) ∙ ap (λ xs. xs ++ printed_value c.in-Some-2.value ∷ []) was.1
-      ∙ ap (λ x. take at fields ++ x ∷ []) printed ∙ sym (take-field fields at c.in-Some.field.now here) ∙ ap (λ n. take n fields) (sym next),
+          ∙ ap (λ x. take at fields ++ x ∷ []) printed ∙ sym (take-field fields at c.in-Some.field.now here) ∙ ap (λ n. take n fields) (sym next),
       λ other all e.
           let there = printed_at other at c.in-Some.field.now all (ap (λ f. field_at f at) e ∙ here) in
           let value : c.in-Some-2.value ≡ there.value = let found = c.value_of.ensures.again there.value there.storable there.printed in search rules in

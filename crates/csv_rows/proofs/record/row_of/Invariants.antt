@@ -1,4 +1,4 @@
-use Rattle.std.proofs.Common.{◌≡◌, List, map, take, length}
+use Rattle.std.proofs.Common.{◌≡◌, List, map, take}
 use Rattle.csv.specs.Records.{fields_of}
 use Rattle.sqlval.specs.declared.value.Value.{Value}
 use Rattle.sqlrecord.specs.Storable.{AllStorable}
