@@ -45,4 +45,8 @@ paramstyle = "qmark"
 atexit.register(end_programs)
 os.register_at_fork(after_in_child=leave_to_parent)
 
-__all__ = [name for name in dir() if not name.startswith("_") and name not in ("atexit", "os", "end_programs", "leave_to_parent")]
+__all__ = ["apilevel", "threadsafety", "paramstyle", "connect", "Connection", "Cursor"]
+__all__ += ["Warning", "Error", "InterfaceError", "DatabaseError", "DataError", "OperationalError"]
+__all__ += ["IntegrityError", "InternalError", "ProgrammingError", "NotSupportedError"]
+__all__ += ["STRING", "BINARY", "NUMBER", "DATETIME", "ROWID", "Date", "Time", "Timestamp", "Binary"]
+__all__ += ["DateFromTicks", "TimeFromTicks", "TimestampFromTicks"]

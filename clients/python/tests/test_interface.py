@@ -3,6 +3,10 @@ import ast
 import os
 import pathlib
 import re
+import runpy
+import subprocess
+import sys
+import zipfile
 
 import narumbesi
 from support import PACKAGE, PROGRAM, Test
@@ -22,8 +26,25 @@ class Module(Test):
     def test_it_needs_nothing_but_python(self):
         with open(PACKAGE + "/pyproject.toml", encoding="utf-8") as file:
             text = file.read()
-        self.assertIn("dependencies = []", text)
+        self.assertIn("\nrequires = []\n", text)
+        self.assertIn("\ndependencies = []\n", text)
         self.assertIn('requires-python = ">=3.8"', text)
+
+    def test_the_package_that_pip_installs(self):
+        wheel = os.path.join(self.folder, runpy.run_path(PACKAGE + "/packaging_backend.py")["build_wheel"](self.folder))
+        with zipfile.ZipFile(wheel) as files:
+            self.assertEqual({it for it in files.namelist() if it.endswith(".py")}, {"narumbesi/" + it for it in os.listdir(PACKAGE + "/narumbesi") if it.endswith(".py")})
+            record = files.read("narumbesi-0.1.dist-info/RECORD").decode("ascii").split()
+            self.assertEqual([it.split(",")[0] for it in record], files.namelist())
+        asks = "import narumbesi; c = narumbesi.connect(program=%r); c.commit(); c.close(); print(narumbesi.__file__)" % PROGRAM
+        ran = subprocess.run([sys.executable, "-c", asks], env={**os.environ, "PYTHONPATH": wheel}, cwd=self.folder, stdout=subprocess.PIPE, timeout=60, universal_newlines=True)
+        self.assertEqual(ran.stdout, wheel + "/narumbesi/__init__.py\n")
+
+    def test_what_an_import_of_all_brings(self):
+        names = {}
+        exec("from narumbesi import *", names)  # noqa: S102
+        public = {name for name, it in vars(narumbesi).items() if not name.startswith("_") and type(it).__name__ != "module"}
+        self.assertEqual(public - {"end_programs", "leave_to_parent"}, set(names) - {"__builtins__"})
 
     def test_the_place_of_the_program(self):
         connection = self.connect(program=[PROGRAM])
