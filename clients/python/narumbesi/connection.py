@@ -8,7 +8,7 @@ from .cursor import Cursor
 from .errors import InterfaceError, OperationalError
 from .program import HasEnded, Program
 
-SECONDS_AT_EXIT = 60
+SECONDS_AT_EXIT = 10
 # The programs of this process: by the file, those in memory each by a key of its own.
 PROGRAMS = weakref.WeakValueDictionary()
 LOCK = threading.Lock()

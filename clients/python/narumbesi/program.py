@@ -243,15 +243,13 @@ class Program:
             *lines, rest = (rest + chunk).split(b"\n")
             for place, line in enumerate(lines, 1):
                 if not ROW.fullmatch(line):
-                    if rest or place < len(lines):
-                        line = lines[-1] + rest
-                    return self._answer(rows, line)
+                    return self._answer(rows, line, b"\n".join([*lines[place:], rest]))
                 rows.append(line)
 
-    def _answer(self, rows, line):
+    def _answer(self, rows, line, behind):
         end = ANSWER_END.fullmatch(line)
-        if not end:
-            raise self._fail(InternalError("the program printed a line that the protocol has not: %r" % line[:200]))
+        if not end or behind:
+            raise self._fail(InternalError("the program printed what the protocol has not: %r" % (behind if end else line)[:200]))
         touched, none, count, code, reason = end.groups()
         if code:
             raise error_of(code.decode("ascii"), reason.decode("ascii", "replace") if reason else None)

@@ -31,7 +31,7 @@ class Opening(Test):
 
     def test_a_program_that_speaks_otherwise(self):
         for does in ("print(sys.stdin.readline(), flush=True)", "print(\"'a'b\", flush=True)", "print('00000\\n1', flush=True)", "print('00000\\n00000', flush=True)"):
-            with self.subTest(does=does), self.assertRaisesRegex(narumbesi.InternalError, "that the protocol has not"):
+            with self.subTest(does=does), self.assertRaisesRegex(narumbesi.InternalError, "what the protocol has not"):
                 self.connect(program=other_program("import sys; %s; sys.stdin.read()" % does))
 
     def test_a_file_that_another_process_has(self):

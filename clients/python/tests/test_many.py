@@ -7,7 +7,7 @@ ROWS, PORTION = 100_000, 10_000
 class Many(Test):
     def test_rows_in_and_out(self):
         connection = self.connect(self.file)
-        cursor = connection.cursor().execute("CREATE TABLE M (K INTEGER PRIMARY KEY, V VARCHAR(20))")
+        cursor = connection.cursor().execute("CREATE TABLE M (K INTEGER, V VARCHAR(20))")
         connection.commit()
         # A transaction writes 1,024 pages at most, so they go in by portions.
         for first in range(0, ROWS, PORTION):
