@@ -40,6 +40,8 @@ class Rows:
 class Cursor:
     """A cursor of the specification. `execute` gives the cursor back, so that a fetch may follow."""
 
+    lastrowid = None  # rows have no numbers that a program sees
+
     def __init__(self, connection):
         self.connection = connection
         self.arraysize = 1

@@ -41,6 +41,15 @@ class Answer:
         self.count = count
 
 
+class Session:
+    """A session of the program while a connection has it: its number, from 1 to 64, comes again
+    later."""
+
+    def __init__(self, number):
+        self.number = number
+        self.is_open = True
+
+
 class Request:
     """What a connection asks of the thread: `work` carries it out, and `undo` is called with what
     that answered where nobody waits for it any more."""
@@ -62,7 +71,7 @@ class Program:
         self._end = None  # the error for whatever is asked from now on
         self._lock = threading.Lock()
         self._requests = queue.SimpleQueue()
-        self._sessions = set()  # the thread's alone, as all that follows
+        self._sessions = set()  # those that are open: the thread's alone, as all that follows
         self._stderr = tempfile.TemporaryFile()
         how = {"stdin": subprocess.PIPE, "stdout": subprocess.PIPE, "stderr": self._stderr, "bufsize": 0}
         try:
@@ -81,8 +90,7 @@ class Program:
     # What connections ask for
 
     def enter(self, limit=None):
-        """The number of a session that no connection has, from 1 to 64. HasEnded where another
-        program has to be started."""
+        """A session that no connection has. HasEnded where another program has to be started."""
         return self._wait(self._ask(self._enter, self._undo_enter), limit)
 
     def call(self, session, text, limit=None):
@@ -174,19 +182,20 @@ class Program:
             self._carry_out(Request(functools.partial(request.undo, request.answer), None))
 
     def _enter(self):
-        free = sorted(set(range(1, SESSIONS + 1)) - self._sessions)
+        free = sorted(set(range(1, SESSIONS + 1)) - {it.number for it in self._sessions})
         if not free:
             raise OperationalError("X0003 sessions: %d connections are open" % SESSIONS, "X0003", "sessions")
+        session = Session(free[0])
         try:
             # An idle session's ROLLBACK does nothing: a refusal is one of the file, or of the session.
-            self._call(free[0], "ROLLBACK")
+            self._call(session, "ROLLBACK")
         except OperationalError:
             if not self._sessions and not self._end:
                 self._end_process()
                 self._set_end(HasEnded("the program has ended"))
             raise
-        self._sessions.add(free[0])
-        return free[0]
+        self._sessions.add(session)
+        return session
 
     def _undo_enter(self, session):
         if session is not None:
@@ -195,13 +204,16 @@ class Program:
             self._finish()
 
     def _call(self, session, text):
-        self._write("@%d %s\n;\n" % (session, text))
+        if not session.is_open:
+            raise InterfaceError("the connection is closed")
+        self._write("@%d %s\n;\n" % (session.number, text))
         return self._read()
 
     def _leave(self, session):
         """An idle session keeps what its next transaction may do, so that is set again."""
         self._call(session, "ROLLBACK")
         self._call(session, "SET TRANSACTION READ WRITE")
+        session.is_open = False
         self._sessions.discard(session)
         if not self._sessions:
             self._finish()

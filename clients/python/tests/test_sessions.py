@@ -16,7 +16,7 @@ class Sharing(Test):
         os.symlink(self.file, self.folder + "/link")
         others = [self.connect(self.file), self.connect(self.folder + "/./tables.db"), self.connect(self.folder + "/link")]
         self.assertTrue(all(it._program is one._program for it in others))
-        self.assertEqual([it._session for it in (one, *others)], [1, 2, 3, 4])
+        self.assertEqual([it._session.number for it in (one, *others)], [1, 2, 3, 4])
         self.assertIsNot(self.connect(self.folder + "/other")._program, one._program)
         self.assertIsNot(self.connect()._program, self.connect()._program)
 
@@ -55,21 +55,31 @@ class Sharing(Test):
         one.cursor().execute("INSERT INTO T VALUES (1)")
         one.close()
         two = self.connect(self.file)
-        self.assertEqual(two._session, one._session or 2)
+        self.assertEqual(two._session.number, 2)
         two.cursor().execute("SET TRANSACTION READ ONLY")
         two.close()
         three = self.connect(self.file)
-        self.assertEqual(three._session, 2)
+        self.assertEqual(three._session.number, 2)
         three.cursor().execute("INSERT INTO T VALUES (3)")
         three.commit()
         self.assertEqual(keeper.cursor().execute("SELECT A FROM T").fetchall(), [(3,)])
+
+    def test_a_call_that_comes_too_late_is_none_of_who_has_the_number_now(self):
+        keeper, one = self.connect(self.file), self.connect(self.file)
+        late = one._session
+        one.close()
+        two = self.connect(self.file)
+        self.assertEqual(two._session.number, late.number)
+        with self.assertRaisesRegex(narumbesi.InterfaceError, "closed"):
+            keeper._program.call(late, "CREATE TABLE T (A INTEGER)")
+        self.refused(narumbesi.ProgrammingError, "42000", "name", two.cursor().execute, "SELECT A FROM T")
 
     def test_at_most_64(self):
         all_of_them = [self.connect(self.file) for _ in range(64)]
         self.refused(narumbesi.OperationalError, "X0003", "sessions", self.connect, self.file)
         all_of_them[-1].cursor().execute("CREATE TABLE T (A INTEGER)")
         all_of_them[40].close()
-        self.assertEqual(self.connect(self.file)._session, 41)
+        self.assertEqual(self.connect(self.file)._session.number, 41)
 
     def test_one_that_is_thrown_away_is_closed(self):
         keeper, one = self.connect(self.file), narumbesi.connect(self.file, program=PROGRAM)
@@ -78,7 +88,7 @@ class Sharing(Test):
         del one
         gc.collect()
         keeper.cursor().execute("CREATE TABLE S (A INTEGER)")
-        self.assertEqual(self.connect(self.file)._session, 2)
+        self.assertEqual(self.connect(self.file)._session.number, 2)
 
     def test_the_last_one_that_is_thrown_away_ends_the_program(self):
         process = narumbesi.connect(self.file, program=PROGRAM)._program._process
