@@ -135,6 +135,9 @@ class Limits(Test):
         with self.assertRaisesRegex(narumbesi.OperationalError, "time limit"):
             self.connect(program=other_program("import time; time.sleep(5)"), time_limit=0.5)
 
+    def test_an_interrupt_at_the_terminal_does_not_reach_the_program(self):
+        self.assertNotEqual(os.getpgid(self.connect()._program._process.pid), os.getpgrp())
+
     def test_an_interrupt(self):
         connection = self.connect()
         cursor = connection.cursor().execute("CREATE TABLE T (A INTEGER)")
