@@ -72,6 +72,7 @@ class Program:
         self._lock = threading.Lock()
         self._requests = queue.SimpleQueue()
         self._sessions = set()  # those that are open: the thread's alone, as all that follows
+        self._numbers = set()  # theirs, and those that could not be made ready for another one
         self._stderr = tempfile.TemporaryFile()
         how = {"stdin": subprocess.PIPE, "stdout": subprocess.PIPE, "stderr": self._stderr, "bufsize": 0}
         try:
@@ -182,7 +183,7 @@ class Program:
             self._carry_out(Request(functools.partial(request.undo, request.answer), None))
 
     def _enter(self):
-        free = sorted(set(range(1, SESSIONS + 1)) - {it.number for it in self._sessions})
+        free = sorted(set(range(1, SESSIONS + 1)) - self._numbers)
         if not free:
             raise OperationalError("X0003 sessions: %d connections are open" % SESSIONS, "X0003", "sessions")
         session = Session(free[0])
@@ -195,6 +196,7 @@ class Program:
                 self._set_end(HasEnded("the program has ended"))
             raise
         self._sessions.add(session)
+        self._numbers.add(session.number)
         return session
 
     def _undo_enter(self, session):
@@ -211,12 +213,15 @@ class Program:
 
     def _leave(self, session):
         """An idle session keeps what its next transaction may do, so that is set again."""
-        self._call(session, "ROLLBACK")
-        self._call(session, "SET TRANSACTION READ WRITE")
-        session.is_open = False
-        self._sessions.discard(session)
-        if not self._sessions:
-            self._finish()
+        try:
+            self._call(session, "ROLLBACK")
+            self._call(session, "SET TRANSACTION READ WRITE")
+            self._numbers.discard(session.number)
+        finally:
+            session.is_open = False
+            self._sessions.discard(session)
+            if not self._sessions and not self._end:
+                self._finish()
 
     def _finish(self):
         """Has the program end, and looks how it did."""

@@ -90,6 +90,18 @@ class Ends(Test):
         self.refused(narumbesi.OperationalError, "X0002", None, connection.close)
         connection.close()
 
+    def test_a_session_that_cannot_be_made_ready_for_another(self):
+        """It is not used again, and its program ends all the same."""
+        file = other_program("import sys\nfor line in sys.stdin:\n  if line[0] == '@': print('ERROR X0001' if 'READ WRITE' in line else '00000', flush=True)")
+        one, two = self.connect(self.file, program=file), self.connect(self.file, program=file)
+        process = one._program._process
+        self.refused(narumbesi.OperationalError, "X0001", None, one.close)
+        three = self.connect(self.file, program=file)
+        self.assertEqual(three._session.number, 3)
+        for it in (two, three):
+            self.refused(narumbesi.OperationalError, "X0001", None, it.close)
+        self.assertEqual(process.wait(20), 0)
+
     def test_rows_that_are_not_as_many_as_is_said(self):
         with self.assertRaisesRegex(narumbesi.InternalError, "1 rows, and that they are 2"):
             self.connect(program=other_program(GREETS + "print('5\\n(2 rows)', flush=True); time.sleep(60)")).commit()
