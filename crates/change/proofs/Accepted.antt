@@ -1,5 +1,5 @@
 -- A change that is made exactly is accepted.
-use Rattle.std.proofs.Common.{◌≡◌, refl, sym, subst, Option, Some, None}
+use Rattle.std.proofs.Common.{refl, sym, subst, Option, Some, None}
 use Rattle.std.specs.FinMap.{get}
 use Rattle.typing.specs.declared.statement.Change.{Change}
 use Rattle.denote.specs.Change.{Changed, IsAccepted}

@@ -18,7 +18,6 @@ use Rattle.typing.specs.declared.typed.Expression as typed_expression
 use Rattle.typing.specs.declared.typed.Expression.TheVariants as typed
 use Rattle.typing.specs.declared.typed.Query.{Query}
 use Rattle.algebra.specs.declared.tree.Expression.{Expression}
-use Rattle.algebra.specs.declared.tree.Expression.TheVariants.{Constant}
 use Rattle.algebra.specs.declared.tree.StoredTable.{StoredTable}
 use Rattle.algebra.specs.Described.{described_in, known_of, table_at}
 use Rattle.algebra.specs.Translated.{tree_of_expression}
@@ -38,7 +37,7 @@ use Rattle.operator_laws.specs.Same.{IsSameBag}
 use Rattle.operator_laws.proofs.Same.{IsSameValue-refl, together-rows}
 use Rattle.session_definitions.specs.Refusals.{IsReserved, refusal_of}
 use Rattle.translation.proofs.TreeNodes.{expression_constant}
-use Rattle.tree_tables.specs.TablesRead.{Agree, tables_in_expression}
+use Rattle.tree_tables.specs.TablesRead.{Agree}
 use Rattle.tree_tables.proofs.Nodes.{expression_constant as names_of_constant}
 use Rattle.query_answers.specs.Refused.{GivesFaults, MayRefuse}
 use Rattle.query_answers.specs.Sources.{AreTreesOf, tables_in_row, tables_in_rows}

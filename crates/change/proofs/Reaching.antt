@@ -1,5 +1,5 @@
 -- What an INSERT reaches of a store's limits.
-use Rattle.std.proofs.Common.{◌≡◌, ◌⊎◌, inl, inr, refl, subst, ◌+◌, ◌^◌, ◌<◌, List, length}
+use Rattle.std.proofs.Common.{◌≡◌, inl, inr, refl, subst, ◌+◌, ◌^◌, ◌<◌, List, length}
 use Rattle.std.specs.FinMap.{get}
 use Rattle.refusals.specs.declared.refusal.Refusal.{Refusal}
 use Rattle.sqlval.specs.declared.schema.Schema.{Schema}

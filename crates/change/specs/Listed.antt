@@ -1,6 +1,5 @@
 -- Rows as sources of VALUES.
 use Rattle.std.specs.Prelude.{List, map}
-use Rattle.sqlval.specs.declared.value.Value.{Value}
 use Rattle.sqlval.specs.Value.{Row}
 use Rattle.algebra.specs.declared.tree.Expression.{Expression}
 use Rattle.algebra.specs.declared.tree.Expression.TheVariants.{Constant}

@@ -1,5 +1,5 @@
 //! INSERT.
-ghost use Rattle.std.specs.Prelude.{◌≡◌, ◌≤◌, Some, IfOk, IfErr, OnErr};
+ghost use Rattle.std.specs.Prelude.{◌≡◌, Some, IfOk, IfErr, OnErr};
 ghost use Rattle.std.specs.FinMap.{get};
 ghost use Rattle.refusals.specs.declared.refusal.Refusal.TheVariants.{Disk};
 ghost use Rattle.typing.specs.Check.{IsCheckReading};
@@ -10,6 +10,7 @@ ghost use Rattle.query_answers.specs.Sources.{AreChecksOf};
 ghost use Rattle.transactions.specs.Refused.{IfRefused, TellsNoLimit, TellsReached};
 ghost use Rattle.store.specs.Contents.{database_of};
 ghost use Rattle.store.specs.Errors.{HasRisen};
+ghost use Rattle.store.specs.Going.{Going};
 ghost use Rattle.store.specs.Stored.{SameButMark};
 ghost use Rattle.constraints.specs.Changed.{RefusesChange};
 ghost use Rattle.check_constraints.specs.Conditions.{AreOfSome};
@@ -47,9 +48,8 @@ pub(crate) fn insert<S: Store>(
     ensures accepted { IfOk result (λ reply. IfRefused reply (λ refusal. ⊥)) }
     ensures limits { IfErr result (TellsReached (ChangeReaches (S.counted store.new) (S.is_sound store.old) (S.prepared store.old) (S.shows store.old).working (does.Insert insert.now))) }
     ensures device { IfErr result (λ refusal. refusal ≡ Disk → HasRisen (S.refused store.old) (S.refused store.new)) }
-    ensures same { S.is_sound store.old → OnErr result (SameButMark (S.shows store.old) (S.shows store.new)) }
-    ensures sound { S.is_sound store.old → S.is_sound store.new }
-    ensures counts { S.refused store.old ≤ S.refused store.new }
+    ensures same { OnErr result (SameButMark (S.shows store.old) (S.shows store.new)) }
+    ensures goes { S.goes_on store.old store.new Going.changes }
 {
     let checks = match named_checks(alloc, store.schema(), &insert.table) {
         Ok(checks) => checks,
@@ -82,8 +82,7 @@ fn rows_of<S: Store>(
     ensures device { IfErr result (λ refusal. AreOfSome checks.now.conditions → refusal ≡ Disk
         → HasRisen (S.refused store.old) (S.refused store.new)) }
     ensures shows { S.shows store.new ≡ S.shows store.old }
-    ensures sound { S.is_sound store.old → S.is_sound store.new }
-    ensures counts { S.refused store.old ≤ S.refused store.new }
+    ensures goes { S.goes_on store.old store.new Going.reads }
 {
     match &insert.source {
         InsertSource::Values(values) => value_rows(alloc, store, insert, values.as_slice(), checks),

@@ -1,5 +1,5 @@
 //! The rows of an INSERT of a query.
-ghost use Rattle.std.specs.Prelude.{◌≡◌, ◌≢◌, ◌≤◌, ◌⊎◌, [], List, Some, None, IfOk, IfErr};
+ghost use Rattle.std.specs.Prelude.{◌≡◌, ◌≢◌, ◌⊎◌, [], List, Some, None, IfOk, IfErr};
 ghost use Rattle.std.specs.FinMap.{get};
 ghost use Rattle.refusals.specs.declared.refusal.Refusal.TheVariants.{Disk, Memory};
 ghost use Rattle.session_definitions.specs.Refusals.{refusal_of};
@@ -14,6 +14,7 @@ ghost use Rattle.query_answers.specs.Refused.{MayRefuse};
 ghost use Rattle.query_answers.specs.Sources.{AreChecksOf};
 ghost use Rattle.store.specs.Contents.{database_of};
 ghost use Rattle.store.specs.Errors.{HasRisen};
+ghost use Rattle.store.specs.Going.{Going};
 ghost use Rattle.transactions.specs.Refused.{TellsNoLimit};
 ghost use Rattle.constraints.specs.Changed.{RefusesChange};
 ghost use Rattle.table_changes.specs.Given.{AreGiven};
@@ -60,8 +61,7 @@ pub(crate) fn query_rows<S: Store>(
     ensures device { IfErr result (λ refusal. AreOfSome checks.now.conditions → refusal ≡ Disk
         → HasRisen (S.refused store.old) (S.refused store.new)) }
     ensures shows { S.shows store.new ≡ S.shows store.old }
-    ensures sound { S.is_sound store.old → S.is_sound store.new }
-    ensures counts { S.refused store.old ≤ S.refused store.new }
+    ensures goes { S.goes_on store.old store.new Going.reads }
 {
     listings_answer_outcomes();
     translation_keeps_the_meaning();
@@ -102,8 +102,7 @@ fn sources_of<S: Store>(
     ensures device { IfErr result (λ refusal. refusal ≡ Disk → HasRisen (S.refused store.old) (S.refused store.new)) }
     ensures prepared { S.prepared store.new ≡ S.prepared store.old }
     ensures shows { S.shows store.new ≡ S.shows store.old }
-    ensures sound { S.is_sound store.old → S.is_sound store.new }
-    ensures counts { S.refused store.old ≤ S.refused store.new }
+    ensures goes { S.goes_on store.old store.new Going.reads }
 {
     let mut seen = Seen {
         store,

@@ -1,5 +1,5 @@
 //! UPDATE and DELETE.
-ghost use Rattle.std.specs.Prelude.{◌≡◌, ◌≤◌, IfOk, IfErr, OnErr};
+ghost use Rattle.std.specs.Prelude.{◌≡◌, IfOk, IfErr, OnErr};
 ghost use Rattle.std.specs.FinMap.{get};
 ghost use Rattle.refusals.specs.declared.refusal.Refusal.TheVariants.{Disk};
 ghost use Rattle.typing.specs.Check.{IsCheckReading};
@@ -9,6 +9,7 @@ ghost use Rattle.denote.specs.SchemaOf.{IsSchemaOf};
 ghost use Rattle.transactions.specs.Refused.{IfRefused, TellsReached};
 ghost use Rattle.store.specs.Contents.{database_of};
 ghost use Rattle.store.specs.Errors.{ChangingReaches, HasRisen};
+ghost use Rattle.store.specs.Going.{Going};
 ghost use Rattle.store.specs.Stored.{SameButMark};
 ghost use Rattle.constraints.specs.Changed.{HasChanged, RefusesChange};
 ghost use Rattle.update_delete.specs.Reached.{IsNumberedOut, ReplacingReaches};
@@ -40,9 +41,8 @@ pub(crate) fn update<S: Store>(
     ensures limits { IfErr result (TellsReached (ReplacingReaches (S.counted store.new) (S.is_sound store.old
         → IsNumberedOut (get (S.shows store.old).working update.now.table)))) }
     ensures device { IfErr result (λ refusal. refusal ≡ Disk → HasRisen (S.refused store.old) (S.refused store.new)) }
-    ensures same { S.is_sound store.old → OnErr result (SameButMark (S.shows store.old) (S.shows store.new)) }
-    ensures sound { S.is_sound store.old → S.is_sound store.new }
-    ensures counts { S.refused store.old ≤ S.refused store.new }
+    ensures same { OnErr result (SameButMark (S.shows store.old) (S.shows store.new)) }
+    ensures goes { S.goes_on store.old store.new Going.changes }
 {
     match named_checks(alloc, store.schema(), &update.table) {
         Ok(checks) => update_rows(alloc, store, update, checks.conditions.as_slice(), &checks),
@@ -68,9 +68,8 @@ pub(crate) fn delete<S: Store>(
     ensures accepted { IfOk result (λ reply. IfRefused reply (λ refusal. ⊥)) }
     ensures limits { IfErr result (TellsReached (ChangingReaches (S.counted store.new))) }
     ensures device { IfErr result (λ refusal. refusal ≡ Disk → HasRisen (S.refused store.old) (S.refused store.new)) }
-    ensures same { S.is_sound store.old → OnErr result (SameButMark (S.shows store.old) (S.shows store.new)) }
-    ensures sound { S.is_sound store.old → S.is_sound store.new }
-    ensures counts { S.refused store.old ≤ S.refused store.new }
+    ensures same { OnErr result (SameButMark (S.shows store.old) (S.shows store.new)) }
+    ensures goes { S.goes_on store.old store.new Going.changes }
 {
     match named_checks(alloc, store.schema(), &delete.table) {
         Ok(checks) => delete_rows(alloc, store, delete, &checks),

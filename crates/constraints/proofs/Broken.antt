@@ -1,5 +1,5 @@
 -- The constraints that rows violate, but for CHECKs.
-use Rattle.std.proofs.Common.{◌≡◌, ◌∙◌, refl, ap, ℕ, zero, suc, ◌<◌, Bool, true, false, cond, ◌&&◌, ◌||◌, List, [], ◌∷◌, map, length, slice_index_or, arith}
+use Rattle.std.proofs.Common.{◌≡◌, refl, ℕ, zero, suc, ◌<◌, Bool, true, false, cond, ◌&&◌, ◌||◌, List, [], ◌∷◌, map, length, slice_index_or, arith}
 use Rattle.std.specs.Prelude.{Contains, filter}
 use Rattle.sqlval.specs.declared.schema.Constraint.{Constraint}
 use Rattle.sqlval.specs.declared.schema.Rule.{Rule}

@@ -1,28 +1,24 @@
 -- What keys that are looked up say of the constraints of a table with more rows, before these come.
-use Rattle.std.proofs.Common.{◌≡◌, ◌∙◌, refl, sym, ap, subst, ℕ, zero, suc, ◌+◌, ◌<◌, Bool, true, false, cond, ◌&&◌, ◌||◌, List, [], ◌∷◌, ◌++◌, map, length, slice_index_or, Option, Some, None, arith}
+use Rattle.std.proofs.Common.{◌≡◌, ◌∙◌, refl, sym, ap, ℕ, suc, ◌+◌, Bool, true, false, cond, ◌&&◌, ◌||◌, List, [], ◌∷◌, ◌++◌, map, length, Option, Some, None, arith}
 use Rattle.std.specs.Prelude.{Contains, filter, nat_eq}
-use Rattle.std.specs.List.{list_any, filter_map, cons_option, position_from, slice_get}
+use Rattle.std.specs.List.{list_any, cons_option, position_from, slice_get}
 use Rattle.std.specs.Option.{option_map}
 use Rattle.std.specs.Cmp.Lexicographic.{pointwise}
-use Rattle.std.specs.FinMap.{get}
 use Rattle.std.proofs.lemmas.Bool.{eqb-true}
 use Rattle.std.proofs.lemmas.Option.{slice_get-map}
 use Rattle.sqlval.specs.declared.schema.Constraint.{Constraint}
 use Rattle.sqlval.specs.declared.schema.Index.{Index}
-use Rattle.sqlval.specs.declared.schema.Rule.{Rule}
 use Rattle.sqlval.specs.declared.schema.Table as declared
-use Rattle.sqlval.specs.declared.value.Value.{Value}
 use Rattle.sqlval.specs.Matching.{key_of, matches}
 use Rattle.sqlval.specs.Value.{Row}
-use Rattle.denote.specs.Database.{Name, Table, IndexDeclaration, CheckReading, table_of, is_violated, violated_by}
+use Rattle.denote.specs.Database.{Name, IndexDeclaration, CheckReading, table_of, is_violated, violated_by}
 use Rattle.denote.specs.SchemaOf.{index_of}
 use Rattle.store.specs.Contents.{Entry, StoredTable, rows_of}
-use Rattle.store.specs.Contents.{table_of as held}
 use Rattle.store.specs.Indexes.{entries_of, columns_at, matching, sought}
 use Rattle.constraints.specs.declared.foreseen.Foreseen.{Foreseen}
 use Rattle.constraints.specs.declared.foreseen.Foreseen.TheVariants.{Fits, Violates, Open}
 use Rattle.constraints.specs.declared.keys.Key.{Key}
-use Rattle.constraints.specs.Foreseen.{columns_of_key, same_columns, place_of, key_over, key_asked, keys_asked, meets, are_more, is_met, met_in, foreseen_at, foreseen_by, Foretells}
+use Rattle.constraints.specs.Foreseen.{columns_of_key, same_columns, place_of, key_over, keys_asked, meets, are_more, is_met, met_in, foreseen_at, foreseen_by, Foretells}
 use Rattle.constraints.proofs.Behind.{counts-more, meets_rule, rule-behind, asked-met, unasked-met}
 use Rattle.constraints.proofs.Broken.{behind, wider}
 

@@ -1,5 +1,5 @@
 -- Keys that are looked up one after another, and the table of the database to which rows come.
-use Rattle.std.proofs.Common.{◌≡◌, ◌∙◌, refl, sym, ap, subst, ℕ, suc, ◌+◌, ◌<◌, Bool, true, false, ◌||◌, List, [], ◌∷◌, map, drop, length, get_or, drop-cons, Option, Some, None, Ok, Err, IfOk, arith}
+use Rattle.std.proofs.Common.{◌≡◌, ◌∙◌, sym, ap, subst, ℕ, suc, ◌+◌, ◌<◌, Bool, true, ◌||◌, List, [], ◌∷◌, map, drop, length, get_or, drop-cons, Option, Some, None, Ok, Err, IfOk, arith}
 use Rattle.std.specs.Prelude.{Contains, Result}
 use Rattle.std.specs.List.{list_all}
 use Rattle.std.specs.Option.{option_map}
@@ -10,7 +10,7 @@ use Rattle.sqlval.specs.declared.schema.Schema.{Schema}
 use Rattle.sqlval.specs.declared.schema.Table as declared
 use Rattle.sqlval.specs.Matching.{key_of}
 use Rattle.sqlval.specs.Value.{Row}
-use Rattle.denote.specs.Database.{Name, Table, IndexDeclaration, CheckReading, table_of, violated_by}
+use Rattle.denote.specs.Database.{Name, Table, CheckReading, table_of, violated_by}
 use Rattle.denote.specs.SchemaOf.{IsSchemaOf, index_of}
 use Rattle.store.specs.Contents.{StoredTable, Contents, database_of, rows_of}
 use Rattle.store.specs.Contents.{table_of as held}

@@ -1,12 +1,11 @@
 -- What keys that are looked up say of the constraints of a table, once the rows have come to
 -- others: a row is found by its own key, and a second one is its twin.
-use Rattle.std.proofs.Common.{◌≡◌, ◌∙◌, refl, sym, ap, subst, ℕ, zero, suc, ◌+◌, ◌<◌, Bool, true, false, cond, ◌||◌, List, [], ◌∷◌, ◌++◌, map, length, Option, Some, None, arith}
+use Rattle.std.proofs.Common.{◌≡◌, ◌∙◌, refl, sym, ap, subst, ℕ, suc, ◌+◌, ◌<◌, Bool, true, false, cond, ◌||◌, List, [], ◌∷◌, ◌++◌, map, length, Option, Some, None, arith}
 use Rattle.std.specs.Prelude.{Contains, filter, nat_lt}
 use Rattle.std.specs.List.{list_any}
 use Rattle.std.specs.Option.{option_map}
 use Rattle.std.specs.Cmp.Lexicographic.{pointwise}
 use Rattle.sqlval.specs.declared.schema.Constraint.{Constraint}
-use Rattle.sqlval.specs.declared.schema.Index.{Index}
 use Rattle.sqlval.specs.declared.schema.Rule.{Rule}
 use Rattle.sqlval.specs.declared.schema.Rule.TheVariants.{NotNull, PrimaryKey, Unique, Check}
 use Rattle.sqlval.specs.declared.schema.Table as declared
@@ -15,7 +14,7 @@ use Rattle.sqlval.specs.Matching.{is_equal, key_of, matches}
 use Rattle.sqlval.specs.Value.{Row, is_null}
 use Rattle.denote.specs.Bag.{Permutes}
 use Rattle.denote.specs.Bag.Permutes.{nothing, keeps, exchanges, goes_on}
-use Rattle.denote.specs.Database.{Name, Table, CheckReading, table_of, check_at, is_false, has_null, has_twins, is_violated, violated_by}
+use Rattle.denote.specs.Database.{Name, CheckReading, table_of, check_at, is_false, has_null, has_twins, is_violated, violated_by}
 use Rattle.denote.specs.SchemaOf.{index_of}
 use Rattle.store.specs.Contents.{Entry, StoredTable, rows_of}
 use Rattle.store.specs.Indexes.{entries_of, columns_at, matching, sought}

@@ -1,5 +1,5 @@
 //! The constraints of a table to which rows come or have come, by looking their keys up.
-ghost use Rattle.std.specs.Prelude.{◌≡◌, ◌≤◌, ◌<◌, ◌^◌, nat_lt, true, List, [], ◌++◌, Some, IfOk, IfErr, Contains, length};
+ghost use Rattle.std.specs.Prelude.{◌≡◌, ◌<◌, ◌^◌, nat_lt, true, List, [], ◌++◌, Some, IfOk, IfErr, Contains, length};
 ghost use Rattle.std.specs.FinMap.{get};
 ghost use Rattle.refusals.specs.declared.refusal.Refusal.TheVariants.{Memory, Disk};
 ghost use Rattle.sqlval.specs.Value.{Row as AnyRow};
@@ -10,6 +10,7 @@ ghost use Rattle.session_definitions.specs.Refusals.{IsReserved};
 ghost use Rattle.sqlval.specs.Matching.{key_of};
 ghost use Rattle.store.specs.Contents.{StoredTable, database_of};
 ghost use Rattle.store.specs.Errors.{HasRisen};
+ghost use Rattle.store.specs.Going.{Going};
 ghost use Rattle.store.specs.Indexes.{entries_of, sought};
 ghost use Rattle.store.specs.View.{table_named as found_as};
 ghost use Rattle.transactions.specs.Refused.{TellsNoLimit};
@@ -58,8 +59,7 @@ pub fn foresee<S: Store, C: Checks>(
     ensures refused { IfErr result (λ refusal. S.is_sound store.old → IsReserved refusal) }
     ensures limits { IfErr result TellsNoLimit }
     ensures device { IfErr result (λ refusal. refusal ≡ Disk → HasRisen (S.refused store.old) (S.refused store.new)) }
-    ensures sound { S.is_sound store.old → S.is_sound store.new }
-    ensures counts { S.refused store.old ≤ S.refused store.new }
+    ensures goes { S.goes_on store.old store.new Going.keeps }
 {
     match are_few(alloc, store, name, rows.len()) {
         Ok(true) => look_up(alloc, store, name, rows, checks, 0),
@@ -95,8 +95,7 @@ pub fn look_again<S: Store, C: Checks>(
     ensures refused { IfErr result (λ refusal. S.is_sound store.old → IsReserved refusal) }
     ensures limits { IfErr result TellsNoLimit }
     ensures device { IfErr result (λ refusal. refusal ≡ Disk → HasRisen (S.refused store.old) (S.refused store.new)) }
-    ensures sound { S.is_sound store.old → S.is_sound store.new }
-    ensures counts { S.refused store.old ≤ S.refused store.new }
+    ensures goes { S.goes_on store.old store.new Going.keeps }
 {
     look_up(alloc, store, name, rows, checks, 1)
 }
@@ -115,8 +114,7 @@ pub fn are_few<S: Store>(
     ensures refused { IfErr result (λ refusal. S.is_sound store.old → IsReserved refusal) }
     ensures limits { IfErr result TellsNoLimit }
     ensures device { IfErr result (λ refusal. refusal ≡ Disk → HasRisen (S.refused store.old) (S.refused store.new)) }
-    ensures sound { S.is_sound store.old → S.is_sound store.new }
-    ensures counts { S.refused store.old ≤ S.refused store.new }
+    ensures goes { S.goes_on store.old store.new Going.reads }
 {
     let number = (count as u64).saturating_mul(MANY_TIMES);
     match store.next(alloc, View::Working, name, Some(number)) {
@@ -155,8 +153,7 @@ fn look_up<S: Store, C: Checks>(
     ensures refused { IfErr result (λ refusal. S.is_sound store.old → IsReserved refusal) }
     ensures limits { IfErr result TellsNoLimit }
     ensures device { IfErr result (λ refusal. refusal ≡ Disk → HasRisen (S.refused store.old) (S.refused store.new)) }
-    ensures sound { S.is_sound store.old → S.is_sound store.new }
-    ensures counts { S.refused store.old ≤ S.refused store.new }
+    ensures goes { S.goes_on store.old store.new Going.keeps }
 {
     if let Err(error) = store.prepare(View::Working) {
         return Err(refusal_of(error));
@@ -220,8 +217,7 @@ fn looked_up<S: Store>(
     ensures refused { IfErr result (λ refusal. S.is_sound store.old → IsReserved refusal) }
     ensures limits { IfErr result TellsNoLimit }
     ensures device { IfErr result (λ refusal. refusal ≡ Disk → HasRisen (S.refused store.old) (S.refused store.new)) }
-    ensures sound { S.is_sound store.old → S.is_sound store.new }
-    ensures counts { S.refused store.old ≤ S.refused store.new }
+    ensures goes { S.goes_on store.old store.new Going.reads }
 {
     let mut seen = Seen {
         store,

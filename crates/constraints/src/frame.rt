@@ -1,11 +1,12 @@
 //! The frame of a change: the mark before it, and the constraints of its table after it.
-ghost use Rattle.std.specs.Prelude.{◌≡◌, ◌≤◌, true, [], Some, IfOk, IfErr, OnOk, OnErr, MatchOption, Contains};
+ghost use Rattle.std.specs.Prelude.{◌≡◌, true, [], Some, IfOk, IfErr, OnOk, OnErr, MatchOption, Contains};
 ghost use Rattle.std.specs.FinMap.{get};
 ghost use Rattle.refusals.specs.declared.refusal.Refusal.TheVariants.{Memory, Disk};
 ghost use Rattle.denote.specs.Database.{Name, Table as TableOf, CheckReading, table_of, violated_by};
 ghost use Rattle.session_definitions.specs.Refusals.{IsReserved};
 ghost use Rattle.store.specs.Contents.{database_of};
 ghost use Rattle.store.specs.Errors.{HasRisen};
+ghost use Rattle.store.specs.Going.{Going};
 ghost use Rattle.store.specs.Stored.{SameButMark, marked_now, undone};
 ghost use Rattle.transactions.specs.Refused.{TellsNoLimit};
 ghost use Rattle.constraints.specs.Settled.{Decided, Holds, Breaks};
@@ -30,8 +31,7 @@ pub fn begin<S: Store>(store: &mut S) -> Result<(), Refusal>
     ensures refused { IfErr result (λ refusal. S.is_sound store.old → IsReserved refusal) }
     ensures limits { IfErr result TellsNoLimit }
     ensures device { IfErr result (λ refusal. refusal ≡ Disk → HasRisen (S.refused store.old) (S.refused store.new)) }
-    ensures sound { S.is_sound store.old → S.is_sound store.new }
-    ensures counts { S.refused store.old ≤ S.refused store.new }
+    ensures goes { S.goes_on store.old store.new Going.keeps }
 {
     match store.mark() {
         Ok(()) => Ok(()),
@@ -58,8 +58,7 @@ pub fn settle<S: Store, C: Checks>(
         → Breaks reading (database_of (S.shows store.old).working) name.now refusal) }
     ensures limits { IfErr result TellsNoLimit }
     ensures device { IfErr result (λ refusal. refusal ≡ Disk → HasRisen (S.refused store.old) (S.refused store.new)) }
-    ensures sound { S.is_sound store.old → S.is_sound store.new }
-    ensures counts { S.refused store.old ≤ S.refused store.new }
+    ensures goes { S.goes_on store.old store.new Going.keeps }
 {
     match violation(alloc, store, name, checks) {
         Ok(None) => Ok(()),
@@ -95,8 +94,7 @@ pub fn settle_unless<S: Store, C: Checks>(
         → Breaks reading (database_of (S.shows store.old).working) name.now refusal) }
     ensures limits { IfErr result TellsNoLimit }
     ensures device { IfErr result (λ refusal. refusal ≡ Disk → HasRisen (S.refused store.old) (S.refused store.new)) }
-    ensures sound { S.is_sound store.old → S.is_sound store.new }
-    ensures counts { S.refused store.old ≤ S.refused store.new }
+    ensures goes { S.goes_on store.old store.new Going.keeps }
 {
     if known {
         return Ok(());
@@ -124,8 +122,7 @@ fn violation<S: Store, C: Checks>(
     ensures refused { IfErr result (λ refusal. S.is_sound store.old → IsReserved refusal) }
     ensures limits { IfErr result TellsNoLimit }
     ensures device { IfErr result (λ refusal. refusal ≡ Disk → HasRisen (S.refused store.old) (S.refused store.new)) }
-    ensures sound { S.is_sound store.old → S.is_sound store.new }
-    ensures counts { S.refused store.old ≤ S.refused store.new }
+    ensures goes { S.goes_on store.old store.new Going.keeps }
 {
     let found = match store.scan(alloc, View::Working, name) {
         Ok(found) => found,

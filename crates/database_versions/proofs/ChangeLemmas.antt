@@ -1,5 +1,5 @@
 -- What changes of a version leave.
-use Rattle.std.proofs.Common.{◌≡◌, ◌∙◌, ℕ, ◌<◌, ◌≤◌, List, Option, Some, None, Result, Ok, Err, OnOk, OnErr, IfOk, IfErr, IsSome, refl, sym, ap, subst, ◌⊎◌, inl, inr}
+use Rattle.std.proofs.Common.{◌≡◌, ◌∙◌, ℕ, Result, Ok, Err, OnOk, IfErr, IsSome, sym, ap, subst, ◌⊎◌}
 use Rattle.store.specs.Contents.{Contents}
 use Rattle.page_space.specs.Space.{ChangeRefused}
 use Rattle.page_space.specs.declared.error.SpaceError.{SpaceError}

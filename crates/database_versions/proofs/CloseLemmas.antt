@@ -1,20 +1,16 @@
 -- What closing leaves on the device.
-use Rattle.std.proofs.Common.{◌≡◌, ◌∙◌, ℕ, ◌+◌, ◌*◌, ◌<◌, ◌≤◌, Bool, true, false, List, length, Option, Some, None, IsTrue, IsSome, Result, Ok, Err, IfOk, refl, sym, ap, subst, arith, suc, zero, [], ◌∷◌, ◌⊎◌, inl, inr}
+use Rattle.std.proofs.Common.{◌≡◌, ◌∙◌, ℕ, ◌+◌, ◌*◌, ◌<◌, ◌≤◌, Bool, true, false, List, length, Option, Some, None, IsTrue, IsSome, Result, Ok, Err, IfOk, refl, sym, ap, subst, arith, suc, zero}
 use Rattle.std.specs.Prelude.{nat_le, nat_lt, ◌&&◌, if◌then◌else◌}
 use Rattle.std.proofs.lemmas.Bool.{leb-true, ltb-true, ltb-false}
 use Rattle.std.specs.Option.{is_some}
-use Rattle.denote.specs.Database.{Database}
-use Rattle.store.specs.Contents.{Contents, database_of}
+use Rattle.store.specs.Contents.{database_of}
 use Rattle.pagefile.specs.declared.header.FileHeader.{FileHeader}
-use Rattle.pagefile.specs.Header.{IsHeader, IsInBounds}
 use Rattle.pagefile.specs.Pages.{page_of}
-use Rattle.pagefile.specs.Whole as file
 use Rattle.pagefile.proofs.PageLemmas.{page_within}
-use Rattle.pool.specs.Pages.{PageMap, over, known}
-use Rattle.pool.specs.Versions.{Versions}
+use Rattle.pool.specs.Pages.{PageMap}
 use Rattle.overlay.specs.Bounded.{some_is, in_use-bounded}
 use Rattle.overlay.specs.InUse.{in_use, is_counted, not_free, unless_free}
-use Rattle.overlay.specs.Whole.{IsIn, IsFreeList, IsWholeFor, IsFull, IsWholeOver, HasFreeList}
+use Rattle.overlay.specs.Whole.{IsWholeFor, IsFull, IsWholeOver, HasFreeList}
 use Rattle.overlay.proofs.InUseLemmas.{in_use-read}
 use Rattle.overlay.proofs.WholeLemmas.{list_same, list_there}
 use Rattle.database_trees.specs.Held as database

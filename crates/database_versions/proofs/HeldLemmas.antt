@@ -1,10 +1,9 @@
 -- When the pages of a version are a database.
-use Rattle.std.proofs.Common.{◌≡◌, ◌∙◌, ℕ, ◌<◌, zero, suc, List, [], ◌∷◌, Option, Some, None, Result, Ok, Err, OnOk, IfOk, IsSome, refl, sym, ap, subst, ◌⊎◌, inl, inr}
+use Rattle.std.proofs.Common.{◌≡◌, ◌∙◌, ℕ, ◌<◌, zero, suc, List, Option, Some, None, IsSome, refl, sym, ap, subst, ◌⊎◌, inl, inr}
 use Rattle.std.specs.FinMap.{get}
 use Rattle.std.specs.Option.{is_some}
 use Rattle.denote.specs.Database.{Name}
 use Rattle.store.specs.Contents.{StoredTable, Contents, Rises}
-use Rattle.pagefile.specs.Number.{number_at}
 use Rattle.pagefile.specs.declared.header.FileHeader.{FileHeader}
 use Rattle.pagefile.specs.Header.{IsHeader}
 use Rattle.pool.specs.Pages.{PageMap, over}
@@ -13,14 +12,14 @@ use Rattle.overlay.specs.InUse.{in_use}
 use Rattle.overlay.specs.Whole.{IsFull, IsWholeOver, HasRoot}
 use Rattle.btree_read.specs.declared.entry.Entry.{Entry}
 use Rattle.btree_read.specs.Nodes.{Node, HasNode}
-use Rattle.btree_read.specs.Tree.{Tree, page_of, nodes_of, Holds, IsTree, IsTreeOf}
+use Rattle.btree_read.specs.Tree.{Tree, page_of, nodes_of, Holds, IsTree}
 use Rattle.stored_tables.specs.Held as plain
-use Rattle.database_trees.specs.Held.{TableAt, rows_of_tables, HoldsDatabase, IsAllOwned, contents_of}
+use Rattle.database_trees.specs.Held.{TableAt, rows_of_tables, HoldsDatabase, IsAllOwned}
 use Rattle.database_trees.specs.Changed.{DatabaseWritten, DatabaseOwned}
 use Rattle.database_trees.proofs.DatabaseLemmas.{as_tables, as_any, owned_stays}
 use Rattle.stored_tables.specs.Contents.{contents_at}
 use Rattle.database_versions.specs.Changed.{IsNow}
-use Rattle.database_versions.specs.Databases.{root_in, root_of, contents_in, IsDatabase, IsOwned}
+use Rattle.database_versions.specs.Databases.{root_in, root_of, IsDatabase, IsOwned}
 
 -- ---- what the laws of databases and tables say
 

@@ -1,27 +1,24 @@
 -- What opening a device gives.
-use Rattle.std.proofs.Common.{◌≡◌, ◌≢◌, ◌∙◌, ℕ, ◌+◌, ◌*◌, ◌==◌, ◌<◌, ◌≤◌, [], ◌∷◌, Bool, true, false, List, length, Option, Some, None, Result, Ok, Err, IfOk, IfErr, IsTrue, IsSome, refl, sym, ap, subst, arith, ◌⊎◌, inl, inr}
-use Rattle.std.specs.Prelude.{nat_le}
+use Rattle.std.proofs.Common.{◌≡◌, ◌≢◌, ◌∙◌, ℕ, ◌<◌, ◌≤◌, [], ◌∷◌, Bool, true, false, List, length, Option, Some, None, Result, Ok, Err, IfOk, IfErr, IsTrue, IsSome, refl, sym, ap, subst, arith, ◌⊎◌, inl, inr}
 use Rattle.std.specs.Option.{is_some}
 use Rattle.std.specs.FinMap.{empty}
 use Rattle.denote.specs.Database.{Database}
-use Rattle.disk.specs.Refused as device
 use Rattle.store.specs.declared.error.StoreError.{StoreError}
 use Rattle.store.specs.declared.error.StoreError.TheVariants as refused
-use Rattle.store.specs.Contents.{Contents, database_of}
-use Rattle.store.specs.Errors.{HasRisen, MayFail, Never}
+use Rattle.store.specs.Contents.{database_of}
+use Rattle.store.specs.Errors.{MayFail, Never}
 use Rattle.store.proofs.Databases.{database-empty}
 use Rattle.pagefile.specs.declared.header.FileHeader.{FileHeader}
-use Rattle.pagefile.specs.Header.{IsHeader, IsInBounds}
-use Rattle.pagefile.specs.Number.{number_at}
+use Rattle.pagefile.specs.Header.{IsHeader}
 use Rattle.pagefile.specs.Pages.{page_of}
 use Rattle.pagefile.specs.Whole as file
 use Rattle.pagefile.specs.declared.error.OpenError.{OpenError}
 use Rattle.pagefile.specs.declared.error.OpenError.TheVariants as opening
-use Rattle.pool.specs.Pages.{PageMap, over, only, known}
+use Rattle.pool.specs.Pages.{PageMap, only, known}
 use Rattle.pool.specs.Versions.{Versions}
 use Rattle.overlay.specs.Bounded.{in_use-bounded}
 use Rattle.overlay.specs.InUse.{in_use}
-use Rattle.overlay.specs.Whole.{IsWholeFor, HasFreeList}
+use Rattle.overlay.specs.Whole.{IsWholeFor}
 use Rattle.overlay.proofs.InUseLemmas.{in_use-read}
 use Rattle.overlay.proofs.LayerLemmas.{only_apart}
 use Rattle.database_trees.specs.Held as database

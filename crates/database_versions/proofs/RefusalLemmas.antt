@@ -1,7 +1,6 @@
 -- Refusals of a store, from those of what it stands on.
-use Rattle.std.proofs.Common.{◌≡◌, ◌∙◌, ℕ, ◌+◌, ◌^◌, ◌-◌, ◌<◌, ◌≤◌, List, length, Bool, true, false, IsTrue, Option, Some, None, Result, Ok, Err, IfErr, IsSome, refl, sym, ap, subst, arith, ◌⊎◌, inl, inr}
-use Rattle.std.specs.Prelude.{min, ⊤}
-use Rattle.std.proofs.lemmas.Bool.{cases_lt}
+use Rattle.std.proofs.Common.{◌≡◌, ℕ, ◌+◌, ◌^◌, ◌-◌, ◌<◌, ◌≤◌, List, length, Option, Some, Result, Ok, Err, IfErr, refl, sym, subst, arith, inl, inr}
+use Rattle.std.specs.Prelude.{min}
 use Rattle.std.specs.FinMap.{get}
 use Rattle.disk.specs.Refused as device
 use Rattle.denote.specs.Database.{Name}
@@ -11,7 +10,7 @@ use Rattle.store.specs.declared.error.StoreError.TheVariants as refused
 use Rattle.store.specs.declared.error.StoreLimit.{StoreLimit}
 use Rattle.store.specs.declared.error.StoreLimit.TheVariants as limit
 use Rattle.store.specs.Contents.{StoredTable, Contents, next_number}
-use Rattle.store.specs.Errors.{HasRisen, MayFail, Never, StoringReaches, ChangingReaches, CommittingReaches}
+use Rattle.store.specs.Errors.{HasRisen, MayFail, StoringReaches, ChangingReaches, CommittingReaches}
 use Rattle.store.specs.Indexes.{entries_of}
 use Rattle.pagefile.specs.declared.header.FileHeader.{FileHeader}
 use Rattle.pagefile.specs.Header.{IsHeader}
@@ -28,10 +27,10 @@ use Rattle.overlay.specs.Whole.{IsWholeOver, IsSaid, AtLimit}
 use Rattle.stored_tables.specs.Held as plain
 use Rattle.database_trees.specs.declared.error.DatabaseError.{DatabaseError}
 use Rattle.database_trees.specs.declared.error.DatabaseError.TheVariants as change
-use Rattle.database_trees.specs.Held.{TableAt, rows_of_tables, HoldsDatabase, contents_of}
+use Rattle.database_trees.specs.Held.{rows_of_tables, HoldsDatabase}
 use Rattle.database_trees.specs.Changed.{HoldsNoDatabaseIn, SpaceRefused, StoringReaches as StoringReachesIn, NumberingReaches}
 use Rattle.database_trees.proofs.DatabaseLemmas.{as_tables}
-use Rattle.database_versions.specs.Databases.{root_of, contents_in, known_contents, IsDatabase}
+use Rattle.database_versions.specs.Databases.{IsDatabase}
 use Rattle.database_versions.specs.Refusals.{of_fault, of_pool, of_change, of_rows, IsReached, IsCounted, RowsReach, NumbersEnd, NewRowsReach}
 use Rattle.database_versions.proofs.HeldLemmas.{root_is}
 

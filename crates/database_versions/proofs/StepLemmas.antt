@@ -1,6 +1,5 @@
 -- One step of a call after another, over the same version.
-use Rattle.std.proofs.Common.{◌≡◌, ◌∙◌, ℕ, ◌≤◌, List, Some, refl, sym, ap, subst, ◌⊎◌, inl, inr}
-use Rattle.std.specs.FinMap.{get}
+use Rattle.std.proofs.Common.{◌≡◌, ◌∙◌, ℕ, ◌≤◌, List, Some, sym, subst}
 use Rattle.denote.specs.Database.{Name}
 use Rattle.sqlval.specs.Value.{Row}
 use Rattle.store.specs.declared.error.StoreError.{StoreError}

@@ -3,7 +3,6 @@ use Rattle.store.specs.declared.error.StoreLimit.{StoreLimit}
 use Rattle.store.specs.declared.error.StoreLimit.TheVariants as limit
 use Rattle.page_space.specs.declared.error.SpaceError.TheVariants as fault
 use Rattle.pool.specs.Pages.{PageMap}
-use Rattle.overlay.specs.Layers.{size_of}
 use Rattle.overlay.specs.Undone.{Undone, AreUndone}
 use Rattle.overlay.proofs.UndoneLemmas.{was_at_limit}
 use Rattle.database_versions.specs.Refusals.{IsCounted}

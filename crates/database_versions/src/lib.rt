@@ -2,6 +2,7 @@
 //! and closed.
 #![tactic(auto)]
 
+mod blocks;
 mod causes;
 mod closing;
 mod laws;
@@ -12,6 +13,7 @@ mod reading;
 mod rows;
 mod schema;
 
+pub use blocks::{some_rows_of, some_rows_sought, some_rows_within};
 pub use causes::of_pool;
 pub use closing::close_pool;
 pub use laws::each_page_has_its_place;

@@ -41,6 +41,7 @@ fn seek_from<D: Disk>(
     ensures versions { versions_of pool.new ≡ versions_of pool.old }
     ensures refusal { IfErr result (ReadRefused (HoldsNoDatabase (in_use ((versions_of pool.old).pages at) (private_of changes.now)) root) (D.refused (device_of pool.old)) (D.refused (device_of pool.new))) }
     ensures rising { D.refused (device_of pool.old) ≤ D.refused (device_of pool.new) }
+    ensures writes { D.writes (device_of pool.new) ≡ D.writes (device_of pool.old) }
 {
     let mut space = Changed { pool, changes, at };
     index_lookups::seek(&mut space, alloc, root, name, index, key)
@@ -62,6 +63,7 @@ pub fn rows_sought<D: Disk>(
     ensures versions { versions_of pool.new ≡ versions_of pool.old }
     ensures refused { IfErr result (MayFail (IsDatabase ((versions_of pool.old).pages at) (private_of changes.now)) (D.refused (device_of pool.old)) (D.refused (device_of pool.new)) Never) }
     ensures rising { D.refused (device_of pool.old) ≤ D.refused (device_of pool.new) }
+    ensures writes { D.writes (device_of pool.new) ≡ D.writes (device_of pool.old) }
 {
     match read_header(pool, changes, at) {
         Ok(header) => match seek_from(
@@ -100,6 +102,7 @@ fn range_from<D: Disk>(
     ensures versions { versions_of pool.new ≡ versions_of pool.old }
     ensures refusal { IfErr result (ReadRefused (HoldsNoDatabase (in_use ((versions_of pool.old).pages at) (private_of changes.now)) root) (D.refused (device_of pool.old)) (D.refused (device_of pool.new))) }
     ensures rising { D.refused (device_of pool.old) ≤ D.refused (device_of pool.new) }
+    ensures writes { D.writes (device_of pool.new) ≡ D.writes (device_of pool.old) }
 {
     let mut space = Changed { pool, changes, at };
     index_lookups::range(&mut space, alloc, root, name, index, low, high)
@@ -122,6 +125,7 @@ pub fn rows_within<D: Disk>(
     ensures versions { versions_of pool.new ≡ versions_of pool.old }
     ensures refused { IfErr result (MayFail (IsDatabase ((versions_of pool.old).pages at) (private_of changes.now)) (D.refused (device_of pool.old)) (D.refused (device_of pool.new)) Never) }
     ensures rising { D.refused (device_of pool.old) ≤ D.refused (device_of pool.new) }
+    ensures writes { D.writes (device_of pool.new) ≡ D.writes (device_of pool.old) }
 {
     match read_header(pool, changes, at) {
         Ok(header) => match range_from(
@@ -160,6 +164,7 @@ fn next_in_from<D: Disk>(
     ensures versions { versions_of pool.new ≡ versions_of pool.old }
     ensures refusal { IfErr result (ReadRefused (HoldsNoDatabase (in_use ((versions_of pool.old).pages at) (private_of changes.now)) root) (D.refused (device_of pool.old)) (D.refused (device_of pool.new))) }
     ensures rising { D.refused (device_of pool.old) ≤ D.refused (device_of pool.new) }
+    ensures writes { D.writes (device_of pool.new) ≡ D.writes (device_of pool.old) }
 {
     let mut space = Changed { pool, changes, at };
     index_lookups::next_in(&mut space, alloc, root, name, index, after)
@@ -181,6 +186,7 @@ pub fn row_beyond<D: Disk>(
     ensures versions { versions_of pool.new ≡ versions_of pool.old }
     ensures refused { IfErr result (MayFail (IsDatabase ((versions_of pool.old).pages at) (private_of changes.now)) (D.refused (device_of pool.old)) (D.refused (device_of pool.new)) Never) }
     ensures rising { D.refused (device_of pool.old) ≤ D.refused (device_of pool.new) }
+    ensures writes { D.writes (device_of pool.new) ≡ D.writes (device_of pool.old) }
 {
     match read_header(pool, changes, at) {
         Ok(header) => match next_in_from(

@@ -40,6 +40,7 @@ pub(crate) fn put_root<D: Disk>(
         → DatabaseWritten (in_use ((versions_of pool.old).pages at) (private_of changes.old)) contents root → ⊥)
         (D.refused (device_of pool.old)) (D.refused (device_of pool.new))) }
     ensures rising { D.refused (device_of pool.old) ≤ D.refused (device_of pool.new) }
+    ensures writes { D.writes (device_of pool.new) ≡ D.writes (device_of pool.old) }
 {
     database_stays();
     contents_are_read();

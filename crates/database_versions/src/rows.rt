@@ -49,6 +49,7 @@ fn append_from<D: Disk>(
     ensures versions { versions_of pool.new ≡ versions_of pool.old }
     ensures refusal { IfErr result (SpaceRefused (AtLimit (over (private_of changes.new) ((versions_of pool.old).pages at) 0) (size_of (private_of changes.new))) (HoldsNoDatabaseIn (in_use ((versions_of pool.old).pages at) (private_of changes.old)) root (IsWholeOver ((versions_of pool.old).pages at) (private_of changes.old))) (D.refused (device_of pool.old)) (D.refused (device_of pool.new))) }
     ensures rising { D.refused (device_of pool.old) ≤ D.refused (device_of pool.new) }
+    ensures writes { D.writes (device_of pool.new) ≡ D.writes (device_of pool.old) }
 {
     let mut space = Overlay { pool, changes, at };
     database_trees::append(&mut space, alloc, root, name, rows)
@@ -73,6 +74,7 @@ pub fn append_rows<D: Disk>(
     ensures versions { versions_of pool.new ≡ versions_of pool.old }
     ensures refused { IfErr result (MayFail (IsDatabase ((versions_of pool.old).pages at) (private_of changes.old)) (D.refused (device_of pool.old)) (D.refused (device_of pool.new)) (NewRowsReach (IsCounted ((versions_of pool.old).pages at) (private_of changes.new)) (NumbersEnd ((versions_of pool.old).pages at) (private_of changes.old) name.now rows) rows)) }
     ensures rising { D.refused (device_of pool.old) ≤ D.refused (device_of pool.new) }
+    ensures writes { D.writes (device_of pool.new) ≡ D.writes (device_of pool.old) }
 {
     match read_header(pool, changes, at) {
         Ok(header) => match append_from(alloc, pool, changes, at, header.catalog_root, name, rows) {
@@ -110,6 +112,7 @@ fn replace_from<D: Disk>(
     ensures versions { versions_of pool.new ≡ versions_of pool.old }
     ensures refusal { IfErr result (SpaceRefused (AtLimit (over (private_of changes.new) ((versions_of pool.old).pages at) 0) (size_of (private_of changes.new))) (HoldsNoDatabaseIn (in_use ((versions_of pool.old).pages at) (private_of changes.old)) root (IsWholeOver ((versions_of pool.old).pages at) (private_of changes.old))) (D.refused (device_of pool.old)) (D.refused (device_of pool.new))) }
     ensures rising { D.refused (device_of pool.old) ≤ D.refused (device_of pool.new) }
+    ensures writes { D.writes (device_of pool.new) ≡ D.writes (device_of pool.old) }
 {
     let mut space = Overlay { pool, changes, at };
     database_trees::replace(&mut space, alloc, root, name, number, row)
@@ -135,6 +138,7 @@ pub fn replace_row<D: Disk>(
     ensures versions { versions_of pool.new ≡ versions_of pool.old }
     ensures refused { IfErr result (MayFail (IsDatabase ((versions_of pool.old).pages at) (private_of changes.old)) (D.refused (device_of pool.old)) (D.refused (device_of pool.new)) (RowsReach (IsCounted ((versions_of pool.old).pages at) (private_of changes.new)) (row ∷ []))) }
     ensures rising { D.refused (device_of pool.old) ≤ D.refused (device_of pool.new) }
+    ensures writes { D.writes (device_of pool.new) ≡ D.writes (device_of pool.old) }
 {
     match read_header(pool, changes, at) {
         Ok(header) => match replace_from(
@@ -179,6 +183,7 @@ fn delete_from<D: Disk>(
     ensures versions { versions_of pool.new ≡ versions_of pool.old }
     ensures refusal { IfErr result (SpaceRefused (AtLimit (over (private_of changes.new) ((versions_of pool.old).pages at) 0) (size_of (private_of changes.new))) (HoldsNoDatabaseIn (in_use ((versions_of pool.old).pages at) (private_of changes.old)) root (IsWholeOver ((versions_of pool.old).pages at) (private_of changes.old))) (D.refused (device_of pool.old)) (D.refused (device_of pool.new))) }
     ensures rising { D.refused (device_of pool.old) ≤ D.refused (device_of pool.new) }
+    ensures writes { D.writes (device_of pool.new) ≡ D.writes (device_of pool.old) }
 {
     let mut space = Overlay { pool, changes, at };
     database_trees::delete(&mut space, alloc, root, name, number)
@@ -203,6 +208,7 @@ pub fn delete_row<D: Disk>(
     ensures versions { versions_of pool.new ≡ versions_of pool.old }
     ensures refused { IfErr result (MayFail (IsDatabase ((versions_of pool.old).pages at) (private_of changes.old)) (D.refused (device_of pool.old)) (D.refused (device_of pool.new)) (ChangingReaches (IsCounted ((versions_of pool.old).pages at) (private_of changes.new)))) }
     ensures rising { D.refused (device_of pool.old) ≤ D.refused (device_of pool.new) }
+    ensures writes { D.writes (device_of pool.new) ≡ D.writes (device_of pool.old) }
 {
     match read_header(pool, changes, at) {
         Ok(header) => match delete_from(

@@ -15,9 +15,9 @@ use Rattle.denote.specs.Outcome.{Outcome}
 use Rattle.denote.specs.Select.{values_of}
 use Rattle.denote.specs.Expression.{ExpressionMeaning, chained, concatenation, calculated}
 use Rattle.sqlval.specs.declared.comparison.CompOp.TheVariants as by
-use Rattle.sqlval.specs.Comparison.{comparison}
-use Rattle.denote.specs.Condition.{ConditionMeaning, both, either, conjunction, disjunction, compared, between}
+use Rattle.denote.specs.Condition.{ConditionMeaning, between, both, either, conjunction, disjunction}
 use Rattle.algebra.specs.Listing.{first_only, ended, then_list, in_order, row_by_row}
+use Rattle.executor.specs.Found.{both_after, compared_after}
 use Rattle.executor.specs.Reply.{Gives as IsGiven, IsFirstOf, as_list}
 use Rattle.sqlval.specs.Value.{Row}
 
@@ -88,15 +88,6 @@ pub Gives-disjunction_operand : {X : Type 0} (s : Stop) (f : X → ConditionMean
 Gives-disjunction_operand s f env greatest items i item below is live h =
     let e : drop i items ≡ item ∷ drop (suc i) items = drop-cons items i item below ∙ ap (λ x. x ∷ drop (suc i) items) (sym is) in
     rw e (Gives-either s greatest (disjunction (f item ∷ map f (drop (suc i) items)) env) live (Gives-first s (f item env) (λ x. either x (disjunction (map f (drop (suc i) items)) env)) h))
-
--- BETWEEN: the lower bound faults, or the upper one does where the lower comparison is not false
-pub Gives-between_low : (s : Stop) (x low high : ExpressionMeaning) (env : Env) (v : Value) → x env ≡ Ok v → IsGiven (Err s) (low env) → IsGiven (Err s) (between x low high env)
-Gives-between_low s x low high env v e h = Gives-first s (compared by.GreaterOrEqual x low env) (λ t. both t (conjunction (compared by.LessOrEqual x high ∷ []) env)) (Gives-second s (x env) v (low env) (λ a b. Ok (comparison by.GreaterOrEqual a b)) e h)
-
-pub Gives-between_high : (s : Stop) (x low high : ExpressionMeaning) (env : Env) (v w : Value) → x env ≡ Ok v → low env ≡ Ok w → comparison by.GreaterOrEqual v w ≢ False → IsGiven (Err s) (high env) → IsGiven (Err s) (between x low high env)
-Gives-between_high s x low high env v w e f live h =
-    rw (e, f) (Gives-both s (comparison by.GreaterOrEqual v w) ((high env >>= (λ y. Ok (comparison by.LessOrEqual v y))) >>= (λ t. both t (Ok True))) live
-    (Gives-first s (high env >>= (λ y. Ok (comparison by.LessOrEqual v y))) (λ t. both t (Ok True)) (Gives-first s (high env) (λ y. Ok (comparison by.LessOrEqual v y)) h)))
 
 -- ---- rows
 
@@ -225,28 +216,6 @@ disjunction-next f env greatest t items i item below is value =
     let e : drop i items ≡ item ∷ drop (suc i) items = drop-cons items i item below ∙ ap (λ x. x ∷ drop (suc i) items) (sym is) in
     rw (e, add-one, value) (either-next greatest t (disjunction (map f (drop (suc i) items)) env))
 
-pub Gives-between_operand : (s : Stop) (x low high : ExpressionMeaning) (env : Env) → IsGiven (Err s) (x env) → IsGiven (Err s) (between x low high env)
-Gives-between_operand s x low high env h =
-    Gives-first s (compared by.GreaterOrEqual x low env) (λ t. both t (conjunction (compared by.LessOrEqual x high ∷ []) env))
-    (Gives-first s (x env) (λ a. low env >>= (λ b. Ok (comparison by.GreaterOrEqual a b))) h)
-
--- below the lower bound the upper one is not evaluated
-pub between-false : (x low high : ExpressionMeaning) (env : Env) (v w : Value) → x env ≡ Ok v → low env ≡ Ok w → comparison by.GreaterOrEqual v w ≡ False → between x low high env ≡ Ok False
-between-false x low high env v w e f below = rw (e, f, below) refl
-
-both-one : (t u : Truth) → both t (both u (Ok True)) ≡ Ok (truth_and t u)
-both-one False u = refl
-both-one True False = refl
-both-one True Unknown = refl
-both-one True True = refl
-both-one Unknown False = refl
-both-one Unknown Unknown = refl
-both-one Unknown True = refl
-
-pub between-both : (x low high : ExpressionMeaning) (env : Env) (v w u : Value) → x env ≡ Ok v → low env ≡ Ok w → high env ≡ Ok u
-    → between x low high env ≡ Ok (truth_and (comparison by.GreaterOrEqual v w) (comparison by.LessOrEqual v u))
-between-both x low high env v w u e f g = rw (e, f, g) (both-one (comparison by.GreaterOrEqual v w) (comparison by.LessOrEqual v u))
-
 -- ---- the exits and the steps of a loop whose values are taken together
 
 pub together-next : {X A : Type 0} (f : X → Evaluation A) (found : List A) (items : List X) (i : ℕ) (item : X) (x : A) → i < length items → item ≡ get_or items i item → f item ≡ Ok x
@@ -271,3 +240,15 @@ pub row-moved-ends : {A : Type 0} (f : Row → Evaluation (List Row)) (end : Out
     → f row ≡ (x >>= next) → IsGiven (Err s) x → (whole : Outcome) → listed_before found (then_list (row_by_row f (row ∷ rest)) end) ≡ whole
     → (fault : Raised) → s ≡ Fault fault → record { rows = found; faults = fault ∷ [] } ≡ whole
 row-moved-ends f end found row rest s x next first given whole sum = row-ends f end found (row ∷ rest) 0 row s x next (omega arith) refl first given whole sum
+
+-- ---- BETWEEN as an AND of two
+
+both-alone : (x : Evaluation Truth) → (x >>= (λ u. both u (Ok True))) ≡ x
+both-alone (Ok False) = refl
+both-alone (Ok Unknown) = refl
+both-alone (Ok True) = refl
+both-alone (Err faults) = refl
+
+pub between-is : (x low high : ExpressionMeaning) (env : Env)
+    → between x low high env ≡ both_after (compared_after by.GreaterOrEqual (x env) (low env)) (compared_after by.LessOrEqual (x env) (high env))
+between-is x low high env = ap (λ rest. compared_after by.GreaterOrEqual (x env) (low env) >>= (λ t. both t rest)) (both-alone (compared_after by.LessOrEqual (x env) (high env)))

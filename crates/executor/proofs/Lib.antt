@@ -4,3 +4,4 @@ pub mod PutsLemmas
 pub mod GroupLemmas
 pub mod HalfLemmas
 pub mod SubqueryLemmas
+pub mod SideLemmas

@@ -2,16 +2,23 @@
 #![tactic(auto)]
 
 mod expressions;
+mod found;
 mod joins;
 mod keys;
 mod listed;
 mod parts;
 mod predicates;
 mod rows;
+mod sides;
 mod subqueries;
 mod trees;
+mod truths;
 
-pub use expressions::expression_value;
+pub use expressions::{arguments_of_rows, expression_value};
+pub use joins::joined_by_keys;
+pub use keys::{key_row, ranged_rows, rows_beside, sought_rows};
 pub use listed::{Env, Listed};
+pub use parts::{combined_listed, distinct_listed, grouped_listed, sorted_listed};
 pub use predicates::condition_truth;
-pub use trees::tree_listed;
+pub use rows::{put_if, put_pairs};
+pub use trees::{filtered_moving, members_kept, projected, tree_listed};

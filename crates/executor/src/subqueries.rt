@@ -1,19 +1,24 @@
 //! What the rows of a subquery come to.
 
-ghost use Rattle.std.specs.Prelude.{◌≡◌, map};
+ghost use Rattle.std.specs.Prelude.{◌≡◌, map, [], ◌∷◌, IfOk};
 ghost use Rattle.sqlval.specs.Truth.{truth_of};
 ghost use Rattle.sqlval.specs.Value.{is_null};
 ghost use Rattle.denote.specs.Condition.{among, exists, first_column};
 ghost use Rattle.denote.specs.Expression.{scalar};
-ghost use Rattle.executor.specs.Halves.{member_rows, negated_after};
+ghost use Rattle.executor.specs.Halves.{among_after, member_rows, negated_after};
+ghost use Rattle.algebra.specs.Listing.{listed_rows};
 ghost use Rattle.denote.specs.Evaluation.{Evaluation};
+ghost use Rattle.denote.specs.Outcome.{Outcome};
+ghost use Rattle.executor.specs.Members.{HasMembers};
+ghost use Rattle.sqlval.specs.declared.value.Value.{Value};
 ghost use Rattle.executor.specs.Reply.{Gives, outcome_of, among_rows};
 
 use crate::listed::Listed;
 use crate::rows::cell_of;
 use denote::{Fault, Row, Stop};
+use key_tables::Members;
 use sqlval::{CompOp, Truth, Value, compare};
-use std::alloc::Global;
+use std::alloc::{AllocError, Global};
 
 /// The value of a scalar subquery.
 #[tactic(auto, using(crate::proofs::SubqueryLemmas::subquery_lemmas))]
@@ -80,11 +85,55 @@ pub fn is_listed(x: &Value, listed: &Listed) -> Result<Truth, Stop>
     }
 }
 
-/// Whether a value is, or with `negated` is not, among the rows of a tree.
-pub fn member_of(x: &Value, listed: &Listed, negated: bool) -> Result<Truth, Stop>
-    ensures gives { Gives result (member_rows negated x.now (outcome_of listed.now)) }
+/// A list whose members are asked for: what decides IN, and the fault that ends it, if one does.
+#[derive(Drop)]
+pub struct MemberList {
+    members: Members,
+    fault: Option<Fault>,
+}
+
+/// The members that the rows of a tree have in their first column.
+pub fn member_list(alloc: Global, listed: &Listed) -> Result<MemberList, AllocError>
+    ensures { IfOk result (λ list. HasMembers list (outcome_of listed.now)) }
 {
-    negated_if(negated, is_listed(x, listed))
+    let members = Members::new(alloc, listed.rows.as_slice())?;
+    Ok(MemberList {
+        members,
+        fault: listed.fault,
+    })
+}
+
+/// The members that these values are.
+pub fn list_of_values(alloc: Global, values: &[Value]) -> Result<MemberList, AllocError>
+    ensures { IfOk result (λ list. HasMembers list (listed_rows (map (λ value. value ∷ []) values.now))) }
+{
+    let members = Members::of_values(alloc, values)?;
+    Ok(MemberList {
+        members,
+        fault: None,
+    })
+}
+
+/// Whether a value is, or with `negated` is not, among the members of a list.
+pub fn member_of(x: Result<Value, Stop>, list: &MemberList, negated: bool) -> Result<Truth, Stop>
+    ensures gives { (meant : Evaluation Value) (listed : Outcome) → Gives x meant → HasMembers list.now listed
+        → Gives result (member_rows negated meant listed) }
+{
+    negated_if(negated, among_members(x, list))
+}
+
+/// Whether a value is among the members of a list.
+fn among_members(x: Result<Value, Stop>, list: &MemberList) -> Result<Truth, Stop>
+    ensures gives { (meant : Evaluation Value) (listed : Outcome) → Gives x meant → HasMembers list.now listed
+        → Gives result (among_after meant listed) }
+{
+    match x {
+        Err(stop) => Err(stop),
+        Ok(x) => match list.fault {
+            Some(fault) => Err(Stop::Fault(fault)),
+            None => Ok(list.members.truth_of(x)),
+        },
+    }
 }
 
 fn negated_if(negated: bool, found: Result<Truth, Stop>) -> Result<Truth, Stop>

@@ -4,3 +4,4 @@ pub mod SoughtLemmas
 pub mod StepLemmas
 pub mod StandLemmas
 pub mod PlaceLemmas
+pub mod BlockLemmas

@@ -4,20 +4,19 @@ use Rattle.std.specs.Prelude.{slice_get}
 use Rattle.std.specs.List.{AllByRecursion}
 use Rattle.std.specs.Option.{option_map}
 use Rattle.std.specs.FinMap.{get}
-use Rattle.sqlval.specs.declared.schema.Index.{Index}
 use Rattle.sqlval.specs.declared.schema.Table.{Table}
 use Rattle.denote.specs.Database.{Name, IndexDeclaration}
 use Rattle.denote.specs.SchemaOf.{index_of}
 use Rattle.store.specs.Contents as stored
-use Rattle.store.specs.Indexes.{columns_at, entries_of}
+use Rattle.store.specs.Indexes.{columns_at}
 use Rattle.page_space.specs.Space.{PageMap}
 use Rattle.btree_read.proofs.ListLemmas.{each_left, each_right}
 use Rattle.tablestore.specs.Held.{HoldsRows}
 use Rattle.stored_tables.specs.Held as plain
 use Rattle.database_trees.specs.Trees.{Lies}
-use Rattle.database_trees.specs.Held.{IndexAt, TableAt, indexes_declared, declared_at, declared_of, trees_of_indexes, table_trees, trees_of, rows_at, HoldsDatabase, contents_of}
+use Rattle.database_trees.specs.Held.{IndexAt, TableAt, indexes_declared, declared_of, trees_of_indexes, table_trees, trees_of, rows_at, HoldsDatabase, contents_of}
 use Rattle.database_trees.specs.Named.{table_named}
-use Rattle.database_trees.proofs.ContentLemmas.{IsFoundAt, is_found, get_found, get_absent}
+use Rattle.database_trees.proofs.ContentLemmas.{is_found, get_found, get_absent}
 use Rattle.index_lookups.specs.declared.places.Place.{Place}
 use Rattle.index_lookups.specs.Walked.{HoldsIndexed, IsPlaceOf, place_of}
 
@@ -37,7 +36,7 @@ as_place pages t n None h = h
 as_place pages t n (Some place) h = h
 
 -- the trees of a table of a database
-table_lies : (pages : PageMap) (before behind : List TableAt) (t : TableAt) → AllByRecursion (Lies pages) (trees_of (before ++ t ∷ behind)) → AllByRecursion (Lies pages) (table_trees t)
+pub table_lies : (pages : PageMap) (before behind : List TableAt) (t : TableAt) → AllByRecursion (Lies pages) (trees_of (before ++ t ∷ behind)) → AllByRecursion (Lies pages) (table_trees t)
 table_lies pages [] behind t h = each_left (Lies pages) (table_trees t) (trees_of behind) h
 table_lies pages (b ∷ before) behind t h = table_lies pages before behind t (each_right (Lies pages) (table_trees b) (trees_of (before ++ t ∷ behind)) h)
 

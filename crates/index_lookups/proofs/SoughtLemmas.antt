@@ -1,7 +1,6 @@
 -- Which rows a walk along an index may pass over.
 use Rattle.std.proofs.Common.{◌≡◌, ◌∙◌, refl, sym, ap, subst, ℕ, Bool, true, false, List, [], ◌∷◌, ◌++◌, append_assoc, ◌⊎◌, inl, inr, Ordering}
 use Rattle.std.specs.Prelude.{◌&&◌, filter, if◌then◌else◌, slice_index_or}
-use Rattle.std.specs.List.{AllByRecursion}
 use Rattle.std.specs.Ordering.{ordering_then, is_lt, is_gt, is_eq, is_le, is_ge, int_cmp}
 use Rattle.std.specs.Cmp.Lexicographic.{slice_cmp, pointwise}
 use Rattle.std.specs.declared.cmp.Ordering.TheVariants.{Less, Equal, Greater}
@@ -16,13 +15,12 @@ use Rattle.sqlval.specs.declared.comparison.CompOp.TheVariants as op
 use Rattle.sqlval.specs.Comparison.{comparison, value_order, text_order}
 use Rattle.sqlval.specs.Matching.{is_equal, key_of, matches}
 use Rattle.sqlval.specs.Truth.{same_truth, truth_of}
-use Rattle.sqlval.specs.Value.{Row}
 use Rattle.sqlval.proofs.ValueOrderLaws.{value_order_total, value_order-level}
 use Rattle.store.specs.Contents.{Entry}
 use Rattle.store.specs.Indexes.{by_columns, first_of, is_above, is_below}
 use Rattle.store.specs.Sorted.{put_by, sorted_by}
 use Rattle.sqlrecord.specs.Storable.{AllStorable}
-use Rattle.sqlrecord.specs.Key.{value_key, key_code, number_code, byte_order, key_order}
+use Rattle.sqlrecord.specs.Key.{value_key, key_code, number_code, byte_order}
 use Rattle.sqlrecord.proofs.OrderLemmas.{keys_first}
 use Rattle.btree_read.specs.Nodes.{precedes}
 use Rattle.btree_read.proofs.OrderLemmas.{empty_lowest}

@@ -1,46 +1,44 @@
 -- Where a walk along an index stands, and what it finds.
-use Rattle.std.proofs.Common.{◌≡◌, ◌∙◌, refl, sym, ap, subst, ℕ, ◌+◌, ◌^◌, ◌<◌, ◌≤◌, Bool, true, false, List, [], ◌∷◌, ◌++◌, append_assoc, append-nil, map, length, Option, Some, None, Result, Ok, Err, IfOk, ◌⊎◌, inl, inr, arith}
-use Rattle.std.specs.Prelude.{◌&&◌, filter, not, slice_get, if◌then◌else◌}
+use Rattle.std.proofs.Common.{◌≡◌, ◌∙◌, refl, sym, ap, subst, ℕ, ◌+◌, ◌^◌, ◌<◌, ◌≤◌, Bool, true, false, List, [], ◌∷◌, ◌++◌, append_assoc, append-nil, map, length, Option, Some, None, inl, inr, arith, nat_lt, Bor}
+use Rattle.std.specs.Prelude.{◌&&◌, filter, not, slice_get, take, if◌then◌else◌}
+use Rattle.std.proofs.lemmas.List.{length-map, take-append-le}
 use Rattle.std.specs.List.{AllByRecursion}
 use Rattle.std.specs.Option.{option_map}
-use Rattle.std.specs.Ordering.{ordering_then, nat_cmp, is_gt}
-use Rattle.std.specs.Cmp.Lexicographic.{slice_cmp}
 use Rattle.std.specs.declared.ops.Bound.{Bound}
 use Rattle.std.specs.declared.ops.Bound.TheVariants.{Included, Excluded, Unbounded}
 use Rattle.sqlval.specs.declared.value.Value.{Value}
-use Rattle.sqlval.specs.Comparison.{value_order}
 use Rattle.sqlval.specs.Matching.{key_of, matches}
 use Rattle.store.specs.declared.rows.NumberedRow.{NumberedRow}
-use Rattle.store.specs.declared.rows.Numbered.{Numbered}
+use Rattle.store.specs.declared.rows.Position.{Position as Spot}
 use Rattle.store.specs.Contents as stored
-use Rattle.store.specs.Indexes.{Position, by_columns, first_of, is_above, is_below, is_within, is_beyond}
-use Rattle.store.specs.View.{AreEntries, entry_of, position_of}
+use Rattle.store.specs.Indexes.{by_columns, first_of, is_above, is_below, is_within, is_beyond, some_after}
+use Rattle.store.specs.View.{AreEntries, position_of}
 use Rattle.page_space.specs.Space.{PageMap}
 use Rattle.sqlrecord.specs.Storable.{AllStorable}
 use Rattle.sqlval.specs.CodedLength.{key_length}
-use Rattle.sqlrecord.specs.Key.{index_key_code, key_code}
+use Rattle.sqlrecord.specs.Key.{index_key_code}
 use Rattle.sqlrecord.proofs.OrderLemmas.{length_index_key}
 use Rattle.btree_read.specs.declared.entry.Entry.{Entry}
 use Rattle.btree_read.specs.declared.entry.Start.{Start}
 use Rattle.btree_read.specs.declared.entry.Start.TheVariants.{At, Behind}
 use Rattle.btree_read.specs.Nodes.{precedes}
 use Rattle.btree_read.specs.Sorted.{is_from, first_from}
-use Rattle.btree_read.proofs.ListLemmas.{each_right, each_left, each_map}
+use Rattle.btree_read.proofs.ListLemmas.{each_right, each_left}
 use Rattle.btree_read.proofs.OrderLemmas.{empty_lowest}
 use Rattle.tablestore.specs.Held.{IsKept, AreKept}
 use Rattle.index_trees.specs.Indexed.{index_entry, IsRow}
 use Rattle.database_trees.specs.Named.{row_numbered}
 use Rattle.database_trees.proofs.NumberLemmas.{AreRising, rising}
 use Rattle.index_lookups.specs.declared.sought.Sought.{Sought}
-use Rattle.index_lookups.specs.declared.sought.Sought.TheVariants.{Key, Within, Beyond}
+use Rattle.index_lookups.specs.declared.sought.Sought.TheVariants.{Key, KeyAbove, Within, Beyond, Above}
 use Rattle.index_lookups.specs.declared.walking.Walk.{Walk}
-use Rattle.index_lookups.specs.Sought.{is_wanted, is_past, is_over}
+use Rattle.index_lookups.specs.Sought.{is_wanted, is_past}
 use Rattle.index_lookups.specs.Walked.{walk_of, HoldsIndexed, StandsAt, HasStepped}
-use Rattle.index_lookups.specs.Begun.{MaySkip, IsStart, StartsBelow, IsNextRow, IsRowBehind}
+use Rattle.index_lookups.specs.Begun.{MaySkip, MayPass, IsStart, StartsBelow, IsNextRow, IsRowBehind, rows_within, block_within}
 use Rattle.index_lookups.proofs.CodeOrder.{code_of, beyond_place}
 use Rattle.index_lookups.proofs.WalkLemmas.{AreCoded, walk_is, sorted_all, sorted_coded, sorted_has}
 use Rattle.index_lookups.proofs.SoughtLemmas.{key_skipped, key_past_itself, key_past, matching_tie, sorted_filtered, over_not_below, over_on, first_not_greater, low_skipped}
-use Rattle.index_lookups.proofs.StepLemmas.{filter_front, filter_none, filter_each, filter_step, IsFrom, from_on, coded_left, next_entry_of, row_is_there, row_middle}
+use Rattle.index_lookups.proofs.StepLemmas.{filter_front, filter_none, filter_each, filter_step, from_on, coded_left, next_entry_of, row_is_there, row_middle}
 
 -- ---- an index that lies there
 
@@ -146,6 +144,17 @@ module _ (pages : PageMap) (root rows_root : ℕ) (columns : List ℕ) (rows : L
       (front_skipped sought code b.stands.front may (each_left IsKept b.stands.front b.left (subst AreKept b.stands.whole walk_kept)) b.passed)
       ∙ ap (filter (is_wanted sought columns)) (sym b.stands.whole)
 
+  passed_over : (sought : Sought) (code : List ℕ) (front : List stored.Entry) → MayPass sought columns code → AreKept front → AllByRecursion (λ (e : stored.Entry). is_from Behind code (code_of columns e) ≡ false) front
+      → AllByRecursion (λ (e : stored.Entry). is_wanted sought columns e ≡ false) front
+  passed_over sought code [] may kept h = tt
+  passed_over sought code (e ∷ front) may kept h = (may e kept.0 h.0, passed_over sought code front may kept.1 h.1)
+
+  pub all_behind : (sought : Sought) (code : List ℕ) (next : Option Entry) → MayPass sought columns code → (b : HasBegun Behind code next) → filter (is_wanted sought columns) b.left ≡ filter (is_wanted sought columns) (walk_of columns rows)
+  all_behind sought code next may b =
+      filter_front (is_wanted sought columns) b.stands.front b.left
+      (passed_over sought code b.stands.front may (each_left IsKept b.stands.front b.left (subst AreKept b.stands.whole walk_kept)) b.passed)
+      ∙ ap (filter (is_wanted sought columns)) (sym b.stands.whole)
+
 -- ---- an entry and its row
 
 no_row_left : {X Y : Type 0} (f : X → Y) (o : Option X) → None ≡ option_map f o → None ≡ o
@@ -164,9 +173,13 @@ too_short bytes key n is short = let long : length bytes ≡ key_length key + 8 
 
 -- ---- where no row behind is sought
 
-and_none : (a b : Bool) → b ≡ false → (a && b) ≡ false
+pub and_none : (a b : Bool) → b ≡ false → (a && b) ≡ false
 and_none true b e = e
 and_none false b e = refl
+
+pub and_first : (a b : Bool) → a ≡ false → (a && b) ≡ false
+and_first true b e = absurd (cc)
+and_first false b e = refl
 
 none_behind : (P : stored.Entry → Type 0) (Q : stored.Entry → Type 0) (R : stored.Entry → Type 0) (xs : List stored.Entry) → ((f : stored.Entry) → P f → Q f → R f) → AllByRecursion P xs → AllByRecursion Q xs → AllByRecursion R xs
 none_behind P Q R [] go h g = tt
@@ -178,6 +191,11 @@ none_past (Key key) columns e rest kept coded past = filter_none (is_wanted (Key
   none_behind IsKept (λ (f : stored.Entry). precedes (code_of columns e) (code_of columns f) ≡ true) (λ (f : stored.Entry). matches columns key.now f.1 ≡ false) rest
       (λ f k before. key_past columns key.now e f kept.0 k past before) kept.1 coded.0,
 )
+none_past (KeyAbove key number) columns e rest kept coded past = filter_none (is_wanted (KeyAbove key number) columns) (e ∷ rest) (
+  and_first (matches columns key.now e.1) (nat_lt number e.0) (key_past_itself columns key.now e past),
+  none_behind IsKept (λ (f : stored.Entry). precedes (code_of columns e) (code_of columns f) ≡ true) (λ (f : stored.Entry). is_wanted (KeyAbove key number) columns f ≡ false) rest
+      (λ f k before. and_first (matches columns key.now f.1) (nat_lt number f.0) (key_past columns key.now e f kept.0 k past before)) kept.1 coded.0,
+)
 none_past (Within low high) columns e rest kept coded past = filter_none (is_wanted (Within low high) columns) (e ∷ rest) (
   and_none (is_above low.now (first_of (key_of columns e.1))) (is_below high.now (first_of (key_of columns e.1))) (over_not_below high.now (first_of (key_of columns e.1)) past),
   none_behind IsKept (λ (f : stored.Entry). precedes (code_of columns e) (code_of columns f) ≡ true) (λ (f : stored.Entry). is_within low.now high.now (first_of (key_of columns f.1)) ≡ false) rest
@@ -188,6 +206,16 @@ none_past (Beyond place) columns e rest kept coded past = absurd (never past)
   where
     never : false ≡ true → ⊥
     never q = cc
+none_past (Above low high place) columns e rest kept coded past =
+    let is_above_place : stored.Entry → Bool = λ f. is_beyond (Some (position_of place.now)) (key_of columns f.1) f.0 in
+    filter_none (is_wanted (Above low high place) columns) (e ∷ rest) (
+      and_first (is_within low.now high.now (first_of (key_of columns e.1))) (is_above_place e)
+          (and_none (is_above low.now (first_of (key_of columns e.1))) (is_below high.now (first_of (key_of columns e.1))) (over_not_below high.now (first_of (key_of columns e.1)) past)),
+      none_behind IsKept (λ (f : stored.Entry). precedes (code_of columns e) (code_of columns f) ≡ true) (λ (f : stored.Entry). is_wanted (Above low high place) columns f ≡ false) rest
+          (λ f k before. and_first (is_within low.now high.now (first_of (key_of columns f.1))) (is_above_place f)
+          (and_none (is_above low.now (first_of (key_of columns f.1))) (is_below high.now (first_of (key_of columns f.1)))
+          (over_not_below high.now (first_of (key_of columns f.1)) (over_on high.now (first_of (key_of columns e.1)) (first_of (key_of columns f.1)) past (first_not_greater columns e f kept.0 k before))))) kept.1 coded.0,
+    )
 
 -- ---- steps
 
@@ -257,10 +285,6 @@ pub key_may_skip : (key : List Value) (columns code : List ℕ) → IsStart key 
 key_may_skip key columns code (inl none) e before = key_skipped columns key code e (inl none) before
 key_may_skip key columns code (inr is) e before = key_skipped columns key code e (inr is.0) before
 
-and_first : (a b : Bool) → a ≡ false → (a && b) ≡ false
-and_first true b e = absurd (cc)
-and_first false b e = refl
-
 pub bound_may_skip : (low high : Bound Value) (columns code : List ℕ) → StartsBelow low code → (e : stored.Entry) → IsKept e → precedes (index_entry columns e).key code ≡ true → is_within low high (first_of (key_of columns e.1)) ≡ false
 bound_may_skip Unbounded high columns code none e kept before =
     absurd (never (sym (empty_lowest (code_of columns e)) ∙ subst (λ (c : List ℕ). precedes (code_of columns e) c ≡ true) none before))
@@ -320,3 +344,60 @@ pub has_walked : (columns : List ℕ) (rows : List stored.Entry) (wanted : store
     → HasStepped columns rows wanted w.rest w.list walk ended → AreEntries walk.found (filter wanted left)
 has_walked columns rows wanted left was walk ended over w s =
     subst (AreEntries walk.found) (sym (append-nil (w.list ++ s.more)) ∙ ap (λ xs. (w.list ++ s.more) ++ xs) (sym (s.last over)) ∙ append_assoc w.list s.more (filter wanted s.rest) ∙ ap (λ xs. w.list ++ xs) s.is ∙ w.is) s.are
+
+-- ---- at most so many
+
+-- those that were found are enough
+pub has_enough : (columns : List ℕ) (rows : List stored.Entry) (wanted : stored.Entry → Bool) (left : List stored.Entry) (walk : Walk) (most : ℕ) → (w : IsWalking columns rows wanted left walk)
+    → most ≤ length walk.found.rows → take most w.list ≡ take most (filter wanted left)
+has_enough columns rows wanted left walk most w many =
+    let found : length walk.found.rows ≡ length w.list = ap length w.are.rows ∙ length-map w.list (λ (e : stored.Entry). e.1) in
+    sym (take-append-le most w.list (filter wanted w.rest) (omega (arith, many, found))) ∙ ap (take most) w.is
+
+-- rows that are tested twice
+pub filter_twice : {X : Type 0} (f g : X → Bool) (xs : List X) → filter (λ x. f x && g x) xs ≡ filter g (filter f xs)
+filter_twice f g [] = refl
+filter_twice f g (x ∷ xs) = both (f x) (filter_twice f g xs)
+  where
+    both : (c : Bool) → filter (λ x. f x && g x) xs ≡ filter g (filter f xs)
+        → (if c && g x then x ∷ filter (λ x. f x && g x) xs else filter (λ x. f x && g x) xs) ≡ filter g (if c then x ∷ filter f xs else filter f xs)
+    both true again = ap (λ ys. if g x then x ∷ ys else ys) again
+    both false again = again
+
+pub filter_all : {X : Type 0} (xs : List X) → filter (λ (x : X). true) xs ≡ xs
+filter_all [] = refl
+filter_all (x ∷ xs) = ap (λ ys. x ∷ ys) (filter_all xs)
+
+pub above_may_skip : (low high : Bor (Bound Value)) (place : Bor Spot) (columns code : List ℕ) → StartsBelow low.now code → MaySkip (Above low high place) columns code
+above_may_skip low high place columns code start e kept before =
+    and_first (is_within low.now high.now (first_of (key_of columns e.1))) (is_beyond (Some (position_of place.now)) (key_of columns e.1) e.0) (bound_may_skip low.now high.now columns code start e kept before)
+
+-- no row up to a place is sought behind it
+pub above_may_pass : (low high : Bor (Bound Value)) (place : Bor Spot) (columns code : List ℕ) → AllStorable place.now.key → length place.now.key ≡ length columns → place.now.number < 2 ^ 64
+    → code ≡ index_key_code place.now.key place.now.number → MayPass (Above low high place) columns code
+above_may_pass low high place columns code storable long small is e kept before =
+    and_none (is_within low.now high.now (first_of (key_of columns e.1))) (is_beyond (Some (position_of place.now)) (key_of columns e.1) e.0)
+    (sym (beyond_place columns place.now.key place.now.number e storable long small kept) ∙ ap (λ (k : List ℕ). precedes k (code_of columns e)) (sym is) ∙ before)
+
+pub block_is : (low high : Bor (Bound Value)) (place : Bor Spot) (columns : List ℕ) (rows : List stored.Entry) (most : ℕ)
+    → take most (filter (is_wanted (Above low high place) columns) (walk_of columns rows)) ≡ block_within low.now high.now columns rows (Some (position_of place.now)) most
+block_is low high place columns rows most =
+    ap (take most) (filter_twice (λ (e : stored.Entry). is_within low.now high.now (first_of (key_of columns e.1))) (λ (e : stored.Entry). is_beyond (Some (position_of place.now)) (key_of columns e.1) e.0) (walk_of columns rows))
+
+pub first_block_is : (low high : Bound Value) (columns : List ℕ) (rows : List stored.Entry) (most : ℕ) → take most (rows_within low high columns rows) ≡ block_within low high columns rows None most
+first_block_is low high columns rows most = ap (take most) (sym (filter_all (rows_within low high columns rows)))
+
+pub key_above_may_skip : (key : Bor (List Value)) (number : ℕ) (columns code : List ℕ) → IsStart key.now code → MaySkip (KeyAbove key number) columns code
+key_above_may_skip key number columns code start e kept before = and_first (matches columns key.now e.1) (nat_lt number e.0) (key_may_skip key.now columns code start e before)
+
+-- those that match a key above a number, in the order of their numbers
+pub sought_above_is : (key : Bor (List Value)) (number : ℕ) (columns : List ℕ) (rows : List stored.Entry) (most : ℕ)
+    → take most (filter (is_wanted (KeyAbove key number) columns) (walk_of columns rows)) ≡ some_after (Some number) most (filter (λ (e : stored.Entry). matches columns key.now e.1) rows)
+sought_above_is key number columns rows most =
+    ap (take most)
+    (filter_twice (λ (e : stored.Entry). matches columns key.now e.1) (λ (e : stored.Entry). nat_lt number e.0) (walk_of columns rows)
+    ∙ ap (filter (λ (e : stored.Entry). nat_lt number e.0)) (matched_in_order columns key.now rows))
+
+pub first_sought_is : (key : List Value) (columns : List ℕ) (rows : List stored.Entry) (most : ℕ)
+    → take most (filter (λ (e : stored.Entry). matches columns key e.1) (walk_of columns rows)) ≡ some_after None most (filter (λ (e : stored.Entry). matches columns key e.1) rows)
+first_sought_is key columns rows most = ap (take most) (matched_in_order columns key rows ∙ sym (filter_all (filter (λ (e : stored.Entry). matches columns key e.1) rows)))

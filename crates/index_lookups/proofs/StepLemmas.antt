@@ -1,23 +1,16 @@
 -- Steps of a walk along an index.
-use Rattle.std.proofs.Common.{◌≡◌, ◌∙◌, refl, sym, ap, subst, ℕ, zero, suc, ◌+◌, ◌^◌, ◌<◌, Bool, true, false, List, [], ◌∷◌, ◌++◌, append_assoc, map, length, Option, Some, None, ◌⊎◌, inl, inr, arith}
-use Rattle.std.specs.Prelude.{◌&&◌, ◌==◌, filter, not, slice_get, if◌then◌else◌, cond}
+use Rattle.std.proofs.Common.{◌≡◌, ◌∙◌, refl, sym, ap, subst, ℕ, ◌<◌, Bool, true, false, List, [], ◌∷◌, ◌++◌, map, Some, None, inl, inr, arith}
+use Rattle.std.specs.Prelude.{◌==◌, filter, slice_get, if◌then◌else◌, cond}
 use Rattle.std.specs.List.{AllByRecursion}
 use Rattle.std.specs.Option.{option_map}
-use Rattle.std.specs.declared.ops.Bound.{Bound}
-use Rattle.std.proofs.lemmas.Bool.{eqb-true, eqb-false, eq-eqb}
-use Rattle.sqlval.specs.declared.value.Value.{Value}
-use Rattle.sqlval.specs.Matching.{key_of, matches}
+use Rattle.std.proofs.lemmas.Bool.{eqb-true, eq-eqb}
 use Rattle.store.specs.Contents as stored
-use Rattle.store.specs.Indexes.{by_columns, first_of, is_above, is_below, is_within}
-use Rattle.page_space.specs.Space.{PageMap}
-use Rattle.btree_read.specs.declared.entry.Entry.{Entry}
 use Rattle.btree_read.specs.declared.entry.Start.{Start}
-use Rattle.btree_read.specs.declared.entry.Start.TheVariants.{At, Behind}
+use Rattle.btree_read.specs.declared.entry.Start.TheVariants.{Behind}
 use Rattle.btree_read.specs.Nodes.{precedes}
 use Rattle.btree_read.specs.Sorted.{is_from, first_from}
-use Rattle.btree_read.proofs.ListLemmas.{each_right, each_left, each_map}
+use Rattle.btree_read.proofs.ListLemmas.{each_right}
 use Rattle.btree_read.proofs.OrderLemmas.{not_self, not_both}
-use Rattle.tablestore.specs.Held.{IsKept, AreKept}
 use Rattle.index_trees.specs.Indexed.{index_entry, IsRow}
 use Rattle.database_trees.specs.Named.{row_numbered}
 use Rattle.database_trees.proofs.NumberLemmas.{AreRising}

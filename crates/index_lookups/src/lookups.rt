@@ -26,7 +26,7 @@ use std::ops::Bound;
 use store::{Numbered, NumberedRow, Position};
 
 /// No rows.
-fn no_rows(alloc: Global) -> Numbered
+pub(crate) fn no_rows(alloc: Global) -> Numbered
     ensures { AreEntries result [] }
 {
     Numbered {
@@ -61,7 +61,7 @@ fn rows_behind<R: PageReader>(
 
 /// Where a walk from a key on begins: at its code, and at the beginning where it is too long to
 /// have one.
-fn start_of(alloc: Global, key: &[Value]) -> Result<Items<u8>, SpaceError>
+pub(crate) fn start_of(alloc: Global, key: &[Value]) -> Result<Items<u8>, SpaceError>
     ensures start { IfOk result (IsStart key.now) }
     ensures memory { IfErr result (λ fault. fault ≡ OfMemory) }
 {
@@ -126,7 +126,7 @@ pub fn seek<R: PageReader>(
 }
 
 /// Where a walk within bounds begins: at the code of the lower one.
-fn start_above(alloc: Global, low: &Bound<Value>) -> Result<Items<u8>, SpaceError>
+pub(crate) fn start_above(alloc: Global, low: &Bound<Value>) -> Result<Items<u8>, SpaceError>
     ensures start { IfOk result (StartsBelow low.now) }
     ensures memory { IfErr result (λ fault. fault ≡ OfMemory) }
 {

@@ -1,5 +1,5 @@
 //! Rows read in the order of an index.
-ghost use Rattle.std.specs.Prelude.{◌≡◌, ◌≤◌, ℕ, ◌++◌, ◌∷◌, [], List, Some, slice_get, filter, if◌then◌else◌, IfOk, IfErr, OnOk};
+ghost use Rattle.std.specs.Prelude.{◌≡◌, ◌≤◌, ℕ, ◌++◌, ◌∷◌, [], List, Some, slice_get, filter, take, if◌then◌else◌, IfOk, IfErr, OnOk};
 ghost use Rattle.std.specs.Option.{option_map};
 ghost use Rattle.store.specs.Contents as stored;
 ghost use Rattle.store.specs.View.{AreEntries, entry_of};
@@ -227,6 +227,59 @@ pub(crate) fn rows_from<R: PageReader>(
     'walked: for _ in 0..u64::MAX {
         if step(space, alloc, place, sought, &mut walk)? {
             return Ok(walk.found);
+        }
+    }
+    Err(SpaceError::Memory)
+}
+
+/// At most so many of these rows, the first.
+fn first_rows(found: Numbered, most: usize) -> Numbered
+    ensures { (rows : List stored.Entry) → AreEntries found rows → AreEntries result (take most rows) }
+{
+    let Numbered { numbers, rows } = found;
+    let mut numbers = numbers;
+    let mut rows = rows;
+    numbers.truncate(most);
+    rows.truncate(most);
+    Numbered { numbers, rows }
+}
+
+/// At most so many of the rows of a walk from an entry on that are sought, in the order of the
+/// index.
+///
+/// Refused for want of memory, where the device refuses a call, and as damaged only where no walk
+/// along an index stands at the entry.
+pub(crate) fn some_from<R: PageReader>(
+    space: &mut R,
+    alloc: Global,
+    place: &Place,
+    sought: Sought<'_>,
+    first: Option<Entry>,
+    most: usize,
+) -> Result<Numbered, SpaceError>
+    ensures rows { (rows left : List stored.Entry)
+        → HoldsIndexed (R.pages space.old) place.now.root place.now.rows_root place.now.columns rows
+        → StandsAt place.now.columns rows first left
+        → IfOk result (λ found. AreEntries found (take most (filter (is_wanted sought.entry place.now.columns) left))) }
+    ensures same { R.pages space.new ≡ R.pages space.old }
+    ensures whole { R.is_whole space.old → R.is_whole space.new }
+    ensures refusal { IfErr result (ReadRefused (StandsNowhere (R.pages space.old) place.now.root place.now.rows_root place.now.columns first) (R.refused space.old) (R.refused space.new)) }
+    ensures rising { R.refused space.old ≤ R.refused space.new }
+    ensures follows { R.follows space.old space.new }
+{
+    let mut walk = Walk {
+        found: Numbered {
+            numbers: Items::new(alloc),
+            rows: Items::new(alloc),
+        },
+        next: first,
+    };
+    'walked: for _ in 0..u64::MAX {
+        if walk.found.rows.len() >= most {
+            return Ok(first_rows(walk.found, most));
+        }
+        if step(space, alloc, place, sought, &mut walk)? {
+            return Ok(first_rows(walk.found, most));
         }
     }
     Err(SpaceError::Memory)

@@ -78,20 +78,39 @@ fn is_unknown(x: &Value, nulls: bool, integers: bool, texts: bool) -> bool
     }
 }
 
+/// No members.
+fn none(alloc: Global) -> Members
+    ensures { AreMembers result [] }
+{
+    Members {
+        values: BTreeSet::new(alloc),
+        nulls: false,
+        integers: false,
+        texts: false,
+    }
+}
+
 impl Members {
     /// The members that these rows have in their first column. Copies each of its values; refuses
     /// for want of memory alone.
     pub fn new(alloc: Global, rows: &[Row]) -> Result<Members, AllocError>
         ensures { IfOk result (λ members. AreMembers members (first_column rows.now)) }
     {
-        let mut members = Members {
-            values: BTreeSet::new(alloc),
-            nulls: false,
-            integers: false,
-            texts: false,
-        };
+        let mut members = none(alloc);
         for row in rows {
             add_first(alloc, &mut members, row.as_slice())?;
+        }
+        Ok(members)
+    }
+
+    /// The members of a list that is written out. Copies each value; refuses for want of memory
+    /// alone.
+    pub fn of_values(alloc: Global, values: &[Value]) -> Result<Members, AllocError>
+        ensures { IfOk result (λ members. AreMembers members values.now) }
+    {
+        let mut members = none(alloc);
+        for value in values {
+            add_value(alloc, &mut members, value)?;
         }
         Ok(members)
     }

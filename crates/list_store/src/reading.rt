@@ -1,9 +1,10 @@
-//! What is read of a table: all rows, by number, or by an index, whose rows are sought and sorted when they are read.
-ghost use Rattle.std.specs.Prelude.{◌≡◌, slice_get, filter, IfOk};
+//! What is read of a table: all rows, by number, or by an index, whose rows are sought and sorted
+//! when they are read.
+ghost use Rattle.std.specs.Prelude.{◌≡◌, slice_get, take, filter, IfOk};
 ghost use Rattle.std.specs.Option.{option_map};
 ghost use Rattle.std.specs.FinMap.{get};
 ghost use Rattle.sqlval.specs.Matching.{key_of, matches};
-ghost use Rattle.store.specs.Indexes.{entries_of, is_after, entry_after, matching, sought, by_columns, in_order, first_of, is_within, first_within, ranged, is_beyond, beyond, next_entry};
+ghost use Rattle.store.specs.Indexes.{entries_of, is_after, entry_after, matching, sought, by_columns, in_order, first_of, is_within, first_within, ranged, is_beyond, beyond, next_entry, some_after, some_sought, some_ranged};
 ghost use Rattle.store.specs.Sorted.{sorted_by};
 ghost use Rattle.store.specs.View.{AreEntries, IsEntry, position_of};
 ghost use Rattle.list_store.specs.Versions.{replayed};
@@ -59,7 +60,8 @@ pub(crate) fn rows_sought(
     numbered(alloc, matching(alloc, &columns, key, entries)?)
 }
 
-/// The rows whose first column of the index at this place is within bounds, in the order of the index.
+/// The rows whose first column of the index at this place is within bounds, in the order of the
+/// index.
 pub(crate) fn rows_within(
     alloc: Global,
     changes: &[Change],
@@ -90,6 +92,117 @@ pub(crate) fn row_beyond(
     let entries = entries_left(alloc, changes, name)?;
     let walked = in_order(alloc, &columns, entries)?;
     Ok(first_beyond(after, &columns, walked))
+}
+
+/// At most so many rows above a number.
+pub(crate) fn some_rows(
+    alloc: Global,
+    changes: &[Change],
+    name: &Text,
+    after: Option<u64>,
+    most: usize,
+) -> Result<Numbered, AllocError>
+    ensures { IfOk result (λ found. AreEntries found (some_after after most (entries_of (get (replayed changes.now) name.now)))) }
+{
+    let entries = entries_left(alloc, changes, name)?;
+    numbered(alloc, first_after_place(alloc, after, most, entries)?)
+}
+
+/// At most so many of the rows whose columns equal a key, above a number.
+pub(crate) fn some_sought(
+    alloc: Global,
+    changes: &[Change],
+    name: &Text,
+    index: usize,
+    key: &[Value],
+    after: Option<u64>,
+    most: usize,
+) -> Result<Numbered, AllocError>
+    ensures { IfOk result (λ found. AreEntries found (some_sought (get (replayed changes.now) name.now) index key.now after most)) }
+{
+    let columns = index_columns(alloc, changes, name, index)?;
+    let entries = entries_left(alloc, changes, name)?;
+    let found = matching(alloc, &columns, key, entries)?;
+    numbered(alloc, first_after_place(alloc, after, most, found)?)
+}
+
+/// At most so many of the rows within bounds, behind a place in the index.
+pub(crate) fn some_within(
+    alloc: Global,
+    changes: &[Change],
+    name: &Text,
+    index: usize,
+    low: &Bound<Value>,
+    high: &Bound<Value>,
+    after: Option<&Position>,
+    most: usize,
+) -> Result<Numbered, AllocError>
+    ensures { IfOk result (λ found. AreEntries found (some_ranged (get (replayed changes.now) name.now) index low.now high.now (option_map (λ p. position_of p.now) after.entry) most)) }
+{
+    let columns = index_columns(alloc, changes, name, index)?;
+    let entries = entries_left(alloc, changes, name)?;
+    let walked = in_order(alloc, &columns, entries)?;
+    let within = first_within(alloc, low, high, &columns, walked)?;
+    let mut found = all_beyond(alloc, after, &columns, within)?;
+    found.truncate(most);
+    numbered(alloc, found)
+}
+
+/// At most so many above a number.
+fn first_after_place(
+    alloc: Global,
+    after: Option<u64>,
+    most: usize,
+    entries: Entries,
+) -> Result<Entries, AllocError>
+    ensures { IfOk result (λ found. found ≡ some_after after most entries) }
+{
+    let mut found = all_after(alloc, after, entries)?;
+    found.truncate(most);
+    Ok(found)
+}
+
+fn all_after(alloc: Global, after: Option<u64>, entries: Entries) -> Result<Entries, AllocError>
+    ensures { IfOk result (λ found. found ≡ filter (λ entry. is_after after entry.0) entries) }
+{
+    let mut found = Items::new(alloc);
+    for entry in entries.into_vec() {
+        if is_after(after, entry.0) {
+            found.push(entry)?;
+        }
+    }
+    Ok(found)
+}
+
+fn all_beyond(
+    alloc: Global,
+    after: Option<&Position>,
+    columns: &Option<Items<usize>>,
+    entries: Entries,
+) -> Result<Entries, AllocError>
+    ensures { IfOk result (λ found. found ≡ beyond (option_map (λ p. position_of p.now) after.entry) columns.now entries) }
+{
+    match columns {
+        Some(columns) => all_beyond_at(alloc, after, columns.as_slice(), entries),
+        None => Ok(Items::new(alloc)),
+    }
+}
+
+fn all_beyond_at(
+    alloc: Global,
+    after: Option<&Position>,
+    columns: &[usize],
+    entries: Entries,
+) -> Result<Entries, AllocError>
+    ensures { IfOk result (λ found. found ≡ filter (λ entry. is_beyond (option_map (λ p. position_of p.now) after.entry) (key_of columns.now entry.1) entry.0) entries) }
+{
+    let mut found = Items::new(alloc);
+    for entry in entries.into_vec() {
+        if is_beyond(after, columns, entry.1.as_slice(), entry.0) {
+            found.push(entry)?;
+        }
+    }
+    Ok(found)
 }
 
 /// Numbers and rows, apart.

@@ -5,10 +5,12 @@ ghost use Rattle.store.specs.View.{count_of};
 
 use crate::change::Change;
 use crate::declared_tables::declared_tables;
-use crate::limits::{has_long_row, is_long_row};
+use crate::limits::{has_long_entry, has_long_row, is_long_row};
 use crate::lists::Lists;
 use crate::readers::{Reader, add_reader, find_reader, remove_reader};
-use crate::reading::{all_rows, row_after, row_beyond, rows_sought, rows_within};
+use crate::reading::{
+    all_rows, row_after, row_beyond, rows_sought, rows_within, some_rows, some_sought, some_within,
+};
 use denote::{Row, Rows};
 use items::{Items, Text};
 use sqlval::{Index, Schema, Table, Value};
@@ -16,9 +18,11 @@ use std::alloc::Global;
 use std::ops::Bound;
 use store::{Numbered, NumberedRow, Position, Returned, Store, StoreError, StoreLimit, View};
 
-/// Tables in memory, as the list of the changes that made them. Each version is a beginning of that list, so that a version takes a number, and what is taken back is cut off.
+/// Tables in memory, as the list of the changes that made them. Each version is a beginning of that
+/// list, so that a version takes a number, and what is taken back is cut off.
 ///
-/// It refuses for want of memory, rows whose code takes more than 1,000 bytes, and more than 2^64 - 1 commits. A row number past 2^64 - 1 counts as want of memory.
+/// It refuses for want of memory, rows whose code takes more than 1,000 bytes, and more than 2^64 -
+/// 1 commits. A row number past 2^64 - 1 counts as want of memory.
 #[derive(Drop)]
 pub struct ListStore {
     alloc: Global,
@@ -43,14 +47,17 @@ impl ListStore {
     ghost use Rattle.store.specs.declared.error.StoreError.TheVariants.{Memory};
     ghost use Rattle.store.specs.Stored.{working_on, undone};
     ghost use Rattle.store.specs.View.{seen_by, counted_on};
+    ghost use Rattle.store.specs.Contents.{replaced_all, deleted_all};
+    ghost use Rattle.store.specs.Going.{reads, changes};
     ghost use Rattle.list_store.specs.Versions.{made, replayed};
-    ghost use Rattle.list_store.specs.Shown.{versions_of};
+    ghost use Rattle.list_store.specs.Shown.{versions_of, ListsGo};
 
     /// Makes one more change. A refusal is for want of memory, and goes back to the mark.
     fn make(&mut self, change: Change) -> Result<(), StoreError>
         ensures shows { OnOk result (versions_of self.new ≡ working_on (versions_of self.old) (made (versions_of self.old).working change)) }
         ensures undone { OnErr result (versions_of self.new ≡ undone (versions_of self.old)) }
         ensures refused { IfErr result (λ error. error ≡ Memory) }
+        ensures goes { ListsGo changes self.old self.new }
     {
         if self.changes.push(change).is_err() {
             return self.refuse(StoreError::Memory);
@@ -62,9 +69,45 @@ impl ListStore {
     fn refuse(&mut self, error: StoreError) -> Result<(), StoreError>
         ensures undone { versions_of self.new ≡ undone (versions_of self.old) }
         ensures refused { result ≡ Err error }
+        ensures goes { ListsGo changes self.old self.new }
     {
         self.changes.truncate(self.marked);
         Err(error)
+    }
+
+    /// Puts rows in place of those of their numbers, one after another. A refusal is for want of
+    /// memory, and goes back to the mark.
+    fn replace_all(&mut self, name: &Text, rows: Items<(u64, Row)>) -> Result<(), StoreError>
+        ensures shows { OnOk result (versions_of self.new ≡ working_on (versions_of self.old) (replaced_all (versions_of self.old).working name.now rows)) }
+        ensures undone { OnErr result (versions_of self.new ≡ undone (versions_of self.old)) }
+        ensures refused { IfErr result (λ error. error ≡ Memory) }
+        ensures goes { ListsGo changes self.old self.new }
+    {
+        for entry in rows.into_vec() {
+            let (number, row) = entry;
+            match name.copy(self.alloc) {
+                Ok(table) => self.make(Change::Replace(table, number, row))?,
+                Err(_) => return self.refuse(StoreError::Memory),
+            }
+        }
+        Ok(())
+    }
+
+    /// Removes the rows of these numbers, one after another. A refusal is for want of memory, and
+    /// goes back to the mark.
+    fn delete_all(&mut self, name: &Text, numbers: &[u64]) -> Result<(), StoreError>
+        ensures shows { OnOk result (versions_of self.new ≡ working_on (versions_of self.old) (deleted_all (versions_of self.old).working name.now numbers.now)) }
+        ensures undone { OnErr result (versions_of self.new ≡ undone (versions_of self.old)) }
+        ensures refused { IfErr result (λ error. error ≡ Memory) }
+        ensures goes { ListsGo changes self.old self.new }
+    {
+        for number in numbers {
+            match name.copy(self.alloc) {
+                Ok(table) => self.make(Change::Delete(table, *number))?,
+                Err(_) => return self.refuse(StoreError::Memory),
+            }
+        }
+        Ok(())
     }
 
     /// How many changes a view sees.
@@ -95,6 +138,7 @@ impl ListStore {
         ensures read_on { self.old.read ≤ self.new.read }
         ensures same { versions_of self.new ≡ versions_of self.old }
         ensures prepared { self.new.prepared ≡ self.old.prepared }
+        ensures goes { ListsGo reads self.old self.new }
     {
         self.read = self.read.saturating_add(rows as u64);
     }
@@ -111,10 +155,12 @@ fn rows_in(found: &Option<NumberedRow>) -> usize
 }
 
 impl Store for ListStore {
-    ghost use Rattle.std.specs.Prelude.{◌≡◌, ⊤};
+    ghost use Rattle.std.specs.Prelude.{◌≡◌, ⊤, [], length};
+    ghost use Rattle.std.specs.FinMap.{empty};
     ghost use Rattle.store.specs.Contents.{database_of};
+    ghost use Rattle.store.specs.Going.{goes_itself, goes_on_and_on};
     ghost use Rattle.list_store.specs.Versions.{replayed};
-    ghost use Rattle.list_store.specs.Shown.{versions_of};
+    ghost use Rattle.list_store.specs.Shown.{versions_of, noted_of, ListsGo};
     ghost use Rattle.list_store.specs.TableLemmas.{rises-seen};
 
     type Device = Lists;
@@ -129,6 +175,14 @@ impl Store for ListStore {
 
     ghost read = { λ s. s.read };
 
+    ghost damaged = { λ s. 0 };
+
+    ghost writes = { λ s. 0 };
+
+    ghost unchanged = { λ s. s.committed ≡ length s.changes };
+
+    ghost goes_on = { λ a b going. ListsGo going a b };
+
     ghost counted = { λ s limit. ⊥ };
 
     ghost prepared = { λ s. s.prepared };
@@ -139,11 +193,25 @@ impl Store for ListStore {
 
     ghost saved = { λ device db. database_of (replayed device.changes) ≡ db };
 
+    ghost is_honest = { λ device. ⊤ };
+
+    ghost same = { λ a b. b.changes ≡ a.changes };
+
+    ghost is_new = { λ device. device.changes ≡ [] };
+
+    ghost is_begun = { λ device. database_of (replayed device.changes) ≡ empty };
+
     ghost readable = { λ device. ⊤ };
 
     ghost settled = { λ device. ⊤ };
 
     ghost numbers_rise = { λ s view name table sound found. rises-seen s.commits s.changes s.committed s.marked s.readers.items view name table found };
+
+    ghost goes_on_refl = { λ s going. goes_itself going ⊤ (s.committed ≡ length s.changes) (noted_of s) };
+
+    ghost goes_on_trans = { λ a b c first next h g. goes_on_and_on first next ⊤ ⊤ ⊤ _ _ _ (noted_of a) (noted_of b) (noted_of c) h g };
+
+    ghost goes_on_goes = { λ a b going h. h };
 
     fn open(alloc: Global, device: Lists, frames: usize) -> Result<Self, Returned<Lists>> {
         let changes = device.changes;
@@ -291,6 +359,17 @@ impl Store for ListStore {
         }
     }
 
+    fn replace_rows(&mut self, name: &Text, rows: Items<(u64, Row)>) -> Result<(), StoreError> {
+        if has_long_entry(rows.as_slice()) {
+            return self.refuse(StoreError::Exceeded(StoreLimit::Record));
+        }
+        self.replace_all(name, rows)
+    }
+
+    fn delete_rows(&mut self, name: &Text, numbers: &[u64]) -> Result<(), StoreError> {
+        self.delete_all(name, numbers)
+    }
+
     fn scan(&mut self, alloc: Global, view: View, name: &Text) -> Result<Numbered, StoreError> {
         let found = all_rows(alloc, self.changes_seen(view), name)?;
         self.count(found.rows.len());
@@ -346,6 +425,59 @@ impl Store for ListStore {
     ) -> Result<Option<NumberedRow>, StoreError> {
         let found = row_beyond(alloc, self.changes_seen(view), name, index, after)?;
         self.count(rows_in(&found));
+        Ok(found)
+    }
+
+    fn scan_block(
+        &mut self,
+        alloc: Global,
+        view: View,
+        name: &Text,
+        after: Option<u64>,
+        most: usize,
+    ) -> Result<Numbered, StoreError> {
+        let found = some_rows(alloc, self.changes_seen(view), name, after, most)?;
+        self.count(found.rows.len());
+        Ok(found)
+    }
+
+    fn seek_block(
+        &mut self,
+        alloc: Global,
+        view: View,
+        name: &Text,
+        index: usize,
+        key: &[Value],
+        after: Option<u64>,
+        most: usize,
+    ) -> Result<Numbered, StoreError> {
+        let found = some_sought(
+            alloc,
+            self.changes_seen(view),
+            name,
+            index,
+            key,
+            after,
+            most,
+        )?;
+        self.count(found.rows.len());
+        Ok(found)
+    }
+
+    fn range_block(
+        &mut self,
+        alloc: Global,
+        view: View,
+        name: &Text,
+        index: usize,
+        low: &Bound<Value>,
+        high: &Bound<Value>,
+        after: Option<&Position>,
+        most: usize,
+    ) -> Result<Numbered, StoreError> {
+        let changes = self.changes_seen(view);
+        let found = some_within(alloc, changes, name, index, low, high, after, most)?;
+        self.count(found.rows.len());
         Ok(found)
     }
 

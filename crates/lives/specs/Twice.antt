@@ -6,11 +6,11 @@ use Rattle.denote.specs.Database.{Database}
 use Rattle.session_definitions.specs.Rules.{Rules}
 use Rattle.session_definitions.specs.Run.{Event, Moment, Run}
 use Rattle.session_definitions.specs.Serial.{IsSerializable}
-use Rattle.session_definitions.specs.World.{World, opened}
+use Rattle.session_definitions.specs.World.{World, new_world, opened}
 use Rattle.session_laws.specs.Reopening.{reopening}
 use Rattle.scripts.specs.declared.script.ScriptFault.TheVariants.{Memory, Reader, Writer}
 use Rattle.scripts.specs.Played.{Streams, between}
-use Rattle.shell.specs.Runs.{CarriesOut, Ends, Left, Runs}
+use Rattle.shell.specs.Runs.{CarriesOut, Ends, IsNotOpened, Left, Runs}
 use Rattle.lives.specs.Committed.{AreMade, committed_from, writers}
 use Rattle.lives.specs.Told.{IsScript}
 
@@ -18,6 +18,11 @@ use Rattle.lives.specs.Told.{IsScript}
 abbrev pub calls_from : {D : Type 0} → (D → ℕ) → D → Option D → ℕ
 calls_from calls first None = calls first
 calls_from calls first (Some again) = calls again
+
+-- the device over which the last run began
+abbrev pub last_device : {D : Type 0} → D → Option D → D
+last_device first None = first
+last_device first (Some again) = again
 
 -- the second run begins with this database
 abbrev pub Again : Rules → Streams → Option ℕ → Bool → (Left → Type 0) → Database → Type 0
@@ -102,23 +107,37 @@ pub record RunsTwice (rules : Rules) (db : Database) (first second : Streams) (o
   pub both : Runs rules (opened db) first one one_told (Leads rules second two two_told middle left)
   pub together : IsOneRun rules db left (BothDo rules db first second one one_told two two_told middle left both)
 
+-- The device was empty, and no store was opened on it by the first run, which left on it what is
+-- opened as empty or is refused as damaged: the second run begins with no tables, or opens no store
+-- either.
+pub record BeginsAgain (rules : Rules) (db : Database) (was_new : Type 0) (first second : Streams) (one : ℕ) (one_told : Bool) (two : Option ℕ) (two_told : Bool) (has_refused has_same_bytes : Type 0) (left : Left → Type 0)
+    : Type 0 where
+  pub new : was_new
+  pub unopened : Runs rules (opened db) first one one_told (λ what. (refusal : Refusal)
+      × (what ≡ Left.unopened refusal db))
+  pub status : ℕ
+  pub is : two ≡ Some status
+  pub again : IsNotOpened second status two_told has_refused has_same_bytes
+      ⊎ Runs rules new_world second status two_told left
+
 -- ---- any device
 
 -- Behind a first run that handed back this device, or this core: a second run over the device,
 -- which ends as a run does; or none, and nothing more is read or written.
-abbrev pub GoesOnAnyhow : {D C : Type 0} → (D → Type 0) → (D → ℕ) → (C → ℕ) → Option D → Option C → Streams → Option ℕ
-    → Bool → Option D → Option C → Type 0
-GoesOnAnyhow settled calls refused (Some again) one_core second two two_told device core =
-    (status : ℕ) × (two ≡ Some status) × Ends settled calls refused (calls again) second status two_told device core
-GoesOnAnyhow settled calls refused None one_core second two two_told device core =
+abbrev pub GoesOnAnyhow : {D C : Type 0} → (D → Option D → Type 0) → (D → Type 0) → (D → ℕ) → (C → ℕ) → Option D
+    → Option C → Streams → Option ℕ → Bool → Option D → Option C → Type 0
+GoesOnAnyhow same_bytes settled calls refused (Some again) one_core second two two_told device core =
+    (status : ℕ) × (two ≡ Some status)
+    × Ends (same_bytes again) settled calls refused (calls again) second status two_told device core
+GoesOnAnyhow same_bytes settled calls refused None one_core second two two_told device core =
     (two ≡ None) × (device ≡ None) × (core ≡ one_core) × (second.left ≡ second.given) × (second.holds ≡ second.held)
     × (two_told ≡ true)
 
 -- However two runs over any device end: the first ends as a run does, with this device or this
 -- core, and the second goes on with these.
-pub record EndTwice {D C : Type 0} (settled : D → Type 0) (calls : D → ℕ) (refused : C → ℕ) (before : ℕ) (first second : Streams) (one : ℕ) (one_told : Bool) (two : Option ℕ)
+pub record EndTwice {D C : Type 0} (same_bytes : D → Option D → Type 0) (settled : D → Type 0) (calls : D → ℕ) (refused : C → ℕ) (start : D) (first second : Streams) (one : ℕ) (one_told : Bool) (two : Option ℕ)
     (two_told : Bool) (device : Option D) (core : Option C) : Type 0 where
   pub again : Option D
   pub one_core : Option C
-  pub ends : Ends settled calls refused before first one one_told again one_core
-  pub goes_on : GoesOnAnyhow settled calls refused again one_core second two two_told device core
+  pub ends : Ends (same_bytes start) settled calls refused (calls start) first one one_told again one_core
+  pub goes_on : GoesOnAnyhow same_bytes settled calls refused again one_core second two two_told device core

@@ -1,12 +1,13 @@
 //! Two runs over one device.
-ghost use Rattle.std.specs.Prelude.{◌≡◌, ℕ, [], List, Option, IsTrue};
+ghost use Rattle.std.specs.Prelude.{◌≡◌, ◌⊎◌, ℕ, [], List, Option, IsTrue};
 ghost use Rattle.std.specs.FinMap.{empty};
 ghost use Rattle.denote.specs.Database.{Database, IsGood};
 ghost use Rattle.session_definitions.specs.Rules.{Rules, AreRules};
 ghost use Rattle.scripts.specs.Played.{between};
 ghost use Rattle.scripts.specs.Settled.{store_of};
-ghost use Rattle.shell.specs.Runs.{HandsBack, Leaves};
-ghost use Rattle.lives.specs.Twice.{EndTwice, RunsTwice, calls_from};
+ghost use Rattle.sessions.specs.Opening.{Stays};
+ghost use Rattle.shell.specs.Runs.{HandsBack, HasRefused, HasSameBytes, Leaves};
+ghost use Rattle.lives.specs.Twice.{BeginsAgain, EndTwice, RunsTwice, calls_from, last_device};
 
 use disk::Disk;
 use paged_store::Paged;
@@ -45,7 +46,9 @@ pub struct EndedRuns<S: Store> {
 /// that is handed back, which was synced behind the last write where it was closed. No reply is
 /// that the file is damaged, the store is opened unless memory or the device refuses, and closed
 /// unless the device does: the device that is handed back, or the core that was not closed, has
-/// then counted a refused call. So it has where a reply is that the device refused.
+/// then counted a refused call. So it has where a reply is that the device refused. Only where the
+/// device was empty and the first run opened no store on it, the second may find it damaged: else
+/// it begins with no tables then.
 pub fn run_twice<S: Store, A: Read, B: Read, W: Write>(
     alloc: Global,
     settings: &Settings<'_>,
@@ -56,13 +59,18 @@ pub fn run_twice<S: Store, A: Read, B: Read, W: Write>(
 ) -> EndedRuns<S>
     ensures runs { (rules : Rules) (db : Database) → AreRules rules → S.saved device db → IsGood rules.check db
         → (mid : Option (List ℕ)) × (again : Option S.Device)
-        × RunsTwice rules db (between (A.remaining first.old) (A.remaining first.new) (W.contents writer.old) mid)
+        × (RunsTwice rules db (between (A.remaining first.old) (A.remaining first.new) (W.contents writer.old) mid)
         (between (B.remaining second.old) (B.remaining second.new) mid (W.contents writer.new))
         result.first result.first_is_told result.second result.second_is_told
-        (HandsBack S.saved S.settled S.calls_refused (λ core. S.refused (store_of core)) (S.calls_refused device) again result.unclosed)
-        (Leaves S.saved S.settled S.calls_refused (λ core. S.refused (store_of core)) rules.check (calls_from S.calls_refused device again) result.device result.unclosed) }
+        (HandsBack S.saved (Stays S.saved S.is_new S.is_begun device) S.settled S.calls_refused (λ core. S.refused (store_of core)) (S.calls_refused device) again result.unclosed)
+        (Leaves S.saved (Stays S.saved S.is_new S.is_begun (last_device device again)) S.settled S.calls_refused (λ core. S.refused (store_of core)) rules.check (calls_from S.calls_refused device again) result.device result.unclosed)
+        ⊎ BeginsAgain rules db (S.is_new device) (between (A.remaining first.old) (A.remaining first.new) (W.contents writer.old) mid)
+        (between (B.remaining second.old) (B.remaining second.new) mid (W.contents writer.new))
+        result.first result.first_is_told result.second result.second_is_told
+        (HasRefused S.calls_refused (calls_from S.calls_refused device again) result.device) (HasSameBytes S.is_honest S.same (last_device device again) result.device)
+        (Leaves S.saved (Stays S.saved S.is_new S.is_begun (last_device device again)) S.settled S.calls_refused (λ core. S.refused (store_of core)) rules.check (calls_from S.calls_refused device again) result.device result.unclosed)) }
     ensures ends { (mid : Option (List ℕ))
-        × EndTwice S.settled S.calls_refused (λ core. S.refused (store_of core)) (S.calls_refused device)
+        × EndTwice (HasSameBytes S.is_honest S.same) S.settled S.calls_refused (λ core. S.refused (store_of core)) device
         (between (A.remaining first.old) (A.remaining first.new) (W.contents writer.old) mid)
         (between (B.remaining second.old) (B.remaining second.new) mid (W.contents writer.new))
         result.first result.first_is_told result.second result.second_is_told result.device result.unclosed }
@@ -113,20 +121,30 @@ pub fn run_twice_over_pages<D: Disk + Drop, A: Read, B: Read, W: Write>(
     ensures saved { (rules : Rules) (db : Database) → AreRules rules → ⟦<Paged<D> as Store>⟧.saved device db
         → IsGood rules.check db
         → (mid : Option (List ℕ)) × (again : Option D)
-        × RunsTwice rules db (between (A.remaining first.old) (A.remaining first.new) (W.contents writer.old) mid)
+        × (RunsTwice rules db (between (A.remaining first.old) (A.remaining first.new) (W.contents writer.old) mid)
         (between (B.remaining second.old) (B.remaining second.new) mid (W.contents writer.new))
         result.first result.first_is_told result.second result.second_is_told
-        (HandsBack ⟦<Paged<D> as Store>⟧.saved D.settled D.refused (λ core. ⟦<Paged<D> as Store>⟧.refused (store_of core)) (D.refused device) again result.unclosed)
-        (Leaves ⟦<Paged<D> as Store>⟧.saved D.settled D.refused (λ core. ⟦<Paged<D> as Store>⟧.refused (store_of core)) rules.check (calls_from D.refused device again) result.device result.unclosed) }
+        (HandsBack ⟦<Paged<D> as Store>⟧.saved (Stays ⟦<Paged<D> as Store>⟧.saved ⟦<Paged<D> as Store>⟧.is_new ⟦<Paged<D> as Store>⟧.is_begun device) D.settled D.refused (λ core. ⟦<Paged<D> as Store>⟧.refused (store_of core)) (D.refused device) again result.unclosed)
+        (Leaves ⟦<Paged<D> as Store>⟧.saved (Stays ⟦<Paged<D> as Store>⟧.saved ⟦<Paged<D> as Store>⟧.is_new ⟦<Paged<D> as Store>⟧.is_begun (last_device device again)) D.settled D.refused (λ core. ⟦<Paged<D> as Store>⟧.refused (store_of core)) rules.check (calls_from D.refused device again) result.device result.unclosed)
+        ⊎ BeginsAgain rules db (⟦<Paged<D> as Store>⟧.is_new device) (between (A.remaining first.old) (A.remaining first.new) (W.contents writer.old) mid)
+        (between (B.remaining second.old) (B.remaining second.new) mid (W.contents writer.new))
+        result.first result.first_is_told result.second result.second_is_told
+        (HasRefused D.refused (calls_from D.refused device again) result.device) (HasSameBytes ⟦<Paged<D> as Store>⟧.is_honest ⟦<Paged<D> as Store>⟧.same (last_device device again) result.device)
+        (Leaves ⟦<Paged<D> as Store>⟧.saved (Stays ⟦<Paged<D> as Store>⟧.saved ⟦<Paged<D> as Store>⟧.is_new ⟦<Paged<D> as Store>⟧.is_begun (last_device device again)) D.settled D.refused (λ core. ⟦<Paged<D> as Store>⟧.refused (store_of core)) rules.check (calls_from D.refused device again) result.device result.unclosed)) }
     ensures new { (rules : Rules) → AreRules rules → IsTrue D.is_honest → D.bytes device ≡ []
         → (mid : Option (List ℕ)) × (again : Option D)
-        × RunsTwice rules empty (between (A.remaining first.old) (A.remaining first.new) (W.contents writer.old) mid)
+        × (RunsTwice rules empty (between (A.remaining first.old) (A.remaining first.new) (W.contents writer.old) mid)
         (between (B.remaining second.old) (B.remaining second.new) mid (W.contents writer.new))
         result.first result.first_is_told result.second result.second_is_told
-        (HandsBack ⟦<Paged<D> as Store>⟧.saved D.settled D.refused (λ core. ⟦<Paged<D> as Store>⟧.refused (store_of core)) (D.refused device) again result.unclosed)
-        (Leaves ⟦<Paged<D> as Store>⟧.saved D.settled D.refused (λ core. ⟦<Paged<D> as Store>⟧.refused (store_of core)) rules.check (calls_from D.refused device again) result.device result.unclosed) }
+        (HandsBack ⟦<Paged<D> as Store>⟧.saved (Stays ⟦<Paged<D> as Store>⟧.saved ⟦<Paged<D> as Store>⟧.is_new ⟦<Paged<D> as Store>⟧.is_begun device) D.settled D.refused (λ core. ⟦<Paged<D> as Store>⟧.refused (store_of core)) (D.refused device) again result.unclosed)
+        (Leaves ⟦<Paged<D> as Store>⟧.saved (Stays ⟦<Paged<D> as Store>⟧.saved ⟦<Paged<D> as Store>⟧.is_new ⟦<Paged<D> as Store>⟧.is_begun (last_device device again)) D.settled D.refused (λ core. ⟦<Paged<D> as Store>⟧.refused (store_of core)) rules.check (calls_from D.refused device again) result.device result.unclosed)
+        ⊎ BeginsAgain rules empty (⟦<Paged<D> as Store>⟧.is_new device) (between (A.remaining first.old) (A.remaining first.new) (W.contents writer.old) mid)
+        (between (B.remaining second.old) (B.remaining second.new) mid (W.contents writer.new))
+        result.first result.first_is_told result.second result.second_is_told
+        (HasRefused D.refused (calls_from D.refused device again) result.device) (HasSameBytes ⟦<Paged<D> as Store>⟧.is_honest ⟦<Paged<D> as Store>⟧.same (last_device device again) result.device)
+        (Leaves ⟦<Paged<D> as Store>⟧.saved (Stays ⟦<Paged<D> as Store>⟧.saved ⟦<Paged<D> as Store>⟧.is_new ⟦<Paged<D> as Store>⟧.is_begun (last_device device again)) D.settled D.refused (λ core. ⟦<Paged<D> as Store>⟧.refused (store_of core)) rules.check (calls_from D.refused device again) result.device result.unclosed)) }
     ensures ends { (mid : Option (List ℕ))
-        × EndTwice D.settled D.refused (λ core. ⟦<Paged<D> as Store>⟧.refused (store_of core)) (D.refused device)
+        × EndTwice (HasSameBytes ⟦<Paged<D> as Store>⟧.is_honest ⟦<Paged<D> as Store>⟧.same) D.settled D.refused (λ core. ⟦<Paged<D> as Store>⟧.refused (store_of core)) device
         (between (A.remaining first.old) (A.remaining first.new) (W.contents writer.old) mid)
         (between (B.remaining second.old) (B.remaining second.new) mid (W.contents writer.new))
         result.first result.first_is_told result.second result.second_is_told result.device result.unclosed }

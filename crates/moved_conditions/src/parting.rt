@@ -12,7 +12,7 @@ use tree_columns::{Reach, names_within};
 
 /// The operands of an AND; any other condition is its only conjunct. Refuses for want of memory
 /// alone.
-#[tactic(auto, using(tree_columns::proofs::Opened::opened))]
+#[tactic(auto, using(join_columns::proofs::Opened::opened))]
 pub fn into_conjuncts(alloc: Global, condition: Condition) -> Result<Items<Condition>, AllocError>
     ensures { IfOk result (λ list. list ≡ conjuncts condition) }
 {

@@ -5,16 +5,21 @@ use Rattle.pool.specs.Versions.{Versions}
 use Rattle.overlay.specs.declared.write_set.WriteSet.{WriteSet}
 use Rattle.overlay.specs.WriteSet.{settled_of, undone_of}
 
--- the pool shows what it showed, and the count of refused calls does not fall
-pub record IsRead (old new : Versions) (refused_old refused_new : ℕ) : Type 0 where
+-- the pool shows what it showed, the count of refused calls does not fall, and nothing was written
+-- on the device
+pub record IsRead (old new : Versions) (refused_old refused_new writes_old writes_new : ℕ) : Type 0 where
   pub versions : new ≡ old
   pub rising : refused_old ≤ refused_new
+  pub writes : writes_new ≡ writes_old
 
-pub read_none : (v : Versions) (n : ℕ) → IsRead v v n n
-read_none v n = record { versions = refl; rising = omega arith }
+pub read_none : (v : Versions) (n w : ℕ) → IsRead v v n n w w
+read_none v n w = record { versions = refl; rising = omega arith; writes = refl }
 
-pub read_on : (u v w : Versions) (k m n : ℕ) → IsRead u v k m → IsRead v w m n → IsRead u w k n
-read_on u v w k m n h g = let x = h.rising in let y = g.rising in record { versions = g.versions ∙ h.versions; rising = omega arith }
+pub read_on : (u v w : Versions) (k m n i j l : ℕ) → IsRead u v k m i j → IsRead v w m n j l → IsRead u w k n i l
+read_on u v w k m n i j l h g =
+    let x = h.rising in
+    let y = g.rising in
+    record { versions = g.versions ∙ h.versions; rising = omega arith; writes = g.writes ∙ h.writes }
 
 -- the pages that a transaction wrote before the mark stay, and so does what is kept of the pages
 -- that were undone last

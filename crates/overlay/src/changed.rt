@@ -29,16 +29,16 @@ impl<'a, D: Disk> PageReader for Changed<'a, D> {
 
     ghost refused = { λ s. D.refused (device_of s.pool.now) };
 
-    ghost follows = { λ a b. IsRead (versions_of a.pool.now) (versions_of b.pool.now) (D.refused (device_of a.pool.now)) (D.refused (device_of b.pool.now))
+    ghost follows = { λ a b. IsRead (versions_of a.pool.now) (versions_of b.pool.now) (D.refused (device_of a.pool.now)) (D.refused (device_of b.pool.now)) (D.writes (device_of a.pool.now)) (D.writes (device_of b.pool.now))
         × (b.pool.ghost_name ≡ a.pool.ghost_name) × (b.changes ≡ a.changes) × (b.at ≡ a.at) };
 
     ghost is_whole = { λ s. IsWhole (over (private_of s.changes.now) ((versions_of s.pool.now).pages s.at)) };
 
     ghost bounded = { λ s n h. in_use-bounded ((versions_of s.pool.now).pages s.at) (private_of s.changes.now) n h };
 
-    ghost follows_refl = { λ s. (read_none _ _, refl, refl, refl) };
+    ghost follows_refl = { λ s. (read_none _ _ _, refl, refl, refl) };
 
-    ghost follows_trans = { λ a b c h g. (read_on _ _ _ _ _ _ h.0 g.0, g.1 ∙ h.1, g.2 ∙ h.2, g.3 ∙ h.3) };
+    ghost follows_trans = { λ a b c h g. (read_on _ _ _ _ _ _ _ _ _ h.0 g.0, g.1 ∙ h.1, g.2 ∙ h.2, g.3 ∙ h.3) };
 
     fn read(&mut self, page: u32, into: &mut Page) -> Result<(), SpaceError> {
         read_changed(self.pool, self.changes, self.at, page, into)

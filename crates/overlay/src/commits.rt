@@ -1,5 +1,5 @@
 //! A transaction's pages as a version of their own.
-ghost use Rattle.std.specs.Prelude.{◌≡◌, ◌+◌, ◌-◌, ◌<◌, ◌≤◌, ◌^◌, ℕ, OnOk, OnErr, IfOk, IfErr};
+ghost use Rattle.std.specs.Prelude.{◌≡◌, ◌+◌, ◌-◌, ◌<◌, ◌≤◌, ◌^◌, ℕ, None, OnOk, OnErr, IfOk, IfErr};
 ghost use Rattle.pool.specs.Pages.{over, known};
 ghost use Rattle.pool.specs.Refused.{IsRefused};
 ghost use Rattle.pool.specs.Versions.{versions_of, device_of};
@@ -10,8 +10,9 @@ use disk::Disk;
 use pool::{Pool, PoolError};
 
 /// Makes one commit more, of the pages that a transaction has written laid over the last, and
-/// answers its number. Refused as the pool's `commit` is, and then all versions stay. What the
-/// transaction has written is left to the caller, who drops it where the commit was made.
+/// answers its number. Refused as the pool's `commit` is, and then all versions stay. Where nothing
+/// was written, nothing is written on the device. What the transaction has written is left to the
+/// caller, who drops it where the commit was made.
 pub fn commit<D: Disk>(pool: &mut Pool<D>, changes: &WriteSet) -> Result<u64, PoolError>
     ensures number { IfOk result (λ c. c ≡ (versions_of pool.new).last) }
     ensures last { OnOk result ((versions_of pool.new).last ≡ (versions_of pool.old).last + 1) }
@@ -23,6 +24,8 @@ pub fn commit<D: Disk>(pool: &mut Pool<D>, changes: &WriteSet) -> Result<u64, Po
     ensures refused { OnErr result (versions_of pool.new ≡ versions_of pool.old) }
     ensures refusal { IfErr result (IsRefused ((versions_of pool.old).last ≡ 2 ^ 64 - 1) ⊥ (D.refused (device_of pool.old)) (D.refused (device_of pool.new))) }
     ensures rising { D.refused (device_of pool.old) ≤ D.refused (device_of pool.new) }
+    ensures idle { private_of changes.now ≡ (λ n. None)
+        → D.writes (device_of pool.new) ≡ D.writes (device_of pool.old) }
 {
     let mut set = changes.all_pages()?;
     pool.commit(&mut set)

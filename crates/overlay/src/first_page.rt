@@ -44,6 +44,7 @@ pub fn read_header<D: Disk>(
         → IsSaid (over (private_of changes.now) ((versions_of pool.old).pages at) 0) header → ⊥)
         (D.refused (device_of pool.old)) (D.refused (device_of pool.new))) }
     ensures rising { D.refused (device_of pool.old) ≤ D.refused (device_of pool.new) }
+    ensures writes { D.writes (device_of pool.new) ≡ D.writes (device_of pool.old) }
 {
     let mut first = [0; PAGE_SIZE];
     read_changed(pool, changes, at, 0, &mut first)?;

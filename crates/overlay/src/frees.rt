@@ -72,6 +72,7 @@ fn free_used<D: Disk>(
         → IsSome (in_use ((versions_of pool.old).pages at) (private_of changes.old) page) → ⊥)
         (D.refused (device_of pool.old)) (D.refused (device_of pool.new))) }
     ensures rising { D.refused (device_of pool.old) ≤ D.refused (device_of pool.new) }
+    ensures writes { D.writes (device_of pool.new) ≡ D.writes (device_of pool.old) }
 {
     let used = is_in_use(pool, changes, at, page)?;
     if !used {
@@ -109,6 +110,7 @@ pub fn free_page<D: Disk>(
         → IsSome (in_use ((versions_of pool.old).pages at) (private_of changes.old) page) → ⊥)
         (D.refused (device_of pool.old)) (D.refused (device_of pool.new))) }
     ensures rising { D.refused (device_of pool.old) ≤ D.refused (device_of pool.new) }
+    ensures writes { D.writes (device_of pool.new) ≡ D.writes (device_of pool.old) }
 {
     free_used(pool, changes, at, page)
 }

@@ -53,6 +53,7 @@ fn set_root<D: Disk>(
         → (root ≡ 0) ⊎ IsSome (in_use ((versions_of pool.old).pages at) (private_of changes.old) root) → ⊥)
         (D.refused (device_of pool.old)) (D.refused (device_of pool.new))) }
     ensures rising { D.refused (device_of pool.old) ≤ D.refused (device_of pool.new) }
+    ensures writes { D.writes (device_of pool.new) ≡ D.writes (device_of pool.old) }
 {
     match read_header(pool, changes, at) {
         Ok(header) => {
@@ -97,6 +98,7 @@ pub fn set_catalog_root<D: Disk>(
         → (root ≡ 0) ⊎ IsSome (in_use ((versions_of pool.old).pages at) (private_of changes.old) root) → ⊥)
         (D.refused (device_of pool.old)) (D.refused (device_of pool.new))) }
     ensures rising { D.refused (device_of pool.old) ≤ D.refused (device_of pool.new) }
+    ensures writes { D.writes (device_of pool.new) ≡ D.writes (device_of pool.old) }
 {
     set_root(pool, changes, at, root)
 }

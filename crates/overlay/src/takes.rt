@@ -63,6 +63,7 @@ fn take_first<D: Disk>(
     ensures refusal { IfErr result (ReadRefused (IsWhole (over (private_of changes.now) ((versions_of pool.old).pages at)) → ⊥)
         (D.refused (device_of pool.old)) (D.refused (device_of pool.new))) }
     ensures rising { D.refused (device_of pool.old) ≤ D.refused (device_of pool.new) }
+    ensures writes { D.writes (device_of pool.new) ≡ D.writes (device_of pool.old) }
 {
     let mut bytes = [0; PAGE_SIZE];
     read_changed(pool, changes, at, header.first_free, &mut bytes)?;
@@ -93,6 +94,7 @@ fn page_to_take<D: Disk>(
         (IsWhole (over (private_of changes.now) ((versions_of pool.old).pages at))
         → ⊥) (D.refused (device_of pool.old)) (D.refused (device_of pool.new))) }
     ensures rising { D.refused (device_of pool.old) ≤ D.refused (device_of pool.new) }
+    ensures writes { D.writes (device_of pool.new) ≡ D.writes (device_of pool.old) }
 {
     let first = header.first_free;
     if first > 0 {
@@ -150,6 +152,7 @@ fn take_by<D: Disk>(
         (IsWhole (over (private_of changes.old) ((versions_of pool.old).pages at))
         → ⊥) (D.refused (device_of pool.old)) (D.refused (device_of pool.new))) }
     ensures rising { D.refused (device_of pool.old) ≤ D.refused (device_of pool.new) }
+    ensures writes { D.writes (device_of pool.new) ≡ D.writes (device_of pool.old) }
 {
     match page_to_take(pool, changes, at, header) {
         Ok((page, new)) => put_leaf(changes, page, new),
@@ -172,6 +175,7 @@ fn take_page<D: Disk>(
         (IsWhole (over (private_of changes.old) ((versions_of pool.old).pages at))
         → ⊥) (D.refused (device_of pool.old)) (D.refused (device_of pool.new))) }
     ensures rising { D.refused (device_of pool.old) ≤ D.refused (device_of pool.new) }
+    ensures writes { D.writes (device_of pool.new) ≡ D.writes (device_of pool.old) }
 {
     match read_header(pool, changes, at) {
         Ok(header) => take_by(pool, changes, at, header),
@@ -207,6 +211,7 @@ pub fn allocate_page<D: Disk>(
         (IsWhole (over (private_of changes.old) ((versions_of pool.old).pages at))
         → ⊥) (D.refused (device_of pool.old)) (D.refused (device_of pool.new))) }
     ensures rising { D.refused (device_of pool.old) ≤ D.refused (device_of pool.new) }
+    ensures writes { D.writes (device_of pool.new) ≡ D.writes (device_of pool.old) }
 {
     take_page(pool, changes, at)
 }

@@ -38,6 +38,7 @@ fn page_count<D: Disk>(pool: &mut Pool<D>, changes: &WriteSet, at: u64) -> Resul
     ensures versions { versions_of pool.new ≡ versions_of pool.old }
     ensures refusal { IfErr result (ReadRefused ⊥ (D.refused (device_of pool.old)) (D.refused (device_of pool.new))) }
     ensures rising { D.refused (device_of pool.old) ≤ D.refused (device_of pool.new) }
+    ensures writes { D.writes (device_of pool.new) ≡ D.writes (device_of pool.old) }
 {
     let mut first = [0; PAGE_SIZE];
     read_changed(pool, changes, at, 0, &mut first)?;
@@ -59,6 +60,7 @@ fn is_stored<D: Disk>(
     ensures versions { versions_of pool.new ≡ versions_of pool.old }
     ensures refusal { IfErr result (ReadRefused ⊥ (D.refused (device_of pool.old)) (D.refused (device_of pool.new))) }
     ensures rising { D.refused (device_of pool.old) ≤ D.refused (device_of pool.new) }
+    ensures writes { D.writes (device_of pool.new) ≡ D.writes (device_of pool.old) }
 {
     let count = page_count(pool, changes, at)?;
     if page >= count {
@@ -87,6 +89,7 @@ pub(crate) fn is_in_use<D: Disk>(
     ensures versions { versions_of pool.new ≡ versions_of pool.old }
     ensures refusal { IfErr result (ReadRefused ⊥ (D.refused (device_of pool.old)) (D.refused (device_of pool.new))) }
     ensures rising { D.refused (device_of pool.old) ≤ D.refused (device_of pool.new) }
+    ensures writes { D.writes (device_of pool.new) ≡ D.writes (device_of pool.old) }
 {
     if page == 0 {
         return Ok(false);
@@ -124,6 +127,7 @@ pub(crate) fn write_page<D: Disk>(
     ensures refusal { IfErr result (ChangeRefused (AtLimit (over (private_of changes.new) ((versions_of pool.new).pages at) 0) (size_of (private_of changes.new)))
         (in_use ((versions_of pool.old).pages at) (private_of changes.old) page ≡ None) (D.refused (device_of pool.old)) (D.refused (device_of pool.new))) }
     ensures rising { D.refused (device_of pool.old) ≤ D.refused (device_of pool.new) }
+    ensures writes { D.writes (device_of pool.new) ≡ D.writes (device_of pool.old) }
 {
     let used = is_in_use(pool, changes, at, page)?;
     if !used {

@@ -42,6 +42,7 @@ pub fn replace_page<D: Disk>(
     ensures refusal { IfErr result (ChangeRefused (AtLimit (over (private_of changes.new) ((versions_of pool.new).pages at) 0) (size_of (private_of changes.new)))
         (in_use ((versions_of pool.old).pages at) (private_of changes.old) page ≡ None) (D.refused (device_of pool.old)) (D.refused (device_of pool.new))) }
     ensures rising { D.refused (device_of pool.old) ≤ D.refused (device_of pool.new) }
+    ensures writes { D.writes (device_of pool.new) ≡ D.writes (device_of pool.old) }
 {
     write_page(pool, changes, at, page, bytes)
 }

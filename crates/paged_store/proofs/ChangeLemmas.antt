@@ -1,11 +1,10 @@
 -- WriteSet of the tables that are shown, and refusals of the pool.
-use Rattle.std.proofs.Common.{◌≡◌, ◌∙◌, refl, sym, ap, subst, ℕ, Bool, List, Option, IsTrue}
+use Rattle.std.proofs.Common.{◌≡◌, ◌∙◌, sym, ap, subst, ℕ, Bool}
 use Rattle.std.specs.Ordering.{nat_cmp}
 use Rattle.std.specs.FinMap.{FinMap}
 use Rattle.store.specs.Contents.{Contents}
 use Rattle.store.specs.Errors.{MayFail}
 use Rattle.store.specs.declared.error.StoreError.{StoreError}
-use Rattle.store.specs.declared.error.StoreError.TheVariants as refused
 use Rattle.store.specs.declared.error.StoreLimit.{StoreLimit}
 use Rattle.pool.specs.Pages.{PageMap}
 use Rattle.pool.specs.Versions.{Versions}

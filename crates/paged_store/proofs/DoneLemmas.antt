@@ -1,5 +1,5 @@
 -- What a change of the last commit leaves, where it was made, and where it was refused and undone.
-use Rattle.std.proofs.Common.{◌≡◌, ◌∙◌, refl, sym, ap, subst, arith, ℕ, ◌+◌, ◌^◌, ◌<◌, ◌≤◌, List, length, Bool, Option, IsTrue, Result, Ok, Err, OnOk, OnErr, IfErr, ◌⊎◌, inl, inr}
+use Rattle.std.proofs.Common.{◌≡◌, ◌∙◌, sym, ap, subst, arith, ℕ, ◌+◌, ◌^◌, ◌<◌, ◌≤◌, List, length, Bool, Option, IsTrue, Result, Ok, Err, OnOk, OnErr, IfErr, ◌⊎◌, inl, inr}
 use Rattle.std.proofs.lemmas.Bool.{cases_lt}
 use Rattle.std.proofs.lemmas.Grind.{not_there}
 use Rattle.std.proofs.Math.Logic.{∥∥₁_map}
@@ -10,7 +10,7 @@ use Rattle.sqlval.specs.Value.{Row}
 use Rattle.store.specs.Contents.{Contents, StoredTable, next_number}
 use Rattle.store.specs.Errors.{MayFail, StoringReaches, IndexingReaches, ChangingReaches}
 use Rattle.store.specs.Indexes.{entries_of}
-use Rattle.store.specs.Stored.{undone, working_on}
+use Rattle.store.specs.Stored.{IsAlone, undone, working_on}
 use Rattle.store.specs.declared.error.StoreError.{StoreError}
 use Rattle.store.specs.declared.error.StoreLimit.{StoreLimit}
 use Rattle.store.specs.declared.error.StoreLimit.TheVariants as limit
@@ -18,14 +18,14 @@ use Rattle.pool.specs.Pages.{PageMap}
 use Rattle.pool.specs.Versions.{Versions}
 use Rattle.overlay.specs.Undone.{Undone, AreUndone}
 use Rattle.database_versions.specs.Changed.{IsNow}
-use Rattle.database_versions.specs.Databases.{contents_in, known_contents, IsDatabase, IsOwned}
+use Rattle.database_versions.specs.Databases.{nothing, contents_in, known_contents, IsDatabase, IsOwned}
 use Rattle.database_versions.specs.Refusals.{IsCounted as Reached, RowsReach, NumbersEnd, NewRowsReach}
-use Rattle.database_versions.proofs.RefusalLemmas.{fail_weaker, rows_reach}
+use Rattle.database_versions.proofs.RefusalLemmas.{fail_weaker}
 use Rattle.database_versions.proofs.UndoneLemmas.{was_counted}
 use Rattle.paged_store.specs.Counted.{IsCounted}
 use Rattle.paged_store.specs.Orderly.{IsSteady}
 use Rattle.paged_store.specs.SeenLemmas.{known_is}
-use Rattle.paged_store.specs.Shown.{stored}
+use Rattle.paged_store.specs.Shown.{found_at, found_by, stored}
 use Rattle.paged_store.specs.Sound.{IsSound}
 use Rattle.paged_store.proofs.ChangeLemmas.{changed_here}
 use Rattle.paged_store.proofs.ShownLemmas.{shown_working, shown_undone}
@@ -82,6 +82,18 @@ module _ (honest : Bool) (v w : Versions) (numbers : FinMap nat_cmp ℕ) (writte
       → (IsDatabase (v.pages commits) written → OnOk done (IsNow (v.pages commits) mid (change (contents_in (v.pages commits) written))))
       → IsSteady (v.pages v.last) written settled → IsSteady (w.pages w.last) next next_settled
   done_steady done moved back made steady = steady_same v w next next_settled same (steady_by done moved back made steady)
+
+-- It changed what is worked on alone.
+pub done_alone : (honest : Bool) (v w : Versions) (numbers : FinMap nat_cmp ℕ) (written settled next next_settled : PageMap) (result : Done) → w ≡ v → next_settled ≡ settled
+    → OnOk result (IsAlone (stored honest v numbers written settled) (stored honest w numbers next next_settled))
+done_alone honest v w numbers written settled next next_settled (Ok u) same kept = λ i. record {
+  commits = (same i).last;
+  last = known_contents honest ((same i).pages (same i).last) nothing;
+  readers = found_by (found_at honest (same i)) numbers;
+  working = known_contents honest (w.pages w.last) next;
+  marked = known_contents honest ((same i).pages (same i).last) (kept i);
+}
+done_alone honest v w numbers written settled next next_settled (Err e) same kept = tt
 
 -- ---- refusals
 

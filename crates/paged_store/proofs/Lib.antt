@@ -9,3 +9,5 @@ pub mod ChangeLemmas
 pub mod KeepingLemmas
 pub mod SteadyLemmas
 pub mod DoneLemmas
+pub mod GoesLemmas
+pub mod ManyLemmas

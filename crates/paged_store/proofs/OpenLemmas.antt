@@ -1,5 +1,5 @@
 -- What opening gives.
-use Rattle.std.proofs.Common.{◌≡◌, ◌∙◌, refl, sym, ap, subst, ℕ, [], Bool, Option, Some, None, List, IsTrue, IsSome, ◌⊎◌, inl, inr}
+use Rattle.std.proofs.Common.{◌≡◌, ◌∙◌, sym, ap, subst, ℕ, [], Bool, Option, Some, None, List, IsTrue, IsSome, ◌⊎◌, inl, inr}
 use Rattle.std.specs.Ordering.{nat_cmp}
 use Rattle.std.specs.FinMap.{FinMap, get, empty, get-empty}
 use Rattle.denote.specs.Database.{Database}

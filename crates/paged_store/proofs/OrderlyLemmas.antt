@@ -1,5 +1,5 @@
 -- That the parts of a paged store stay in order.
-use Rattle.std.proofs.Common.{◌≡◌, ◌∙◌, refl, sym, ap, subst, ℕ, ◌+◌, ◌≤◌, Bool, IsTrue, IsSome, arith}
+use Rattle.std.proofs.Common.{◌≡◌, ◌∙◌, sym, ap, subst, ℕ, ◌≤◌, Bool, arith}
 use Rattle.std.specs.Ordering.{nat_cmp}
 use Rattle.std.specs.FinMap.{FinMap}
 use Rattle.pool.specs.Pages.{PageMap, over, known}
@@ -29,7 +29,7 @@ orderly_committed honest v w readers commits number written is pins newest o = r
 }
 
 -- a count that is as it was
-no_more : (n : ℕ) → n ≤ n
+pub no_more : (n : ℕ) → n ≤ n
 no_more n = omega arith
 
 pub no_less : {D : Type 0} (count : D → ℕ) (old new : D) → new ≡ old → count old ≤ count new

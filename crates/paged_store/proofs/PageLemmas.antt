@@ -7,7 +7,6 @@ use Rattle.overlay.specs.Bounded as bounded
 use Rattle.overlay.specs.InUse.{in_use}
 use Rattle.database_trees.specs.Held.{HoldsDatabase, IsAllOwned}
 use Rattle.stored_tables.specs.Contents.{contents_at}
-use Rattle.snapshot_pins.specs.Pinned.{KeepsFound}
 use Rattle.database_versions.specs.Databases.{nothing, root_of, contents_in, known_contents, IsDatabase, IsOwned}
 
 -- ---- changes

@@ -1,15 +1,13 @@
 -- That a paged store stays sound.
-use Rattle.std.proofs.Common.{◌≡◌, ◌∙◌, refl, sym, ap, subst, ℕ, ◌+◌, ◌<◌, Bool, true, false, cond, Option, Some, None, IsTrue, IsSome, ◌⊎◌, inl, inr}
+use Rattle.std.proofs.Common.{◌≡◌, ◌∙◌, sym, ap, subst, ℕ, Bool, true, false, cond, Option, Some, None, IsTrue, IsSome, ◌⊎◌, inl, inr}
 use Rattle.std.proofs.lemmas.Cmp.{nat_cmp_total}
 use Rattle.std.specs.Option.{is_some}
 use Rattle.std.specs.Ordering.{nat_cmp, eq_by_cmp}
 use Rattle.std.specs.FinMap.{FinMap, get, insert, remove, empty, get-empty, get-insert, get-remove}
-use Rattle.denote.specs.Database.{Database}
-use Rattle.store.specs.Contents.{Contents, database_of}
 use Rattle.pool.specs.Pages.{PageMap, over, known}
 use Rattle.pool.specs.Versions.{Versions}
 use Rattle.snapshot_pins.specs.Pinned.{with_reader, KeepsFound}
-use Rattle.database_versions.specs.Databases.{nothing, contents_in, known_contents, IsOwned}
+use Rattle.database_versions.specs.Databases.{nothing, IsOwned}
 use Rattle.paged_store.specs.Sound.{IsSound}
 use Rattle.paged_store.proofs.PageLemmas.{newest_kept, owned_committed}
 

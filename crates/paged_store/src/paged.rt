@@ -1,12 +1,16 @@
 //! A store over one file.
 ghost use Rattle.std.specs.Prelude.{◌≡◌};
 ghost use Rattle.pool.specs.Versions.{versions_of};
-ghost use Rattle.store.specs.View.{count_of};
 ghost use Rattle.overlay.specs.WriteSet.{private_of, settled_of};
 ghost use Rattle.paged_store.specs.Orderly.{IsOrderly, IsSteady};
 
+use crate::counting::{counted_row, counted_rows, told};
 use crate::keeping::{are_places, is_kept};
-use crate::seen::{beyond_seen, next_seen, ranged_seen, rows_seen, schema_seen, sought_seen};
+use crate::many_rows::{delete_rows, replace_rows};
+use crate::seen::{
+    beyond_seen, next_seen, ranged_seen, rows_seen, schema_seen, some_ranged_seen, some_rows_seen,
+    some_sought_seen, sought_seen,
+};
 use crate::undoing::undo_refused;
 use crate::writing::write_some;
 use database_versions::{
@@ -42,47 +46,43 @@ pub struct Paged<D: Disk> {
     commits: u64,
     /// How many rows were read.
     read: u64,
+    /// How many answers said that it is damaged.
+    damaged: u64,
     frames: usize,
     ghost ordered: { IsOrderly D.is_honest (versions_of pool) readers commits },
     ghost steady: { IsSteady ((versions_of pool).pages (versions_of pool).last) (private_of changes) (settled_of changes) },
 }
 
 impl<D: Disk + Drop> Paged<D> {
-    ghost use Rattle.std.specs.Prelude.{◌≡◌, ◌≤◌, Err};
+    ghost use Rattle.std.specs.Prelude.{◌≡◌, Err, OnOk, IfErr};
+    ghost use Rattle.store.specs.Errors.{Tells};
+    ghost use Rattle.store.specs.Going.{changes};
     ghost use Rattle.store.specs.Stored.{undone};
-    ghost use Rattle.pool.specs.Versions.{device_of};
-    ghost use Rattle.paged_store.specs.Store.{shown_of, sound_of};
+    ghost use Rattle.paged_store.specs.Store.{shown_of, PagedGoes};
 
     /// Goes back to the mark, and refuses.
     fn refuse(&mut self, error: StoreError) -> Result<(), StoreError>
         ensures undone { shown_of self.new ≡ undone (shown_of self.old) }
-        ensures sound { sound_of self.old → sound_of self.new }
-        ensures counts { D.refused (device_of self.old.pool) ≤ D.refused (device_of self.new.pool) }
+        ensures damage { OnOk result (self.new.damaged ≡ self.old.damaged)
+            × IfErr result (λ error. Tells error self.old.damaged self.new.damaged) }
+        ensures goes { PagedGoes changes self.old self.new }
         ensures refused { result ≡ Err error }
     {
         self.changes.undo();
-        Err(error)
-    }
-}
-
-/// One row, or none.
-fn rows_in(found: &Option<NumberedRow>) -> usize
-    ensures { result ≡ count_of found.now }
-{
-    match found {
-        Some(_) => 1,
-        None => 0,
+        Err(told(&mut self.damaged, error))
     }
 }
 
 impl<D: Disk + Drop> Store for Paged<D> {
-    ghost use Rattle.std.specs.Prelude.{◌≡◌};
+    ghost use Rattle.std.specs.Prelude.{◌≡◌, [], IsTrue};
+    ghost use Rattle.std.specs.FinMap.{empty};
+    ghost use Rattle.store.specs.Going.{goes_itself, goes_on_and_on};
     ghost use Rattle.pool.specs.Versions.{versions_of, device_of, unwritten_of};
     ghost use Rattle.overlay.specs.WriteSet.{settled_of, undone_of};
     ghost use Rattle.database_versions.specs.Opened.{IsReadable};
     ghost use Rattle.paged_store.specs.Counted.{IsCounted};
     ghost use Rattle.paged_store.specs.Saved.{IsSavedAlone};
-    ghost use Rattle.paged_store.specs.Store.{shown_of, sound_of};
+    ghost use Rattle.paged_store.specs.Store.{shown_of, sound_of, unchanged_of, noted_of, PagedGoes};
     ghost use Rattle.paged_store.specs.SeenLemmas.{rises_seen};
 
     type Device = D;
@@ -96,6 +96,14 @@ impl<D: Disk + Drop> Store for Paged<D> {
     ghost calls_refused = { λ device. D.refused device };
 
     ghost read = { λ s. s.read };
+
+    ghost damaged = { λ s. s.damaged };
+
+    ghost writes = { λ s. D.writes (device_of s.pool) };
+
+    ghost unchanged = { λ s. unchanged_of s };
+
+    ghost goes_on = { λ a b going. PagedGoes going a b };
 
     ghost counted = { λ s limit. IsCounted D.is_honest ((versions_of s.pool).pages (versions_of s.pool).last) (settled_of s.changes) (undone_of s.changes) limit };
 
@@ -111,7 +119,21 @@ impl<D: Disk + Drop> Store for Paged<D> {
 
     ghost settled = { λ device. D.settled device };
 
+    ghost is_honest = { λ device. IsTrue D.is_honest };
+
+    ghost same = { λ a b. D.bytes b ≡ D.bytes a };
+
+    ghost is_new = { λ device. D.bytes device ≡ [] };
+
+    ghost is_begun = { λ device. IsSavedAlone D.is_honest (D.bytes device) empty };
+
     ghost numbers_rise = { λ s view name table sound found. rises_seen _ _ _ _ _ view name table sound found };
+
+    ghost goes_on_refl = { λ s going. goes_itself going (sound_of s) (unchanged_of s) (noted_of s) };
+
+    ghost goes_on_trans = { λ a b c first next h g. goes_on_and_on first next (sound_of a) (sound_of b) (sound_of c) (unchanged_of a) (unchanged_of b) (unchanged_of c) (noted_of a) (noted_of b) (noted_of c) h g };
+
+    ghost goes_on_goes = { λ a b going h. h };
 
     fn open(alloc: Global, device: D, frames: usize) -> Result<Self, Returned<D>> {
         match pool_over(alloc, device, frames as u32) {
@@ -125,6 +147,7 @@ impl<D: Disk + Drop> Store for Paged<D> {
                 },
                 commits: 0,
                 read: 0,
+                damaged: 0,
                 frames,
             }),
             Err(back) => Err(back),
@@ -136,6 +159,7 @@ impl<D: Disk + Drop> Store for Paged<D> {
         let prepared = self.prepared;
         let commits = self.commits;
         let read = self.read;
+        let damaged = self.damaged;
         let frames = self.frames;
         let mut pool = self.pool;
         let mut readers = self.readers;
@@ -152,6 +176,7 @@ impl<D: Disk + Drop> Store for Paged<D> {
                     prepared,
                     commits,
                     read,
+                    damaged,
                     frames,
                 },
             }),
@@ -224,7 +249,7 @@ impl<D: Disk + Drop> Store for Paged<D> {
                 self.prepared = schema;
                 Ok(())
             }
-            Err(error) => Err(error),
+            Err(error) => Err(told(&mut self.damaged, error)),
         }
     }
 
@@ -245,7 +270,7 @@ impl<D: Disk + Drop> Store for Paged<D> {
             self.commits,
             &table,
         );
-        undo_refused(&mut self.changes, done)
+        undo_refused(&mut self.changes, &mut self.damaged, done)
     }
 
     fn drop_table(&mut self, name: &Text) -> Result<(), StoreError> {
@@ -256,7 +281,7 @@ impl<D: Disk + Drop> Store for Paged<D> {
             self.commits,
             name,
         );
-        undo_refused(&mut self.changes, done)
+        undo_refused(&mut self.changes, &mut self.damaged, done)
     }
 
     fn create_index(&mut self, name: &Text, index: Index) -> Result<(), StoreError> {
@@ -269,7 +294,7 @@ impl<D: Disk + Drop> Store for Paged<D> {
             name,
             index,
         );
-        undo_refused(&mut self.changes, done)
+        undo_refused(&mut self.changes, &mut self.damaged, done)
     }
 
     fn drop_index(&mut self, name: &Text) -> Result<(), StoreError> {
@@ -280,7 +305,7 @@ impl<D: Disk + Drop> Store for Paged<D> {
             self.commits,
             name,
         );
-        undo_refused(&mut self.changes, done)
+        undo_refused(&mut self.changes, &mut self.damaged, done)
     }
 
     fn append(&mut self, name: &Text, rows: Rows) -> Result<(), StoreError> {
@@ -292,7 +317,7 @@ impl<D: Disk + Drop> Store for Paged<D> {
             name,
             rows,
         );
-        undo_refused(&mut self.changes, done)
+        undo_refused(&mut self.changes, &mut self.damaged, done)
     }
 
     fn replace(&mut self, name: &Text, number: u64, row: Row) -> Result<(), StoreError> {
@@ -305,7 +330,7 @@ impl<D: Disk + Drop> Store for Paged<D> {
             number,
             row,
         );
-        undo_refused(&mut self.changes, done)
+        undo_refused(&mut self.changes, &mut self.damaged, done)
     }
 
     fn delete(&mut self, name: &Text, number: u64) -> Result<(), StoreError> {
@@ -317,11 +342,35 @@ impl<D: Disk + Drop> Store for Paged<D> {
             name,
             number,
         );
-        undo_refused(&mut self.changes, done)
+        undo_refused(&mut self.changes, &mut self.damaged, done)
+    }
+
+    fn replace_rows(&mut self, name: &Text, rows: Items<(u64, Row)>) -> Result<(), StoreError> {
+        let done = replace_rows(
+            self.alloc,
+            &mut self.pool,
+            &mut self.changes,
+            self.commits,
+            name,
+            rows,
+        );
+        undo_refused(&mut self.changes, &mut self.damaged, done)
+    }
+
+    fn delete_rows(&mut self, name: &Text, numbers: &[u64]) -> Result<(), StoreError> {
+        let done = delete_rows(
+            self.alloc,
+            &mut self.pool,
+            &mut self.changes,
+            self.commits,
+            name,
+            numbers,
+        );
+        undo_refused(&mut self.changes, &mut self.damaged, done)
     }
 
     fn scan(&mut self, alloc: Global, view: View, name: &Text) -> Result<Numbered, StoreError> {
-        match rows_seen(
+        let found = rows_seen(
             alloc,
             &mut self.pool,
             &self.changes,
@@ -329,13 +378,8 @@ impl<D: Disk + Drop> Store for Paged<D> {
             self.commits,
             view,
             name,
-        ) {
-            Ok(found) => {
-                self.read = self.read.saturating_add(found.rows.len() as u64);
-                Ok(found)
-            }
-            Err(error) => Err(error),
-        }
+        );
+        counted_rows(&mut self.read, &mut self.damaged, found)
     }
 
     fn next(
@@ -345,7 +389,7 @@ impl<D: Disk + Drop> Store for Paged<D> {
         name: &Text,
         after: Option<u64>,
     ) -> Result<Option<NumberedRow>, StoreError> {
-        match next_seen(
+        let found = next_seen(
             alloc,
             &mut self.pool,
             &self.changes,
@@ -354,13 +398,8 @@ impl<D: Disk + Drop> Store for Paged<D> {
             view,
             name,
             after,
-        ) {
-            Ok(found) => {
-                self.read = self.read.saturating_add(rows_in(&found) as u64);
-                Ok(found)
-            }
-            Err(error) => Err(error),
-        }
+        );
+        counted_row(&mut self.read, &mut self.damaged, found)
     }
 
     fn seek(
@@ -371,7 +410,7 @@ impl<D: Disk + Drop> Store for Paged<D> {
         index: usize,
         key: &[Value],
     ) -> Result<Numbered, StoreError> {
-        match sought_seen(
+        let found = sought_seen(
             alloc,
             &mut self.pool,
             &self.changes,
@@ -381,13 +420,8 @@ impl<D: Disk + Drop> Store for Paged<D> {
             name,
             index,
             key,
-        ) {
-            Ok(found) => {
-                self.read = self.read.saturating_add(found.rows.len() as u64);
-                Ok(found)
-            }
-            Err(error) => Err(error),
-        }
+        );
+        counted_rows(&mut self.read, &mut self.damaged, found)
     }
 
     fn range(
@@ -399,7 +433,7 @@ impl<D: Disk + Drop> Store for Paged<D> {
         low: &Bound<Value>,
         high: &Bound<Value>,
     ) -> Result<Numbered, StoreError> {
-        match ranged_seen(
+        let found = ranged_seen(
             alloc,
             &mut self.pool,
             &self.changes,
@@ -410,13 +444,8 @@ impl<D: Disk + Drop> Store for Paged<D> {
             index,
             low,
             high,
-        ) {
-            Ok(found) => {
-                self.read = self.read.saturating_add(found.rows.len() as u64);
-                Ok(found)
-            }
-            Err(error) => Err(error),
-        }
+        );
+        counted_rows(&mut self.read, &mut self.damaged, found)
     }
 
     fn next_in(
@@ -427,7 +456,7 @@ impl<D: Disk + Drop> Store for Paged<D> {
         index: usize,
         after: Option<&Position>,
     ) -> Result<Option<NumberedRow>, StoreError> {
-        match beyond_seen(
+        let found = beyond_seen(
             alloc,
             &mut self.pool,
             &self.changes,
@@ -437,13 +466,84 @@ impl<D: Disk + Drop> Store for Paged<D> {
             name,
             index,
             after,
-        ) {
-            Ok(found) => {
-                self.read = self.read.saturating_add(rows_in(&found) as u64);
-                Ok(found)
-            }
-            Err(error) => Err(error),
-        }
+        );
+        counted_row(&mut self.read, &mut self.damaged, found)
+    }
+
+    fn scan_block(
+        &mut self,
+        alloc: Global,
+        view: View,
+        name: &Text,
+        after: Option<u64>,
+        most: usize,
+    ) -> Result<Numbered, StoreError> {
+        let found = some_rows_seen(
+            alloc,
+            &mut self.pool,
+            &self.changes,
+            &self.readers,
+            self.commits,
+            view,
+            name,
+            after,
+            most,
+        );
+        counted_rows(&mut self.read, &mut self.damaged, found)
+    }
+
+    fn seek_block(
+        &mut self,
+        alloc: Global,
+        view: View,
+        name: &Text,
+        index: usize,
+        key: &[Value],
+        after: Option<u64>,
+        most: usize,
+    ) -> Result<Numbered, StoreError> {
+        let found = some_sought_seen(
+            alloc,
+            &mut self.pool,
+            &self.changes,
+            &self.readers,
+            self.commits,
+            view,
+            name,
+            index,
+            key,
+            after,
+            most,
+        );
+        counted_rows(&mut self.read, &mut self.damaged, found)
+    }
+
+    fn range_block(
+        &mut self,
+        alloc: Global,
+        view: View,
+        name: &Text,
+        index: usize,
+        low: &Bound<Value>,
+        high: &Bound<Value>,
+        after: Option<&Position>,
+        most: usize,
+    ) -> Result<Numbered, StoreError> {
+        let found = some_ranged_seen(
+            alloc,
+            &mut self.pool,
+            &self.changes,
+            &self.readers,
+            self.commits,
+            view,
+            name,
+            index,
+            low,
+            high,
+            after,
+            most,
+        );
+        counted_rows(&mut self.read, &mut self.damaged, found)
     }
 
     fn rows_read(&self) -> u64 {

@@ -6,7 +6,7 @@ ghost use Rattle.std.specs.Option.{option_map};
 ghost use Rattle.denote.specs.SchemaOf.{IsSchemaOf};
 ghost use Rattle.store.specs.Contents.{Contents, database_of};
 ghost use Rattle.store.specs.Errors.{MayFail, Never};
-ghost use Rattle.store.specs.Indexes.{entries_of, entry_after, sought, ranged, next_entry};
+ghost use Rattle.store.specs.Indexes.{entries_of, entry_after, sought, ranged, next_entry, some_after, some_sought, some_ranged};
 ghost use Rattle.store.specs.View.{AreEntries, IsEntry, seen_by, position_of};
 ghost use Rattle.pool.specs.Pages.{PageMap};
 ghost use Rattle.pool.specs.Versions.{versions_of, device_of};
@@ -15,7 +15,10 @@ ghost use Rattle.snapshot_pins.specs.Pinned.{numbers_of};
 ghost use Rattle.paged_store.specs.Shown.{stored};
 ghost use Rattle.paged_store.specs.Sound.{IsSound};
 
-use database_versions::{row_after, row_beyond, rows_of, rows_sought, rows_within, schema_of};
+use database_versions::{
+    row_after, row_beyond, rows_of, rows_sought, rows_within, schema_of, some_rows_of,
+    some_rows_sought, some_rows_within,
+};
 use disk::Disk;
 use items::Text;
 use overlay::WriteSet;
@@ -53,6 +56,7 @@ pub(crate) fn schema_seen<D: Disk>(
     ensures refused { (settled : PageMap)
         → IfErr result (MayFail (IsSound D.is_honest (versions_of pool.old) (numbers_of readers.now) (private_of changes.now) settled) (D.refused (device_of pool.old)) (D.refused (device_of pool.new)) Never) }
     ensures rising { D.refused (device_of pool.old) ≤ D.refused (device_of pool.new) }
+    ensures writes { D.writes (device_of pool.new) ≡ D.writes (device_of pool.old) }
 {
     match view {
         View::Found(reader) => {
@@ -82,6 +86,7 @@ pub(crate) fn rows_seen<D: Disk>(
     ensures refused { (settled : PageMap)
         → IfErr result (MayFail (IsSound D.is_honest (versions_of pool.old) (numbers_of readers.now) (private_of changes.now) settled) (D.refused (device_of pool.old)) (D.refused (device_of pool.new)) Never) }
     ensures rising { D.refused (device_of pool.old) ≤ D.refused (device_of pool.new) }
+    ensures writes { D.writes (device_of pool.new) ≡ D.writes (device_of pool.old) }
 {
     match view {
         View::Found(reader) => {
@@ -112,6 +117,7 @@ pub(crate) fn next_seen<D: Disk>(
     ensures refused { (settled : PageMap)
         → IfErr result (MayFail (IsSound D.is_honest (versions_of pool.old) (numbers_of readers.now) (private_of changes.now) settled) (D.refused (device_of pool.old)) (D.refused (device_of pool.new)) Never) }
     ensures rising { D.refused (device_of pool.old) ≤ D.refused (device_of pool.new) }
+    ensures writes { D.writes (device_of pool.new) ≡ D.writes (device_of pool.old) }
 {
     match view {
         View::Found(reader) => {
@@ -143,6 +149,7 @@ pub(crate) fn sought_seen<D: Disk>(
     ensures refused { (settled : PageMap)
         → IfErr result (MayFail (IsSound D.is_honest (versions_of pool.old) (numbers_of readers.now) (private_of changes.now) settled) (D.refused (device_of pool.old)) (D.refused (device_of pool.new)) Never) }
     ensures rising { D.refused (device_of pool.old) ≤ D.refused (device_of pool.new) }
+    ensures writes { D.writes (device_of pool.new) ≡ D.writes (device_of pool.old) }
 {
     match view {
         View::Found(reader) => {
@@ -176,6 +183,7 @@ pub(crate) fn ranged_seen<D: Disk>(
     ensures refused { (settled : PageMap)
         → IfErr result (MayFail (IsSound D.is_honest (versions_of pool.old) (numbers_of readers.now) (private_of changes.now) settled) (D.refused (device_of pool.old)) (D.refused (device_of pool.new)) Never) }
     ensures rising { D.refused (device_of pool.old) ≤ D.refused (device_of pool.new) }
+    ensures writes { D.writes (device_of pool.new) ≡ D.writes (device_of pool.old) }
 {
     match view {
         View::Found(reader) => {
@@ -207,6 +215,7 @@ pub(crate) fn beyond_seen<D: Disk>(
     ensures refused { (settled : PageMap)
         → IfErr result (MayFail (IsSound D.is_honest (versions_of pool.old) (numbers_of readers.now) (private_of changes.now) settled) (D.refused (device_of pool.old)) (D.refused (device_of pool.new)) Never) }
     ensures rising { D.refused (device_of pool.old) ≤ D.refused (device_of pool.new) }
+    ensures writes { D.writes (device_of pool.new) ≡ D.writes (device_of pool.old) }
 {
     match view {
         View::Found(reader) => {
@@ -215,5 +224,110 @@ pub(crate) fn beyond_seen<D: Disk>(
             row_beyond(alloc, pool, &none, at, name, index, after)
         }
         View::Working => row_beyond(alloc, pool, changes, commits, name, index, after),
+    }
+}
+
+/// The first rows of a table of a view above a number, at most so many.
+pub(crate) fn some_rows_seen<D: Disk>(
+    alloc: Global,
+    pool: &mut Pool<D>,
+    changes: &WriteSet,
+    readers: &Readers,
+    commits: u64,
+    view: View,
+    name: &Text,
+    after: Option<u64>,
+    most: usize,
+) -> Result<Numbered, StoreError>
+    requires { commits ≡ (versions_of pool.old).last }
+    ensures rows { (settled : PageMap)
+        → IsSound D.is_honest (versions_of pool.old) (numbers_of readers.now) (private_of changes.now) settled
+        → IfOk result (λ found. AreEntries found (some_after after most (entries_of (get (seen_by (stored D.is_honest (versions_of pool.old) (numbers_of readers.now) (private_of changes.now) settled) view) name.now)))) }
+    ensures versions { versions_of pool.new ≡ versions_of pool.old }
+    ensures refused { (settled : PageMap)
+        → IfErr result (MayFail (IsSound D.is_honest (versions_of pool.old) (numbers_of readers.now) (private_of changes.now) settled) (D.refused (device_of pool.old)) (D.refused (device_of pool.new)) Never) }
+    ensures rising { D.refused (device_of pool.old) ≤ D.refused (device_of pool.new) }
+    ensures writes { D.writes (device_of pool.new) ≡ D.writes (device_of pool.old) }
+{
+    match view {
+        View::Found(reader) => {
+            let at = number_seen(readers, reader, commits);
+            let none = WriteSet::new(alloc);
+            some_rows_of(alloc, pool, &none, at, name, after, most)
+        }
+        View::Working => some_rows_of(alloc, pool, changes, commits, name, after, most),
+    }
+}
+
+/// The first rows of a table of a view whose columns equal a key above a number, at most so many.
+pub(crate) fn some_sought_seen<D: Disk>(
+    alloc: Global,
+    pool: &mut Pool<D>,
+    changes: &WriteSet,
+    readers: &Readers,
+    commits: u64,
+    view: View,
+    name: &Text,
+    index: usize,
+    key: &[Value],
+    after: Option<u64>,
+    most: usize,
+) -> Result<Numbered, StoreError>
+    requires { commits ≡ (versions_of pool.old).last }
+    ensures rows { (settled : PageMap)
+        → IsSound D.is_honest (versions_of pool.old) (numbers_of readers.now) (private_of changes.now) settled
+        → IfOk result (λ found. AreEntries found (some_sought (get (seen_by (stored D.is_honest (versions_of pool.old) (numbers_of readers.now) (private_of changes.now) settled) view) name.now) index key.now after most)) }
+    ensures versions { versions_of pool.new ≡ versions_of pool.old }
+    ensures refused { (settled : PageMap)
+        → IfErr result (MayFail (IsSound D.is_honest (versions_of pool.old) (numbers_of readers.now) (private_of changes.now) settled) (D.refused (device_of pool.old)) (D.refused (device_of pool.new)) Never) }
+    ensures rising { D.refused (device_of pool.old) ≤ D.refused (device_of pool.new) }
+    ensures writes { D.writes (device_of pool.new) ≡ D.writes (device_of pool.old) }
+{
+    match view {
+        View::Found(reader) => {
+            let at = number_seen(readers, reader, commits);
+            let none = WriteSet::new(alloc);
+            some_rows_sought(alloc, pool, &none, at, name, index, key, after, most)
+        }
+        View::Working => some_rows_sought(
+            alloc, pool, changes, commits, name, index, key, after, most,
+        ),
+    }
+}
+
+/// The first rows of a table of a view within bounds behind a place in an index, at most so many.
+pub(crate) fn some_ranged_seen<D: Disk>(
+    alloc: Global,
+    pool: &mut Pool<D>,
+    changes: &WriteSet,
+    readers: &Readers,
+    commits: u64,
+    view: View,
+    name: &Text,
+    index: usize,
+    low: &Bound<Value>,
+    high: &Bound<Value>,
+    after: Option<&Position>,
+    most: usize,
+) -> Result<Numbered, StoreError>
+    requires { commits ≡ (versions_of pool.old).last }
+    ensures rows { (settled : PageMap)
+        → IsSound D.is_honest (versions_of pool.old) (numbers_of readers.now) (private_of changes.now) settled
+        → IfOk result (λ found. AreEntries found (some_ranged (get (seen_by (stored D.is_honest (versions_of pool.old) (numbers_of readers.now) (private_of changes.now) settled) view) name.now) index low.now high.now (option_map (λ p. position_of p.now) after.entry) most)) }
+    ensures versions { versions_of pool.new ≡ versions_of pool.old }
+    ensures refused { (settled : PageMap)
+        → IfErr result (MayFail (IsSound D.is_honest (versions_of pool.old) (numbers_of readers.now) (private_of changes.now) settled) (D.refused (device_of pool.old)) (D.refused (device_of pool.new)) Never) }
+    ensures rising { D.refused (device_of pool.old) ≤ D.refused (device_of pool.new) }
+    ensures writes { D.writes (device_of pool.new) ≡ D.writes (device_of pool.old) }
+{
+    match view {
+        View::Found(reader) => {
+            let at = number_seen(readers, reader, commits);
+            let none = WriteSet::new(alloc);
+            some_rows_within(alloc, pool, &none, at, name, index, low, high, after, most)
+        }
+        View::Working => some_rows_within(
+            alloc, pool, changes, commits, name, index, low, high, after, most,
+        ),
     }
 }

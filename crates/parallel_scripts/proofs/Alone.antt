@@ -6,7 +6,7 @@ use Rattle.session_definitions.specs.World.{World}
 use Rattle.shared.specs.Scripts.{AllTellDeviceIf, Answer, Script, Text, TellsDeviceIf}
 use Rattle.parallel_scripts.specs.Alone.{EndsAlone}
 use Rattle.parallel_scripts.specs.Cut.{Parts}
-use Rattle.parallel_scripts.specs.Ends.{Ends, Tells}
+use Rattle.parallel_scripts.specs.Ends.{Ends}
 use Rattle.parallel_scripts.specs.Handed.{Left}
 use Rattle.parallel_scripts.specs.Many.{ComesTo, Cuts, Opens, Runs, Shows}
 use Rattle.parallel_scripts.specs.Shown.{Answers}

@@ -1,5 +1,5 @@
 -- A script is cut piece by piece.
-use Rattle.std.proofs.Common.{◌≡◌, ◌≢◌, ◌⊎◌, inl, inr, ℕ, List, [], ◌∷◌, ◌++◌, zero, suc, ◌≤◌, length, take, arith, refl, sym, ap, ◌∙◌, subst, subst₂, append_assoc, append-nil}
+use Rattle.std.proofs.Common.{◌≡◌, ◌≢◌, inl, inr, ℕ, List, [], ◌∷◌, ◌++◌, zero, suc, ◌≤◌, length, take, arith, refl, sym, ap, ◌∙◌, subst, subst₂, append_assoc, append-nil}
 use Rattle.script_pieces.specs.declared.cutter.Cutter.{Cutter}
 use Rattle.script_pieces.specs.declared.request.Request as found
 use Rattle.script_pieces.specs.Pieces.{IsFirstPiece, IsUnended, ArePieces, StandBefore}

@@ -1,5 +1,5 @@
 -- Scripts, as they are printed one after another.
-use Rattle.std.proofs.Common.{◌≡◌, ℕ, zero, suc, ◌+◌, ◌<◌, ◌≤◌, Bool, true, false, ◌||◌, List, [], ◌∷◌, ◌++◌, length, drop, get_or, drop-cons, add-one, Option, Result, Ok, Err, is_ok, refl, sym, ap, ◌∙◌, subst, arith}
+use Rattle.std.proofs.Common.{◌≡◌, ℕ, ◌+◌, ◌<◌, Bool, true, false, ◌||◌, List, [], ◌∷◌, ◌++◌, length, drop, get_or, drop-cons, add-one, Option, Result, Ok, Err, is_ok, refl, sym, ap, ◌∙◌, subst}
 use Rattle.replies.specs.Writes.{Writes}
 use Rattle.replies.proofs.Written.{HasTaken, HasTaken-next, Writes-stop, Writes-all}
 use Rattle.parallel_scripts.specs.declared.part.Part.{Part}

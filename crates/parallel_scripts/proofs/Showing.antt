@@ -1,5 +1,5 @@
 -- The replies to pieces, as they are printed one after another.
-use Rattle.std.proofs.Common.{◌≡◌, ℕ, zero, suc, ◌+◌, ◌<◌, Bool, true, false, ◌||◌, List, [], ◌∷◌, ◌++◌, length, drop, get_or, drop-cons, add-one, Option, Result, Ok, Err, is_ok, refl, sym, ap, ◌∙◌, subst}
+use Rattle.std.proofs.Common.{◌≡◌, ℕ, suc, ◌+◌, ◌<◌, Bool, true, false, ◌||◌, List, ◌∷◌, length, drop, get_or, drop-cons, add-one, Option, Result, Ok, Err, is_ok, refl, sym, ap, ◌∙◌, subst}
 use Rattle.replies.specs.declared.reply.Reply.{Reply}
 use Rattle.replies.specs.Printed.{printed_reply}
 use Rattle.replies.specs.Refused.{is_refusal}

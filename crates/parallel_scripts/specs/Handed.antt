@@ -2,7 +2,7 @@
 -- choice.
 use Rattle.std.specs.Prelude.{◌≡◌, ℕ, ◌≤◌, Bool, true, false}
 use Rattle.refusals.specs.declared.refusal.Refusal.{Refusal}
-use Rattle.refusals.specs.declared.refusal.Refusal.TheVariants.{Disk}
+use Rattle.refusals.specs.declared.refusal.Refusal.TheVariants.{Damaged, Disk}
 use Rattle.denote.specs.Database.{Database}
 use Rattle.session_definitions.specs.Rules.{Rules, AreRules}
 use Rattle.session_definitions.specs.World.{World}
@@ -14,6 +14,16 @@ use Rattle.parallel_scripts.specs.declared.handed.HandedBack.TheVariants.{Unopen
 
 abbrev pub store_of : {S L D : Type 0} → Core S L D → S
 store_of core = core.store
+
+-- no store was opened
+abbrev pub IsUnopened : {S D : Type 0} → HandedBack S D → Type 0
+IsUnopened (Unopened device) = Unit {0}
+IsUnopened _ = ⊥
+
+-- where no store was opened, this holds of the device
+abbrev pub IfUnopened : {S D : Type 0} → HandedBack S D → (D → Type 0) → Type 0
+IfUnopened (Unopened device) P = P device
+IfUnopened _ P = Unit {0}
 
 -- whether a store was closed
 abbrev pub is_closed : {S D : Type 0} → HandedBack S D → Bool
@@ -49,19 +59,19 @@ pub data Left : Type 0 where
   unclosed : Left
   dropped : Left
 
--- What is handed back tells it. Where the store was not opened it is the device, and what the first
--- world committed last is still saved on it; where it was closed, the device; where it could not be
--- closed, the core. The device is said to have refused that the store was opened or closed only
--- where what is handed back counts more refused calls than before. Nothing is known of the device
--- of a store that was dropped.
-abbrev pub HandsBack : {S D : Type 0} → (D → Database → Type 0) → (D → Type 0) → (D → ℕ) → (S → ℕ) → ℕ → World
-    → HandedBack S D → Left → Type 0
-HandsBack saved settled calls refused before start (Unopened device) (Left.unopened refusal) = saved device start.last
+-- What is handed back tells it. Where the store was not opened it is the device, on which what the
+-- first world committed last stays, as `stays` tells; where it was closed, the device; where it
+-- could not be closed, the core. The device is said to have refused that the store was opened or
+-- closed only where what is handed back counts more refused calls than before. Nothing is known of
+-- the device of a store that was dropped.
+abbrev pub HandsBack : {S D : Type 0} → (D → Database → Type 0) → (D → Database → Type 0) → (D → Type 0) → (D → ℕ)
+    → (S → ℕ) → ℕ → World → HandedBack S D → Left → Type 0
+HandsBack saved stays settled calls refused before start (Unopened device) (Left.unopened refusal) = stays device start.last
     × (refusal ≡ Disk → HasRisen before (calls device))
-HandsBack saved settled calls refused before start (Closed device) (Left.closed end) = IsClosed saved settled calls before start end device
-HandsBack saved settled calls refused before start (Unclosed core) Left.unclosed = HasRisen before (refused (store_of core))
-HandsBack saved settled calls refused before start Nothing Left.dropped = Unit {0}
-HandsBack saved settled calls refused before start back left = ⊥
+HandsBack saved stays settled calls refused before start (Closed device) (Left.closed end) = IsClosed saved settled calls before start end device
+HandsBack saved stays settled calls refused before start (Unclosed core) Left.unclosed = HasRisen before (refused (store_of core))
+HandsBack saved stays settled calls refused before start Nothing Left.dropped = Unit {0}
+HandsBack saved stays settled calls refused before start back left = ⊥
 
 -- What is known whatever lay on the device. A store was opened only where it can be read as a
 -- store's. The device of a closed one was synced behind the last write, and counts no fewer refused
@@ -71,3 +81,11 @@ HandsAny readable settled calls refused before (Unopened device) = Unit {0}
 HandsAny readable settled calls refused before (Closed device) = readable × settled device × (before ≤ calls device)
 HandsAny readable settled calls refused before (Unclosed core) = readable × HasRisen before (refused (store_of core))
 HandsAny readable settled calls refused before Nothing = readable
+
+-- Why no store was opened, as it is told; where that is X0004, the bytes of the device are as they
+-- were, if it gives back what was written.
+pub record IsToldUnopened {D : Type 0} (is_honest : D → Type 0) (same : D → D → Type 0) (tells : Refusal → ℕ → Type 0) (device back : D) : Type 0 where
+  pub refusal : Refusal
+  pub status : ℕ
+  pub told : tells refusal status
+  pub damage : is_honest device → refusal ≡ Damaged → same device back

@@ -4,7 +4,7 @@ ghost use Rattle.session_definitions.specs.World.{World};
 ghost use Rattle.sessions.specs.OfCore.{IsSound, world_of};
 ghost use Rattle.store.specs.Errors.{HasRisen};
 ghost use Rattle.parallel_scripts.specs.Ends.{IsStatus, Puts};
-ghost use Rattle.parallel_scripts.specs.Handed.{BeginsGood, HandsAny, HandsBack, HasRefused, Left, is_closed, store_of};
+ghost use Rattle.parallel_scripts.specs.Handed.{BeginsGood, HandsAny, HandsBack, HasRefused, IsUnopened, Left, is_closed, store_of};
 ghost use Rattle.parallel_scripts.specs.Many.{Shows, status_for};
 
 use crate::ending::say_unless_closed;
@@ -29,12 +29,13 @@ pub(crate) fn print_all<S: Store, W: Write>(
 ) -> Printed<S>
     ensures shows { (before : ℕ) (start : World) → before ≤ S.refused (store_of core)
         → (BeginsGood start → IsSound S.is_sound S.shows core)
-        → Puts (Shows (HandsBack S.saved S.settled S.calls_refused S.refused before start result.back) (world_of S.shows core) parts.now answers.items)
+        → Puts (Shows (HandsBack S.saved S.saved S.settled S.calls_refused S.refused before start result.back) (world_of S.shows core) parts.now answers.items)
         (W.contents writer.old) (W.contents writer.new) result.outcome }
     ensures any_device { (before : ℕ) → before ≤ S.refused (store_of core)
         → HandsAny ⊤ S.settled S.calls_refused S.refused before result.back }
     ensures counts { (before : ℕ) → HasRisen before (S.refused (store_of core))
         → HasRefused S.calls_refused S.refused before result.back }
+    ensures opened { IsUnopened result.back → ⊥ }
     ensures status { IfOk result.outcome IsStatus }
 {
     let shown = show_all(parts, answers, writer);
@@ -63,12 +64,13 @@ fn status_for(refused: bool) -> u8
 fn close<S: Store>(core: Core<S>) -> HandedBack<S>
     ensures closes { (before : ℕ) (start : World) → before ≤ S.refused (store_of core)
         → (BeginsGood start → IsSound S.is_sound S.shows core)
-        → MatchBool (is_closed result) (HandsBack S.saved S.settled S.calls_refused S.refused before start result (Left.closed (world_of S.shows core)))
-        (HandsBack S.saved S.settled S.calls_refused S.refused before start result Left.unclosed) }
+        → MatchBool (is_closed result) (HandsBack S.saved S.saved S.settled S.calls_refused S.refused before start result (Left.closed (world_of S.shows core)))
+        (HandsBack S.saved S.saved S.settled S.calls_refused S.refused before start result Left.unclosed) }
     ensures any_device { (before : ℕ) → before ≤ S.refused (store_of core)
         → HandsAny ⊤ S.settled S.calls_refused S.refused before result }
     ensures counts { (before : ℕ) → HasRisen before (S.refused (store_of core))
         → HasRefused S.calls_refused S.refused before result }
+    ensures opened { IsUnopened result → ⊥ }
 {
     match core.close() {
         Ok(device) => HandedBack::Closed(device),

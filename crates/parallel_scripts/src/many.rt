@@ -1,16 +1,17 @@
 //! Scripts side by side over any store, from their bytes to what is printed of them and what is
 //! handed back.
-ghost use Rattle.std.specs.Prelude.{◌≡◌, ⊤, ◌≤◌, ◌<◌, ℕ, false, length, IfOk, IfErr};
+ghost use Rattle.std.specs.Prelude.{◌≡◌, ⊤, ◌⊎◌, ◌≤◌, ◌<◌, ℕ, false, length, IfOk, IfErr};
 ghost use Rattle.denote.specs.Database.{Database};
-ghost use Rattle.refusals.specs.declared.refusal.Refusal.TheVariants.{Disk, Exceeded};
+ghost use Rattle.refusals.specs.declared.refusal.Refusal.TheVariants.{Damaged, Disk, Exceeded};
 ghost use Rattle.refusals.specs.declared.limit.Limit.TheVariants as limit;
 ghost use Rattle.session_definitions.specs.Refusals.{StopsFlush};
-ghost use Rattle.session_definitions.specs.World.{is_live, opened};
+ghost use Rattle.session_definitions.specs.World.{is_live, new_world, opened};
 ghost use Rattle.sessions.specs.OfCore.{IsSound, world_of};
+ghost use Rattle.sessions.specs.Opening.{Stays};
 ghost use Rattle.store.specs.Errors.{HasRisen};
 ghost use Rattle.parallel_scripts.specs.declared.handed.HandedBack.TheVariants as handed;
 ghost use Rattle.parallel_scripts.specs.Ends.{Ends, IsStatus, Puts, Tells};
-ghost use Rattle.parallel_scripts.specs.Handed.{HandsAny, HandsBack, HasRefused, store_of};
+ghost use Rattle.parallel_scripts.specs.Handed.{HandsAny, HandsBack, HasRefused, IfUnopened, IsToldUnopened, IsUnopened, store_of};
 ghost use Rattle.parallel_scripts.specs.Many.{ComesTo, Cuts, Opens, Runs};
 
 use crate::closing::{REFUSED, print_all};
@@ -36,11 +37,13 @@ use store::Store;
 /// store could not be opened or closed, which is printed, or the writer refused, which a line
 /// `ERROR X0002` says where it can be written: `is_told` tells whether it was.
 ///
-/// Where the store was not opened, the device is handed back, saved as it was. Once scripts have
-/// run the store is closed, and its device is handed back, synced, with what was committed last
-/// saved on it; or the core is, where the device refuses that. That the device refused is said, in
-/// a reply or of the store, only where it refused a call: what is handed back counts more of them.
-/// A device that cannot be read as a store's is not opened.
+/// Where the store was not opened, the device is handed back: what was saved stays, and where it is
+/// refused as damaged, so do the bytes; only an empty device may be left as one that opens as
+/// empty, or is refused as damaged (`begun`). Once scripts have run the store is closed, and its
+/// device is handed back, synced, with what was committed last saved on it; or the core is, where
+/// the device refuses that. That the device refused is said, in a reply or of the store, only where
+/// it refused a call: what is handed back counts more of them. A device that cannot be read as a
+/// store's is not opened.
 pub fn many_on<S: Store + Send, G: Gate + Sync, R: Threads + Wait + Sync, W: Write>(
     rt: &R,
     alloc: Global,
@@ -58,8 +61,12 @@ where
     ensures back { 64 < length scripts.now → result.back ≡ handed.Unopened device }
     ensures any_device { HandsAny (S.readable device) S.settled S.calls_refused S.refused (S.calls_refused device) result.back }
     ensures runs { (db : Database) → S.saved device db
-        → Ends (ComesTo (opened db) (HandsBack S.saved S.settled S.calls_refused S.refused (S.calls_refused device) (opened db) result.back)
+        → Ends (ComesTo (opened db) (HandsBack S.saved (Stays S.saved S.is_new S.is_begun device) S.settled S.calls_refused S.refused (S.calls_refused device) (opened db) result.back)
         (HasRefused S.calls_refused S.refused (S.calls_refused device) result.back) scripts.now) (W.contents writer.old) (W.contents writer.new) result.status result.is_told }
+    ensures begun { S.is_begun device → IsUnopened result.back
+        ⊎ Ends (ComesTo new_world (HandsBack S.saved (Stays S.saved S.is_new S.is_begun device) S.settled S.calls_refused S.refused (S.calls_refused device) new_world result.back)
+        (HasRefused S.calls_refused S.refused (S.calls_refused device) result.back) scripts.now) (W.contents writer.old) (W.contents writer.new) result.status result.is_told }
+    ensures unopened { IfUnopened result.back (IsToldUnopened S.is_honest S.same (λ refusal status. Ends (Tells refusal status) (W.contents writer.old) (W.contents writer.new) result.status result.is_told) device) }
 {
     let Printed { outcome, back } = count_and_run::<S, G, R, W>(
         rt, alloc, frames, device, scripts, gate, writer,
@@ -90,8 +97,12 @@ where
     ensures back { 64 < length scripts.now → result.back ≡ handed.Unopened device }
     ensures any_device { HandsAny (S.readable device) S.settled S.calls_refused S.refused (S.calls_refused device) result.back }
     ensures runs { (db : Database) → S.saved device db
-        → Puts (ComesTo (opened db) (HandsBack S.saved S.settled S.calls_refused S.refused (S.calls_refused device) (opened db) result.back)
+        → Puts (ComesTo (opened db) (HandsBack S.saved (Stays S.saved S.is_new S.is_begun device) S.settled S.calls_refused S.refused (S.calls_refused device) (opened db) result.back)
         (HasRefused S.calls_refused S.refused (S.calls_refused device) result.back) scripts.now) (W.contents writer.old) (W.contents writer.new) result.outcome }
+    ensures begun { S.is_begun device → IsUnopened result.back
+        ⊎ Puts (ComesTo new_world (HandsBack S.saved (Stays S.saved S.is_new S.is_begun device) S.settled S.calls_refused S.refused (S.calls_refused device) new_world result.back)
+        (HasRefused S.calls_refused S.refused (S.calls_refused device) result.back) scripts.now) (W.contents writer.old) (W.contents writer.new) result.outcome }
+    ensures unopened { IfUnopened result.back (IsToldUnopened S.is_honest S.same (λ refusal status. Puts (Tells refusal status) (W.contents writer.old) (W.contents writer.new) result.outcome) device) }
 {
     if scripts.len() > MOST_SESSIONS {
         return unopened(Refusal::Exceeded(Limit::Sessions), device, REFUSED, writer);
@@ -114,8 +125,12 @@ where
     ensures status { IfOk result.outcome IsStatus }
     ensures any_device { HandsAny (S.readable device) S.settled S.calls_refused S.refused (S.calls_refused device) result.back }
     ensures cuts { (db : Database) → S.saved device db
-        → Puts (Cuts (opened db) (HandsBack S.saved S.settled S.calls_refused S.refused (S.calls_refused device) (opened db) result.back)
+        → Puts (Cuts (opened db) (HandsBack S.saved (Stays S.saved S.is_new S.is_begun device) S.settled S.calls_refused S.refused (S.calls_refused device) (opened db) result.back)
         (HasRefused S.calls_refused S.refused (S.calls_refused device) result.back) scripts.now) (W.contents writer.old) (W.contents writer.new) result.outcome }
+    ensures begun { S.is_begun device → IsUnopened result.back
+        ⊎ Puts (Cuts new_world (HandsBack S.saved (Stays S.saved S.is_new S.is_begun device) S.settled S.calls_refused S.refused (S.calls_refused device) new_world result.back)
+        (HasRefused S.calls_refused S.refused (S.calls_refused device) result.back) scripts.now) (W.contents writer.old) (W.contents writer.new) result.outcome }
+    ensures unopened { IfUnopened result.back (IsToldUnopened S.is_honest S.same (λ refusal status. Puts (Tells refusal status) (W.contents writer.old) (W.contents writer.new) result.outcome) device) }
 {
     match cut_all(alloc, scripts) {
         Ok(cut) => open_and_run::<S, G, R, W>(rt, alloc, frames, device, &cut, gate, writer),
@@ -138,8 +153,12 @@ where
     ensures status { IfOk result.outcome IsStatus }
     ensures any_device { HandsAny (S.readable device) S.settled S.calls_refused S.refused (S.calls_refused device) result.back }
     ensures opens { (db : Database) → S.saved device db
-        → Puts (Opens (opened db) (HandsBack S.saved S.settled S.calls_refused S.refused (S.calls_refused device) (opened db) result.back)
+        → Puts (Opens (opened db) (HandsBack S.saved (Stays S.saved S.is_new S.is_begun device) S.settled S.calls_refused S.refused (S.calls_refused device) (opened db) result.back)
         (HasRefused S.calls_refused S.refused (S.calls_refused device) result.back) scripts.now.texts.items scripts.now.parts.items) (W.contents writer.old) (W.contents writer.new) result.outcome }
+    ensures begun { S.is_begun device → IsUnopened result.back
+        ⊎ Puts (Opens new_world (HandsBack S.saved (Stays S.saved S.is_new S.is_begun device) S.settled S.calls_refused S.refused (S.calls_refused device) new_world result.back)
+        (HasRefused S.calls_refused S.refused (S.calls_refused device) result.back) scripts.now.texts.items scripts.now.parts.items) (W.contents writer.old) (W.contents writer.new) result.outcome }
+    ensures unopened { IfUnopened result.back (IsToldUnopened S.is_honest S.same (λ refusal status. Puts (Tells refusal status) (W.contents writer.old) (W.contents writer.new) result.outcome) device) }
 {
     match core_on::<S>(alloc, frames, device) {
         Ok(core) => carry_out(rt, alloc, core, scripts, gate, writer),
@@ -180,7 +199,11 @@ fn core_on<S: Store>(
     ensures refused { IfErr result (λ back. (db : Database) → S.saved device db → StopsFlush back.refusal) }
     ensures device { IfErr result (λ back. back.refusal ≡ Disk
         → HasRisen (S.calls_refused device) (S.calls_refused back.value)) }
-    ensures left { IfErr result (λ back. (db : Database) → S.saved device db → S.saved back.value db) }
+    ensures begun { S.is_begun device
+        → IfOk result (λ core. IsSound S.is_sound S.shows core × (world_of S.shows core ≡ new_world)) }
+    ensures same { S.is_honest device → IfErr result (λ back. back.refusal ≡ Damaged → S.same device back.value) }
+    ensures left { IfErr result (λ back. (db : Database) → S.saved device db
+        → Stays S.saved S.is_new S.is_begun device back.value db) }
 {
     Core::open(alloc, Sql, device, frames.get() as usize)
 }
@@ -200,8 +223,9 @@ where
     ensures status { IfOk result.outcome IsStatus }
     ensures any_device { (before : ℕ) → before ≤ S.refused (store_of core)
         → HandsAny ⊤ S.settled S.calls_refused S.refused before result.back }
+    ensures opened { IsUnopened result.back → ⊥ }
     ensures runs { (before : ℕ) → before ≤ S.refused (store_of core) → IsSound S.is_sound S.shows core
-        → Puts (Runs (world_of S.shows core) (HandsBack S.saved S.settled S.calls_refused S.refused before (world_of S.shows core) result.back)
+        → Puts (Runs (world_of S.shows core) (HandsBack S.saved S.saved S.settled S.calls_refused S.refused before (world_of S.shows core) result.back)
         (HasRefused S.calls_refused S.refused before result.back) scripts.now.texts.items scripts.now.parts.items) (W.contents writer.old) (W.contents writer.new) result.outcome }
 {
     let texts = scripts.texts.as_slice();

@@ -1,8 +1,9 @@
 //! The store of `sqlmany`, which is chosen here alone.
-ghost use Rattle.std.specs.Prelude.{◌<◌, length};
+ghost use Rattle.std.specs.Prelude.{◌<◌, false, [], length};
 ghost use Rattle.refusals.specs.declared.refusal.Refusal.TheVariants.{Exceeded};
 ghost use Rattle.refusals.specs.declared.limit.Limit.TheVariants as limit;
 ghost use Rattle.session_definitions.specs.World.{new_world};
+ghost use Rattle.sessions.specs.Opening.{Stays};
 ghost use Rattle.parallel_scripts.specs.Ends.{Ends, IsStatus, Tells};
 ghost use Rattle.parallel_scripts.specs.Handed.{HandsBack, HasRefused};
 ghost use Rattle.parallel_scripts.specs.Many.{ComesTo};
@@ -35,7 +36,7 @@ pub fn many_in_memory<G: Gate + Sync, R: Threads + Wait + Sync, W: Write>(
     ensures status { IsStatus result.status }
     ensures many { 64 < length scripts.now
         → Ends (Tells (Exceeded limit.Sessions) 1) (W.contents writer.old) (W.contents writer.new) result.status result.is_told }
-    ensures runs { Ends (ComesTo new_world (HandsBack ⟦<Paged<MemDisk> as Store>⟧.saved ⟦<Paged<MemDisk> as Store>⟧.settled ⟦<MemDisk as Disk>⟧.refused ⟦<Paged<MemDisk> as Store>⟧.refused 0 new_world result.back)
+    ensures runs { Ends (ComesTo new_world (HandsBack ⟦<Paged<MemDisk> as Store>⟧.saved (Stays ⟦<Paged<MemDisk> as Store>⟧.saved ⟦<Paged<MemDisk> as Store>⟧.is_new ⟦<Paged<MemDisk> as Store>⟧.is_begun (record { bytes = []; refused = 0; synced = 0; writes = 0; settled = false })) ⟦<Paged<MemDisk> as Store>⟧.settled ⟦<MemDisk as Disk>⟧.refused ⟦<Paged<MemDisk> as Store>⟧.refused 0 new_world result.back)
         (HasRefused ⟦<MemDisk as Disk>⟧.refused ⟦<Paged<MemDisk> as Store>⟧.refused 0 result.back) scripts.now) (W.contents writer.old) (W.contents writer.new) result.status result.is_told }
 {
     let device = MemDisk::new(alloc);

@@ -155,6 +155,7 @@ impl<D: Disk> Pool<D> {
         ensures read_always { IsTrue D.is_honest → IsTrue D.always_reads → IfErr result IsNotOfDevice }
         ensures cause { IfErr result (IsTold (D.told (device_of self.new))) }
         ensures rising { D.refused (device_of self.old) ≤ D.refused (device_of self.new) }
+        ensures writes { D.writes (device_of self.new) ≡ D.writes (device_of self.old) }
     {
         fetch(
             self.alloc,
@@ -189,6 +190,7 @@ impl<D: Disk> Pool<D> {
         ensures read_always { IsTrue D.is_honest → IsTrue D.always_reads → IfErr result IsNotOfDevice }
         ensures cause { IfErr result (IsTold (D.told (device_of self.new))) }
         ensures rising { D.refused (device_of self.old) ≤ D.refused (device_of self.new) }
+        ensures idle { pages_in set.old ≡ (λ n. None) → D.writes (device_of self.new) ≡ D.writes (device_of self.old) }
     {
         if self.last == u64::MAX {
             return Err(PoolError::Pages);

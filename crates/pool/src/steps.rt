@@ -55,6 +55,7 @@ pub(crate) fn load<D: Disk>(
         → 4096 * began ≤ length (D.bytes (disk_of file.old)) → IfErr result IsNotOfDevice }
     ensures cause { IfErr result (IsTold (D.told (disk_of file.new))) }
     ensures rising { D.refused (disk_of file.old) ≤ D.refused (disk_of file.new) }
+    ensures writes { D.writes (disk_of file.new) ≡ D.writes (disk_of file.old) }
 {
     if page >= began || !is_in_file(slots.as_slice(), page) {
         return Ok(());
@@ -92,6 +93,7 @@ fn prepare_page<D: Disk>(
         → 4096 * began ≤ length (D.bytes (disk_of file.old)) → IfErr result IsNotOfDevice }
     ensures cause { IfErr result (IsTold (D.told (disk_of file.new))) }
     ensures rising { D.refused (disk_of file.old) ≤ D.refused (disk_of file.new) }
+    ensures writes { D.writes (disk_of file.new) ≡ D.writes (disk_of file.old) }
 {
     reach(alloc, slots, page)?;
     if !is_needed(pins, images_at(slots.as_slice(), page)) {
@@ -127,6 +129,7 @@ pub(crate) fn prepare<D: Disk>(
         → Stands (D.bytes (disk_of file.old)) began last slots.old unwritten → IfErr result IsNotOfDevice }
     ensures cause { IfErr result (IsTold (D.told (disk_of file.new))) }
     ensures rising { D.refused (disk_of file.old) ≤ D.refused (disk_of file.new) }
+    ensures writes { D.writes (disk_of file.new) ≡ D.writes (disk_of file.old) }
 {
     for page in numbers {
         prepare_page(alloc, file, slots, began, pins, touched, *page, last)?;
@@ -203,6 +206,7 @@ pub(crate) fn fetch<D: Disk>(
         → 4096 * began ≤ length (D.bytes (disk_of file.old)) → IfErr result IsNotOfDevice }
     ensures cause { IfErr result (IsTold (D.told (disk_of file.new))) }
     ensures rising { D.refused (disk_of file.old) ≤ D.refused (disk_of file.new) }
+    ensures writes { D.writes (disk_of file.new) ≡ D.writes (disk_of file.old) }
 {
     if page >= began {
         return Ok(());

@@ -1,13 +1,14 @@
 -- Q10 and Q11: what each makes of a node may stand for it.
-use Rattle.algebra.specs.TreeOutcome.{tree_truth}
+use Rattle.algebra.specs.TreeOutcome.{outcome_step, tree_truth}
 use Rattle.algebra.specs.declared.tree.Condition.{Condition}
 use Rattle.algebra.specs.declared.tree.Tree.{Tree, Tree-F, roll-Tree, out-Tree}
 use Rattle.denote.specs.Evaluation.{Env}
 use Rattle.denote.specs.Expression.{cell, column}
 use Rattle.denote.specs.Meaning.{Tables}
+use Rattle.join_columns.proofs.JoinColumns.{Joins, all-join}
 use Rattle.rewrite_laws.proofs.Conditions.{Denials, quiet-is}
 use Rattle.rewrite_laws.proofs.Found.{some-is, given-found, then-found, map-found, or-found, first-is, some-made, scan-rolled, node-found, inner-found}
-use Rattle.rewrite_laws.proofs.JoinColumns.{Joins, all-join, true-is, join-equates}
+use Rattle.rewrite_laws.proofs.JoinColumns.{true-is, join-equates}
 use Rattle.rewrite_laws.proofs.JoinTrees.{Equates, q10, q11}
 use Rattle.rewrite_laws.proofs.Pairs.{pairs}
 use Rattle.rewrite_laws.proofs.Truths.{conjuncts-true}
@@ -30,7 +31,7 @@ use Rattle.algebra.specs.declared.tree.Tree.TheVariants as t
 -- ---- Q11: some of the pairs, in the order of an index
 
 module _ (tables : Tables) (w : ℕ) (x y : Row) (outer : Env) (wide : length x ≡ w) where
-  place-joins : (pairs : List (ℕ × ℕ)) → AllByRecursion (Joins tables w x y outer wide) pairs → (column place : ℕ)
+  place-joins : (pairs : List (ℕ × ℕ)) → AllByRecursion (Joins (outcome_step tables) w x y outer wide) pairs → (column place : ℕ)
       → place_for pairs column ≡ Some place
       → is_equal (cell y column) (cell x place) ≡ true
   place-joins [] h column place e = absurd (cc (e))
@@ -46,7 +47,7 @@ module _ (tables : Tables) (w : ℕ) (x y : Row) (outer : Env) (wide : length x 
       at true is f k = (λ i. is_equal (cell y (sym (eqb-true pair.1 column is) i)) (cell x (sym (some-is f) i))) ∙ k
       at false is f k = absurd (cc (f))
 
-  places-join : (pairs : List (ℕ × ℕ)) → AllByRecursion (Joins tables w x y outer wide) pairs
+  places-join : (pairs : List (ℕ × ℕ)) → AllByRecursion (Joins (outcome_step tables) w x y outer wide) pairs
       → (columns places : List ℕ) → places_for pairs columns ≡ Some places
       → pointwise is_equal (key_of columns y) (key_of places x) ≡ true
   places-join pairs h [] places e = subst (λ (z : List ℕ). pointwise is_equal (key_of [] y) (key_of z x) ≡ true)
@@ -70,7 +71,7 @@ pub places-equate : (on : Condition) (w : ℕ) (columns places : List ℕ)
     → places_for (join_pairs w on) columns ≡ Some places → Equates on w places columns
 places-equate on w columns places e tables x y env wide h =
     places-join tables w x y env wide (join_pairs w on)
-    (all-join tables w x y env wide (conjuncts on)
+    (all-join (outcome_step tables) w x y env wide (conjuncts on)
     (conjuncts-true tables on ((x ++ y) ∷ env) (true-is (tree_truth tables on ((x ++ y) ∷ env)) h))) columns places
     e
 

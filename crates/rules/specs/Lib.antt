@@ -3,7 +3,7 @@ pub mod Width
 pub mod Same
 pub mod Columns
 pub mod Conjuncts
-pub mod JoinKeys
+pub use Rattle.join_columns.specs.JoinKeys
 pub mod Bounds
 pub mod Indexes
 pub mod Nodes

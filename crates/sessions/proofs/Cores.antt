@@ -9,10 +9,11 @@ use Rattle.std.specs.FinMap.{FinMap, get, empty, get-empty, same_map, nat_cmp-Is
 use Rattle.ast.specs.declared.statement.AccessMode.{AccessMode}
 use Rattle.ast.specs.declared.statement.AccessMode.TheVariants.{ReadWrite}
 use Rattle.refusals.specs.declared.refusal.Refusal.{Refusal}
-use Rattle.refusals.specs.declared.refusal.Refusal.TheVariants.{Exceeded}
+use Rattle.refusals.specs.declared.refusal.Refusal.TheVariants.{Damaged, Exceeded}
 use Rattle.session_definitions.specs.Refusals.{IsReserved, StopsFlush}
 use Rattle.store.specs.declared.error.StoreError.{StoreError}
 use Rattle.store.specs.declared.error.StoreError.TheVariants as store
+use Rattle.store.specs.declared.error.StoreLimit.TheVariants as which
 use Rattle.store.specs.Errors.{MayFail, Never}
 use Rattle.transactions.specs.Refused.{refused_by}
 use Rattle.transactions.proofs.Tests.{reserved}
@@ -144,3 +145,14 @@ stops_opening sound k m (store.Exceeded which) h there = absurd h
 
 pub opening_stopped : (sound : Type 0) (k m : ℕ) (e : StoreError) (r : Refusal) → r ≡ refused_by e → MayFail sound k m Never e → sound → StopsFlush r
 opening_stopped sound k m e r is h there = subst StopsFlush (sym is) (stops_opening sound k m e h there)
+
+-- an error that is shown as damage is damage
+pub damaged_by : (e : StoreError) (refusal : Refusal) → refusal ≡ refused_by e → refusal ≡ Damaged → e ≡ store.Damaged
+damaged_by store.Memory refusal by is = absurd (cc (by, is))
+damaged_by store.Device refusal by is = absurd (cc (by, is))
+damaged_by store.Damaged refusal by is = refl
+damaged_by (store.Exceeded which.Pages) refusal by is = absurd (cc (by, is))
+damaged_by (store.Exceeded which.Private) refusal by is = absurd (cc (by, is))
+damaged_by (store.Exceeded which.Kept) refusal by is = absurd (cc (by, is))
+damaged_by (store.Exceeded which.Record) refusal by is = absurd (cc (by, is))
+damaged_by (store.Exceeded which.Key) refusal by is = absurd (cc (by, is))

@@ -9,7 +9,6 @@ use Rattle.refusals.specs.declared.refusal.Refusal.TheVariants as refused
 use Rattle.refusals.specs.declared.refusal.Refusal.TheVariants.{NotSupported}
 use Rattle.sqlval.specs.declared.schema.Schema.{Schema}
 use Rattle.lexer.specs.Token.{Bytes, IsFault}
-use Rattle.lexer.specs.Tokens.{IsFirstFault}
 use Rattle.ast.specs.declared.statement.Statement.{Statement}
 use Rattle.statement_definitions.specs.Reading.{IsUnread}
 use Rattle.typing.specs.declared.statement.Typed.{Typed}

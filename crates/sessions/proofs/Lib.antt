@@ -6,3 +6,5 @@ pub mod Unread
 pub mod Cores
 pub mod Devices
 pub mod Limits
+pub mod Going
+pub mod Kept

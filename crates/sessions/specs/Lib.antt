@@ -5,3 +5,5 @@ pub mod Changed
 pub mod Numbers
 pub mod OfCore
 pub mod Limits
+pub mod Committing
+pub mod Opening

@@ -1,13 +1,18 @@
 //! From the text of a call to its reply.
-ghost use Rattle.std.specs.Prelude.{◌≡◌, ◌≤◌};
+ghost use Rattle.std.specs.Prelude.{◌≡◌, ◌≢◌, ◌⊎◌, [], ◌∷◌};
 ghost use Rattle.lexer.specs.Token.{Bytes};
 ghost use Rattle.denote.specs.Database.{IsGood};
 ghost use Rattle.session_definitions.specs.Rules.{Rules, AreRules};
 ghost use Rattle.statement_definitions.specs.Reading.{IsRead};
 ghost use Rattle.statement_definitions.specs.Rollback.{IsRollback};
+ghost use Rattle.session_definitions.specs.World.{is_session};
+ghost use Rattle.refusals.specs.declared.refusal.Refusal.TheVariants.{SerializationFailure};
+ghost use Rattle.store.specs.Going.{Going};
+ghost use Rattle.store.specs.Stored.{SameButMark};
 ghost use Rattle.transactions.specs.Moves.{Moves};
 ghost use Rattle.transactions.specs.Orderly.{IsOrderly};
 ghost use Rattle.transactions.specs.Refused.{Counts, IfRefused, TellsReached};
+ghost use Rattle.sessions.specs.Committing.{CommitsAsWriter, IsCommitOfWriter};
 ghost use Rattle.sessions.specs.Limits.{CallReaches, StatementReaches};
 ghost use Rattle.sessions.specs.Seen.{seen_in};
 
@@ -39,8 +44,12 @@ pub(crate) fn call<S: Store, L: Language + Changes<S>>(
     ensures device { Counts result (S.refused store.old) (S.refused store.new) }
     ensures limits { IfRefused result (TellsReached (CallReaches (S.counted store.old) (S.shows store.old).commits text.now)) }
     ensures rolled_back { IsRollback text.now → result ≡ Reply.Done }
-    ensures sound { S.is_sound store.old → S.is_sound store.new }
-    ensures counts { S.refused store.old ≤ S.refused store.new }
+    ensures kept { IfRefused result (λ refusal. refusal ≢ SerializationFailure
+        → SameButMark (S.shows store.old) (S.shows store.new) × (writer.new ≡ writer.old) × (mode.new ≡ mode.old)) }
+    ensures idle { S.unchanged store.old → S.writes store.new ≡ S.writes store.old }
+    ensures goes { S.goes_on store.old store.new (Going.writes ((S.shows store.old).working ∷ [])) }
+    ensures commits { S.goes_on store.old store.new Going.changes
+        ⊎ CommitsAsWriter text.now (is_session session writer.old) }
 {
     if language.is_rollback(text) {
         return roll_back(store, writer, mode, session);
@@ -67,8 +76,12 @@ fn carry_out<S: Store, L: Language + Changes<S>>(
         → Moves rules session text result (S.shows store.old) writer.old mode.old (S.shows store.new) writer.new mode.new }
     ensures device { Counts result (S.refused store.old) (S.refused store.new) }
     ensures limits { IfRefused result (TellsReached (StatementReaches (S.counted store.old) (S.shows store.old).commits statement.now)) }
-    ensures sound { S.is_sound store.old → S.is_sound store.new }
-    ensures counts { S.refused store.old ≤ S.refused store.new }
+    ensures kept { IfRefused result (λ refusal. refusal ≢ SerializationFailure
+        → SameButMark (S.shows store.old) (S.shows store.new) × (writer.new ≡ writer.old) × (mode.new ≡ mode.old)) }
+    ensures idle { S.unchanged store.old → S.writes store.new ≡ S.writes store.old }
+    ensures goes { S.goes_on store.old store.new (Going.writes ((S.shows store.old).working ∷ [])) }
+    ensures commits { S.goes_on store.old store.new Going.changes
+        ⊎ IsCommitOfWriter statement.now (is_session session writer.old) }
 {
     match kind_of(statement) {
         Kind::Query => query(alloc, language, store, *writer, session, statement),

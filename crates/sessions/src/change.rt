@@ -1,5 +1,5 @@
 //! A change in a session.
-ghost use Rattle.std.specs.Prelude.{◌≡◌, ◌≤◌, true, IfOk, IfErr, OnErr, MatchOption};
+ghost use Rattle.std.specs.Prelude.{◌≡◌, ◌≢◌, true, IfOk, IfErr, OnErr, MatchOption};
 ghost use Rattle.ast.specs.declared.statement.Statement.{Statement as Tree};
 ghost use Rattle.lexer.specs.Token.{Bytes};
 ghost use Rattle.denote.specs.Database.{IsGood};
@@ -8,9 +8,10 @@ ghost use Rattle.session_definitions.specs.Rules.{Rules, AreRules, Means};
 ghost use Rattle.session_definitions.specs.Transactions as transactions;
 ghost use Rattle.statement_definitions.specs.Reading.{IsRead};
 ghost use Rattle.statement_definitions.specs.Rollback.{IsRollback};
-ghost use Rattle.refusals.specs.declared.refusal.Refusal.TheVariants.{Disk};
+ghost use Rattle.refusals.specs.declared.refusal.Refusal.TheVariants.{Disk, SerializationFailure};
 ghost use Rattle.store.specs.Contents.{database_of};
 ghost use Rattle.store.specs.Errors.{HasRisen};
+ghost use Rattle.store.specs.Going.{Going};
 ghost use Rattle.store.specs.Stored.{SameButMark};
 ghost use Rattle.transactions.specs.Moves.{Moves};
 ghost use Rattle.transactions.specs.Orderly.{IsOrderly};
@@ -48,9 +49,10 @@ pub(crate) fn change<S: Store, L: Language + Changes<S>>(
         → S.is_sound store.old → IsOrderly (S.shows store.old) writer.old
         → IsGood rules.check (seen_in (S.shows store.old) writer.old session)
         → Moves rules session text result (S.shows store.old) writer.old mode (S.shows store.new) writer.new mode }
+    ensures kept { IfRefused result (λ refusal. refusal ≢ SerializationFailure
+        → SameButMark (S.shows store.old) (S.shows store.new) × (writer.new ≡ writer.old)) }
     ensures device { Counts result (S.refused store.old) (S.refused store.new) }
-    ensures sound { S.is_sound store.old → S.is_sound store.new }
-    ensures counts { S.refused store.old ≤ S.refused store.new }
+    ensures goes { S.goes_on store.old store.new Going.changes }
 {
     if is_read_only(mode) {
         return Reply::Refused(Refusal::TransactionState);
@@ -100,9 +102,8 @@ fn make<S: Store, L: Language + Changes<S>>(
         → RefusesStatement rules (database_of (S.shows store.old).working) statement.now refusal) }
     ensures accepted { IfOk result (λ reply. IfRefused reply (λ refusal. ⊥)) }
     ensures device { IfErr result (λ refusal. refusal ≡ Disk → HasRisen (S.refused store.old) (S.refused store.new)) }
-    ensures same { S.is_sound store.old → OnErr result (SameButMark (S.shows store.old) (S.shows store.new)) }
-    ensures sound { S.is_sound store.old → S.is_sound store.new }
-    ensures counts { S.refused store.old ≤ S.refused store.new }
+    ensures same { OnErr result (SameButMark (S.shows store.old) (S.shows store.new)) }
+    ensures goes { S.goes_on store.old store.new Going.changes }
 {
     if let Err(error) = store.prepare(View::Working) {
         return Err(refusal_of(error));
@@ -134,9 +135,8 @@ fn make_typed<S: Store, L: Language + Changes<S>>(
         → RefusesChange rules (database_of (S.shows store.old).working) change refusal) }
     ensures accepted { IfOk result (λ reply. IfRefused reply (λ refusal. ⊥)) }
     ensures device { IfErr result (λ refusal. refusal ≡ Disk → HasRisen (S.refused store.old) (S.refused store.new)) }
-    ensures same { S.is_sound store.old → OnErr result (SameButMark (S.shows store.old) (S.shows store.new)) }
-    ensures sound { S.is_sound store.old → S.is_sound store.new }
-    ensures counts { S.refused store.old ≤ S.refused store.new }
+    ensures same { OnErr result (SameButMark (S.shows store.old) (S.shows store.new)) }
+    ensures goes { S.goes_on store.old store.new Going.changes }
 {
     match change_of(typed) {
         Some(change) => language.make(alloc, store, change),

@@ -1,5 +1,5 @@
 //! How changes of tables are carried out, which sessions take as it is.
-ghost use Rattle.std.specs.Prelude.{◌≡◌, ◌≤◌, true, IfOk, IfErr, OnErr};
+ghost use Rattle.std.specs.Prelude.{◌≡◌, true, IfOk, IfErr, OnErr};
 ghost use Rattle.ast.specs.declared.statement.Statement.{Statement as Tree};
 ghost use Rattle.refusals.specs.declared.refusal.Refusal.TheVariants.{Disk};
 ghost use Rattle.denote.specs.Database.{IsGood};
@@ -7,6 +7,7 @@ ghost use Rattle.denote.specs.SchemaOf.{IsSchemaOf};
 ghost use Rattle.session_definitions.specs.Rules.{Rules, AreRules, Means};
 ghost use Rattle.store.specs.Contents.{database_of};
 ghost use Rattle.store.specs.Errors.{HasRisen};
+ghost use Rattle.store.specs.Going.{Going};
 ghost use Rattle.store.specs.Stored.{SameButMark};
 ghost use Rattle.transactions.specs.Refused.{IfRefused};
 ghost use Rattle.typing.specs.declared.statement.Typed.TheVariants as does;
@@ -37,7 +38,6 @@ pub trait Changes<S: Store>: Drop {
         ensures accepted { IfOk result (λ reply. IfRefused reply (λ refusal. ⊥)) }
         ensures device { IfErr result (λ refusal. refusal ≡ Disk
             → HasRisen (S.refused store.old) (S.refused store.new)) }
-        ensures same { S.is_sound store.old → OnErr result (SameButMark (S.shows store.old) (S.shows store.new)) }
-        ensures sound { S.is_sound store.old → S.is_sound store.new }
-        ensures counts { S.refused store.old ≤ S.refused store.new };
+        ensures same { OnErr result (SameButMark (S.shows store.old) (S.shows store.new)) }
+        ensures goes { S.goes_on store.old store.new Going.changes };
 }

@@ -1,5 +1,5 @@
 //! A core and its calls.
-ghost use Rattle.std.specs.Prelude.{◌≡◌, ℕ, ◌≤◌, ◌<◌, true, false, Ok, Err, IfOk, IfErr, OnOk, MatchResult};
+ghost use Rattle.std.specs.Prelude.{◌≡◌, ◌≢◌, ℕ, ◌≤◌, ◌<◌, ◌⊎◌, [], ◌∷◌, true, false, Ok, Err, IfOk, IfErr, OnOk, MatchResult};
 
 use crate::calling::call;
 use crate::changes::Changes;
@@ -41,28 +41,35 @@ pub struct Core<S: Store, L: Language + Changes<S>> {
 }
 
 impl<S: Store, L: Language + Changes<S>> Core<S, L> {
+    ghost use Rattle.std.specs.FinMap.{empty as no_tables};
     ghost use Rattle.session_definitions.specs.Rules.{Rules, AreRules};
     ghost use Rattle.session_definitions.specs.Refusals.{IsReserved, StopsFlush};
     ghost use Rattle.session_definitions.specs.Run.{MakesSession, DropsSession, FlushesPages, without_sessions};
     ghost use Rattle.session_definitions.specs.Step.{Step};
-    ghost use Rattle.session_definitions.specs.World.{is_live, opened};
+    ghost use Rattle.session_definitions.specs.World.{is_live, is_session, opened};
     ghost use Rattle.denote.specs.Database.{Database, IsGood};
     ghost use Rattle.store.specs.Errors.{HasRisen};
+    ghost use Rattle.store.specs.Going.{Going};
     ghost use Rattle.transactions.specs.Refused.{Counts, IfRefused, TellsReached};
     ghost use Rattle.refusals.specs.declared.limit.Limit.TheVariants as limit;
     ghost use Rattle.statement_definitions.specs.Rollback.{IsRollback};
     ghost use Rattle.refusals.specs.declared.reason.Reason.TheVariants as reason;
-    ghost use Rattle.refusals.specs.declared.refusal.Refusal.TheVariants.{Disk, Exceeded, Invalid};
+    ghost use Rattle.refusals.specs.declared.refusal.Refusal.TheVariants.{Damaged, Disk, Exceeded, Invalid, SerializationFailure};
+    ghost use Rattle.sessions.specs.Committing.{CommitsAsWriter};
     ghost use Rattle.sessions.specs.Limits.{CallReaches};
     ghost use Rattle.sessions.specs.Seen.{seen_in};
+    ghost use Rattle.sessions.specs.Opening.{Stays};
     ghost use Rattle.sessions.specs.OfCore.{IsSound, StandAlike, StandBeside, number_of, world_of};
 
     /// Carries out a statement of this session, and answers its reply. A call of a session that has
     /// ended is refused by `session`, and nothing changes.
     ///
-    /// ROLLBACK takes no memory and always succeeds. A refusal is that of the device only where a
-    /// call of the device was refused. A limit of what the store counts (pages, private pages, kept
-    /// page images) is told only of a change, or of a COMMIT where the store reaches it. That the
+    /// ROLLBACK takes no memory and always succeeds. A refusal other than 40001 leaves the world as
+    /// it was, also over a damaged store. It is that of the device only where a call of the device
+    /// was refused. A limit of what the store counts (pages, private pages, kept
+    /// page images) is told only of a change, or of a COMMIT where the store reaches it. Only a
+    /// COMMIT of the session that writes may write on the device, and it writes nothing where
+    /// nothing was changed. That the
     /// database which the statement sees is good is a law of runs; a change relies on it.
     pub fn step(&mut self, session: SessionId, text: &[u8]) -> Reply
         ensures step { (rules : Rules) → AreRules rules → IsSound S.is_sound S.shows self.old
@@ -79,6 +86,12 @@ impl<S: Store, L: Language + Changes<S>> Core<S, L> {
         ensures live { StandAlike (world_of S.shows self.old) (world_of S.shows self.new) }
         ensures device { Counts result (S.refused self.old.store) (S.refused self.new.store) }
         ensures limits { IfRefused result (TellsReached (CallReaches (S.counted self.old.store) (S.shows self.old.store).commits text.now)) }
+        ensures kept { IfRefused result (λ refusal. refusal ≢ SerializationFailure
+            → world_of S.shows self.new ≡ world_of S.shows self.old) }
+        ensures idle { S.unchanged self.old.store → S.writes self.new.store ≡ S.writes self.old.store }
+        ensures goes { S.goes_on self.old.store self.new.store (Going.writes ((S.shows self.old.store).working ∷ [])) }
+        ensures commits { S.goes_on self.old.store self.new.store Going.changes
+            ⊎ CommitsAsWriter text.now (is_session (number_of session) self.old.writer) }
         ensures counts { S.refused self.old.store ≤ S.refused self.new.store }
     {
         let Some(mut mode) = self.slots.mode_of(session.number) else {
@@ -108,6 +121,7 @@ impl<S: Store, L: Language + Changes<S>> Core<S, L> {
         ensures live { IfOk result (λ session. (is_live (world_of S.shows self.new) (number_of session) ≡ true)
             × StandBeside (number_of session) (world_of S.shows self.old) (world_of S.shows self.new)) }
         ensures sound { IsSound S.is_sound S.shows self.old → IsSound S.is_sound S.shows self.new }
+        ensures untouched { self.new.store ≡ self.old.store }
         ensures counts { S.refused self.new.store ≡ S.refused self.old.store }
     {
         let Some(number) = self.slots.first_free() else {
@@ -126,6 +140,7 @@ impl<S: Store, L: Language + Changes<S>> Core<S, L> {
         ensures live { (is_live (world_of S.shows self.new) (number_of session) ≡ false)
             × StandBeside (number_of session) (world_of S.shows self.old) (world_of S.shows self.new) }
         ensures sound { IsSound S.is_sound S.shows self.old → IsSound S.is_sound S.shows self.new }
+        ensures goes { S.goes_on self.old.store self.new.store Going.keeps }
         ensures counts { S.refused self.old.store ≤ S.refused self.new.store }
     {
         let Some(_mode) = self.slots.mode_of(session.number) else {
@@ -148,6 +163,7 @@ impl<S: Store, L: Language + Changes<S>> Core<S, L> {
         ensures sound { IsSound S.is_sound S.shows self.old → IsSound S.is_sound S.shows self.new }
         ensures device { IfErr result (λ refusal. refusal ≡ Disk
             → HasRisen (S.refused self.old.store) (S.refused self.new.store)) }
+        ensures goes { S.goes_on self.old.store self.new.store (Going.writes []) }
         ensures counts { S.refused self.old.store ≤ S.refused self.new.store }
     {
         match self.store.flush() {
@@ -195,8 +211,9 @@ impl<S: Store, L: Language + Changes<S>> Core<S, L> {
 
     /// A core without sessions over the database that was saved on a device, with room for so many
     /// pages in memory. A device that cannot be read as a store's is refused. A refusal hands the
-    /// device back, saved as it was; where a database was saved on it, it is want of memory or the
-    /// device, as of a flush.
+    /// device back: as damaged with the bytes that it had, any other with what was saved on it, or,
+    /// where it was empty, one that opens as empty or is refused as damaged. Where a database was
+    /// saved on it, the refusal is want of memory or the device, as of a flush.
     pub fn open(
         alloc: Global,
         language: L,
@@ -210,7 +227,11 @@ impl<S: Store, L: Language + Changes<S>> Core<S, L> {
         ensures empty { IfOk result (λ core. (k : ℕ) → is_live (world_of S.shows core) k ≡ false) }
         ensures readable { IfOk result (λ core. S.readable device) }
         ensures counts { IfOk result (λ core. S.calls_refused device ≤ S.refused core.store) }
-        ensures left { IfErr result (λ back. (db : Database) → S.saved device db → S.saved back.value db) }
+        ensures begun { S.is_begun device
+            → IfOk result (λ core. IsSound S.is_sound S.shows core × (world_of S.shows core ≡ opened no_tables)) }
+        ensures same { S.is_honest device → IfErr result (λ back. back.refusal ≡ Damaged → S.same device back.value) }
+        ensures left { IfErr result (λ back. (db : Database) → S.saved device db
+            → Stays S.saved S.is_new S.is_begun device back.value db) }
         ensures refused { IfErr result (λ back. (db : Database) → S.saved device db → IsReserved back.refusal) }
         ensures stops { IfErr result (λ back. (db : Database) → S.saved device db → StopsFlush back.refusal) }
         ensures device { IfErr result (λ back. back.refusal ≡ Disk

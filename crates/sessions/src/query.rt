@@ -1,5 +1,5 @@
 //! A query in a session.
-ghost use Rattle.std.specs.Prelude.{◌≡◌, ◌≤◌, Ok, IfOk, IfErr};
+ghost use Rattle.std.specs.Prelude.{◌≡◌, Ok, IfOk, IfErr};
 ghost use Rattle.denote.specs.Answer.{Answers};
 ghost use Rattle.denote.specs.Query.{denotes};
 ghost use Rattle.typing.specs.declared.statement.Typed.TheVariants as does;
@@ -15,6 +15,8 @@ ghost use Rattle.statement_definitions.specs.Rollback.{IsRollback};
 ghost use Rattle.refusals.specs.declared.refusal.Refusal.TheVariants.{Disk};
 ghost use Rattle.store.specs.Contents.{database_of};
 ghost use Rattle.store.specs.Errors.{HasRisen};
+ghost use Rattle.store.specs.Going.{Going};
+ghost use Rattle.store.specs.Stored.{SameButMark};
 ghost use Rattle.store.specs.View.{seen_by};
 ghost use Rattle.transactions.specs.Moves.{Moves};
 ghost use Rattle.transactions.specs.Orderly.{IsOrderly};
@@ -48,8 +50,8 @@ pub(crate) fn query<S: Store, L: Language>(
         → Moves rules session text result (S.shows store.old) writer mode (S.shows store.new) writer mode }
     ensures device { Counts result (S.refused store.old) (S.refused store.new) }
     ensures limits { IfRefused result TellsNoLimit }
-    ensures sound { S.is_sound store.old → S.is_sound store.new }
-    ensures counts { S.refused store.old ≤ S.refused store.new }
+    ensures kept { IfRefused result (λ refusal. SameButMark (S.shows store.old) (S.shows store.new)) }
+    ensures goes { S.goes_on store.old store.new Going.keeps }
 {
     let idle = store.number(session).is_none();
     if let Err(error) = store.begin(session) {
@@ -81,8 +83,7 @@ fn rows_seen<S: Store, L: Language>(
     ensures device { IfErr result (λ refusal. refusal ≡ Disk → HasRisen (S.refused store.old) (S.refused store.new)) }
     ensures limits { IfErr result TellsNoLimit }
     ensures shows { S.shows store.new ≡ S.shows store.old }
-    ensures sound { S.is_sound store.old → S.is_sound store.new }
-    ensures counts { S.refused store.old ≤ S.refused store.new }
+    ensures goes { S.goes_on store.old store.new Going.keeps }
 {
     if let Err(error) = store.prepare(view) {
         return Err(refusal_of(error));
@@ -107,8 +108,7 @@ fn evaluate<S: Store>(
     ensures device { IfErr result (λ refusal. refusal ≡ Disk → HasRisen (S.refused store.old) (S.refused store.new)) }
     ensures limits { IfErr result TellsNoLimit }
     ensures shows { S.shows store.new ≡ S.shows store.old }
-    ensures sound { S.is_sound store.old → S.is_sound store.new }
-    ensures counts { S.refused store.old ≤ S.refused store.new }
+    ensures goes { S.goes_on store.old store.new Going.reads }
 {
     match typed {
         Typed::Query(query) => {

@@ -17,18 +17,18 @@ pub has_name : (file : Option (Bor (List ℕ))) (path : Bor (List ℕ)) → file
 has_name file path is none = let bad : Some path.now ≡ None = subst (λ (f : Option (Bor (List ℕ))). name_of f ≡ None) is none in cc
 
 module _ {D C : Type 0} (settled : D → Type 0) (calls : D → ℕ) (refused : C → ℕ) (streams : Streams) (status : ℕ) (is_told : Bool) (device : Option D) (core : Option C) where
-  pub ends_alone : (before : ℕ) → before ≡ 0 → Ends settled calls refused before streams status is_told device core → EndsAlone streams status
-  ends_alone before none (Ends.not_opened h) = EndsAlone.not_opened is_told h.refusal h.unread h.told h.failed
-  ends_alone before none (Ends.closed back there synced least script) =
+  pub ends_alone : (same_bytes : Option D → Type 0) (before : ℕ) → before ≡ 0 → Ends same_bytes settled calls refused before streams status is_told device core → EndsAlone streams status
+  ends_alone same_bytes before none (Ends.not_opened h) = EndsAlone.not_opened is_told h.refusal h.unread h.told h.failed
+  ends_alone same_bytes before none (Ends.closed back there synced least script) =
       EndsAlone.closed is_told (calls back) (subst (λ (n : ℕ). ScriptEnds streams n status is_told (calls back)) none script)
-  ends_alone before none (Ends.not_closed was after was_told mid script told is gone risen counted) =
+  ends_alone same_bytes before none (Ends.not_closed was after was_told mid script told is gone risen counted) =
       EndsAlone.not_closed is_told was_told was after mid (subst (λ (n : ℕ). ScriptEnds (between streams.given streams.left streams.held mid) n was was_told after) none script) told is
 
   -- over a device that was opened, or was not
-  pub ends_over : {E : Type 0} (opened : Result D E) → IfOk opened (λ found. calls found ≡ 0) → IfOk opened (λ found. Ends settled calls refused (calls found) streams status is_told device core)
+  pub ends_over : {E : Type 0} (same_bytes : D → Option D → Type 0) (opened : Result D E) → IfOk opened (λ found. calls found ≡ 0) → IfOk opened (λ found. Ends (same_bytes found) settled calls refused (calls found) streams status is_told device core)
       → OnErr opened ((streams.left ≡ streams.given) × Tells Disk is_told streams.held streams.holds × (status ≡ 3)) → EndsAlone streams status
-  ends_over (Ok found) none ends failed = ends_alone (calls found) none ends
-  ends_over (Err error) none ends failed = EndsAlone.not_opened is_told Disk failed.0 failed.1 failed.2
+  ends_over same_bytes (Ok found) none ends failed = ends_alone (same_bytes found) (calls found) none ends
+  ends_over same_bytes (Err error) none ends failed = EndsAlone.not_opened is_told Disk failed.0 failed.1 failed.2
 
 module _ (rules : Rules) (old : World) (streams : Streams) (status : ℕ) (is_told : Bool) where
   runs_so : (P Q : Left → Type 0) → ((left : Left) → P left → Q left) → Runs rules old streams status is_told P → Runs rules old streams status is_told Q

@@ -2,7 +2,7 @@
 -- this is our own choice.
 use Rattle.std.specs.Prelude.{◌≡◌, ◌≤◌, ◌+◌, ◌-◌, ◌^◌, ◌&&◌, min, ℕ, Bool, true, false, List, Option, Some, None, IfSome, Result, Ok, Err}
 use Rattle.refusals.specs.declared.refusal.Refusal.{Refusal}
-use Rattle.refusals.specs.declared.refusal.Refusal.TheVariants.{Disk}
+use Rattle.refusals.specs.declared.refusal.Refusal.TheVariants.{Damaged, Disk}
 use Rattle.denote.specs.Database.{Database, CheckReading, IsGood}
 use Rattle.replies.specs.declared.reply.Reply.{Reply}
 use Rattle.session_definitions.specs.Refusals.{StopsFlush}
@@ -44,9 +44,9 @@ pub record CarriesOutOver (rules : Rules) (streams : Streams) (old : World) (bef
   pub carried : CarriesOut rules streams old status is_told new
   pub device : TellDevice (replies_of rules streams old status is_told new carried) before after
 
--- What a run leaves of its device: it was not opened, for this refusal, and this database is still
--- saved on it; it was closed, and this one is saved on it, where so many of the script's replies
--- were X0002; or it was not closed, and is not handed back.
+-- What a run leaves of its device: it was not opened, for this refusal, and this database stays on
+-- it, unless it was empty; it was closed, and this one is saved on it, where so many of the
+-- script's replies were X0002; or it was not closed, and is not handed back.
 pub data Left : Type 0 where
   unopened : Refusal → Database → Left
   committed : Database → ℕ → Left
@@ -60,9 +60,9 @@ pub record TellsBehind (was_told is_told : Bool) (refusal : Refusal) (held holds
   pub both : is_told ≡ (was_told && line)
 
 -- The store was not opened, for want of memory or by the device: nothing was read, and what was
--- saved is left. Or the script was carried out in the world of its database and the store was
--- closed: what was committed last is left. Or the device refused that it was closed. What is left,
--- `left` tells.
+-- saved stays, unless the device was empty. Or the script was carried out in the world of its
+-- database and the store was closed: what was committed last is left. Or the device refused that it
+-- was closed. What is left, `left` tells.
 pub data Runs (rules : Rules) (old : World) (streams : Streams) (status : ℕ) (is_told : Bool) (left : Left → Type 0) : Type 0 where
   not_opened : (refusal : Refusal) → StopsFlush refusal → streams.left ≡ streams.given
       → Tells refusal is_told streams.held streams.holds → status ≡ 3
@@ -76,6 +76,11 @@ pub data Runs (rules : Rules) (old : World) (streams : Streams) (status : ℕ) (
       → Runs rules old streams status is_told left
 
 -- ---- what is handed back
+
+-- there is a device, and it has the bytes of this one, if this gives back what was written
+abbrev pub HasSameBytes : {D : Type 0} → (D → Type 0) → (D → D → Type 0) → D → Option D → Type 0
+HasSameBytes is_honest same device (Some back) = is_honest device → same device back
+HasSameBytes is_honest same device None = ⊥
 
 -- there is a device, and this database is saved on it
 abbrev pub IsSavedOn : {D : Type 0} → (D → Database → Type 0) → Option D → Database → Type 0
@@ -91,32 +96,32 @@ HasRefused refused before None = ⊥
 abbrev pub HasRefusedEach : {X : Type 0} → (X → ℕ) → ℕ → ℕ → X → Type 0
 HasRefusedEach refused before told back = min (told + before) (2 ^ 64 - 1) ≤ refused back
 
--- Where the store was not opened, or was closed, the device is handed back, with the database saved
--- on it; one that was closed was also synced behind the last write. That a store was not opened or
+-- Where the store was not opened, the device is handed back as `stays` tells; where it was closed,
+-- with the database saved on it, and synced behind the last write. That a store was not opened or
 -- closed, or a call of the script not carried out, is told by X0002 only where the device refused a
 -- call: the device that is handed back, or the core that was not closed, counts more of them than
 -- before. A device whose store was closed counts one more for each call of the script of which that
 -- was told.
-abbrev pub HandsBack : {D C : Type 0} → (D → Database → Type 0) → (D → Type 0) → (D → ℕ) → (C → ℕ) → ℕ → Option D
-    → Option C → Left → Type 0
-HandsBack saved settled calls refused before device core (Left.unopened refusal db) = IsSavedOn saved device db
+abbrev pub HandsBack : {D C : Type 0} → (D → Database → Type 0) → (D → Database → Type 0) → (D → Type 0) → (D → ℕ)
+    → (C → ℕ) → ℕ → Option D → Option C → Left → Type 0
+HandsBack saved stays settled calls refused before device core (Left.unopened refusal db) = IsSavedOn stays device db
     × (refusal ≡ Disk → HasRefused calls before device)
-HandsBack saved settled calls refused before device core (Left.committed db told) =
+HandsBack saved stays settled calls refused before device core (Left.committed db told) =
     IsSavedOn saved device db × IfSome device settled × IfSome device (HasRefusedEach calls before told)
-HandsBack saved settled calls refused before device core Left.unclosed = (device ≡ None)
+HandsBack saved stays settled calls refused before device core Left.unclosed = (device ≡ None)
     × HasRefused refused before core
 
--- the database that is left
+-- the database that is left, if the device was not empty
 abbrev pub database_in : Left → Option Database
 database_in (Left.unopened refusal db) = Some db
 database_in (Left.committed db told) = Some db
 database_in Left.unclosed = None
 
 -- what is handed back, with a good database
-abbrev pub Leaves : {D C : Type 0} → (D → Database → Type 0) → (D → Type 0) → (D → ℕ) → (C → ℕ) → CheckReading → ℕ
-    → Option D → Option C → Left → Type 0
-Leaves saved settled calls refused reading before device core left =
-    HandsBack saved settled calls refused before device core left × IfSome (database_in left) (IsGood reading)
+abbrev pub Leaves : {D C : Type 0} → (D → Database → Type 0) → (D → Database → Type 0) → (D → Type 0) → (D → ℕ)
+    → (C → ℕ) → CheckReading → ℕ → Option D → Option C → Left → Type 0
+Leaves saved stays settled calls refused reading before device core left =
+    HandsBack saved stays settled calls refused before device core left × IfSome (database_in left) (IsGood reading)
 
 -- ---- any device
 
@@ -132,28 +137,29 @@ pub data ScriptEnds (streams : Streams) (before status : ℕ) (is_told : Bool) (
       → ScriptEnds streams before status is_told after
 
 -- The store was not opened: nothing was read, and the refusal is told. It is that of the device
--- only where this one refused a call.
-pub record IsNotOpened (streams : Streams) (status : ℕ) (is_told : Bool) (has_refused : Type 0) : Type 0 where
+-- only where this one refused a call; where it is X0004, the bytes are as they were.
+pub record IsNotOpened (streams : Streams) (status : ℕ) (is_told : Bool) (has_refused has_same_bytes : Type 0) : Type 0 where
   pub refusal : Refusal
   pub unread : streams.left ≡ streams.given
   pub told : Tells refusal is_told streams.held streams.holds
   pub failed : status ≡ 3
   pub device : refusal ≡ Disk → has_refused
+  pub damage : refusal ≡ Damaged → has_same_bytes
 
 -- How a run over any device ends, also one that lies. The store was not opened; or it was closed
 -- behind the script, and the device is handed back, which was synced behind the last write and
 -- counts the refused calls from before; or the device refused that it was closed, which is told
 -- behind the script, and the core is handed back, which counts that call beside those of the
 -- script.
-pub data Ends {D C : Type 0} (settled : D → Type 0) (calls : D → ℕ) (refused : C → ℕ) (before : ℕ) (streams : Streams) (status : ℕ) (is_told : Bool) (device : Option D) (core : Option C)
+pub data Ends {D C : Type 0} (same_bytes : Option D → Type 0) (settled : D → Type 0) (calls : D → ℕ) (refused : C → ℕ) (before : ℕ) (streams : Streams) (status : ℕ) (is_told : Bool) (device : Option D) (core : Option C)
     : Type 0 where
-  not_opened : IsNotOpened streams status is_told (HasRefused calls before device)
-      → Ends settled calls refused before streams status is_told device core
+  not_opened : IsNotOpened streams status is_told (HasRefused calls before device) (same_bytes device)
+      → Ends same_bytes settled calls refused before streams status is_told device core
   closed : (back : D) → device ≡ Some back → settled back → before ≤ calls back
       → ScriptEnds streams before status is_told (calls back)
-      → Ends settled calls refused before streams status is_told device core
+      → Ends same_bytes settled calls refused before streams status is_told device core
   not_closed : (was after : ℕ) (was_told : Bool) (mid : Option (List ℕ))
       → ScriptEnds (between streams.given streams.left streams.held mid) before was was_told after
       → TellsBehind was_told is_told Disk mid streams.holds → status ≡ 3 → device ≡ None
       → HasRefused refused before core → HasRefused refused after core
-      → Ends settled calls refused before streams status is_told device core
+      → Ends same_bytes settled calls refused before streams status is_told device core

@@ -6,8 +6,9 @@ ghost use Rattle.session_definitions.specs.Rules.{Rules, AreRules};
 ghost use Rattle.session_definitions.specs.World.{new_world, opened};
 ghost use Rattle.scripts.specs.Played.{between};
 ghost use Rattle.scripts.specs.Settled.{store_of};
+ghost use Rattle.sessions.specs.Opening.{Stays};
 ghost use Rattle.shell.specs.Alone.{EndsAlone, RunsAlone};
-ghost use Rattle.shell.specs.Runs.{Ends, HasRefused, IsNotOpened, Leaves, Runs};
+ghost use Rattle.shell.specs.Runs.{Ends, HasRefused, HasSameBytes, IsNotOpened, Leaves, Runs};
 ghost use Rattle.shell.specs.Status.{IsStatus};
 ghost use Rattle.shell.specs.Tells.{Tells};
 ghost use Rattle.shell.specs.Words.{Asks, name_of};
@@ -126,15 +127,20 @@ pub fn run_over_pages<D: Disk + Drop, R: Read, W: Write>(
     ensures runs { IfOk device (λ device. (rules : Rules) (db : Database) → AreRules rules
         → ⟦<Paged<D> as Store>⟧.saved device db → IsGood rules.check db
         → Runs rules (opened db) (between (R.remaining reader.old) (R.remaining reader.new) (W.contents writer.old) (W.contents writer.new)) result.status result.is_told
-        (Leaves ⟦<Paged<D> as Store>⟧.saved D.settled D.refused (λ core. ⟦<Paged<D> as Store>⟧.refused (store_of core)) rules.check (D.refused device) result.device result.unclosed)) }
+        (Leaves ⟦<Paged<D> as Store>⟧.saved (Stays ⟦<Paged<D> as Store>⟧.saved ⟦<Paged<D> as Store>⟧.is_new ⟦<Paged<D> as Store>⟧.is_begun device) D.settled D.refused (λ core. ⟦<Paged<D> as Store>⟧.refused (store_of core)) rules.check (D.refused device) result.device result.unclosed)) }
     ensures new { IfOk device (λ device. (rules : Rules) → AreRules rules → IsTrue D.is_honest → D.bytes device ≡ []
         → Runs rules new_world (between (R.remaining reader.old) (R.remaining reader.new) (W.contents writer.old) (W.contents writer.new)) result.status result.is_told
-        (Leaves ⟦<Paged<D> as Store>⟧.saved D.settled D.refused (λ core. ⟦<Paged<D> as Store>⟧.refused (store_of core)) rules.check (D.refused device) result.device result.unclosed)) }
-    ensures ends { IfOk device (λ device. Ends D.settled D.refused (λ core. ⟦<Paged<D> as Store>⟧.refused (store_of core)) (D.refused device)
+        (Leaves ⟦<Paged<D> as Store>⟧.saved (Stays ⟦<Paged<D> as Store>⟧.saved ⟦<Paged<D> as Store>⟧.is_new ⟦<Paged<D> as Store>⟧.is_begun device) D.settled D.refused (λ core. ⟦<Paged<D> as Store>⟧.refused (store_of core)) rules.check (D.refused device) result.device result.unclosed)) }
+    ensures ends { IfOk device (λ device. Ends (HasSameBytes ⟦<Paged<D> as Store>⟧.is_honest ⟦<Paged<D> as Store>⟧.same device) D.settled D.refused (λ core. ⟦<Paged<D> as Store>⟧.refused (store_of core)) (D.refused device)
         (between (R.remaining reader.old) (R.remaining reader.new) (W.contents writer.old) (W.contents writer.new)) result.status result.is_told result.device result.unclosed) }
     ensures unreadable { IfOk device (λ device. (⟦<Paged<D> as Store>⟧.readable device → ⊥)
         → IsNotOpened (between (R.remaining reader.old) (R.remaining reader.new) (W.contents writer.old) (W.contents writer.new)) result.status result.is_told
-        (HasRefused D.refused (D.refused device) result.device)) }
+        (HasRefused D.refused (D.refused device) result.device) (HasSameBytes ⟦<Paged<D> as Store>⟧.is_honest ⟦<Paged<D> as Store>⟧.same device result.device)) }
+    ensures begun { IfOk device (λ device. (rules : Rules) → AreRules rules → ⟦<Paged<D> as Store>⟧.is_begun device
+        → IsNotOpened (between (R.remaining reader.old) (R.remaining reader.new) (W.contents writer.old) (W.contents writer.new)) result.status result.is_told
+        (HasRefused D.refused (D.refused device) result.device) (HasSameBytes ⟦<Paged<D> as Store>⟧.is_honest ⟦<Paged<D> as Store>⟧.same device result.device)
+        ⊎ Runs rules new_world (between (R.remaining reader.old) (R.remaining reader.new) (W.contents writer.old) (W.contents writer.new)) result.status result.is_told
+        (Leaves ⟦<Paged<D> as Store>⟧.saved (Stays ⟦<Paged<D> as Store>⟧.saved ⟦<Paged<D> as Store>⟧.is_new ⟦<Paged<D> as Store>⟧.is_begun device) D.settled D.refused (λ core. ⟦<Paged<D> as Store>⟧.refused (store_of core)) rules.check (D.refused device) result.device result.unclosed)) }
     ensures not_opened { OnErr device ((R.remaining reader.new ≡ R.remaining reader.old)
         × Tells Refusal.Disk result.is_told (W.contents writer.old) (W.contents writer.new) × (result.status ≡ 3)) }
 {

@@ -1,16 +1,17 @@
 //! What `sqlsh run` does over any store.
-ghost use Rattle.std.specs.Prelude.{◌≡◌, ◌≤◌, IfOk, IfErr};
+ghost use Rattle.std.specs.Prelude.{◌≡◌, ◌≤◌, ◌⊎◌, IfOk, IfErr};
 ghost use Rattle.denote.specs.Database.{Database, IsGood};
-ghost use Rattle.refusals.specs.declared.refusal.Refusal.TheVariants.{Disk};
+ghost use Rattle.refusals.specs.declared.refusal.Refusal.TheVariants.{Damaged, Disk};
 ghost use Rattle.session_definitions.specs.Refusals.{StopsFlush};
 ghost use Rattle.session_definitions.specs.Rules.{Rules, AreRules};
-ghost use Rattle.session_definitions.specs.World.{opened};
+ghost use Rattle.session_definitions.specs.World.{new_world, opened};
 ghost use Rattle.sessions.specs.OfCore.{IsSound, world_of};
 ghost use Rattle.scripts.specs.Played.{between};
 ghost use Rattle.scripts.specs.Settled.{HasNoSession, IsSettled, store_of};
 ghost use Rattle.store.specs.Errors.{HasRisen};
+ghost use Rattle.sessions.specs.Opening.{Stays};
 ghost use Rattle.shell.specs.Status.{refusal_of, status_of, IsStatus};
-ghost use Rattle.shell.specs.Runs.{CarriesOutOver, Ends, HasRefused, IsNotOpened, Leaves, Runs, Says, ScriptEnds, TellsBehind};
+ghost use Rattle.shell.specs.Runs.{CarriesOutOver, Ends, HasRefused, HasSameBytes, IsNotOpened, Leaves, Runs, Says, ScriptEnds, TellsBehind};
 
 use crate::options::Settings;
 use crate::telling::tell;
@@ -38,8 +39,8 @@ pub struct EndedRun<S: Store> {
     /// Whether each line `ERROR` that had to be said of a fault was written whole and passed on:
     /// also where none had to be.
     pub is_told: bool,
-    /// The device: as it was where the store could not be opened, with all that is committed, and
-    /// synced, where it was closed, and none where it could not be closed.
+    /// The device: as its opening left it where the store could not be opened, with all that is
+    /// committed, and synced, where it was closed, and none where it could not be closed.
     pub device: Option<S::Device>,
     /// The core whose store could not be closed.
     pub unclosed: Option<Core<S>>,
@@ -60,7 +61,9 @@ struct EndedScript {
 /// where the store could not be opened or closed, or the script was not read or printed to its end,
 /// which a line `ERROR` and the code then says where it can be written: `is_told` tells whether it
 /// was. The device is handed back, with what was committed last saved on it for the next run, and
-/// synced behind the last write; where the store could not be closed, the core is.
+/// synced behind the last write; where the store could not be closed, the core is. Where it could
+/// not be opened, what was saved stays, and where it is refused as damaged, so do the bytes; only
+/// an empty device may be left as one that opens as empty, or is refused as damaged (`begun`).
 ///
 /// Where a database was saved on the device, the store is refused for want of memory or by the
 /// device alone, and no reply is that the file is damaged. The device is said to have refused that
@@ -76,12 +79,17 @@ pub fn run_to_end<S: Store, R: Read, W: Write>(
     ensures status { IsStatus result.status }
     ensures runs { (rules : Rules) (db : Database) → AreRules rules → S.saved device db → IsGood rules.check db
         → Runs rules (opened db) (between (R.remaining reader.old) (R.remaining reader.new) (W.contents writer.old) (W.contents writer.new)) result.status result.is_told
-        (Leaves S.saved S.settled S.calls_refused (λ core. S.refused (store_of core)) rules.check (S.calls_refused device) result.device result.unclosed) }
-    ensures ends { Ends S.settled S.calls_refused (λ core. S.refused (store_of core)) (S.calls_refused device)
+        (Leaves S.saved (Stays S.saved S.is_new S.is_begun device) S.settled S.calls_refused (λ core. S.refused (store_of core)) rules.check (S.calls_refused device) result.device result.unclosed) }
+    ensures ends { Ends (HasSameBytes S.is_honest S.same device) S.settled S.calls_refused (λ core. S.refused (store_of core)) (S.calls_refused device)
         (between (R.remaining reader.old) (R.remaining reader.new) (W.contents writer.old) (W.contents writer.new)) result.status result.is_told result.device result.unclosed }
     ensures unreadable { (S.readable device → ⊥)
         → IsNotOpened (between (R.remaining reader.old) (R.remaining reader.new) (W.contents writer.old) (W.contents writer.new)) result.status result.is_told
-        (HasRefused S.calls_refused (S.calls_refused device) result.device) }
+        (HasRefused S.calls_refused (S.calls_refused device) result.device) (HasSameBytes S.is_honest S.same device result.device) }
+    ensures begun { (rules : Rules) → AreRules rules → S.is_begun device
+        → IsNotOpened (between (R.remaining reader.old) (R.remaining reader.new) (W.contents writer.old) (W.contents writer.new)) result.status result.is_told
+        (HasRefused S.calls_refused (S.calls_refused device) result.device) (HasSameBytes S.is_honest S.same device result.device)
+        ⊎ Runs rules new_world (between (R.remaining reader.old) (R.remaining reader.new) (W.contents writer.old) (W.contents writer.new)) result.status result.is_told
+        (Leaves S.saved (Stays S.saved S.is_new S.is_begun device) S.settled S.calls_refused (λ core. S.refused (store_of core)) rules.check (S.calls_refused device) result.device result.unclosed) }
 {
     databases_stay_good();
     let mut core: Core<S> = match opened(alloc, settings, device) {
@@ -138,7 +146,11 @@ fn opened<S: Store>(
     ensures refused { IfErr result (λ back. (db : Database) → S.saved device db → StopsFlush back.refusal) }
     ensures device { IfErr result (λ back. back.refusal ≡ Disk
         → HasRisen (S.calls_refused device) (S.calls_refused back.value)) }
-    ensures left { IfErr result (λ back. (db : Database) → S.saved device db → S.saved back.value db) }
+    ensures begun { S.is_begun device
+        → IfOk result (λ core. IsSound S.is_sound S.shows core × (world_of S.shows core ≡ new_world)) }
+    ensures same { S.is_honest device → IfErr result (λ back. back.refusal ≡ Damaged → S.same device back.value) }
+    ensures left { IfErr result (λ back. (db : Database) → S.saved device db
+        → Stays S.saved S.is_new S.is_begun device back.value db) }
 {
     Core::open(alloc, Sql, device, frames_of(settings))
 }

@@ -1,8 +1,9 @@
--- What a store holds: tables, whose rows have numbers. What is made of them by CREATE, DROP, and by storing, replacing and deleting rows
--- (ISO/IEC 9075:1992, 11.3, 11.18, 13.7, 13.8, 13.10). Row numbers and indexes are our own choice: the standard knows neither, and a database
--- of the definitions has no numbers.
+-- What a store holds: tables, whose rows have numbers. What is made of them by CREATE, DROP, and by
+-- storing, replacing and deleting rows (ISO/IEC 9075:1992, 11.3, 11.18, 13.7, 13.8, 13.10). Row
+-- numbers and indexes are our own choice: the standard knows neither, and a database of the
+-- definitions has no numbers.
 use Rattle.std.specs.Prelude.{ℕ, ◌+◌, ◌<◌, ◌==◌, max, not, if◌then◌else◌, List, [], ◌∷◌, ◌++◌, map, filter, length, slice_index_or, Option, Some, None}
-use Rattle.std.specs.List.{enumerate_from}
+use Rattle.std.specs.List.{enumerate_from, fold}
 use Rattle.std.specs.Option.{option_map}
 use Rattle.std.specs.FinMap.{FinMap, get, contains_key, insert, remove, entries, from_entries}
 use Rattle.sqlval.specs.declared.schema.Column.{Column}
@@ -32,7 +33,8 @@ Contents = FinMap text_order StoredTable
 
 -- each number is less than the next
 abbrev pub Rises : List Entry → Type 0
-Rises found = (k : ℕ) (d : Entry) → k + 1 < length found → (slice_index_or found k d).0 < (slice_index_or found (k + 1) d).0
+Rises found = (k : ℕ) (d : Entry) → k + 1 < length found
+    → (slice_index_or found k d).0 < (slice_index_or found (k + 1) d).0
 
 -- ---- without the numbers
 
@@ -95,6 +97,13 @@ replaced c name number row = changed (with_row number row) c name
 
 abbrev pub deleted : Contents → Name → ℕ → Contents
 deleted c name number = changed (without_row number) c name
+
+-- many rows, one after another
+abbrev pub replaced_all : Contents → Name → List Entry → Contents
+replaced_all c name found = fold (λ (left : Contents) (e : Entry). replaced left name e.0 e.1) c found
+
+abbrev pub deleted_all : Contents → Name → List ℕ → Contents
+deleted_all c name numbers = fold (λ (left : Contents) (number : ℕ). deleted left name number) c numbers
 
 -- a new table, where its name is free
 abbrev pub with_table : Contents → schema.Table → Contents

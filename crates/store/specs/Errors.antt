@@ -15,13 +15,20 @@ use Rattle.store.specs.Indexes.{entries_of}
 abbrev pub HasRisen : ℕ → ℕ → Type 0
 HasRisen old new = min (old + 1) (2 ^ 64 - 1) ≤ new
 
--- For want of memory at any time; for the device only where its count of refused calls rose; as damaged only where the store is not sound; and by a
--- limit only where it is reached.
+-- For want of memory at any time; for the device only where its count of refused calls rose; as
+-- damaged only where the store is not sound; and by a limit only where it is reached.
 abbrev pub MayFail : Type 0 → ℕ → ℕ → (StoreLimit → Type 0) → StoreError → Type 0
 MayFail sound old new reached Memory = Unit {0}
 MayFail sound old new reached Device = HasRisen old new
 MayFail sound old new reached Damaged = sound → ⊥
 MayFail sound old new reached (Exceeded which) = reached which
+
+-- The count of answers "damaged" rises with such an answer, and with no other.
+abbrev pub Tells : StoreError → ℕ → ℕ → Type 0
+Tells Memory old new = new ≡ old
+Tells Device old new = new ≡ old
+Tells Damaged old new = HasRisen old new
+Tells (Exceeded which) old new = new ≡ old
 
 -- by no limit
 abbrev pub Never : StoreLimit → Type 0
@@ -47,11 +54,13 @@ abbrev pub indexes_of : Option StoredTable → List IndexDeclaration
 indexes_of None = []
 indexes_of (Some t) = t.indexes
 
--- Storing rows in a table reaches a limit: that of rows and keys, those that the store counts, and that of row numbers, which end at 2^63 - 1.
+-- Storing rows in a table reaches a limit: that of rows and keys, those that the store counts, and
+-- that of row numbers, which end at 2^63 - 1.
 abbrev pub StoringReaches : (StoreLimit → Type 0) → Option StoredTable → List Row → StoreLimit → Type 0
 StoringReaches counted table rows limit.Record = HasLongRow rows
 StoringReaches counted table rows limit.Key = HasLongKey (indexes_of table) rows
-StoringReaches counted table rows limit.Pages = counted limit.Pages ⊎ (2 ^ 63 < next_number (entries_of table) + length rows)
+StoringReaches counted table rows limit.Pages = counted limit.Pages
+    ⊎ (2 ^ 63 < next_number (entries_of table) + length rows)
 StoringReaches counted table rows limit.Private = counted limit.Private
 StoringReaches counted table rows limit.Kept = ⊥
 
@@ -71,7 +80,8 @@ ChangingReaches counted limit.Pages = counted limit.Pages
 ChangingReaches counted limit.Private = counted limit.Private
 ChangingReaches counted limit.Kept = ⊥
 
--- A commit reaches the limit of old pages that are kept, or the greatest number of commits. It takes no page.
+-- A commit reaches the limit of old pages that are kept, or the greatest number of commits. It
+-- takes no page.
 abbrev pub CommittingReaches : (StoreLimit → Type 0) → ℕ → StoreLimit → Type 0
 CommittingReaches counted commits limit.Record = ⊥
 CommittingReaches counted commits limit.Key = ⊥

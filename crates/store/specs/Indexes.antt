@@ -1,6 +1,6 @@
--- What an index finds. Indexes are our own choice, and so is the order in which they give rows: by the values of their columns, null lowest, and then by row
--- number.
-use Rattle.std.specs.Prelude.{ℕ, Bool, true, ◌&&◌, List, [], filter, slice_get, slice_index_or, nat_lt, Option, Some, None}
+-- What an index finds. Indexes are our own choice, and so is the order in which they give rows: by
+-- the values of their columns, null lowest, and then by row number.
+use Rattle.std.specs.Prelude.{ℕ, Bool, true, ◌&&◌, List, [], filter, slice_get, slice_index_or, nat_lt, take, Option, Some, None}
 use Rattle.std.specs.Option.{option_map}
 use Rattle.std.specs.Ordering.{nat_cmp, ordering_then, is_gt}
 use Rattle.std.specs.declared.cmp.Ordering.{Ordering}
@@ -101,3 +101,16 @@ beyond after (Some columns) found = filter (λ (e : Entry). is_beyond after (key
 -- the first entry of an index above a place, or the first of all
 abbrev pub next_entry : Option StoredTable → ℕ → Option Position → Option Entry
 next_entry table place after = slice_get (beyond after (columns_at table place) (walked table place)) 0
+
+-- ---- blocks: at most so many behind a place, in the same order
+
+-- of entries in the order of their numbers
+abbrev pub some_after : Option ℕ → ℕ → List Entry → List Entry
+some_after after most found = take most (filter (λ (e : Entry). is_after after e.0) found)
+
+abbrev pub some_sought : Option StoredTable → ℕ → List Value → Option ℕ → ℕ → List Entry
+some_sought table place key after most = some_after after most (sought table place key)
+
+-- of entries in the order of an index; without bounds, of a walk of it
+abbrev pub some_ranged : Option StoredTable → ℕ → Bound Value → Bound Value → Option Position → ℕ → List Entry
+some_ranged table place low high after most = take most (beyond after (columns_at table place) (ranged table place low high))

@@ -10,8 +10,9 @@ pub record Found : Type 0 where
   pub number : ℕ
   pub contents : Contents
 
--- How many commits there were since the store was opened, which is also the number of the newest version; what that version holds; what each reader found;
--- what the newest version is with the changes that are not committed yet; and what that was at the last mark.
+-- How many commits there were since the store was opened, which is also the number of the newest
+-- version; what that version holds; what each reader found; what the newest version is with the
+-- changes that are not committed yet; and what that was at the last mark.
 pub record Stored : Type 0 where
   pub commits : ℕ
   pub last : Contents
@@ -60,3 +61,7 @@ pub record SameButMark (a b : Stored) : Type 0 where
   pub last : b.last ≡ a.last
   pub readers : b.readers ≡ a.readers
   pub working : b.working ≡ a.working
+
+-- a change that succeeds changes the working version alone
+abbrev pub IsAlone : Stored → Stored → Type 0
+IsAlone a b = b ≡ working_on a b.working

@@ -49,10 +49,12 @@ counted_on count more = min (count + more) (2 ^ 64 - 1)
 
 -- ---- what a reading shows
 
--- the tables, how many calls the device has refused, and how many rows were read
+-- the tables, how many calls the device has refused, how many answers said "damaged", and how many
+-- rows were read
 pub record Shown : Type 0 where
   pub contents : Contents
   pub refused : ℕ
+  pub damaged : ℕ
   pub read : ℕ
 
 abbrev pub table_named : Shown → Name → Option StoredTable
@@ -62,14 +64,8 @@ table_named shown name = get shown.contents name
 pub record Keeps (a b : Shown) : Type 0 where
   pub contents : b.contents ≡ a.contents
   pub refused : a.refused ≤ b.refused
+  pub damaged : a.damaged ≤ b.damaged
   pub read : a.read ≤ b.read
 
-abbrev pub shown_by : Stored → View → ℕ → ℕ → Shown
-shown_by s view refused read = record { contents = seen_by s view; refused = refused; read = read }
-
--- what a call that reads keeps of a store
-pub record Reads (sound_a sound_b : Type 0) (a b : Stored) (refused_a refused_b read_a read_b : ℕ) : Type 0 where
-  pub sound : sound_a → sound_b
-  pub shows : b ≡ a
-  pub refused : refused_a ≤ refused_b
-  pub read : read_a ≤ read_b
+abbrev pub shown_by : Stored → View → ℕ → ℕ → ℕ → Shown
+shown_by s view refused damaged read = record { contents = seen_by s view; refused = refused; damaged = damaged; read = read }

@@ -1,5 +1,5 @@
 -- What an INSERT of rows that are given leaves of a store.
-use Rattle.std.proofs.Common.{◌≡◌, ◌∙◌, refl, sym, ap, subst, ℕ, Bool, true, false, cond, List, [], ◌∷◌, ◌++◌, map, length, Option, Some, None, Ok, Err, arith}
+use Rattle.std.proofs.Common.{◌≡◌, ◌∙◌, refl, sym, ap, subst, ℕ, Bool, true, false, cond, List, [], ◌∷◌, ◌++◌, map, length, Option, Some, None, Ok, arith}
 use Rattle.std.proofs.lemmas.Cmp.{nat_list_cmp_total, tied_itself}
 use Rattle.std.specs.Prelude.{Contains}
 use Rattle.std.specs.Ordering.{is_eq}
@@ -28,9 +28,9 @@ use Rattle.session_definitions.specs.Refusals.{IsReserved}
 use Rattle.session_definitions.specs.Statements.{counted}
 use Rattle.store.specs.declared.error.StoreError.{StoreError}
 use Rattle.store.specs.declared.error.StoreLimit.{StoreLimit}
-use Rattle.store.specs.Contents.{Contents, database_of, appended}
+use Rattle.store.specs.Contents.{database_of, appended}
 use Rattle.store.specs.Errors.{MayFail, StoringReaches, HasLongKey, indexes_of}
-use Rattle.store.specs.Stored.{Stored, SameButMark, marked_now, working_on}
+use Rattle.store.specs.Stored.{Stored, SameButMark, marked_now, working_on, IsAlone, undone}
 use Rattle.transactions.specs.Refused.{refused_by}
 use Rattle.transactions.proofs.Tests.{reserved}
 use Rattle.operator_laws.proofs.Orders.{length-permutes}
@@ -48,6 +48,12 @@ use Rattle.table_changes.proofs.Made.{appended-database, decided_still}
 -- only the mark was set
 pub marked_same : (old mid new : Stored) → mid ≡ marked_now old → new ≡ mid → SameButMark old new
 marked_same old mid new m e = subst (λ (s : Stored). SameButMark old s) (sym (e ∙ m)) (record { commits = refl; last = refl; readers = refl; working = refl })
+
+-- the mark was set, and a change that was made goes back to it
+pub undone_same : (old mid looked made new : Stored) → mid ≡ marked_now old → looked ≡ mid → IsAlone looked made → new ≡ undone made → SameButMark old new
+undone_same old mid looked made new m l alone e =
+    let back : new ≡ undone (working_on (marked_now old) made.working) = e ∙ ap undone (alone ∙ ap (λ (s : Stored). working_on s made.working) (l ∙ m)) in
+    subst (λ (s : Stored). SameButMark old s) (sym back) (record { commits = refl; last = refl; readers = refl; working = refl })
 
 -- ---- the rows are short enough
 

@@ -1,5 +1,5 @@
 -- What a CREATE INDEX leaves of a store.
-use Rattle.std.proofs.Common.{◌≡◌, ◌∙◌, refl, sym, ap, subst, ℕ, zero, suc, ◌+◌, ◌<◌, false, List, [], ◌∷◌, ◌++◌, map, Option, Some, None, Ok, Err, arith}
+use Rattle.std.proofs.Common.{◌≡◌, ◌∙◌, refl, sym, ap, subst, ℕ, zero, suc, ◌+◌, ◌<◌, false, List, [], ◌∷◌, ◌++◌, Some, None, arith}
 use Rattle.std.specs.Prelude.{Contains, flat_map}
 use Rattle.std.specs.List.{list_any}
 use Rattle.std.specs.FinMap.{get, insert}
@@ -17,15 +17,14 @@ use Rattle.denote.specs.declared.fault.Fault.{Fault}
 use Rattle.denote.specs.declared.fault.Stop.{Stop}
 use Rattle.denote.specs.declared.fault.Stop.TheVariants as stop
 use Rattle.denote.specs.Change.{Changed, changed, on_table, index_on, unless_raised, IsRaised}
-use Rattle.denote.specs.Change.Changed.{Makes, Raises}
+use Rattle.denote.specs.Change.Changed.{Makes}
 use Rattle.denote.specs.Database.{Table, Database, CheckReading, IndexDeclaration}
 use Rattle.denote.specs.Evaluation.{unless}
 use Rattle.denote.specs.SchemaOf.{IsSchemaOf, index_of}
 use Rattle.denote.specs.Stop.{IsFaultOf}
 use Rattle.denote.specs.StoredRow.{key_faults}
 use Rattle.replies.specs.declared.reply.Reply.TheVariants as says
-use Rattle.store.specs.Contents.{Contents, StoredTable, database_of, indexed, rows_of}
-use Rattle.store.specs.Contents.{table_of as held}
+use Rattle.store.specs.Contents.{database_of, indexed, rows_of}
 use Rattle.store.specs.declared.error.StoreLimit.{StoreLimit}
 use Rattle.store.specs.Errors.{HasLongKey, ChangingReaches, IndexingReaches}
 use Rattle.store.specs.Indexes.{entries_of}
@@ -34,7 +33,7 @@ use Rattle.transactions.specs.Refused.{TellsReached}
 use Rattle.constraints.specs.Changed.{HasChanged, RefusesChange}
 use Rattle.constraints.specs.Stopped.{refused_by}
 use Rattle.constraints.proofs.Declared.{no_table}
-use Rattle.constraints.proofs.Held.{held_as, none_held}
+use Rattle.constraints.proofs.Held.{held_as}
 use Rattle.constraints.proofs.Limits.{tells_wider}
 use Rattle.constraints.proofs.Short.{short_key, none_in}
 use Rattle.table_changes.proofs.Made.{indexed-database}

@@ -1,5 +1,5 @@
 -- The databases that the changes of a store make are those of the definitions.
-use Rattle.std.proofs.Common.{◌≡◌, ◌∙◌, refl, sym, ap, subst, cond, ℕ, ◌+◌, false, List, [], ◌∷◌, ◌++◌, map, is_some, Option, Some, None}
+use Rattle.std.proofs.Common.{◌≡◌, ◌∙◌, refl, sym, ap, subst, cond, ℕ, ◌+◌, false, List, [], ◌∷◌, ◌++◌, map, is_some, Some, None}
 use Rattle.std.proofs.lemmas.Cmp.{nat_list_cmp_total, tied_itself}
 use Rattle.std.proofs.lemmas.List.{map-append}
 use Rattle.std.specs.Ordering.{is_eq}

@@ -1,5 +1,5 @@
 //! CREATE TABLE.
-ghost use Rattle.std.specs.Prelude.{◌≡◌, ◌≤◌, IfOk, IfErr, OnErr, map};
+ghost use Rattle.std.specs.Prelude.{◌≡◌, IfOk, IfErr, OnErr, map};
 ghost use Rattle.std.specs.List.{filter_map};
 ghost use Rattle.std.specs.Option.{option_map};
 ghost use Rattle.refusals.specs.declared.refusal.Refusal.TheVariants.{Disk};
@@ -10,6 +10,7 @@ ghost use Rattle.denote.specs.Database.{CheckReading, IndexDeclaration};
 ghost use Rattle.denote.specs.SchemaOf.{IsSchemaOf, index_of};
 ghost use Rattle.store.specs.Contents.{database_of};
 ghost use Rattle.store.specs.Errors.{ChangingReaches, HasRisen};
+ghost use Rattle.store.specs.Going.{Going};
 ghost use Rattle.store.specs.Stored.{SameButMark};
 ghost use Rattle.transactions.specs.Refused.{IfRefused, TellsReached};
 ghost use Rattle.constraints.specs.Changed.{HasChanged};
@@ -42,8 +43,7 @@ pub fn create_table<S: Store>(
     ensures limits { IfErr result (TellsReached (ChangingReaches (S.counted store.new))) }
     ensures device { IfErr result (λ refusal. refusal ≡ Disk → HasRisen (S.refused store.old) (S.refused store.new)) }
     ensures same { OnErr result (SameButMark (S.shows store.old) (S.shows store.new)) }
-    ensures sound { S.is_sound store.old → S.is_sound store.new }
-    ensures counts { S.refused store.old ≤ S.refused store.new }
+    ensures goes { S.goes_on store.old store.new Going.changes }
 {
     if let Some(_) = table_named(store.schema(), &table.name) {
         return Err(Refusal::Memory);

@@ -1,9 +1,10 @@
 //! Whether a table holds with rows at its end, looked at before these come there.
-ghost use Rattle.std.specs.Prelude.{◌≡◌, ◌≤◌, true, IfOk, IfErr};
+ghost use Rattle.std.specs.Prelude.{◌≡◌, true, IfOk, IfErr};
 ghost use Rattle.refusals.specs.declared.refusal.Refusal.TheVariants.{Disk};
 ghost use Rattle.denote.specs.Database.{CheckReading, Database};
 ghost use Rattle.store.specs.Contents.{database_of};
 ghost use Rattle.store.specs.Errors.{HasRisen};
+ghost use Rattle.store.specs.Going.{Going};
 ghost use Rattle.transactions.specs.Refused.{TellsNoLimit};
 ghost use Rattle.constraints.specs.Settled.{Decided, Holds, Breaks};
 ghost use Rattle.table_changes.specs.Given.{HasMore};
@@ -39,8 +40,7 @@ pub(crate) fn known_to_hold<S: Store, C: Checks>(
     ensures shows { S.shows store.new ≡ S.shows store.old }
     ensures limits { IfErr result TellsNoLimit }
     ensures device { IfErr result (λ refusal. refusal ≡ Disk → HasRisen (S.refused store.old) (S.refused store.new)) }
-    ensures sound { S.is_sound store.old → S.is_sound store.new }
-    ensures counts { S.refused store.old ≤ S.refused store.new }
+    ensures goes { S.goes_on store.old store.new Going.keeps }
 {
     match foresee(alloc, store, name, rows, checks) {
         Ok(Foreseen::Fits) => Ok(true),

@@ -1,11 +1,12 @@
 //! CREATE INDEX.
-ghost use Rattle.std.specs.Prelude.{◌≡◌, ◌≤◌, IfOk, IfErr, OnErr};
+ghost use Rattle.std.specs.Prelude.{◌≡◌, IfOk, IfErr, OnErr};
 ghost use Rattle.refusals.specs.declared.refusal.Refusal.TheVariants.{Disk};
 ghost use Rattle.typing.specs.declared.statement.Change.TheVariants as does;
 ghost use Rattle.denote.specs.Database.{CheckReading};
 ghost use Rattle.denote.specs.SchemaOf.{IsSchemaOf};
 ghost use Rattle.store.specs.Contents.{database_of};
 ghost use Rattle.store.specs.Errors.{ChangingReaches, HasRisen};
+ghost use Rattle.store.specs.Going.{Going};
 ghost use Rattle.store.specs.Stored.{SameButMark};
 ghost use Rattle.transactions.specs.Refused.{IfRefused, TellsReached};
 ghost use Rattle.constraints.specs.Changed.{HasChanged, RefusesChange};
@@ -37,8 +38,7 @@ pub fn create_index<S: Store>(
     ensures limits { IfErr result (TellsReached (ChangingReaches (S.counted store.new))) }
     ensures device { IfErr result (λ refusal. refusal ≡ Disk → HasRisen (S.refused store.old) (S.refused store.new)) }
     ensures same { OnErr result (SameButMark (S.shows store.old) (S.shows store.new)) }
-    ensures sound { S.is_sound store.old → S.is_sound store.new }
-    ensures counts { S.refused store.old ≤ S.refused store.new }
+    ensures goes { S.goes_on store.old store.new Going.changes }
 {
     let Some(_) = table_named(store.schema(), &index.table) else {
         return Ok(Reply::Unchanged);

@@ -1,11 +1,12 @@
 //! INSERT of rows that are given.
-ghost use Rattle.std.specs.Prelude.{◌≡◌, ◌≤◌, IfOk, IfErr, OnErr};
+ghost use Rattle.std.specs.Prelude.{◌≡◌, IfOk, IfErr, OnErr};
 ghost use Rattle.std.specs.FinMap.{get};
 ghost use Rattle.refusals.specs.declared.refusal.Refusal.TheVariants.{Disk};
 ghost use Rattle.typing.specs.declared.statement.Change.TheVariants as does;
 ghost use Rattle.denote.specs.Database.{CheckReading};
 ghost use Rattle.store.specs.Contents.{database_of};
 ghost use Rattle.store.specs.Errors.{HasRisen, StoringReaches};
+ghost use Rattle.store.specs.Going.{Going};
 ghost use Rattle.store.specs.Stored.{SameButMark};
 ghost use Rattle.transactions.specs.Refused.{IfRefused, TellsReached};
 ghost use Rattle.constraints.specs.Changed.{RefusesChange};
@@ -26,7 +27,7 @@ use typing::Insert;
 /// INSERT, where evaluation gave these rows: they come to the end of the table, which violates no
 /// constraint as it is, or it is refused: by a constraint that the table would violate (23000), for
 /// want of memory, by the device or by a limit of the store. CHECKs are decided by what is given
-/// for them. It sets the mark. Where a sound store refuses it, all is as it was, but for the mark.
+/// for them. It sets the mark. Where it is refused, all is as it was, but for the mark.
 pub fn insert_rows<S: Store, C: Checks>(
     alloc: Global,
     store: &mut S,
@@ -47,9 +48,8 @@ pub fn insert_rows<S: Store, C: Checks>(
     ensures accepted { IfOk result (λ reply. IfRefused reply (λ refusal. ⊥)) }
     ensures limits { IfErr result (TellsReached (StoringReaches (S.counted store.new) (get (S.shows store.old).working insert.now.table) rows)) }
     ensures device { IfErr result (λ refusal. refusal ≡ Disk → HasRisen (S.refused store.old) (S.refused store.new)) }
-    ensures same { S.is_sound store.old → OnErr result (SameButMark (S.shows store.old) (S.shows store.new)) }
-    ensures sound { S.is_sound store.old → S.is_sound store.new }
-    ensures counts { S.refused store.old ≤ S.refused store.new }
+    ensures same { OnErr result (SameButMark (S.shows store.old) (S.shows store.new)) }
+    ensures goes { S.goes_on store.old store.new Going.changes }
 {
     if let Err(refusal) = begin(store) {
         return Err(refusal);

@@ -1,5 +1,5 @@
 //! How transactions and sessions end.
-ghost use Rattle.std.specs.Prelude.{◌≡◌, ◌≢◌, ◌≤◌, ℕ, Bool, Some, None, slice_set};
+ghost use Rattle.std.specs.Prelude.{◌≡◌, ◌≢◌, ℕ, Bool, Some, None, slice_set};
 ghost use Rattle.std.specs.FinMap.{get};
 ghost use Rattle.ast.specs.declared.statement.AccessMode.{AccessMode as Mode};
 ghost use Rattle.ast.specs.declared.statement.Statement.TheVariants as asks;
@@ -10,6 +10,9 @@ ghost use Rattle.session_definitions.specs.Run.{without_session};
 ghost use Rattle.statement_definitions.specs.Rollback.{IsRollback};
 ghost use Rattle.transactions.specs.Moves.{Moves};
 ghost use Rattle.transactions.specs.Orderly.{IsOrderly};
+ghost use Rattle.session_definitions.specs.World.{is_session};
+ghost use Rattle.store.specs.Going.{keeps};
+ghost use Rattle.transactions.specs.Ended.{ended_by};
 ghost use Rattle.store.specs.Errors.{CommittingReaches};
 ghost use Rattle.transactions.specs.Refused.{Counts, IfRefused, TellsReached};
 ghost use Rattle.transactions.specs.Shown.{Slots, slot_at, shown};
@@ -20,19 +23,22 @@ use ast::AccessMode;
 use replies::Reply;
 use store::Store;
 
-/// COMMIT. A refusal leaves the transaction open.
+/// COMMIT. A refusal leaves the transaction open. Where nothing was changed, nothing is written.
 pub fn commit<S: Store>(
     store: &mut S,
     writer: &mut Option<u64>,
     mode: &mut AccessMode,
     session: u64,
 ) -> Reply
-    ensures moves { (rules : Rules) (text : Bytes) (work : Bool) → IsRead text (asks.Commit work) → (IsRollback text → ⊥) → S.is_sound store.old → IsOrderly (S.shows store.old) writer.old
+    ensures moves { (rules : Rules) (text : Bytes) (work : Bool) → IsRead text (asks.Commit work)
+        → (IsRollback text → ⊥) → S.is_sound store.old → IsOrderly (S.shows store.old) writer.old
         → Moves rules session text result (S.shows store.old) writer.old mode.old (S.shows store.new) writer.new mode.new }
-    ensures sound { S.is_sound store.old → S.is_sound store.new }
     ensures refused { Counts result (S.refused store.old) (S.refused store.new) }
     ensures limits { IfRefused result (TellsReached (CommittingReaches (S.counted store.old) (S.shows store.old).commits)) }
-    ensures counts { S.refused store.old ≤ S.refused store.new }
+    ensures kept { IfRefused result (λ refusal. (S.shows store.new ≡ S.shows store.old)
+        × (writer.new ≡ writer.old) × (mode.new ≡ mode.old)) }
+    ensures idle { S.unchanged store.old → S.writes store.new ≡ S.writes store.old }
+    ensures goes { S.goes_on store.old store.new (ended_by (is_session session writer.old) (S.shows store.old)) }
 {
     if store.number(session).is_none() {
         return Reply::Done;
@@ -58,11 +64,11 @@ pub fn roll_back<S: Store>(
     mode: &mut AccessMode,
     session: u64,
 ) -> Reply
-    ensures moves { (rules : Rules) (text : Bytes) (work : Bool) → IsRead text (asks.Rollback work) → IsOrderly (S.shows store.old) writer.old
+    ensures moves { (rules : Rules) (text : Bytes) (work : Bool) → IsRead text (asks.Rollback work)
+        → IsOrderly (S.shows store.old) writer.old
         → Moves rules session text result (S.shows store.old) writer.old mode.old (S.shows store.new) writer.new mode.new }
-    ensures sound { S.is_sound store.old → S.is_sound store.new }
     ensures done { result ≡ Reply.Done }
-    ensures counts { S.refused store.old ≤ S.refused store.new }
+    ensures goes { S.goes_on store.old store.new keeps }
 {
     if store.number(session).is_none() {
         return Reply::Done;
@@ -86,8 +92,7 @@ pub fn drop_session<S: Store>(store: &mut S, writer: &mut Option<u64>, session: 
     ensures order { IsOrderly (S.shows store.old) writer.old → IsOrderly (S.shows store.new) writer.new }
     ensures others { (q : ℕ) → q ≢ session → get (S.shows store.new).readers q ≡ get (S.shows store.old).readers q }
     ensures gone { get (S.shows store.new).readers session ≡ None }
-    ensures sound { S.is_sound store.old → S.is_sound store.new }
-    ensures counts { S.refused store.old ≤ S.refused store.new }
+    ensures goes { S.goes_on store.old store.new keeps }
 {
     if is_writer(*writer, session) {
         *writer = None;

@@ -1,5 +1,6 @@
 //! Who writes, and what a session sees.
-ghost use Rattle.std.specs.Prelude.{◌≡◌, ◌≤◌, if◌then◌else◌};
+ghost use Rattle.std.specs.Prelude.{◌≡◌, if◌then◌else◌};
+ghost use Rattle.store.specs.Going.{keeps};
 ghost use Rattle.store.specs.Stored.{ended};
 ghost use Rattle.session_definitions.specs.World.{is_session};
 ghost use Rattle.transactions.specs.Orderly.{is_too_late};
@@ -17,7 +18,8 @@ pub fn is_writer(writer: Option<u64>, session: u64) -> bool
     }
 }
 
-/// Whether a session's change comes too late: another session is the writer, or its transaction found an older version than the newest.
+/// Whether a session's change comes too late: another session is the writer, or its transaction
+/// found an older version than the newest.
 pub fn comes_too_late<S: Store>(store: &S, writer: Option<u64>, session: u64) -> bool
     ensures { result ≡ is_too_late (S.shows store.now) writer session }
 {
@@ -44,8 +46,7 @@ pub fn view_of(writer: Option<u64>, session: u64) -> View
 /// Ends the transaction that a refused statement would have begun.
 pub fn take_back<S: Store>(store: &mut S, session: u64, idle: bool)
     ensures shows { S.shows store.new ≡ (if idle then ended (S.shows store.old) session else S.shows store.old) }
-    ensures sound { S.is_sound store.old → S.is_sound store.new }
-    ensures counts { S.refused store.old ≤ S.refused store.new }
+    ensures goes { S.goes_on store.old store.new keeps }
 {
     if idle {
         store.end(session);

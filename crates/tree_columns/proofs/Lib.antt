@@ -1,5 +1,4 @@
 mod NamedNodes
-pub mod Opened
 mod PlainConditions
 mod QuietNodes
 mod RaisingAlike

@@ -3,15 +3,14 @@
 #![tactic(auto)]
 
 mod named;
-mod pairs;
 mod quiet;
 mod reach;
 mod width;
 
+pub use join_columns::{conjuncts, join_pairs, left_places, right_places};
 pub use named::{
     all_within, is_plain, names_half, names_left, names_right, names_within, some_within,
 };
-pub use pairs::{conjuncts, join_pairs, left_places, right_places};
 pub use quiet::{all_quiet, conditions_quiet};
 pub use reach::Reach;
 pub use width::width_of;

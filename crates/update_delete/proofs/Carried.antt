@@ -8,9 +8,9 @@ use Rattle.sqlval.specs.declared.schema.Constraint.{Constraint}
 use Rattle.sqlval.specs.Value.{Row}
 use Rattle.typing.specs.declared.statement.Change.{Change}
 use Rattle.denote.specs.Bag.{Permutes}
-use Rattle.denote.specs.Change.{changed, with_rows}
+use Rattle.denote.specs.Change.{changed}
 use Rattle.denote.specs.Change.Changed.{Makes}
-use Rattle.denote.specs.Database.{Name, Table, Database, CheckReading, IndexDeclaration, violated_by}
+use Rattle.denote.specs.Database.{Name, Table, CheckReading, IndexDeclaration, violated_by}
 use Rattle.replies.specs.declared.reply.Reply.{Reply}
 use Rattle.replies.specs.declared.reply.Reply.TheVariants as says
 use Rattle.session_definitions.specs.Statements.{counted}
@@ -23,7 +23,7 @@ use Rattle.constraints.specs.Settled.{AreAmong, Decided, Holds, OthersHold, Brea
 use Rattle.constraints.proofs.Held.{held_as}
 use Rattle.constraints.proofs.Settling.{undone_all, makes, refuses}
 use Rattle.update_delete.proofs.Made.{decided_still, found_still, holds_still, put_still}
-use Rattle.update_delete.specs.RowChanges.{IsShort, rows_left, rows_new, is_change}
+use Rattle.update_delete.specs.RowChanges.{IsShort, rows_new}
 use Rattle.update_delete.specs.declared.planned.Planned.{Planned}
 use Rattle.update_delete.specs.Made.{all_made}
 use Rattle.update_delete.specs.Plans.{IsMeant, LeavesGood, OthersGood}

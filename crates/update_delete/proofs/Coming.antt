@@ -1,5 +1,5 @@
 -- The rows that are left by changes are those that stay and those that come.
-use Rattle.std.proofs.Common.{◌≡◌, ◌∙◌, refl, sym, ap, subst, suc, ◌+◌, ◌≤◌, Bool, true, false, cond, List, [], ◌∷◌, ◌++◌, map, length, Result, Ok, Err, IfOk, arith}
+use Rattle.std.proofs.Common.{◌≡◌, ◌∙◌, refl, sym, ap, subst, suc, ◌≤◌, Bool, true, false, cond, List, [], ◌∷◌, ◌++◌, map, length, Result, Ok, Err, IfOk, arith}
 use Rattle.std.specs.Prelude.{filter}
 use Rattle.sqlval.specs.Value.{Row}
 use Rattle.denote.specs.declared.fault.Stop.{Stop}

@@ -1,6 +1,6 @@
 -- A condition is the same over tables that agree where it reads: by induction over conditions
 -- alone, since expressions and trees read their tables.
-use Rattle.std.proofs.Common.{◌≡◌, refl, sym, subst, ap, ◌∙◌, ℕ, List, [], ◌∷◌, ◌++◌, map}
+use Rattle.std.proofs.Common.{◌≡◌, refl, sym, subst, ap, ◌∙◌, List, [], ◌∷◌, ◌++◌, map}
 use Rattle.std.proofs.lemmas.List.Elements.{Contains-append_left, Contains-append_right}
 use Rattle.algebra.specs.declared.tree.Condition.{Condition, Condition-F, roll-Condition, map-Condition, ind-Condition, fold-roll-Condition}
 use Rattle.algebra.specs.declared.tree.Expression.{Expression, roll-Expression}

@@ -4,7 +4,7 @@ use Rattle.std.proofs.Common.{◌≡◌, ◌∙◌, refl, sym, ap, subst, ℕ, s
 use Rattle.std.specs.Prelude.{filter}
 use Rattle.std.proofs.lemmas.List.{drop_all}
 use Rattle.std.specs.List.{list_any}
-use Rattle.std.specs.Cmp.Lexicographic.{pointwise, slice_cmp}
+use Rattle.std.specs.Cmp.Lexicographic.{pointwise}
 use Rattle.std.specs.FinMap.{slice_cmp-IsAntisymmetric}
 use Rattle.std.specs.Ordering.{is_eq}
 use Rattle.std.specs.declared.cmp.Ordering.{Ordering}
@@ -22,7 +22,7 @@ use Rattle.denote.specs.Database.{Name, Table, CheckReading, table_of, check_at,
 use Rattle.constraints.specs.Foreseen.{columns_of_key}
 use Rattle.update_delete.specs.declared.change.RowChange.{RowChange}
 use Rattle.update_delete.specs.declared.change.RowChange.TheVariants.{Stays, Goes, Becomes}
-use Rattle.update_delete.specs.RowChanges.{left_of, rows_left, spread_at, spread}
+use Rattle.update_delete.specs.RowChanges.{rows_left, spread_at, spread}
 use Rattle.update_delete.specs.Kept.{Keeps, KeepsBy, KeepAll, keeps_key, keep_keys}
 
 neither : (a b : Bool) → (a || b) ≡ false → (a ≡ false) × (b ≡ false)

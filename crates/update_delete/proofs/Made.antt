@@ -1,23 +1,13 @@
 -- The databases that the changes of a store make are those of the definitions.
-use Rattle.std.proofs.Common.{◌≡◌, ◌∙◌, refl, sym, ap, subst, cond, ℕ, ◌+◌, false, List, [], ◌∷◌, ◌++◌, map, is_some, Option, Some, None}
+use Rattle.std.proofs.Common.{◌≡◌, ◌∙◌, sym, ap, subst, cond, List, [], Some}
 use Rattle.std.proofs.lemmas.Cmp.{nat_list_cmp_total, tied_itself}
-use Rattle.std.proofs.lemmas.List.{map-append}
 use Rattle.std.specs.Ordering.{is_eq}
-use Rattle.std.specs.List.{enumerate_from, filter_map}
-use Rattle.std.specs.FinMap.{get, insert, contains_key, get-insert}
+use Rattle.std.specs.FinMap.{get, insert, get-insert}
 use Rattle.sqlval.specs.declared.schema.Column.{Column}
 use Rattle.sqlval.specs.declared.schema.Constraint.{Constraint}
-use Rattle.sqlval.specs.declared.schema.Index.{Index}
-use Rattle.sqlval.specs.declared.schema.Table as declared
 use Rattle.sqlval.specs.Value.{Row}
-use Rattle.typing.specs.declared.statement.CreateTable.{CreateTable}
-use Rattle.denote.specs.Change.{created, owned_index}
 use Rattle.denote.specs.Database.{Name, Table, Database, CheckReading, violated_by}
-use Rattle.denote.specs.SchemaOf.{index_of}
-use Rattle.store.specs.Contents.{Entry, StoredTable, Contents, table_of, rows_of, database_of, next_number, with_rows, with_index, new_table, with_table, appended, indexed}
-use Rattle.store.proofs.Databases.{database-insert}
 use Rattle.constraints.specs.Settled.{Decided, Holds}
-use Rattle.constraints.proofs.Held.{held_as, changed-database}
 use Rattle.constraints.proofs.Violations.{same_some}
 
 -- ---- a table with other rows

@@ -1,5 +1,5 @@
 -- The database after all changes of the rows of a table.
-use Rattle.std.proofs.Common.{◌≡◌, ◌∙◌, refl, sym, ap, ℕ, ◌+◌, ◌≤◌, eqb, max, Bool, true, false, cond, not, List, [], ◌∷◌, map, Option, Some, None, arith}
+use Rattle.std.proofs.Common.{◌≡◌, ◌∙◌, refl, sym, ap, ℕ, ◌+◌, ◌≤◌, max, Bool, true, false, cond, not, List, [], ◌∷◌, map, Option, Some, None, arith}
 use Rattle.std.specs.Prelude.{filter, if◌then◌else◌, ◌==◌}
 use Rattle.std.proofs.lemmas.Bool.{eqb-true}
 use Rattle.std.proofs.lemmas.Cmp.{nat_list_cmp_total, tied_itself}
@@ -8,18 +8,18 @@ use Rattle.std.specs.Ordering.{eq_by_cmp, is_eq}
 use Rattle.std.specs.FinMap.{get, insert, get-insert}
 use Rattle.sqlval.specs.Comparison.{text_order}
 use Rattle.sqlval.specs.Value.{Row}
-use Rattle.denote.specs.Database.{Name, Table, Database, IndexDeclaration}
-use Rattle.store.specs.Contents.{Entry, StoredTable, Contents, Rises, table_of, rows_of, database_of, next_number, put_back, changed, with_row, without_row}
+use Rattle.denote.specs.Database.{Name, Table, Database}
+use Rattle.store.specs.Contents.{Entry, StoredTable, Contents, Rises, table_of, database_of, next_number, put_back, changed, with_row, without_row}
 use Rattle.store.specs.Errors.{indexes_of}
 use Rattle.store.specs.Indexes.{entries_of}
-use Rattle.store.proofs.Databases.{same_tables, database-get, database-insert}
+use Rattle.store.proofs.Databases.{same_tables, database-get}
 use Rattle.constraints.proofs.Declared.{tied}
 use Rattle.constraints.proofs.Held.{held_as, changed-database}
 use Rattle.update_delete.specs.declared.change.RowChange.{RowChange}
 use Rattle.update_delete.specs.declared.change.RowChange.TheVariants.{Stays, Goes, Becomes}
 use Rattle.update_delete.specs.RowChanges.{rows_left}
 use Rattle.update_delete.specs.Made.{made_one, all_made}
-use Rattle.update_delete.proofs.Entries.{changed_one, changed_all, entries_left, all_changed, rows-left}
+use Rattle.update_delete.proofs.Entries.{changed_one, changed_all, all_changed, rows-left}
 
 -- a table that is there, put there again
 insert_same : (db : Database) (name : Name) (t : Table) → get db name ≡ Some t → db ≡ insert db name t

@@ -23,7 +23,7 @@ use Rattle.algebra.specs.declared.tree.StoredTable.{StoredTable}
 use Rattle.algebra.specs.Listing.{truth_listing, value_listing}
 use Rattle.algebra.specs.Translated.{tree_of_condition, tree_of_expression}
 use Rattle.algebra_laws.specs.Shown.{IsShown, ShowsBy, Shows, ShowsAt}
-use Rattle.algebra_laws.proofs.Evaluations.{IsShown-refl, IsShown-append, faults_in-shown, follows, next-shows, then-shows, together-shows, Shows-refl}
+use Rattle.algebra_laws.proofs.Evaluations.{IsShown-refl, IsShown-append, faults_in-shown, follows, next-shows, then-shows, together-shows}
 use Rattle.denote.specs.declared.fault.Fault.{Fault}
 use Rattle.denote.specs.declared.fault.Stop.{Stop}
 use Rattle.denote.specs.declared.fault.Stop.TheVariants as stop
@@ -40,7 +40,7 @@ use Rattle.constraints.proofs.Short.{admitted_fits}
 use Rattle.tree_tables.specs.TablesRead.{Agree, tables_in_expression}
 use Rattle.query_answers.specs.Sources.{AreChecksOf, tables_in_row, check_truth, check_faults, faults_at, admitted_row}
 use Rattle.update_delete.specs.declared.change.RowChange.{RowChange}
-use Rattle.update_delete.specs.declared.change.RowChange.TheVariants.{Stays, Goes, Becomes}
+use Rattle.update_delete.specs.declared.change.RowChange.TheVariants.{Becomes}
 use Rattle.update_delete.specs.declared.change.RowUpdate.{RowUpdate}
 use Rattle.update_delete.specs.Given.{touched_given, gone_if, deletion_given, value_at, assigned_given, replaced_if, update_given}
 use Rattle.update_delete.specs.RowChanges.{left_of, rows_left, spread, is_change, IsShort, AreChanges, AreUpdates, AreDeletions, GivesChanges}

@@ -1,5 +1,5 @@
 -- What is planned for the rows of a table is what the definitions make of it.
-use Rattle.std.proofs.Common.{◌≡◌, ◌∙◌, refl, sym, ap, subst, ℕ, Bool, true, false, not, ◌≤◌, List, [], ◌++◌, map, filter, length, Option, Some, None, Result, Ok, Err, arith}
+use Rattle.std.proofs.Common.{◌≡◌, ◌∙◌, refl, sym, ap, subst, ℕ, Bool, true, false, not, ◌≤◌, List, [], ◌++◌, map, filter, length, Some, Ok, Err, arith}
 use Rattle.std.specs.Prelude.{Contains, count_by}
 use Rattle.std.specs.List.{list_any}
 use Rattle.std.specs.FinMap.{get}
@@ -30,7 +30,6 @@ use Rattle.constraints.specs.Changed.{RefusesChange}
 use Rattle.constraints.specs.Stopped.{refused_by}
 use Rattle.constraints.proofs.Declared.{no_table}
 use Rattle.constraints.proofs.Held.{held_as}
-use Rattle.update_delete.specs.declared.change.RowChange.{RowChange}
 use Rattle.update_delete.specs.Made.{all_made}
 use Rattle.update_delete.specs.RowChanges.{spread, rows_new, IsShort, AreUpdates, AreDeletions}
 use Rattle.update_delete.specs.declared.planned.Planned.{Planned}

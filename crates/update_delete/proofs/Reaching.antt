@@ -1,16 +1,14 @@
 -- What a change of rows reaches of a store's limits, said of the table before all changes.
-use Rattle.std.proofs.Common.{◌≡◌, ◌≢◌, ◌⊎◌, inl, inr, ◌∙◌, refl, sym, ap, subst, ℕ, ◌+◌, ◌^◌, ◌<◌, ◌≤◌, max, eqb, Bool, true, false, cond, not, List, [], ◌∷◌, map, length, Option, Some, None, Result, Ok, Err, IfOk, IfErr, arith}
-use Rattle.std.specs.FinMap.{get}
+use Rattle.std.proofs.Common.{◌≡◌, ◌⊎◌, inl, inr, ◌∙◌, refl, sym, ap, subst, ◌+◌, ◌^◌, ◌<◌, Bool, true, false, List, [], ◌∷◌, map, length, Option, Result, Ok, Err, IfOk}
 use Rattle.refusals.specs.declared.refusal.Refusal.{Refusal}
 use Rattle.sqlval.specs.Value.{Row}
 use Rattle.store.specs.declared.error.StoreLimit.{StoreLimit}
 use Rattle.store.specs.declared.error.StoreLimit.TheVariants as limit
-use Rattle.store.specs.Contents.{Contents, Entry, StoredTable, next_number}
+use Rattle.store.specs.Contents.{StoredTable, next_number}
 use Rattle.store.specs.Errors.{ChangingReaches, StoringReaches}
 use Rattle.store.specs.Indexes.{entries_of}
 use Rattle.transactions.specs.Refused.{TellsReached}
 use Rattle.denote.specs.declared.fault.Stop.{Stop}
-use Rattle.denote.specs.Database.{Name}
 use Rattle.denote.specs.Evaluation.{Evaluation, ◌>>=◌, joined, together}
 use Rattle.denote.specs.Meaning.{Tables}
 use Rattle.denote.specs.Stop.{Gives}

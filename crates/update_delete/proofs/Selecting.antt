@@ -1,6 +1,6 @@
 -- What an index finds by the key of a condition are candidates; so are all rows.
 use Rattle.std.proofs.Common.{◌≡◌, ◌∙◌, refl, sym, ap, subst, ℕ, Bool, true, false, List, [], ◌∷◌, map, Option, Some, None, Ok, Err}
-use Rattle.std.specs.Prelude.{filter, slice_get, Contains}
+use Rattle.std.specs.Prelude.{slice_get}
 use Rattle.std.specs.Option.{option_map}
 use Rattle.std.specs.FinMap.{get}
 use Rattle.std.proofs.lemmas.Option.{slice_get-map}
@@ -18,7 +18,7 @@ use Rattle.algebra.specs.Raising.{NeverRaises}
 use Rattle.algebra.specs.TreeOutcome.{tree_truth}
 use Rattle.algebra_laws.specs.Shown.{Shows}
 use Rattle.algebra_laws.proofs.Trees.{conditions-show}
-use Rattle.denote.specs.Database.{Name, Table, Database, IndexDeclaration}
+use Rattle.denote.specs.Database.{Name, Table, IndexDeclaration}
 use Rattle.denote.specs.Evaluation.{Env, Evaluation, ◌>>=◌}
 use Rattle.denote.specs.Meaning.{Tables}
 use Rattle.denote.specs.SchemaOf.{IsSchemaOf, index_of}

@@ -8,7 +8,7 @@ use Rattle.denote.specs.Evaluation.{Evaluation, faults_in, joined, together}
 use Rattle.operator_laws.specs.Same.{Every}
 use Rattle.store.specs.Contents.{Entry, Contents, rows_of}
 use Rattle.update_delete.specs.declared.change.RowChange.{RowChange}
-use Rattle.update_delete.specs.declared.change.RowChange.TheVariants.{Stays, Goes, Becomes}
+use Rattle.update_delete.specs.declared.change.RowChange.TheVariants.{Stays}
 use Rattle.update_delete.specs.Made.{made_one, all_made}
 use Rattle.update_delete.specs.RowChanges.{is_change, spread_at, spread}
 

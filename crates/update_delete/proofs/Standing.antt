@@ -1,5 +1,5 @@
 -- Where a store stands while the changes of rows are made, one after another.
-use Rattle.std.proofs.Common.{◌≡◌, ◌∙◌, refl, sym, ap, subst, ℕ, zero, suc, ◌+◌, ◌^◌, ◌<◌, ◌≤◌, List, [], ◌∷◌, length, arith}
+use Rattle.std.proofs.Common.{◌≡◌, ◌∙◌, refl, sym, ap, subst, ℕ, zero, suc, ◌≤◌, List, [], ◌∷◌, length, arith}
 use Rattle.std.specs.Prelude.{Contains}
 use Rattle.std.specs.FinMap.{get}
 use Rattle.operator_laws.specs.Same.{Every}
@@ -10,13 +10,13 @@ use Rattle.store.specs.declared.error.StoreLimit.{StoreLimit}
 use Rattle.store.specs.Contents.{Contents, next_number}
 use Rattle.store.specs.Errors.{MayFail, StoringReaches, indexes_of}
 use Rattle.store.specs.Indexes.{entries_of}
-use Rattle.store.specs.Stored.{Stored, undone, working_on}
+use Rattle.store.specs.Stored.{Stored, IsAlone, working_on}
 use Rattle.transactions.specs.Refused.{refused_by}
 use Rattle.transactions.proofs.Tests.{reserved}
 use Rattle.denote.specs.Database.{Name, IndexDeclaration}
 use Rattle.constraints.proofs.Short.{Fits, no_long_row, no_long_key}
 use Rattle.update_delete.specs.declared.change.RowChange.{RowChange}
-use Rattle.update_delete.specs.declared.change.RowChange.TheVariants.{Stays, Goes, Becomes}
+use Rattle.update_delete.specs.declared.change.RowChange.TheVariants.{Becomes}
 use Rattle.update_delete.specs.RowChanges.{IsShort}
 use Rattle.update_delete.specs.Made.{made_one, all_made}
 use Rattle.update_delete.specs.Reached.{IsNumberedOut}
@@ -30,6 +30,10 @@ pub record StandsAt (old : Stored) (name : Name) (numbers : List ℕ) (changes :
   pub indexes : indexes_of (get working name) ≡ indexes_of (get old.working name)
   pub below : next_number (entries_of (get working name)) ≤ next_number (entries_of (get old.working name))
   pub short : Every (IsShort (indexes_of (get old.working name))) changes → Every (IsShort (indexes_of (get old.working name))) others
+
+-- one change after another of the working version alone
+pub alone_on : (a b c : Stored) → IsAlone a b → IsAlone b c → IsAlone a c
+alone_on a b c h g = g ∙ ap (λ (s : Stored). working_on s c.working) h
 
 pub none_left : {X : Type 0} (xs : List X) → length xs ≡ 0 → xs ≡ []
 none_left [] e = refl
@@ -58,9 +62,6 @@ module _ (old : Stored) (name : Name) (numbers : List ℕ) (changes : List RowCh
 
     pub runs_out : rest ≡ [] → now ≡ working_on old (all_made name numbers changes old.working)
     runs_out none = here.shows ∙ ap (working_on old) (ap (λ (ns : List ℕ). all_made name ns others here.working) (sym none) ∙ here.to_make)
-
-    pub goes_back : (next : Stored) → next ≡ undone now → next ≡ undone old
-    goes_back next e = e ∙ ap undone here.shows
 
     -- one more is made
     pub goes_on : (next : Stored) (number : ℕ) (left : List ℕ) (change : RowChange) (more : List RowChange) → rest ≡ number ∷ left → others ≡ change ∷ more

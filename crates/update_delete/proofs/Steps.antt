@@ -1,5 +1,5 @@
 -- Replies of an evaluator, step by step.
-use Rattle.std.proofs.Common.{◌≡◌, refl, sym, ap, ℕ, Bool, true, false, List, [], ◌++◌, Option, Some, None, Result, Ok, Err}
+use Rattle.std.proofs.Common.{◌≡◌, refl, sym, ap, ℕ, Bool, true, false, List, Option, Result, Ok, Err}
 use Rattle.std.specs.Prelude.{IsTrue, ◌↔◌, IfOk}
 use Rattle.std.specs.Option.{option_map}
 use Rattle.sqlval.specs.declared.schema.Schema.{Schema}

@@ -1,6 +1,6 @@
 -- The rows among which a change by a condition looks for those that it touches (ISO/IEC 9075:1992,
 -- 13.7, 13.10). That an index is asked for them is our own choice.
-use Rattle.std.specs.Prelude.{◌≡◌, ℕ, Bool, true, false, List, filter, slice_get, Contains, Option, Some, Ok}
+use Rattle.std.specs.Prelude.{◌≡◌, ℕ, Bool, false, List, filter, slice_get, Contains, Option, Some, Ok}
 use Rattle.std.specs.Option.{option_map}
 use Rattle.sqlval.specs.declared.schema.Index.{Index}
 use Rattle.sqlval.specs.declared.schema.Schema.{Schema}

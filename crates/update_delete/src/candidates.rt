@@ -1,11 +1,12 @@
 //! The rows among which a change looks for those that it touches.
-ghost use Rattle.std.specs.Prelude.{◌≡◌, ◌≤◌, IfOk, IfErr, IfSome};
+ghost use Rattle.std.specs.Prelude.{◌≡◌, IfOk, IfErr, IfSome};
 ghost use Rattle.std.specs.FinMap.{get};
 ghost use Rattle.refusals.specs.declared.refusal.Refusal.TheVariants.{Disk};
 ghost use Rattle.denote.specs.SchemaOf.{IsSchemaOf};
 ghost use Rattle.session_definitions.specs.Refusals.{IsReserved};
 ghost use Rattle.store.specs.Contents.{database_of};
 ghost use Rattle.store.specs.Errors.{HasRisen};
+ghost use Rattle.store.specs.Going.{Going};
 ghost use Rattle.transactions.specs.Refused.{TellsNoLimit};
 ghost use Rattle.update_delete.specs.Candidates.{AreCandidates, Asks, AsksIn};
 
@@ -43,8 +44,7 @@ pub(crate) fn candidates<S: Store>(
     ensures device { IfErr result (λ refusal. refusal ≡ Disk → HasRisen (S.refused store.old) (S.refused store.new)) }
     ensures prepared { S.prepared store.new ≡ S.prepared store.old }
     ensures shows { S.shows store.new ≡ S.shows store.old }
-    ensures sound { S.is_sound store.old → S.is_sound store.new }
-    ensures counts { S.refused store.old ≤ S.refused store.new }
+    ensures goes { S.goes_on store.old store.new Going.reads }
 {
     look_ups_miss_no_row();
     match look_up_in(alloc, store.schema(), name, filter) {

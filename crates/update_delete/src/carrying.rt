@@ -1,5 +1,5 @@
 //! What becomes of the rows of a table is made, and the table is decided on as a whole.
-ghost use Rattle.std.specs.Prelude.{◌≡◌, ◌≤◌, IfOk, IfErr, OnErr};
+ghost use Rattle.std.specs.Prelude.{◌≡◌, IfOk, IfErr, OnErr};
 ghost use Rattle.std.specs.FinMap.{get};
 ghost use Rattle.refusals.specs.declared.refusal.Refusal.TheVariants.{Disk};
 ghost use Rattle.typing.specs.declared.statement.Change.{Change};
@@ -7,6 +7,7 @@ ghost use Rattle.denote.specs.Database.{CheckReading};
 ghost use Rattle.transactions.specs.Refused.{IfRefused, TellsReached};
 ghost use Rattle.store.specs.Contents.{database_of};
 ghost use Rattle.store.specs.Errors.{HasRisen};
+ghost use Rattle.store.specs.Going.{Going};
 ghost use Rattle.store.specs.Stored.{SameButMark};
 ghost use Rattle.constraints.specs.Changed.{HasChanged, RefusesChange};
 ghost use Rattle.constraints.specs.Settled.{Decided, Holds};
@@ -49,9 +50,8 @@ pub(crate) fn carry_out<S: Store, C: Checks>(
     ensures limits { IfErr result (TellsReached (MakingReaches (S.counted store.new) planned.changes (S.is_sound store.old
         → IsNumberedOut (get (S.shows store.old).working name.now)))) }
     ensures device { IfErr result (λ refusal. refusal ≡ Disk → HasRisen (S.refused store.old) (S.refused store.new)) }
-    ensures same { S.is_sound store.old → OnErr result (SameButMark (S.shows store.old) (S.shows store.new)) }
-    ensures sound { S.is_sound store.old → S.is_sound store.new }
-    ensures counts { S.refused store.old ≤ S.refused store.new }
+    ensures same { OnErr result (SameButMark (S.shows store.old) (S.shows store.new)) }
+    ensures goes { S.goes_on store.old store.new Going.changes }
 {
     let Planned {
         numbers,

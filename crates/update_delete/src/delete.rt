@@ -1,5 +1,5 @@
 //! DELETE.
-ghost use Rattle.std.specs.Prelude.{◌≡◌, ◌≤◌, [], IfOk, IfErr, IfSome, OnErr};
+ghost use Rattle.std.specs.Prelude.{◌≡◌, [], IfOk, IfErr, IfSome, OnErr};
 ghost use Rattle.std.specs.FinMap.{get};
 ghost use Rattle.refusals.specs.declared.refusal.Refusal.TheVariants.{Disk};
 ghost use Rattle.typing.specs.declared.statement.Change.TheVariants as does;
@@ -8,6 +8,7 @@ ghost use Rattle.denote.specs.SchemaOf.{IsSchemaOf};
 ghost use Rattle.transactions.specs.Refused.{IfRefused, TellsNoLimit, TellsReached};
 ghost use Rattle.store.specs.Contents.{Contents, database_of};
 ghost use Rattle.store.specs.Errors.{ChangingReaches, HasRisen};
+ghost use Rattle.store.specs.Going.{Going};
 ghost use Rattle.store.specs.Stored.{SameButMark};
 ghost use Rattle.tree_tables.specs.TablesRead.{Agree};
 ghost use Rattle.query_answers.specs.Lent.{rows_lent};
@@ -37,8 +38,8 @@ use typing::Delete;
 /// DELETE from a table that violates no constraint: the rows that its condition touches go, so that
 /// it violates none. The condition sees the tables as they were. It is refused by a fault of its
 /// evaluation over all rows; for want of memory, by the device or by a limit of the store. Whether
-/// a CHECK is violated is decided by `checks`. It sets the mark. Where a sound store refuses it,
-/// all is as it was, but for the mark.
+/// a CHECK is violated is decided by `checks`. It sets the mark. Where it is refused, all is as it
+/// was, but for the mark.
 pub fn delete_rows<S: Store, C: Checks>(
     alloc: Global,
     store: &mut S,
@@ -57,9 +58,8 @@ pub fn delete_rows<S: Store, C: Checks>(
     ensures accepted { IfOk result (λ reply. IfRefused reply (λ refusal. ⊥)) }
     ensures limits { IfErr result (TellsReached (ChangingReaches (S.counted store.new))) }
     ensures device { IfErr result (λ refusal. refusal ≡ Disk → HasRisen (S.refused store.old) (S.refused store.new)) }
-    ensures same { S.is_sound store.old → OnErr result (SameButMark (S.shows store.old) (S.shows store.new)) }
-    ensures sound { S.is_sound store.old → S.is_sound store.new }
-    ensures counts { S.refused store.old ≤ S.refused store.new }
+    ensures same { OnErr result (SameButMark (S.shows store.old) (S.shows store.new)) }
+    ensures goes { S.goes_on store.old store.new Going.changes }
 {
     match planned_deletion(alloc, store, delete) {
         Ok(Some(planned)) => carry_out(alloc, store, &delete.table, planned, checks),
@@ -85,8 +85,7 @@ fn planned_deletion<S: Store>(
     ensures limits { IfErr result TellsNoLimit }
     ensures device { IfErr result (λ refusal. refusal ≡ Disk → HasRisen (S.refused store.old) (S.refused store.new)) }
     ensures shows { S.shows store.new ≡ S.shows store.old }
-    ensures sound { S.is_sound store.old → S.is_sound store.new }
-    ensures counts { S.refused store.old ≤ S.refused store.new }
+    ensures goes { S.goes_on store.old store.new Going.reads }
 {
     let filter = match filter_tree(alloc, store.schema(), &delete.filter) {
         Ok(filter) => filter,

@@ -5,7 +5,8 @@ ghost use Rattle.refusals.specs.declared.refusal.Refusal.TheVariants.{Disk};
 ghost use Rattle.operator_laws.specs.Same.{Every};
 ghost use Rattle.session_definitions.specs.Refusals.{IsReserved};
 ghost use Rattle.store.specs.Errors.{HasRisen, indexes_of};
-ghost use Rattle.store.specs.Stored.{undone, working_on};
+ghost use Rattle.store.specs.Going.{Going};
+ghost use Rattle.store.specs.Stored.{IsAlone, undone, working_on};
 ghost use Rattle.transactions.specs.Refused.{TellsReached};
 ghost use Rattle.update_delete.specs.Reached.{IsNumberedOut, MakingReaches};
 ghost use Rattle.update_delete.specs.RowChanges.{is_change, IsShort};
@@ -28,14 +29,14 @@ pub(crate) fn make_changes<S: Store>(
 ) -> Result<(), Refusal>
     ensures shows { S.is_sound store.old
         → OnOk result (S.shows store.new ≡ working_on (S.shows store.old) (all_made name.now numbers.now changes (S.shows store.old).working)) }
-    ensures undone { S.is_sound store.old → OnErr result (S.shows store.new ≡ undone (S.shows store.old)) }
+    ensures undone { OnErr result (S.shows store.new ≡ undone (S.shows store.old)) }
+    ensures alone { OnOk result (IsAlone (S.shows store.old) (S.shows store.new)) }
     ensures refused { IfErr result (λ refusal. S.is_sound store.old
         → Every (IsShort (indexes_of (get (S.shows store.old).working name.now))) changes → IsReserved refusal) }
     ensures limits { IfErr result (TellsReached (MakingReaches (S.counted store.new) changes (S.is_sound store.old
         → IsNumberedOut (get (S.shows store.old).working name.now)))) }
     ensures device { IfErr result (λ refusal. refusal ≡ Disk → HasRisen (S.refused store.old) (S.refused store.new)) }
-    ensures sound { S.is_sound store.old → S.is_sound store.new }
-    ensures counts { S.refused store.old ≤ S.refused store.new }
+    ensures goes { S.goes_on store.old store.new Going.changes }
 {
     let mut rest = numbers;
     for change in changes.into_vec() {
@@ -59,12 +60,12 @@ fn make_change<S: Store>(
     ensures shows { S.is_sound store.old
         → OnOk result (S.shows store.new ≡ working_on (S.shows store.old) (made_one name.now number change (S.shows store.old).working)) }
     ensures undone { OnErr result (S.shows store.new ≡ undone (S.shows store.old)) }
+    ensures alone { OnOk result (IsAlone (S.shows store.old) (S.shows store.new)) }
     ensures refused { IfErr result (λ refusal. S.is_sound store.old
         → IsShort (indexes_of (get (S.shows store.old).working name.now)) change → IsReserved refusal) }
     ensures limits { IfErr result (TellsReached (MakingReaches (S.counted store.new) (change ∷ []) (IsNumberedOut (get (S.shows store.old).working name.now)))) }
     ensures device { IfErr result (λ refusal. refusal ≡ Disk → HasRisen (S.refused store.old) (S.refused store.new)) }
-    ensures sound { S.is_sound store.old → S.is_sound store.new }
-    ensures counts { S.refused store.old ≤ S.refused store.new }
+    ensures goes { S.goes_on store.old store.new Going.changes }
 {
     match change {
         RowChange::Stays => Ok(()),

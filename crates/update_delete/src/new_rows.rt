@@ -1,11 +1,12 @@
 //! The new rows of a change, and their look-up once they have come.
-ghost use Rattle.std.specs.Prelude.{◌≡◌, ◌≤◌, true, false, IfOk, IfErr, IfSome, OnOk, OnErr};
+ghost use Rattle.std.specs.Prelude.{◌≡◌, true, false, IfOk, IfErr, IfSome, OnOk, OnErr};
 ghost use Rattle.std.specs.Option.{option_copied};
 ghost use Rattle.refusals.specs.declared.refusal.Refusal.TheVariants.{Disk};
 ghost use Rattle.denote.specs.Database.{CheckReading};
 ghost use Rattle.session_definitions.specs.Refusals.{IsReserved};
 ghost use Rattle.store.specs.Contents.{database_of};
 ghost use Rattle.store.specs.Errors.{HasRisen};
+ghost use Rattle.store.specs.Going.{Going};
 ghost use Rattle.store.specs.Stored.{undone};
 ghost use Rattle.transactions.specs.Refused.{TellsNoLimit};
 ghost use Rattle.constraints.specs.Settled.{AreAmong, Breaks, Decided, Holds, OthersHold};
@@ -35,8 +36,7 @@ pub(crate) fn rows_to_look_up<S: Store>(
     ensures limits { IfErr result TellsNoLimit }
     ensures device { IfErr result (λ refusal. refusal ≡ Disk → HasRisen (S.refused store.old) (S.refused store.new)) }
     ensures shows { S.shows store.new ≡ S.shows store.old }
-    ensures sound { S.is_sound store.old → S.is_sound store.new }
-    ensures counts { S.refused store.old ≤ S.refused store.new }
+    ensures goes { S.goes_on store.old store.new Going.reads }
 {
     if harmless {
         return Ok(None);
@@ -107,8 +107,7 @@ pub(crate) fn settle_new<S: Store, C: Checks>(
         → Breaks reading (database_of (S.shows store.old).working) name.now refusal) }
     ensures limits { IfErr result TellsNoLimit }
     ensures device { IfErr result (λ refusal. refusal ≡ Disk → HasRisen (S.refused store.old) (S.refused store.new)) }
-    ensures sound { S.is_sound store.old → S.is_sound store.new }
-    ensures counts { S.refused store.old ≤ S.refused store.new }
+    ensures goes { S.goes_on store.old store.new Going.keeps }
 {
     match rows {
         Some(rows) => match settle_rows(alloc, store, name, rows.as_slice(), checks) {

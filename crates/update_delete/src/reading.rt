@@ -1,10 +1,11 @@
 //! The tables that the trees of a statement name, as they stand in the newest version.
-ghost use Rattle.std.specs.Prelude.{◌≡◌, ◌≤◌, IfOk, IfErr};
+ghost use Rattle.std.specs.Prelude.{◌≡◌, IfOk, IfErr};
 ghost use Rattle.refusals.specs.declared.refusal.Refusal.TheVariants.{Disk};
 ghost use Rattle.denote.specs.Database.{rows_in};
 ghost use Rattle.session_definitions.specs.Refusals.{IsReserved};
 ghost use Rattle.store.specs.Contents.{database_of};
 ghost use Rattle.store.specs.Errors.{HasRisen};
+ghost use Rattle.store.specs.Going.{Going};
 ghost use Rattle.tree_tables.specs.TablesRead.{Agree};
 ghost use Rattle.transactions.specs.Refused.{TellsNoLimit};
 ghost use Rattle.query_answers.specs.Lent.{rows_lent};
@@ -31,8 +32,7 @@ pub(crate) fn lent_to_delete<S: Store>(
     ensures device { IfErr result (λ refusal. refusal ≡ Disk → HasRisen (S.refused store.old) (S.refused store.new)) }
     ensures prepared { S.prepared store.new ≡ S.prepared store.old }
     ensures shows { S.shows store.new ≡ S.shows store.old }
-    ensures sound { S.is_sound store.old → S.is_sound store.new }
-    ensures counts { S.refused store.old ≤ S.refused store.new }
+    ensures goes { S.goes_on store.old store.new Going.reads }
 {
     let mut seen = Seen {
         store,
@@ -54,8 +54,7 @@ pub(crate) fn lent_to_update<S: Store>(
     ensures device { IfErr result (λ refusal. refusal ≡ Disk → HasRisen (S.refused store.old) (S.refused store.new)) }
     ensures prepared { S.prepared store.new ≡ S.prepared store.old }
     ensures shows { S.shows store.new ≡ S.shows store.old }
-    ensures sound { S.is_sound store.old → S.is_sound store.new }
-    ensures counts { S.refused store.old ≤ S.refused store.new }
+    ensures goes { S.goes_on store.old store.new Going.reads }
 {
     let mut seen = Seen {
         store,

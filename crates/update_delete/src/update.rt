@@ -1,5 +1,5 @@
 //! UPDATE.
-ghost use Rattle.std.specs.Prelude.{◌≡◌, ◌≤◌, IfOk, IfErr, OnErr};
+ghost use Rattle.std.specs.Prelude.{◌≡◌, IfOk, IfErr, OnErr};
 ghost use Rattle.std.specs.FinMap.{get};
 ghost use Rattle.refusals.specs.declared.refusal.Refusal.TheVariants.{Disk};
 ghost use Rattle.typing.specs.declared.statement.Change.TheVariants as does;
@@ -8,6 +8,7 @@ ghost use Rattle.denote.specs.SchemaOf.{IsSchemaOf};
 ghost use Rattle.transactions.specs.Refused.{IfRefused, TellsNoLimit, TellsReached};
 ghost use Rattle.store.specs.Contents.{Contents, database_of};
 ghost use Rattle.store.specs.Errors.{HasRisen};
+ghost use Rattle.store.specs.Going.{Going};
 ghost use Rattle.store.specs.Stored.{SameButMark};
 ghost use Rattle.tree_tables.specs.TablesRead.{Agree};
 ghost use Rattle.query_answers.specs.Lent.{rows_lent};
@@ -42,8 +43,8 @@ use typing::Update;
 /// is refused by a fault of its evaluation over all rows, or else by a constraint that the table
 /// would violate (23000); for want of memory, by the device or by a limit of the store. `trees` are
 /// those of the conditions of the table's CHECKs, which are evaluated at each new row; whether one
-/// is violated is decided by `checks`. It sets the mark. Where a sound store refuses it, all is as
-/// it was, but for the mark.
+/// is violated is decided by `checks`. It sets the mark. Where it is refused, all is as it was, but
+/// for the mark.
 pub fn update_rows<S: Store, C: Checks>(
     alloc: Global,
     store: &mut S,
@@ -66,9 +67,8 @@ pub fn update_rows<S: Store, C: Checks>(
     ensures limits { IfErr result (TellsReached (ReplacingReaches (S.counted store.new) (S.is_sound store.old
         → IsNumberedOut (get (S.shows store.old).working update.now.table)))) }
     ensures device { IfErr result (λ refusal. refusal ≡ Disk → HasRisen (S.refused store.old) (S.refused store.new)) }
-    ensures same { S.is_sound store.old → OnErr result (SameButMark (S.shows store.old) (S.shows store.new)) }
-    ensures sound { S.is_sound store.old → S.is_sound store.new }
-    ensures counts { S.refused store.old ≤ S.refused store.new }
+    ensures same { OnErr result (SameButMark (S.shows store.old) (S.shows store.new)) }
+    ensures goes { S.goes_on store.old store.new Going.changes }
 {
     match planned_update(alloc, store, update, trees, checks) {
         Ok(Some(planned)) => carry_out(alloc, store, &update.table, planned, checks),
@@ -98,8 +98,7 @@ fn planned_update<S: Store, C: Checks>(
     ensures limits { IfErr result TellsNoLimit }
     ensures device { IfErr result (λ refusal. refusal ≡ Disk → HasRisen (S.refused store.old) (S.refused store.new)) }
     ensures shows { S.shows store.new ≡ S.shows store.old }
-    ensures sound { S.is_sound store.old → S.is_sound store.new }
-    ensures counts { S.refused store.old ≤ S.refused store.new }
+    ensures goes { S.goes_on store.old store.new Going.reads }
 {
     let made = match update_trees(alloc, store.schema(), update) {
         Ok(made) => made,

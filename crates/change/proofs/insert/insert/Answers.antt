@@ -1,4 +1,4 @@
-use Rattle.std.proofs.Common.{◌≡◌, ◌∙◌, sym, ap, subst, Some}
+use Rattle.std.proofs.Common.{◌≡◌, sym, ap, subst}
 use Rattle.session_definitions.specs.Refusals.{IsReserved}
 use Rattle.change.proofs.Named.{no_device}
 use Rattle.std.proofs.lemmas.Result.{IfOk-weaker, IfErr-weaker}
@@ -14,6 +14,7 @@ use Rattle.table_changes.specs.Given.{AreGiven, HasAccepted}
 use Rattle.constraints.proofs.Limits.{tells_none}
 use Rattle.change.specs.Reached.{ChangeReaches}
 use Rattle.change.proofs.Reaching.{inserting_reaches}
+use Rattle.store.specs.Going.{Going}
 use Rattle.change.proofs.insert.insert.Goals as goal
 
 pub returns-in-Ok-rows_of-clause-changes : goal.returns-in-Ok-rows_of-clause-changes
@@ -26,7 +27,7 @@ returns-in-Ok-rows_of-clause-changes g c = IfOk-weaker c.insert_rows.result _ _
     let given = c.in-Ok-rows_of.ensures.gives reading there.0 sound of there.1 (decided there.0 there.1) in
     let same : old ≡ g.S.Store.shows c.rows_of.new.store = sym c.rows_of.ensures.shows in
     subst (λ (s : Stored). HasAccepted reading s (does.Insert c.args.insert.now) reply (g.S.Store.shows c.insert_rows.new.store)) (sym same)
-    (h reading (c.rows_of.ensures.sound sound)
+    (h reading ((g.met.S.Store.goes_on_goes _ _ _ c.rows_of.ensures.goes).sound sound)
     (subst (λ (s : Stored). AreChecksFor reading (database_of s.working) c.args.insert.now.table c.in-Ok.checks.conditions) same decided)
     (subst (λ (s : Stored). Holds reading (database_of s.working) c.args.insert.now.table) same (λ table is. (good c.args.insert.now.table table is).unviolated))
     (subst (λ (s : Stored). AreGiven reading (database_of s.working) c.args.insert.now c.in-Ok-rows_of.rows) same given)))
@@ -42,7 +43,7 @@ returns-in-Ok-rows_of-clause-refused g c = IfErr-weaker c.insert_rows.result _ _
     let given = c.in-Ok-rows_of.ensures.gives reading there.0 sound of there.1 (decided there.0 there.1) in
     let same : old ≡ g.S.Store.shows c.rows_of.new.store = sym c.rows_of.ensures.shows in
     subst (λ (s : Stored). RefusesChange reading (database_of s.working) (does.Insert c.args.insert.now) refusal) (sym same)
-    (h reading (c.rows_of.ensures.sound sound)
+    (h reading ((g.met.S.Store.goes_on_goes _ _ _ c.rows_of.ensures.goes).sound sound)
     (subst (λ (s : Stored). AreChecksFor reading (database_of s.working) c.args.insert.now.table c.in-Ok.checks.conditions) same decided)
     (subst (λ (s : Stored). Holds reading (database_of s.working) c.args.insert.now.table) same (λ table is. (good c.args.insert.now.table table is).unviolated))
     (subst (λ (s : Stored). AreGiven reading (database_of s.working) c.args.insert.now c.in-Ok-rows_of.rows) same given)))
@@ -85,3 +86,9 @@ returns-in-Err-clause-limits g c = tells_none (ChangeReaches (g.S.Store.counted 
 
 pub returns-clause-limits : goal.returns-clause-limits
 returns-clause-limits g c = tells_none (ChangeReaches (g.S.Store.counted c.rows_of.new.store) (g.S.Store.is_sound c.args.store.now) (g.S.Store.prepared c.args.store.now) (g.S.Store.shows c.args.store.now).working (does.Insert c.args.insert.now)) c.in-Err-rows_of.refusal c.in-Err-rows_of.ensures.limits
+
+pub returns-in-Ok-rows_of-clause-goes : goal.returns-in-Ok-rows_of-clause-goes
+returns-in-Ok-rows_of-clause-goes g c = g.met.S.Store.goes_on_trans _ _ _ Going.reads Going.changes c.rows_of.ensures.goes c.insert_rows.ensures.goes
+
+pub returns-clause-goes : goal.returns-clause-goes
+returns-clause-goes g c = g.met.S.Store.goes_on_trans _ _ _ Going.reads Going.changes c.rows_of.ensures.goes (g.met.S.Store.goes_on_refl _ Going.changes)

@@ -1,4 +1,4 @@
-use Rattle.std.proofs.Common.{◌≡◌, ◌∙◌, sym, inr}
+use Rattle.std.proofs.Common.{◌∙◌, sym, inr}
 use Rattle.change.proofs.Given.{fault_is_no_disk}
 use Rattle.denote.specs.declared.fault.Stop.TheVariants as stopped
 use Rattle.constraints.proofs.Limits.{stop_tells}

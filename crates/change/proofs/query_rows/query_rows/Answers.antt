@@ -1,7 +1,6 @@
-use Rattle.std.proofs.Common.{◌≡◌, ◌∙◌, sym, ap, subst, ℕ, List, []}
+use Rattle.std.proofs.Common.{◌≡◌, ◌∙◌, sym, ap, subst, List, []}
 use Rattle.std.proofs.lemmas.Result.{IfOk-weaker, IfErr-weaker}
 use Rattle.sqlval.specs.declared.schema.Schema.{Schema}
-use Rattle.sqlval.specs.Value.{Row}
 use Rattle.algebra.specs.declared.tree.Expression.{Expression}
 use Rattle.algebra.specs.declared.tree.Tree.{Tree}
 use Rattle.algebra.specs.Described.{described_in}
@@ -9,7 +8,7 @@ use Rattle.algebra.specs.Listing.{tree_listing}
 use Rattle.algebra.specs.TreeOutcome.{tree_outcome}
 use Rattle.algebra_laws.specs.Shown.{Lists}
 use Rattle.denote.specs.Database.{rows_in}
-use Rattle.denote.specs.Meaning.{Tables, query_outcome}
+use Rattle.denote.specs.Meaning.{query_outcome}
 use Rattle.denote.specs.Outcome.{Outcome}
 use Rattle.denote.specs.SchemaOf.{IsSchemaOf}
 use Rattle.query_answers.specs.Lent.{rows_lent}

@@ -1,4 +1,4 @@
-use Rattle.std.proofs.Common.{◌≡◌, ◌∙◌, refl, sym, ap, true, false, rules}
+use Rattle.std.proofs.Common.{◌≡◌, ◌∙◌, sym, ap, true, false, rules}
 use Rattle.std.specs.FinMap.{get}
 use Rattle.store.specs.Contents.{Contents}
 use Rattle.constraints.proofs.Looking.{met-next}

@@ -6,12 +6,13 @@ use Rattle.denote.specs.Database.{Name, Table, CheckReading, table_of, violated_
 use Rattle.store.specs.Contents.{database_of}
 use Rattle.constraints.specs.Settled.{Decided, Holds}
 use Rattle.constraints.proofs.Violations.{schema_here, table_read, none_holds, finds}
+use Rattle.store.specs.Going.{Going}
 use Rattle.constraints.proofs.frame.violation.Goals as goal
 
 pub returns-in-None-clause-found : goal.returns-in-None-clause-found
 returns-in-None-clause-found g c = λ reading sound decided.
     none_holds reading (database_of (g.S.Store.shows c.args.store.now).working) c.schema.result.now c.args.name.now
-    (schema_here _ _ (g.S.Store.shows c.args.store.now) (g.S.Store.shows c.scan.new.self) c.schema.ensures c.in-Ok.ensures.shows (c.in_default.ensures.prepared (c.in-Ok.ensures.sound sound)))
+    (schema_here _ _ (g.S.Store.shows c.args.store.now) (g.S.Store.shows c.scan.new.self) c.schema.ensures ((g.met.S.Store.goes_on_goes _ _ _ c.scan.ensures.goes).stays.shows) (c.in_default.ensures.prepared ((g.met.S.Store.goes_on_goes _ _ _ c.scan.ensures.goes).sound sound)))
     c.in-None.ensures.none
 
 pub returns-clause-found : goal.returns-clause-found
@@ -23,8 +24,20 @@ returns-clause-found g c = IfOk-weaker c.violation_in.result
     (λ constraint. (t : Table) × (get (database_of (g.S.Store.shows c.args.store.now).working) c.args.name.now ≡ Some t) × Contains (violated_by reading c.args.name.now t) constraint))
     (λ found h reading sound decided.
     let there = table_read (g.S.Store.shows c.args.store.now).working c.schema.result.now c.args.name.now c.in-Some.table.now c.as_slice.result.now
-    (schema_here _ _ (g.S.Store.shows c.args.store.now) (g.S.Store.shows c.scan.new.self) c.schema.ensures c.in-Ok.ensures.shows (c.in_default.ensures.prepared (c.in-Ok.ensures.sound sound)))
+    (schema_here _ _ (g.S.Store.shows c.args.store.now) (g.S.Store.shows c.scan.new.self) c.schema.ensures ((g.met.S.Store.goes_on_goes _ _ _ c.scan.ensures.goes).stays.shows) (c.in_default.ensures.prepared ((g.met.S.Store.goes_on_goes _ _ _ c.scan.ensures.goes).sound sound)))
     c.in-Some.ensures.there c.in-Some.ensures.named (c.as_slice.ensures ∙ (c.in-Ok.ensures.rows sound).rows) in
     finds reading (database_of (g.S.Store.shows c.args.store.now).working) c.args.name.now (table_of c.in-Some.table.now c.as_slice.result.now) found there
     (h reading c.args.name.now (decided (table_of c.in-Some.table.now c.as_slice.result.now) there)))
     c.violation_in.ensures.found
+
+pub returns-in-Err-clause-goes : goal.returns-in-Err-clause-goes
+returns-in-Err-clause-goes g c = g.met.S.Store.goes_on_trans _ _ _ Going.reads Going.keeps c.scan.ensures.goes (g.met.S.Store.goes_on_refl _ Going.keeps)
+
+pub returns-in-Err-prepare-clause-goes : goal.returns-in-Err-prepare-clause-goes
+returns-in-Err-prepare-clause-goes g c = g.met.S.Store.goes_on_trans _ _ _ Going.reads Going.keeps c.scan.ensures.goes c.prepare.ensures.goes
+
+pub returns-in-None-clause-goes : goal.returns-in-None-clause-goes
+returns-in-None-clause-goes g c = g.met.S.Store.goes_on_trans _ _ _ Going.reads Going.keeps c.scan.ensures.goes c.prepare.ensures.goes
+
+pub returns-clause-goes : goal.returns-clause-goes
+returns-clause-goes g c = g.met.S.Store.goes_on_trans _ _ _ Going.reads Going.keeps c.scan.ensures.goes c.prepare.ensures.goes

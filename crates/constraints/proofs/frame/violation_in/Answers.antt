@@ -1,7 +1,6 @@
-use Rattle.std.proofs.Common.{◌≡◌, [], Option, Some, None, Contains}
+use Rattle.std.proofs.Common.{◌≡◌, [], Contains}
 use Rattle.std.proofs.lemmas.Result.{IfOk-weaker}
 use Rattle.std.specs.Prelude.{MatchOption}
-use Rattle.sqlval.specs.declared.schema.Column.{Column}
 use Rattle.denote.specs.Database.{Name, CheckReading, table_of, violated_by}
 use Rattle.constraints.specs.Rules.{broken_checks}
 use Rattle.constraints.proofs.Broken.{is_check_broken_too}

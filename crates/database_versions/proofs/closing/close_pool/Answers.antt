@@ -1,4 +1,3 @@
-use Rattle.std.proofs.Common.{IfOk, Result, Ok, Err, IsTrue}
 use Rattle.pool.specs.Versions.{versions_of}
 use Rattle.database_versions.proofs.CloseLemmas.{closed_holds, closed_owned}
 use Rattle.database_versions.proofs.closing.close_pool.Goals as goal

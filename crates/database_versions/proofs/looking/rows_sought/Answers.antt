@@ -34,3 +34,9 @@ returns-in-Err-clause-refused g c =
     fails_as (IsDatabase ((versions_of c.args.pool.now).pages c.args.at) (private_of c.args.changes.now)) (g.D.Disk.refused (device_of c.args.pool.now)) (g.D.Disk.refused (device_of c.read_header.new.pool)) Never
     c.of_fault-in-Err.result (of_fault c.in-Err.fault) c.of_fault-in-Err.ensures
     (header_fails ((versions_of c.args.pool.now).pages c.args.at) (private_of c.args.changes.now) Never (g.D.Disk.refused (device_of c.args.pool.now)) (g.D.Disk.refused (device_of c.read_header.new.pool)) c.in-Err.fault c.in-Err.ensures.refusal)
+
+pub returns-in-Ok-seek_from-clause-writes : goal.returns-in-Ok-seek_from-clause-writes
+returns-in-Ok-seek_from-clause-writes g c = c.seek_from.ensures.writes ∙ c.read_header.ensures.writes
+
+pub returns-in-Err-seek_from-clause-writes : goal.returns-in-Err-seek_from-clause-writes
+returns-in-Err-seek_from-clause-writes g c = c.seek_from.ensures.writes ∙ c.read_header.ensures.writes

@@ -1,4 +1,4 @@
-use Rattle.std.proofs.Common.{List, ap, sym, refl, ◌∙◌, inl}
+use Rattle.std.proofs.Common.{ap, ◌∙◌, inl}
 use Rattle.pagefile.specs.File.{disk_of}
 use Rattle.pool.specs.Versions.{versions_of, device_of}
 use Rattle.database_versions.proofs.OpenLemmas.{new_begins, new_owned, no_less}

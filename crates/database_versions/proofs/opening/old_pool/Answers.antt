@@ -1,4 +1,4 @@
-use Rattle.std.proofs.Common.{ap, sym, refl, ◌∙◌, length, inr}
+use Rattle.std.proofs.Common.{ap, ◌∙◌, length, inr}
 use Rattle.pagefile.specs.File.{disk_of}
 use Rattle.pool.specs.Versions.{versions_of, device_of}
 use Rattle.database_versions.proofs.OpenLemmas.{old_begins, old_owned, open_refused, no_less}

@@ -1,4 +1,4 @@
-use Rattle.std.proofs.Common.{List, ap, sym, length, ◌∙◌}
+use Rattle.std.proofs.Common.{ap, sym, length, ◌∙◌}
 use Rattle.pool.specs.Versions.{versions_of, device_of}
 use Rattle.database_versions.proofs.OpenLemmas.{empty_of, begins_after, owned_after, readable_after, counts_after, left_after, left_same, refused_after, memory_fails}
 use Rattle.database_versions.proofs.opening.pool_over.Goals as goal

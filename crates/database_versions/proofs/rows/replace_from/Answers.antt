@@ -1,4 +1,4 @@
-use Rattle.std.proofs.Common.{◌∷◌, [], ℕ, IfOk, IfErr, OnOk, ap, sym, subst}
+use Rattle.std.proofs.Common.{ℕ, IfOk, IfErr, OnOk, ap, sym, subst}
 use Rattle.store.specs.Contents.{replaced}
 use Rattle.pool.specs.Pages.{PageMap, over}
 use Rattle.pool.specs.Versions.{versions_of, device_of}

@@ -1,9 +1,9 @@
-use Rattle.std.proofs.Common.{ap, ◌∙◌, inl, inr, arith}
+use Rattle.std.proofs.Common.{ap, ◌∙◌, arith}
 use Rattle.store.specs.Errors.{ChangingReaches}
 use Rattle.store.specs.Contents.{Contents, unindexed}
 use Rattle.pool.specs.Versions.{Versions, versions_of, device_of}
 use Rattle.overlay.specs.WriteSet.{private_of}
-use Rattle.database_versions.specs.Databases.{contents_in, IsDatabase}
+use Rattle.database_versions.specs.Databases.{IsDatabase}
 use Rattle.database_versions.specs.Refusals.{of_fault, IsCounted}
 use Rattle.database_versions.proofs.RefusalLemmas.{header_fails}
 use Rattle.database_versions.proofs.StepLemmas.{fails_as, changed_of, owned_of, root_fails, table_fail}
@@ -55,3 +55,12 @@ returns-in-Err-clause-refused g c =
     fails_as (IsDatabase ((versions_of c.args.pool.now).pages c.args.at) (private_of c.args.changes.now)) (g.D.Disk.refused (device_of c.args.pool.now)) (g.D.Disk.refused (device_of c.read_header.new.pool)) (ChangingReaches (IsCounted ((versions_of c.args.pool.now).pages c.args.at) (private_of c.args.changes.now)))
     c.of_fault-in-Err.result (of_fault c.in-Err.fault) c.of_fault-in-Err.ensures
     (header_fails ((versions_of c.args.pool.now).pages c.args.at) (private_of c.args.changes.now) (ChangingReaches (IsCounted ((versions_of c.args.pool.now).pages c.args.at) (private_of c.args.changes.now))) (g.D.Disk.refused (device_of c.args.pool.now)) (g.D.Disk.refused (device_of c.read_header.new.pool)) c.in-Err.fault c.in-Err.ensures.refusal)
+
+pub returns-in-Ok-put_root-clause-writes : goal.returns-in-Ok-put_root-clause-writes
+returns-in-Ok-put_root-clause-writes g c = c.put_root.ensures.writes ∙ c.unindex_from.ensures.writes ∙ c.read_header.ensures.writes
+
+pub returns-in-Err-put_root-clause-writes : goal.returns-in-Err-put_root-clause-writes
+returns-in-Err-put_root-clause-writes g c = c.put_root.ensures.writes ∙ c.unindex_from.ensures.writes ∙ c.read_header.ensures.writes
+
+pub returns-in-Err-unindex_from-clause-writes : goal.returns-in-Err-unindex_from-clause-writes
+returns-in-Err-unindex_from-clause-writes g c = c.unindex_from.ensures.writes ∙ c.read_header.ensures.writes

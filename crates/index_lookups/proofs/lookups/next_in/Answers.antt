@@ -1,9 +1,8 @@
-use Rattle.std.proofs.Common.{◌≡◌, ◌∙◌, Bor, sym, ap, subst, ℕ, List, Option, Some, None, IfOk}
+use Rattle.std.proofs.Common.{Bor, sym, ap, subst, ℕ, List, Option, Some, None, IfOk}
 use Rattle.std.specs.Prelude.{slice_get}
 use Rattle.std.specs.FinMap.{get}
 use Rattle.std.specs.Option.{option_map}
 use Rattle.store.specs.declared.rows.Position.{Position as At}
-use Rattle.store.specs.Contents as stored
 use Rattle.store.specs.Indexes.{entries_of, in_order, beyond, next_entry}
 use Rattle.store.specs.View.{IsEntry, position_of}
 use Rattle.stored_tables.proofs.RefusalLemmas.{reads_later}

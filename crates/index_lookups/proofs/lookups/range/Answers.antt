@@ -1,7 +1,5 @@
-use Rattle.std.proofs.Common.{◌≡◌, ◌∙◌, sym, ap, subst, ℕ, List, Option, Some, None, IfOk}
+use Rattle.std.proofs.Common.{sym, subst, ℕ, List, Option, IfOk}
 use Rattle.std.specs.FinMap.{get}
-use Rattle.std.specs.Option.{option_map}
-use Rattle.store.specs.Contents as stored
 use Rattle.store.specs.Indexes.{entries_of, first_within, in_order}
 use Rattle.store.specs.View.{AreEntries}
 use Rattle.stored_tables.proofs.RefusalLemmas.{reads_later}

@@ -1,16 +1,15 @@
-use Rattle.std.proofs.Common.{◌≡◌, ◌∙◌, List, [], Option, None, IfOk, subst}
+use Rattle.std.proofs.Common.{◌≡◌, ◌∙◌, Option}
 use Rattle.std.specs.Prelude.{slice_get}
 use Rattle.std.specs.Option.{option_map}
 use Rattle.std.proofs.lemmas.Result.{IfOk-weaker}
-use Rattle.store.specs.Contents as stored
 use Rattle.store.specs.declared.rows.NumberedRow.{NumberedRow}
 use Rattle.store.specs.View.{entry_of}
-use Rattle.btree_read.specs.declared.entry.Start.TheVariants.{At, Behind}
+use Rattle.btree_read.specs.declared.entry.Start.TheVariants.{Behind}
 use Rattle.btree_read.specs.Search.{IsNoTree}
 use Rattle.stored_tables.proofs.RefusalLemmas.{read_harm, reads_later}
-use Rattle.index_lookups.specs.Walked.{walk_of, HoldsNoIndexed, StandsNowhere}
-use Rattle.index_lookups.specs.Begun.{IsRowBehind, IsNextRow}
-use Rattle.index_lookups.proofs.StandLemmas.{has_begun, indexed_in, first_of_all}
+use Rattle.index_lookups.specs.Walked.{HoldsNoIndexed, StandsNowhere}
+use Rattle.index_lookups.specs.Begun.{IsRowBehind}
+use Rattle.index_lookups.proofs.StandLemmas.{has_begun, indexed_in}
 use Rattle.index_lookups.proofs.lookups.row_behind.Goals as goal
 
 pub returns-in-Ok-clause-row : goal.returns-in-Ok-clause-row

@@ -1,6 +1,5 @@
 use Rattle.std.proofs.Common.{◌≡◌, ◌∙◌, ap, ℕ, List, ◌∷◌, Option, Some, None, arith}
 use Rattle.std.proofs.lemmas.Result.{IfOk-weaker}
-use Rattle.store.specs.Contents as stored
 use Rattle.btree_read.specs.declared.entry.Entry.{Entry}
 use Rattle.btree_read.specs.declared.entry.Start.TheVariants.{Behind}
 use Rattle.btree_read.specs.Search.{IsNoTree}

@@ -1,4 +1,4 @@
-use Rattle.std.proofs.Common.{◌≡◌, OnOk, subst}
+use Rattle.std.proofs.Common.{◌≡◌, ◌∙◌, OnOk, subst}
 use Rattle.pool.specs.Pages.{PageMap, over, known}
 use Rattle.pool.specs.Versions.{versions_of}
 use Rattle.overlay.proofs.commits.commit.Goals as goal
@@ -7,3 +7,6 @@ pub returns-clause-written : goal.returns-clause-written
 returns-clause-written g c =
     subst (λ (p : PageMap). OnOk c.commit.result ((versions_of c.commit.new.self).pages (versions_of c.commit.new.self).last
     ≡ known g.D.Disk.is_honest (over p ((versions_of c.args.pool.now).pages (versions_of c.args.pool.now).last)))) c.in_ok-set.ensures c.commit.ensures.written
+
+pub returns-clause-idle : goal.returns-clause-idle
+returns-clause-idle g c = λ none. c.commit.ensures.idle (c.in_ok-set.ensures ∙ none)

@@ -1,4 +1,4 @@
-use Rattle.std.proofs.Common.{ℕ, ◌<◌, ◌^◌, drop}
+use Rattle.std.proofs.Common.{drop}
 use Rattle.std.specs.List.{AllByRecursion}
 use Rattle.catalog_records.specs.Keepable.{IsColumn}
 use Rattle.paged_store.proofs.keeping.are_columns.Given as goal

@@ -1,13 +1,11 @@
-use Rattle.std.proofs.Common.{◌≡◌, ◌∙◌, refl, sym, ap, inl, inr}
 use Rattle.pool.specs.Versions.{versions_of, device_of}
 use Rattle.overlay.specs.WriteSet.{fresh_of, settled_of, private_of}
 use Rattle.snapshot_pins.specs.Pinned.{numbers_of}
 use Rattle.std.proofs.Common.{IfOk}
 use Rattle.std.specs.FinMap.{get}
-use Rattle.denote.specs.SchemaOf.{IsSchemaOf}
-use Rattle.store.specs.Contents.{Contents, database_of}
-use Rattle.store.specs.Indexes.{entries_of, entry_after}
-use Rattle.store.specs.View.{AreEntries, IsEntry}
+use Rattle.store.specs.Contents.{Contents}
+use Rattle.store.specs.Indexes.{entries_of}
+use Rattle.store.specs.View.{AreEntries}
 use Rattle.database_versions.specs.Databases.{IsDatabase}
 use Rattle.paged_store.specs.Sound.{IsSound}
 use Rattle.paged_store.proofs.PageLemmas.{none_private}

@@ -1,4 +1,3 @@
-use Rattle.std.proofs.Common.{◌≡◌, ◌∙◌, refl, sym, ap, inl, inr}
 use Rattle.pool.specs.Versions.{versions_of, device_of}
 use Rattle.overlay.specs.WriteSet.{fresh_of, settled_of, private_of}
 use Rattle.snapshot_pins.specs.Pinned.{numbers_of}

@@ -1,4 +1,4 @@
-use Rattle.std.proofs.Common.{rules, ◌≡◌, ◌<◌, ◌≤◌, ℕ, List, [], length, take, sym, subst₂}
+use Rattle.std.proofs.Common.{rules, ◌<◌, ◌≤◌, List, [], length, sym, subst₂}
 use Rattle.std.proofs.lemmas.List.{take_more}
 use Rattle.parallel_scripts.specs.declared.part.Part.{Part}
 use Rattle.shared.specs.Scripts.{Text}

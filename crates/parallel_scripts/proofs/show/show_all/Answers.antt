@@ -1,4 +1,4 @@
-use Rattle.std.proofs.Common.{rules, ◌≡◌, ◌<◌, List, length, true, is_ok, ap, ◌∙◌, subst}
+use Rattle.std.proofs.Common.{rules, ◌<◌, List, length, true, is_ok, ap, ◌∙◌, subst}
 use Rattle.std.proofs.lemmas.Result.{err_from_is_err_and}
 use Rattle.replies.specs.Writes.{Writes}
 use Rattle.parallel_scripts.specs.Shown.{Answers, printed_scripts, some_refused}

@@ -27,7 +27,11 @@ loop-page-preserved g c = record {
       })
       (record { room = c.in_ok-prepare_page.ensures.room; covered = c.in_ok-prepare_page.ensures.covered });
   rising = let was = c.loop-page.invariant.rising in let now = c.prepare_page.ensures.rising in omega arith;
+  writes = c.prepare_page.ensures.writes ∙ c.loop-page.invariant.writes;
 }
 
 pub returns-in_err-prepare_page-clause-unwritten : goal.returns-in_err-prepare_page-clause-unwritten
 returns-in_err-prepare_page-clause-unwritten g c = λ n. c.prepare_page.ensures.unwritten n ∙ c.loop-page.invariant.unwritten n
+
+pub returns-in_err-prepare_page-clause-writes : goal.returns-in_err-prepare_page-clause-writes
+returns-in_err-prepare_page-clause-writes g c = c.prepare_page.ensures.writes ∙ c.loop-page.invariant.writes

@@ -14,4 +14,5 @@ invariant-loop-page g l = record {
   unwritten : (n : ℕ) → to_write (slot_at l.slots n).newest ≡ to_write (slot_at l.fn.slots n).newest;
   ready : (k : ℕ) → k < l.page-index → IsReady l.slots l.pins (slice_index l.numbers k);
   rising : g.D.Disk.refused (disk_of l.fn.file) ≤ g.D.Disk.refused (disk_of l.file);
+  writes : g.D.Disk.writes (disk_of l.file) ≡ g.D.Disk.writes (disk_of l.fn.file);
 }

@@ -1,4 +1,7 @@
-use Rattle.std.proofs.Common.{sym, subst}
+use Rattle.std.proofs.Common.{◌≡◌, ◌≢◌, [], ◌∷◌, sym, subst, inl, refl}
+use Rattle.session_definitions.specs.World.{is_session}
+use Rattle.refusals.specs.declared.refusal.Refusal.TheVariants.{SerializationFailure}
+use Rattle.store.specs.Going.{Going}
 use Rattle.ast.specs.declared.statement.Statement.{Statement}
 use Rattle.ast.specs.declared.statement.Statement.TheVariants as asks
 use Rattle.store.specs.Errors.{CommittingReaches}
@@ -6,8 +9,12 @@ use Rattle.transactions.specs.Refused.{IfRefused, TellsReached}
 use Rattle.sessions.specs.Limits.{StatementReaches}
 use Rattle.statement_definitions.specs.Reading.{IsRead}
 use Rattle.sessions.proofs.Devices.{counts_state}
+use Rattle.sessions.proofs.Going.{commit_goes, commit_of_writer}
 use Rattle.sessions.proofs.Limits.{none_told, state_told, told_of_change, told_wider}
 use Rattle.sessions.proofs.Words.{later_unread}
+use Rattle.sessions.proofs.Kept.{Leaves, leaves_all, refused_alike}
+use Rattle.store.specs.Stored.{SameButMark}
+use Rattle.transactions.proofs.Orders.{same}
 use Rattle.sessions.proofs.calling.carry_out.Goals as goal
 
 pub returns-in-Query-clause-moves : goal.returns-in-Query-clause-moves
@@ -53,3 +60,74 @@ returns-in-Rollback-clause-limits g c = rw c.roll_back.ensures.done tt
 
 pub returns-in-SetTransaction-clause-limits : goal.returns-in-SetTransaction-clause-limits
 returns-in-SetTransaction-clause-limits g c = state_told (StatementReaches (g.S.Store.counted c.args.store.now) (g.S.Store.shows c.args.store.now).commits c.args.statement.now) c.set_mode.result c.set_mode.ensures.refused
+
+pub returns-in-Query-clause-goes : goal.returns-in-Query-clause-goes
+returns-in-Query-clause-goes g c = g.met.S.Store.goes_on_trans _ _ _ Going.keeps (Going.writes ((g.S.Store.shows c.args.store.now).working ∷ [])) c.query.ensures.goes (g.met.S.Store.goes_on_refl _ (Going.writes ((g.S.Store.shows c.args.store.now).working ∷ [])))
+
+pub returns-in-Query-clause-commits : goal.returns-in-Query-clause-commits
+returns-in-Query-clause-commits g c = inl (g.met.S.Store.goes_on_trans _ _ _ Going.keeps Going.changes c.query.ensures.goes (g.met.S.Store.goes_on_refl _ Going.changes))
+
+pub returns-in-Change-clause-goes : goal.returns-in-Change-clause-goes
+returns-in-Change-clause-goes g c = g.met.S.Store.goes_on_trans _ _ _ Going.changes (Going.writes ((g.S.Store.shows c.args.store.now).working ∷ [])) c.change.ensures.goes (g.met.S.Store.goes_on_refl _ (Going.writes ((g.S.Store.shows c.args.store.now).working ∷ [])))
+
+pub returns-in-Change-clause-commits : goal.returns-in-Change-clause-commits
+returns-in-Change-clause-commits g c = inl (c.change.ensures.goes)
+
+pub returns-in-Rollback-clause-goes : goal.returns-in-Rollback-clause-goes
+returns-in-Rollback-clause-goes g c = g.met.S.Store.goes_on_trans _ _ _ Going.keeps (Going.writes ((g.S.Store.shows c.args.store.now).working ∷ [])) c.roll_back.ensures.goes (g.met.S.Store.goes_on_refl _ (Going.writes ((g.S.Store.shows c.args.store.now).working ∷ [])))
+
+pub returns-in-Rollback-clause-commits : goal.returns-in-Rollback-clause-commits
+returns-in-Rollback-clause-commits g c = inl (g.met.S.Store.goes_on_trans _ _ _ Going.keeps Going.changes c.roll_back.ensures.goes (g.met.S.Store.goes_on_refl _ Going.changes))
+
+pub returns-in-Commit-clause-goes : goal.returns-in-Commit-clause-goes
+returns-in-Commit-clause-goes g c =
+    let old = g.S.Store.shows c.args.store.now in
+    commit_goes (λ going. g.S.Store.goes_on c.args.store.now c.commit.new.store going) old (is_session c.args.session c.args.writer.now)
+    (λ h. g.met.S.Store.goes_on_trans _ _ _ Going.keeps (Going.writes (old.working ∷ [])) h (g.met.S.Store.goes_on_refl _ (Going.writes (old.working ∷ [])))) c.commit.ensures.goes
+
+pub returns-in-Commit-clause-commits : goal.returns-in-Commit-clause-commits
+returns-in-Commit-clause-commits g c =
+    let is = c.in-Commit.ensures in
+    commit_of_writer (λ going. g.S.Store.goes_on c.args.store.now c.commit.new.store going) (g.S.Store.shows c.args.store.now) (is_session c.args.session c.args.writer.now) c.args.statement.now is.0 is.1
+    (λ h. g.met.S.Store.goes_on_trans _ _ _ Going.keeps Going.changes h (g.met.S.Store.goes_on_refl _ Going.changes)) c.commit.ensures.goes
+
+pub returns-in-SetTransaction-clause-commits : goal.returns-in-SetTransaction-clause-commits
+returns-in-SetTransaction-clause-commits g c = inl (g.met.S.Store.goes_on_refl _ Going.changes)
+
+pub returns-in-Later-clause-commits : goal.returns-in-Later-clause-commits
+returns-in-Later-clause-commits g c = inl (g.met.S.Store.goes_on_refl _ Going.changes)
+
+pub returns-in-Query-clause-kept : goal.returns-in-Query-clause-kept
+returns-in-Query-clause-kept g c =
+    refused_alike c.query.result (λ refusal. SameButMark (g.S.Store.shows c.args.store.now) (g.S.Store.shows c.query.new.store)) (Leaves (g.S.Store.shows c.args.store.now) c.args.writer.now c.args.mode.now (g.S.Store.shows c.query.new.store) c.args.writer.now c.args.mode.now)
+    (λ refusal k other. (k, refl, refl)) c.query.ensures.kept
+
+pub returns-in-Change-clause-kept : goal.returns-in-Change-clause-kept
+returns-in-Change-clause-kept g c =
+    refused_alike c.change.result (λ refusal. refusal ≢ SerializationFailure → SameButMark (g.S.Store.shows c.args.store.now) (g.S.Store.shows c.change.new.store) × (c.change.new.writer ≡ c.args.writer.now)) (Leaves (g.S.Store.shows c.args.store.now) c.args.writer.now c.args.mode.now (g.S.Store.shows c.change.new.store) c.change.new.writer c.args.mode.now)
+    (λ refusal k other. ((k other).0, (k other).1, refl)) c.change.ensures.kept
+
+pub returns-in-Commit-clause-kept : goal.returns-in-Commit-clause-kept
+returns-in-Commit-clause-kept g c =
+    refused_alike c.commit.result (λ refusal. ((g.S.Store.shows c.commit.new.store) ≡ (g.S.Store.shows c.args.store.now)) × (c.commit.new.writer ≡ c.args.writer.now) × (c.commit.new.mode ≡ c.args.mode.now)) (Leaves (g.S.Store.shows c.args.store.now) c.args.writer.now c.args.mode.now (g.S.Store.shows c.commit.new.store) c.commit.new.writer c.commit.new.mode)
+    (λ refusal k. leaves_all (g.S.Store.shows c.args.store.now) (g.S.Store.shows c.commit.new.store) c.args.writer.now c.commit.new.writer c.args.mode.now c.commit.new.mode refusal k.0 k.1 k.2) c.commit.ensures.kept
+
+pub returns-in-Rollback-clause-kept : goal.returns-in-Rollback-clause-kept
+returns-in-Rollback-clause-kept g c = rw c.roll_back.ensures.done tt
+
+pub returns-in-SetTransaction-clause-kept : goal.returns-in-SetTransaction-clause-kept
+returns-in-SetTransaction-clause-kept g c =
+    refused_alike c.set_mode.result (λ refusal. c.set_mode.new.mode ≡ c.args.mode.now) (Leaves (g.S.Store.shows c.args.store.now) c.args.writer.now c.args.mode.now (g.S.Store.shows c.args.store.now) c.args.writer.now c.set_mode.new.mode)
+    (λ refusal k other. (same (g.S.Store.shows c.args.store.now) (g.S.Store.shows c.args.store.now) refl, refl, k)) c.set_mode.ensures.kept
+
+pub returns-in-Later-clause-kept : goal.returns-in-Later-clause-kept
+returns-in-Later-clause-kept g c = λ other. (same (g.S.Store.shows c.args.store.now) (g.S.Store.shows c.args.store.now) refl, refl, refl)
+
+pub returns-in-Query-clause-idle : goal.returns-in-Query-clause-idle
+returns-in-Query-clause-idle g c = λ unchanged. (g.met.S.Store.goes_on_goes _ _ _ c.query.ensures.goes).stays.writes
+
+pub returns-in-Change-clause-idle : goal.returns-in-Change-clause-idle
+returns-in-Change-clause-idle g c = λ unchanged. (g.met.S.Store.goes_on_goes _ _ _ c.change.ensures.goes).stays.writes
+
+pub returns-in-Rollback-clause-idle : goal.returns-in-Rollback-clause-idle
+returns-in-Rollback-clause-idle g c = λ unchanged. (g.met.S.Store.goes_on_goes _ _ _ c.roll_back.ensures.goes).stays.writes

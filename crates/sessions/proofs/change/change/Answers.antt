@@ -5,6 +5,8 @@ use Rattle.transactions.proofs.Steps.{nothing_moves, withholds}
 use Rattle.transactions.proofs.Tests.{reserved, unbegun}
 use Rattle.sessions.proofs.ChangeSteps.{only_reads, comes_late, good_begun, makes, refuses}
 use Rattle.sessions.proofs.Devices.{risen_later, risen_still, counts_none}
+use Rattle.store.specs.Going.{Going}
+use Rattle.sessions.proofs.Kept.{none_kept}
 use Rattle.sessions.proofs.change.change.Goals as goal
 
 pub returns-then-is_read_only-clause-moves : goal.returns-then-is_read_only-clause-moves
@@ -27,20 +29,52 @@ pub returns-in-Ok-clause-moves : goal.returns-in-Ok-clause-moves
 returns-in-Ok-clause-moves g c = λ rules text are is read other sound order good.
     let begins : g.S.Store.shows c.begin.new.self ≡ begun (g.S.Store.shows c.args.store.now) c.args.session = rw c.in_default.is at c.begin.ensures.shows in
     makes rules _ _ _ _ text _ order is read (sym c.is_read_only.ensures ∙ c.if-is_read_only.false) (sym c.comes_too_late.ensures ∙ c.if-comes_too_late.false) _ begins _ _
-    (c.in-Ok.ensures.changes rules are is (c.begin.ensures.sound sound)
+    (c.in-Ok.ensures.changes rules are is ((g.met.S.Store.goes_on_goes _ _ _ c.begin.ensures.goes).sound sound)
     (good_begun rules _ _ _ _ text _ order is read (sym c.is_read_only.ensures ∙ c.if-is_read_only.false) (sym c.comes_too_late.ensures ∙ c.if-comes_too_late.false) _ begins good))
 
 pub returns-in-Err-make-clause-moves : goal.returns-in-Err-make-clause-moves
 returns-in-Err-make-clause-moves g c = λ rules text are is read other sound order good.
     let begins : g.S.Store.shows c.begin.new.self ≡ begun (g.S.Store.shows c.args.store.now) c.args.session = rw c.in_default.is at c.begin.ensures.shows in
     refuses rules _ _ _ _ text _ order is read (sym c.is_read_only.ensures ∙ c.if-is_read_only.false) (sym c.comes_too_late.ensures ∙ c.if-comes_too_late.false) _ begins _ _ other
-    (c.in-Err-make.ensures.refused rules are is (c.begin.ensures.sound sound)
+    (c.in-Err-make.ensures.refused rules are is ((g.met.S.Store.goes_on_goes _ _ _ c.begin.ensures.goes).sound sound)
     (good_begun rules _ _ _ _ text _ order is read (sym c.is_read_only.ensures ∙ c.if-is_read_only.false) (sym c.comes_too_late.ensures ∙ c.if-comes_too_late.false) _ begins good))
     (unbegun _ _ _ _ _ c.number.ensures c.is_none-idle.ensures _
-    (subst (λ (y : Stored). SameButMark y (g.S.Store.shows c.make.new.store)) begins (c.in-Err-make.ensures.same (c.begin.ensures.sound sound))) c.take_back.ensures.shows)
+    (subst (λ (y : Stored). SameButMark y (g.S.Store.shows c.make.new.store)) begins c.in-Err-make.ensures.same) c.take_back.ensures.shows)
 
 pub returns-in-Ok-clause-device : goal.returns-in-Ok-clause-device
 returns-in-Ok-clause-device g c = counts_none c.in-Ok.reply _ _ c.in-Ok.ensures.accepted
 
 pub returns-in-Err-make-clause-device : goal.returns-in-Err-make-clause-device
-returns-in-Err-make-clause-device g c = λ is. risen_still _ _ _ (risen_later _ _ _ c.begin.ensures.counts (c.in-Err-make.ensures.device is)) c.take_back.ensures.counts
+returns-in-Err-make-clause-device g c = λ is. risen_still _ _ _ (risen_later _ _ _ ((g.met.S.Store.goes_on_goes _ _ _ c.begin.ensures.goes).refused) (c.in-Err-make.ensures.device is)) ((g.met.S.Store.goes_on_goes _ _ _ c.take_back.ensures.goes).refused)
+
+pub returns-then-comes_too_late-clause-goes : goal.returns-then-comes_too_late-clause-goes
+returns-then-comes_too_late-clause-goes g c = g.met.S.Store.goes_on_trans _ _ _ Going.keeps Going.changes c.end.ensures.goes (g.met.S.Store.goes_on_refl _ Going.changes)
+
+pub returns-in-Err-clause-goes : goal.returns-in-Err-clause-goes
+returns-in-Err-clause-goes g c = g.met.S.Store.goes_on_trans _ _ _ Going.keeps Going.changes c.begin.ensures.goes (g.met.S.Store.goes_on_refl _ Going.changes)
+
+pub returns-in-Ok-clause-goes : goal.returns-in-Ok-clause-goes
+returns-in-Ok-clause-goes g c = g.met.S.Store.goes_on_trans _ _ _ Going.keeps Going.changes c.begin.ensures.goes c.make.ensures.goes
+
+pub returns-in-Err-make-clause-goes : goal.returns-in-Err-make-clause-goes
+returns-in-Err-make-clause-goes g c = g.met.S.Store.goes_on_trans _ _ _ Going.changes Going.keeps (g.met.S.Store.goes_on_trans _ _ _ Going.keeps Going.changes c.begin.ensures.goes c.make.ensures.goes) c.take_back.ensures.goes
+
+pub returns-then-is_read_only-clause-kept : goal.returns-then-is_read_only-clause-kept
+returns-then-is_read_only-clause-kept g c = λ other. (same (g.S.Store.shows c.args.store.now) _ refl, refl)
+
+pub returns-then-comes_too_late-clause-kept : goal.returns-then-comes_too_late-clause-kept
+returns-then-comes_too_late-clause-kept g c = λ other. absurd (other refl)
+
+pub returns-in-Err-clause-kept : goal.returns-in-Err-clause-kept
+returns-in-Err-clause-kept g c = λ other. (same (g.S.Store.shows c.args.store.now) _ (rw c.in-Err.is at c.begin.ensures.same), refl)
+
+pub returns-in-Ok-clause-kept : goal.returns-in-Ok-clause-kept
+returns-in-Ok-clause-kept g c = none_kept c.in-Ok.reply _ c.in-Ok.ensures.accepted
+
+pub returns-in-Err-make-clause-kept : goal.returns-in-Err-make-clause-kept
+returns-in-Err-make-clause-kept g c = λ other.
+    let begins : g.S.Store.shows c.begin.new.self ≡ begun (g.S.Store.shows c.args.store.now) c.args.session = rw c.in_default.is at c.begin.ensures.shows in (
+      unbegun _ _ _ _ _ c.number.ensures c.is_none-idle.ensures _
+          (subst (λ (y : Stored). SameButMark y (g.S.Store.shows c.make.new.store)) begins c.in-Err-make.ensures.same) c.take_back.ensures.shows,
+      refl,
+    )

@@ -6,20 +6,21 @@ use Rattle.store.specs.Contents.{database_of}
 use Rattle.sessions.proofs.Devices.{risen_later}
 use Rattle.sessions.proofs.ChangeSteps.{makes_typed, refuses_typed, refuses_wrong}
 use Rattle.sessions.proofs.Typings.{against}
+use Rattle.store.specs.Going.{Going}
 use Rattle.sessions.proofs.change.make.Goals as goal
 
 pub returns-in-Ok-clause-changes : goal.returns-in-Ok-clause-changes
 returns-in-Ok-clause-changes g c = IfOk-weaker c.make_typed.result _ _
     (λ reply h rules are is sound good.
     makes_typed rules c.args.statement.now _ _ c.in-Ok.typed _ _ are is c.schema.ensures c.prepare.ensures.shows ((rw c.in_default.is at c.prepare.ensures.prepared) sound) good c.in-Ok.ensures.finds.ok reply _
-    (λ change e of there m. h rules c.args.statement.now change are e (c.prepare.ensures.sound sound) of there m))
+    (λ change e of there m. h rules c.args.statement.now change are e ((g.met.S.Store.goes_on_goes _ _ _ c.prepare.ensures.goes).sound sound) of there m))
     c.make_typed.ensures.changes
 
 pub returns-in-Ok-clause-refused : goal.returns-in-Ok-clause-refused
 returns-in-Ok-clause-refused g c = IfErr-weaker c.make_typed.result _ _
     (λ refusal h rules are is sound good.
     refuses_typed rules c.args.statement.now _ _ c.in-Ok.typed _ _ are is c.schema.ensures c.prepare.ensures.shows ((rw c.in_default.is at c.prepare.ensures.prepared) sound) good c.in-Ok.ensures.finds.ok refusal
-    (λ change e of there m. h rules c.args.statement.now change are e (c.prepare.ensures.sound sound) of there m))
+    (λ change e of there m. h rules c.args.statement.now change are e ((g.met.S.Store.goes_on_goes _ _ _ c.prepare.ensures.goes).sound sound) of there m))
     c.make_typed.ensures.refused
 
 pub returns-in-Err-typed_by-clause-refused : goal.returns-in-Err-typed_by-clause-refused
@@ -29,4 +30,13 @@ returns-in-Err-typed_by-clause-refused g c = λ rules are is sound good.
     refuses_wrong rules _ c.args.statement.now _ (against rules _ c.schema.result.now c.args.statement.now _ are of c.in-Err-typed_by.ensures.finds.err)
 
 pub returns-in-Ok-clause-device : goal.returns-in-Ok-clause-device
-returns-in-Ok-clause-device g c = IfErr-weaker c.make_typed.result _ _ (λ refusal h is. risen_later _ _ _ c.prepare.ensures.counts (h is)) c.make_typed.ensures.device
+returns-in-Ok-clause-device g c = IfErr-weaker c.make_typed.result _ _ (λ refusal h is. risen_later _ _ _ ((g.met.S.Store.goes_on_goes _ _ _ c.prepare.ensures.goes).refused) (h is)) c.make_typed.ensures.device
+
+pub returns-in-Err-clause-goes : goal.returns-in-Err-clause-goes
+returns-in-Err-clause-goes g c = g.met.S.Store.goes_on_trans _ _ _ Going.keeps Going.changes c.prepare.ensures.goes (g.met.S.Store.goes_on_refl _ Going.changes)
+
+pub returns-in-Ok-clause-goes : goal.returns-in-Ok-clause-goes
+returns-in-Ok-clause-goes g c = g.met.S.Store.goes_on_trans _ _ _ Going.keeps Going.changes c.prepare.ensures.goes c.make_typed.ensures.goes
+
+pub returns-in-Err-typed_by-clause-goes : goal.returns-in-Err-typed_by-clause-goes
+returns-in-Err-typed_by-clause-goes g c = g.met.S.Store.goes_on_trans _ _ _ Going.keeps Going.changes c.prepare.ensures.goes (g.met.S.Store.goes_on_refl _ Going.changes)

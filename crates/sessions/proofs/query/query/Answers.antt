@@ -5,6 +5,7 @@ use Rattle.transactions.proofs.Steps.{nothing_moves, withholds}
 use Rattle.transactions.proofs.Tests.{reserved, tells_reached, unbegun}
 use Rattle.sessions.proofs.QuerySteps.{gives, refuses}
 use Rattle.sessions.proofs.Devices.{risen_later, risen_still}
+use Rattle.store.specs.Going.{Going}
 use Rattle.sessions.proofs.query.query.Goals as goal
 
 pub returns-in-Err-clause-moves : goal.returns-in-Err-clause-moves
@@ -18,16 +19,30 @@ returns-in-Err-clause-moves g c = λ rules text x mode are is read other sound o
 pub returns-in-Ok-clause-moves : goal.returns-in-Ok-clause-moves
 returns-in-Ok-clause-moves g c = λ rules text x mode are is read other sound order.
     let begins : g.S.Store.shows c.begin.new.self ≡ begun (g.S.Store.shows c.args.store.now) c.args.session = rw c.in_default.is at c.begin.ensures.shows in
-    gives rules _ _ _ mode text x _ _ order read begins c.view_of.ensures _ _ (c.in-Ok.ensures.gives rules x are is (c.begin.ensures.sound sound)) c.rows_seen.ensures.shows
+    gives rules _ _ _ mode text x _ _ order read begins c.view_of.ensures _ _ (c.in-Ok.ensures.gives rules x are is ((g.met.S.Store.goes_on_goes _ _ _ c.begin.ensures.goes).sound sound)) c.rows_seen.ensures.shows
 
 pub returns-in-Err-rows_seen-clause-moves : goal.returns-in-Err-rows_seen-clause-moves
 returns-in-Err-rows_seen-clause-moves g c = λ rules text x mode are is read other sound order.
     let begins : g.S.Store.shows c.begin.new.self ≡ begun (g.S.Store.shows c.args.store.now) c.args.session = rw c.in_default.is at c.begin.ensures.shows in
-    refuses rules _ _ _ mode text x _ _ order read begins c.view_of.ensures _ _ other (c.in-Err-rows_seen.ensures.refused rules x are is (c.begin.ensures.sound sound))
+    refuses rules _ _ _ mode text x _ _ order read begins c.view_of.ensures _ _ other (c.in-Err-rows_seen.ensures.refused rules x are is ((g.met.S.Store.goes_on_goes _ _ _ c.begin.ensures.goes).sound sound))
     (unbegun _ _ _ _ _ c.number.ensures c.is_none-idle.ensures _ (same _ _ (c.rows_seen.ensures.shows ∙ begins)) c.take_back.ensures.shows)
 
 pub returns-in-Err-rows_seen-clause-device : goal.returns-in-Err-rows_seen-clause-device
-returns-in-Err-rows_seen-clause-device g c = λ is. risen_still _ _ _ (risen_later _ _ _ c.begin.ensures.counts (c.in-Err-rows_seen.ensures.device is)) c.take_back.ensures.counts
+returns-in-Err-rows_seen-clause-device g c = λ is. risen_still _ _ _ (risen_later _ _ _ ((g.met.S.Store.goes_on_goes _ _ _ c.begin.ensures.goes).refused) (c.in-Err-rows_seen.ensures.device is)) ((g.met.S.Store.goes_on_goes _ _ _ c.take_back.ensures.goes).refused)
 
 pub returns-in-Err-clause-limits : goal.returns-in-Err-clause-limits
 returns-in-Err-clause-limits g c = tells_reached _ _ _ _ _ _ c.refusal_of.ensures (rw c.in-Err.is at c.begin.ensures.refused)
+
+pub returns-in-Ok-clause-goes : goal.returns-in-Ok-clause-goes
+returns-in-Ok-clause-goes g c = g.met.S.Store.goes_on_trans _ _ _ Going.keeps Going.keeps c.begin.ensures.goes c.rows_seen.ensures.goes
+
+pub returns-in-Err-rows_seen-clause-goes : goal.returns-in-Err-rows_seen-clause-goes
+returns-in-Err-rows_seen-clause-goes g c = g.met.S.Store.goes_on_trans _ _ _ Going.keeps Going.keeps (g.met.S.Store.goes_on_trans _ _ _ Going.keeps Going.keeps c.begin.ensures.goes c.rows_seen.ensures.goes) c.take_back.ensures.goes
+
+pub returns-in-Err-clause-kept : goal.returns-in-Err-clause-kept
+returns-in-Err-clause-kept g c = same (g.S.Store.shows c.args.store.now) _ (rw c.in-Err.is at c.begin.ensures.same)
+
+pub returns-in-Err-rows_seen-clause-kept : goal.returns-in-Err-rows_seen-clause-kept
+returns-in-Err-rows_seen-clause-kept g c =
+    let begins : g.S.Store.shows c.begin.new.self ≡ begun (g.S.Store.shows c.args.store.now) c.args.session = rw c.in_default.is at c.begin.ensures.shows in
+    unbegun _ _ _ _ _ c.number.ensures c.is_none-idle.ensures _ (same _ _ (c.rows_seen.ensures.shows ∙ begins)) c.take_back.ensures.shows

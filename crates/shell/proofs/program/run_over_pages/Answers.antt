@@ -13,3 +13,6 @@ returns-in-Ok-clause-ends g c = rw c.in-Ok.is c.run_to_end.ensures.ends
 
 pub returns-in-Err-clause-not_opened : goal.returns-in-Err-clause-not_opened
 returns-in-Err-clause-not_opened g c = rw c.in-Err.is (refl, told_alone _ _ _ _ c.failed.ensures.tells, c.failed.ensures.status)
+
+pub returns-in-Ok-clause-begun : goal.returns-in-Ok-clause-begun
+returns-in-Ok-clause-begun g c = rw c.in-Ok.is c.run_to_end.ensures.begun

@@ -1,4 +1,5 @@
-use Rattle.std.proofs.Common.{refl, le_refl}
+use Rattle.std.proofs.Common.{refl, le_refl, inl, inr}
+use Rattle.std.specs.FinMap.{empty}
 use Rattle.std.proofs.Math.Nat.{le_trans}
 use Rattle.sessions.specs.OfCore.{world_of}
 use Rattle.scripts.specs.Settled.{store_of}
@@ -20,6 +21,7 @@ returns-in-Err-clause-unreadable g c = λ not. record {
   told = told_alone _ _ _ _ c.failed.ensures.tells;
   failed = c.failed.ensures.status;
   device = rw c.failed.ensures.device c.in-Err.ensures.device;
+  damage = λ is. rw c.failed.ensures.device (λ honest. c.in-Err.ensures.same honest is);
 }
 
 pub returns-in-Err-clause-ends : goal.returns-in-Err-clause-ends
@@ -29,6 +31,17 @@ returns-in-Err-clause-ends g c = Ends.not_opened (record {
   told = told_alone _ _ _ _ c.failed.ensures.tells;
   failed = c.failed.ensures.status;
   device = rw c.failed.ensures.device c.in-Err.ensures.device;
+  damage = λ is. rw c.failed.ensures.device (λ honest. c.in-Err.ensures.same honest is);
+})
+
+pub returns-in-Err-clause-begun : goal.returns-in-Err-clause-begun
+returns-in-Err-clause-begun g c = λ rules are begun. inl (record {
+  refusal = c.in-Err.refused.refusal;
+  unread = refl;
+  told = told_alone _ _ _ _ c.failed.ensures.tells;
+  failed = c.failed.ensures.status;
+  device = rw c.failed.ensures.device c.in-Err.ensures.device;
+  damage = λ is. rw c.failed.ensures.device (λ honest. c.in-Err.ensures.same honest is);
 })
 
 -- ---- it was closed
@@ -50,6 +63,15 @@ returns-in-Ok-close-clause-runs g c = λ rules db are saved good.
     closed_run _ _ _ _ _ _ _ _ _ _ (world_of g.S.Store.shows c.carry_out-status.new.core) c.in-Ok.ensures.counts c.in-Ok-close.ensures.counts
     (carried_from _ _ _ _ _ _ _ _ _ begins.1 (c.carry_out-status.ensures.carries_out rules are start))
     (λ told counted. ((c.in-Ok-close.ensures.closed end.sound, c.in-Ok-close.ensures.settled, counted), end.good.last))
+
+pub returns-in-Ok-close-clause-begun : goal.returns-in-Ok-close-clause-begun
+returns-in-Ok-close-clause-begun g c = λ rules are begun.
+    let begins = c.in-Ok.ensures.begun begun in
+    let start = is_settled g.S.Store.is_sound g.S.Store.shows rules.check c.in-Ok.core empty begins.0 begins.1 c.in-Ok.ensures.empty (c.databases_stay_good.ensures.new_world rules.check) in
+    let end = c.carry_out-status.ensures.settled rules are start in
+    inr (closed_run _ _ _ _ _ _ _ _ _ _ (world_of g.S.Store.shows c.carry_out-status.new.core) c.in-Ok.ensures.counts c.in-Ok-close.ensures.counts
+    (carried_from _ _ _ _ _ _ _ _ _ begins.1 (c.carry_out-status.ensures.carries_out rules are start))
+    (λ told counted. ((c.in-Ok-close.ensures.closed end.sound, c.in-Ok-close.ensures.settled, counted), end.good.last)))
 
 -- ---- it was not closed
 
@@ -74,3 +96,13 @@ returns-in-Err-close-clause-runs g c = λ rules db are saved good.
     (rw c.in-Err-close.ensures.fails.0 at c.failed-in-Err-close.ensures.tells) c.failed-in-Err-close.ensures.status
     (rw (c.failed-in-Err-close.ensures.device, c.failed-in-Err-close.ensures.unclosed)
     ((refl, risen_since _ _ _ _ c.in-Ok.ensures.counts c.carry_out-status.ensures.counts c.in-Err-close.ensures.device), tt))
+
+pub returns-in-Err-close-clause-begun : goal.returns-in-Err-close-clause-begun
+returns-in-Err-close-clause-begun g c = λ rules are begun.
+    let begins = c.in-Ok.ensures.begun begun in
+    let start = is_settled g.S.Store.is_sound g.S.Store.shows rules.check c.in-Ok.core empty begins.0 begins.1 c.in-Ok.ensures.empty (c.databases_stay_good.ensures.new_world rules.check) in
+    inr (Runs.not_closed c.carry_out-status.result.status c.carry_out-status.result.is_told (g.W.Write.contents c.carry_out-status.new.writer) (world_of g.S.Store.shows c.carry_out-status.new.core)
+    (carried_from _ _ _ _ _ _ _ _ _ begins.1 (c.carry_out-status.ensures.carries_out rules are start)).carried
+    (rw c.in-Err-close.ensures.fails.0 at c.failed-in-Err-close.ensures.tells) c.failed-in-Err-close.ensures.status
+    (rw (c.failed-in-Err-close.ensures.device, c.failed-in-Err-close.ensures.unclosed)
+    ((refl, risen_since _ _ _ _ c.in-Ok.ensures.counts c.carry_out-status.ensures.counts c.in-Err-close.ensures.device), tt)))

@@ -1,4 +1,5 @@
-use Rattle.std.proofs.Common.{◌≡◌, not, refl, sym, ap, ◌∙◌}
+use Rattle.std.proofs.Common.{◌≡◌, not, refl, sym, ap, ◌∙◌, [], ◌∷◌}
+use Rattle.store.specs.Going.{keeps, writes}
 use Rattle.store.specs.Stored.{Stored, ended, committed}
 use Rattle.transactions.proofs.Orders.{writer_is, same}
 use Rattle.transactions.proofs.Steps.{commits_as_writer, commits_as_reader, commits_idle, nothing_moves, withholds}
@@ -30,3 +31,18 @@ returns-clause-moves g c = λ rules text work read other sound order.
 
 pub returns-in-Err-clause-limits : goal.returns-in-Err-clause-limits
 returns-in-Err-clause-limits g c = tells_reached _ _ _ _ _ _ c.refusal_of.ensures (rw c.in-Err.is at c.commit.ensures.refused)
+
+pub returns-then-is_writer-clause-goes : goal.returns-then-is_writer-clause-goes
+returns-then-is_writer-clause-goes g c = rw (sym c.is_writer.ensures ∙ c.if-is_writer.true) (g.met.S.Store.goes_on_trans _ _ _ (writes ((g.S.Store.shows c.args.store.now).working ∷ [])) keeps c.commit.ensures.goes c.end.ensures.goes)
+
+pub returns-in-Err-clause-kept : goal.returns-in-Err-clause-kept
+returns-in-Err-clause-kept g c = (rw c.in-Err.is at c.commit.ensures.same, refl, refl)
+
+pub returns-in-Err-clause-idle : goal.returns-in-Err-clause-idle
+returns-in-Err-clause-idle g c = λ unchanged. c.commit.ensures.idle unchanged
+
+pub returns-then-is_writer-clause-idle : goal.returns-then-is_writer-clause-idle
+returns-then-is_writer-clause-idle g c = λ unchanged. (g.met.S.Store.goes_on_goes _ _ _ c.end.ensures.goes).stays.writes ∙ c.commit.ensures.idle unchanged
+
+pub returns-clause-idle : goal.returns-clause-idle
+returns-clause-idle g c = λ unchanged. (g.met.S.Store.goes_on_goes _ _ _ c.end-2.ensures.goes).stays.writes

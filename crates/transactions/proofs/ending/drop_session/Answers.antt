@@ -1,6 +1,5 @@
-use Rattle.std.proofs.Common.{◌≡◌, sym, ap, ◌∙◌}
-use Rattle.std.specs.FinMap.{get}
-use Rattle.store.specs.Stored.{Stored, ended, discarded}
+use Rattle.std.proofs.Common.{sym, ◌∙◌}
+use Rattle.store.specs.Going.{keeps}
 use Rattle.transactions.proofs.Maps.{get_gone, get_left}
 use Rattle.transactions.proofs.Orders.{writer_is, orderly_ended, orderly_discarded}
 use Rattle.transactions.proofs.Standing.{dropped_reader, dropped_writer}
@@ -35,3 +34,6 @@ returns-clause-others g c = λ q ne. rw c.end-2.ensures.shows (get_left (g.S.Sto
 
 pub returns-clause-gone : goal.returns-clause-gone
 returns-clause-gone g c = rw c.end-2.ensures.shows (get_gone (g.S.Store.shows c.args.store.now).readers c.args.session)
+
+pub returns-then-is_writer-clause-goes : goal.returns-then-is_writer-clause-goes
+returns-then-is_writer-clause-goes g c = g.met.S.Store.goes_on_trans _ _ _ keeps keeps c.discard.ensures.goes c.end.ensures.goes

@@ -1,4 +1,4 @@
-use Rattle.std.proofs.Common.{◌≡◌, sym, subst}
+use Rattle.std.proofs.Common.{sym, subst}
 use Rattle.sqlval.specs.declared.schema.Schema.{Schema}
 use Rattle.denote.specs.SchemaOf.{IsSchemaOf}
 use Rattle.store.specs.Contents.{database_of}

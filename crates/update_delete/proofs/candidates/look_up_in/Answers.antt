@@ -1,4 +1,4 @@
-use Rattle.std.proofs.Common.{◌≡◌, Option, Some, None, IfSome}
+use Rattle.std.proofs.Common.{Option, Some, None, IfSome}
 use Rattle.update_delete.specs.declared.candidates.LookUp.{LookUp}
 use Rattle.update_delete.specs.Candidates.{Asks, AsksIn}
 use Rattle.update_delete.proofs.candidates.look_up_in.Goals as goal

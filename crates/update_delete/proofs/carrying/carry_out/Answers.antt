@@ -14,6 +14,7 @@ use Rattle.update_delete.proofs.Carried.{all_short, among_made, decided_made, ho
 use Rattle.constraints.proofs.Limits.{tells_none}
 use Rattle.update_delete.specs.Reached.{IsNumberedOut, MakingReaches}
 use Rattle.update_delete.proofs.Reaching.{reached_before}
+use Rattle.store.specs.Going.{Going}
 use Rattle.update_delete.proofs.carrying.carry_out.Goals as goal
 
 pub returns-in-Err-make_changes-clause-refused : goal.returns-in-Err-make_changes-clause-refused
@@ -21,16 +22,16 @@ returns-in-Err-make_changes-clause-refused g c = λ reading change sound decided
     let old = g.S.Store.shows c.args.store.now in
     let mid = g.S.Store.shows c.begin.new.store in
     let marks : mid ≡ marked_now old = c.in_default.ensures.shows ∙ ap marked_now c.rows_to_look_up.ensures.shows in
-    RefusesChange.withheld (c.in-Err-make_changes.ensures.refused (c.begin.ensures.sound (c.rows_to_look_up.ensures.sound sound))
+    RefusesChange.withheld (c.in-Err-make_changes.ensures.refused ((g.met.S.Store.goes_on_goes _ _ _ c.begin.ensures.goes).sound ((g.met.S.Store.goes_on_goes _ _ _ c.rows_to_look_up.ensures.goes).sound sound))
     (all_short reading old mid change c.args.name.now c.args.planned marks meant))
 
 pub returns-in-Err-make_changes-clause-same : goal.returns-in-Err-make_changes-clause-same
-returns-in-Err-make_changes-clause-same g c = λ sound.
+returns-in-Err-make_changes-clause-same g c =
     let old = g.S.Store.shows c.args.store.now in
     let mid = g.S.Store.shows c.begin.new.store in
     let marks : mid ≡ marked_now old = c.in_default.ensures.shows ∙ ap marked_now c.rows_to_look_up.ensures.shows in
     taken_back_at_once old mid (g.S.Store.shows c.make_changes.new.store) marks
-    (c.in-Err-make_changes.ensures.undone (c.begin.ensures.sound (c.rows_to_look_up.ensures.sound sound)))
+    c.in-Err-make_changes.ensures.undone
 
 pub returns-in-Ok-settle_new-clause-changes : goal.returns-in-Ok-settle_new-clause-changes
 returns-in-Ok-settle_new-clause-changes g c = λ reading change sound decided holds harmless.
@@ -39,14 +40,14 @@ returns-in-Ok-settle_new-clause-changes g c = λ reading change sound decided ho
     let mid = g.S.Store.shows c.begin.new.store in
     let made = g.S.Store.shows c.make_changes.new.store in
     let marks : mid ≡ marked_now old = c.in_default.ensures.shows ∙ ap marked_now c.rows_to_look_up.ensures.shows in
-    let ready = c.begin.ensures.sound (c.rows_to_look_up.ensures.sound sound) in
+    let ready = (g.met.S.Store.goes_on_goes _ _ _ c.begin.ensures.goes).sound ((g.met.S.Store.goes_on_goes _ _ _ c.rows_to_look_up.ensures.goes).sound sound) in
     let all : made ≡ working_on mid (all_made c.args.name.now c.args.planned.numbers c.args.planned.changes mid.working) =
     c.in_default-make_changes.ensures.shows ready
     ∙ ap (λ (ns : List ℕ). working_on mid (all_made c.args.name.now ns c.args.planned.changes mid.working)) c.as_slice-3.ensures in
     let rises = λ (t : StoredTable) (there : get old.working c.args.name.now ≡ Some t). g.met.S.Store.numbers_rise c.args.store.now at.Working c.args.name.now t sound there in
     let new = rw c.as_slice-2.ensures at c.in-Ok.ensures.new in
     carried reading old mid change c.args.name.now c.args.planned marks meant made all rises (g.S.Store.shows c.settle_new.new.store) _ _ c.in-Ok-settle_new.ensures.kept
-    (c.in-Ok-settle_new.ensures.holds reading (c.make_changes.ensures.sound ready)
+    (c.in-Ok-settle_new.ensures.holds reading ((g.met.S.Store.goes_on_goes _ _ _ c.make_changes.ensures.goes).sound ready)
     (decided_made reading old mid change c.args.name.now c.args.planned marks meant made all rises (g.C.Checks.decides c.args.checks.now reading) decided)
     (λ known. holds_made reading old mid change c.args.name.now c.args.planned marks meant made all rises (harmless.leaves_good known holds))
     (where_new c.in-Ok.rows c.args.planned (λ (rows : List Row). OthersHold reading (database_of made.working) c.args.name.now rows) new
@@ -59,25 +60,25 @@ returns-clause-refused g c = λ reading change sound decided meant.
     let mid = g.S.Store.shows c.begin.new.store in
     let made = g.S.Store.shows c.make_changes.new.store in
     let marks : mid ≡ marked_now old = c.in_default.ensures.shows ∙ ap marked_now c.rows_to_look_up.ensures.shows in
-    let ready = c.begin.ensures.sound (c.rows_to_look_up.ensures.sound sound) in
+    let ready = (g.met.S.Store.goes_on_goes _ _ _ c.begin.ensures.goes).sound ((g.met.S.Store.goes_on_goes _ _ _ c.rows_to_look_up.ensures.goes).sound sound) in
     let all : made ≡ working_on mid (all_made c.args.name.now c.args.planned.numbers c.args.planned.changes mid.working) =
     c.in_default-make_changes.ensures.shows ready
     ∙ ap (λ (ns : List ℕ). working_on mid (all_made c.args.name.now ns c.args.planned.changes mid.working)) c.as_slice-3.ensures in
     let rises = λ (t : StoredTable) (there : get old.working c.args.name.now ≡ Some t). g.met.S.Store.numbers_rise c.args.store.now at.Working c.args.name.now t sound there in
     let new = rw c.as_slice-2.ensures at c.in-Ok.ensures.new in
     broken reading old mid change c.args.name.now c.args.planned marks meant made all rises c.in-Err-settle_new.refusal
-    (c.in-Err-settle_new.ensures.refused reading (c.make_changes.ensures.sound ready)
+    (c.in-Err-settle_new.ensures.refused reading ((g.met.S.Store.goes_on_goes _ _ _ c.make_changes.ensures.goes).sound ready)
     (decided_made reading old mid change c.args.name.now c.args.planned marks meant made all rises (g.C.Checks.decides c.args.checks.now reading) decided)
     (where_new c.in-Ok.rows c.args.planned (λ (rows : List Row). AreAmong (database_of made.working) c.args.name.now rows) new
     (λ unsure. among_made reading old mid change c.args.name.now c.args.planned marks meant made all rises unsure)))
 
 pub returns-clause-same : goal.returns-clause-same
-returns-clause-same g c = λ sound.
+returns-clause-same g c =
     let old = g.S.Store.shows c.args.store.now in
     let mid = g.S.Store.shows c.begin.new.store in
     let marks : mid ≡ marked_now old = c.in_default.ensures.shows ∙ ap marked_now c.rows_to_look_up.ensures.shows in
     taken_back old mid (g.S.Store.shows c.make_changes.new.store) (g.S.Store.shows c.settle_new.new.store) _ marks
-    (c.in_default-make_changes.ensures.shows (c.begin.ensures.sound (c.rows_to_look_up.ensures.sound sound))) c.in-Err-settle_new.ensures.undone
+    c.in_default-make_changes.ensures.alone c.in-Err-settle_new.ensures.undone
 
 pub returns-in-Err-clause-limits : goal.returns-in-Err-clause-limits
 returns-in-Err-clause-limits g c = tells_none (MakingReaches (g.S.Store.counted c.rows_to_look_up.new.store) c.args.planned.changes (g.S.Store.is_sound c.args.store.now → IsNumberedOut (get (g.S.Store.shows c.args.store.now).working c.args.name.now))) c.in-Err.refusal c.in-Err.ensures.limits
@@ -92,8 +93,23 @@ returns-in-Err-make_changes-clause-limits g c =
     let marks : mid ≡ marked_now old = c.in_default.ensures.shows ∙ ap marked_now c.rows_to_look_up.ensures.shows in
     reached_before (g.S.Store.counted c.make_changes.new.store) c.args.planned.changes c.args.planned.changes
     (g.S.Store.is_sound c.begin.new.store → IsNumberedOut (get mid.working c.args.name.now)) (g.S.Store.is_sound c.args.store.now → IsNumberedOut (get old.working c.args.name.now)) (λ none. none)
-    (λ out sound. subst (λ (s : Stored). IsNumberedOut (get s.working c.args.name.now)) marks (out (c.begin.ensures.sound (c.rows_to_look_up.ensures.sound sound))))
+    (λ out sound. subst (λ (s : Stored). IsNumberedOut (get s.working c.args.name.now)) marks (out ((g.met.S.Store.goes_on_goes _ _ _ c.begin.ensures.goes).sound ((g.met.S.Store.goes_on_goes _ _ _ c.rows_to_look_up.ensures.goes).sound sound))))
     c.in-Err-make_changes.refusal c.in-Err-make_changes.ensures.limits
 
 pub returns-clause-limits : goal.returns-clause-limits
 returns-clause-limits g c = tells_none (MakingReaches (g.S.Store.counted c.settle_new.new.store) c.args.planned.changes (g.S.Store.is_sound c.args.store.now → IsNumberedOut (get (g.S.Store.shows c.args.store.now).working c.args.name.now))) c.in-Err-settle_new.refusal c.in-Err-settle_new.ensures.limits
+
+pub returns-in-Err-clause-goes : goal.returns-in-Err-clause-goes
+returns-in-Err-clause-goes g c = g.met.S.Store.goes_on_trans _ _ _ Going.reads Going.changes c.rows_to_look_up.ensures.goes (g.met.S.Store.goes_on_refl _ Going.changes)
+
+pub returns-in-Err-begin-clause-goes : goal.returns-in-Err-begin-clause-goes
+returns-in-Err-begin-clause-goes g c = g.met.S.Store.goes_on_trans _ _ _ Going.keeps Going.changes (g.met.S.Store.goes_on_trans _ _ _ Going.reads Going.keeps c.rows_to_look_up.ensures.goes c.begin.ensures.goes) (g.met.S.Store.goes_on_refl _ Going.changes)
+
+pub returns-in-Err-make_changes-clause-goes : goal.returns-in-Err-make_changes-clause-goes
+returns-in-Err-make_changes-clause-goes g c = g.met.S.Store.goes_on_trans _ _ _ Going.keeps Going.changes (g.met.S.Store.goes_on_trans _ _ _ Going.reads Going.keeps c.rows_to_look_up.ensures.goes c.begin.ensures.goes) c.make_changes.ensures.goes
+
+pub returns-in-Ok-settle_new-clause-goes : goal.returns-in-Ok-settle_new-clause-goes
+returns-in-Ok-settle_new-clause-goes g c = g.met.S.Store.goes_on_trans _ _ _ Going.changes Going.keeps (g.met.S.Store.goes_on_trans _ _ _ Going.keeps Going.changes (g.met.S.Store.goes_on_trans _ _ _ Going.reads Going.keeps c.rows_to_look_up.ensures.goes c.begin.ensures.goes) c.make_changes.ensures.goes) c.settle_new.ensures.goes
+
+pub returns-clause-goes : goal.returns-clause-goes
+returns-clause-goes g c = g.met.S.Store.goes_on_trans _ _ _ Going.changes Going.keeps (g.met.S.Store.goes_on_trans _ _ _ Going.keeps Going.changes (g.met.S.Store.goes_on_trans _ _ _ Going.reads Going.keeps c.rows_to_look_up.ensures.goes c.begin.ensures.goes) c.make_changes.ensures.goes) c.settle_new.ensures.goes

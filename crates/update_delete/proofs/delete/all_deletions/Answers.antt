@@ -1,4 +1,4 @@
-use Rattle.std.proofs.Common.{◌≡◌, ◌∙◌, refl, true}
+use Rattle.std.proofs.Common.{◌∙◌, refl, true}
 use Rattle.std.specs.FinMap.{get}
 use Rattle.denote.specs.Database.{rows_in, table_of}
 use Rattle.store.specs.Contents.{database_of, rows_of}

@@ -1,4 +1,4 @@
-use Rattle.std.proofs.Common.{◌≡◌, ◌∙◌, sym, subst, ap, arith}
+use Rattle.std.proofs.Common.{sym, subst, arith}
 use Rattle.std.proofs.lemmas.Result.{IfOk-weaker, IfErr-weaker}
 use Rattle.std.specs.Prelude.{OnErr}
 use Rattle.typing.specs.declared.statement.Change.TheVariants as does
@@ -11,6 +11,7 @@ use Rattle.update_delete.proofs.Carried.{nothing}
 use Rattle.store.specs.Errors.{ChangingReaches}
 use Rattle.constraints.proofs.Limits.{tells_none}
 use Rattle.update_delete.proofs.Reaching.{deleting_reaches}
+use Rattle.store.specs.Going.{Going}
 use Rattle.update_delete.proofs.delete.delete_rows.Goals as goal
 
 pub returns-in-Ok-Some-clause-changes : goal.returns-in-Ok-Some-clause-changes
@@ -24,7 +25,7 @@ returns-in-Ok-Some-clause-changes g c = IfOk-weaker c.carry_out.result _ _
     let moved = subst (λ (s : Stored). IsHarmless reading s.working change c.args.delete.now.table c.in-Ok-Some.planned) (sym same) meant in
     let holds_there = subst (λ (s : Stored). Holds reading (database_of s.working) c.args.delete.now.table) (sym same) holds in
     subst (λ (s : Stored). HasChanged reading s change reply (g.S.Store.shows c.carry_out.new.store)) same
-    (h reading change (c.planned_deletion.ensures.sound sound)
+    (h reading change ((g.met.S.Store.goes_on_goes _ _ _ c.planned_deletion.ensures.goes).sound sound)
     (subst (λ (s : Stored). Decided (g.C.Checks.decides c.args.checks.now reading) (database_of s.working) c.args.delete.now.table) (sym same) decided)
     holds_there moved))
     c.carry_out.ensures.changes
@@ -37,7 +38,7 @@ returns-in-Ok-Some-clause-refused g c = IfErr-weaker c.carry_out.result _ _
     let same = c.planned_deletion.ensures.shows in
     let meant = rw c.in-Ok-Some.field-0-is at (c.in-Ok-Some.ensures.planned reading sound of) in
     subst (λ (s : Stored). RefusesChange reading (database_of s.working) change refusal) same
-    (h reading change (c.planned_deletion.ensures.sound sound)
+    (h reading change ((g.met.S.Store.goes_on_goes _ _ _ c.planned_deletion.ensures.goes).sound sound)
     (subst (λ (s : Stored). Decided (g.C.Checks.decides c.args.checks.now reading) (database_of s.working) c.args.delete.now.table) (sym same) decided)
     (subst (λ (s : Stored). IsMeant reading s.working change c.args.delete.now.table c.in-Ok-Some.planned) (sym same) meant.meant)))
     c.carry_out.ensures.refused
@@ -48,11 +49,11 @@ returns-in-Ok-None-clause-changes g c = λ reading sound of decided holds.
     (rw c.in-Ok-None.field-0-is at (c.in-Ok-None.ensures.planned reading sound of)) c.planned_deletion.ensures.shows
 
 pub returns-in-Ok-Some-clause-same : goal.returns-in-Ok-Some-clause-same
-returns-in-Ok-Some-clause-same g c = λ sound.
-    subst (λ (s : Stored). OnErr c.carry_out.result (SameButMark s (g.S.Store.shows c.carry_out.new.store))) c.planned_deletion.ensures.shows (c.carry_out.ensures.same (c.planned_deletion.ensures.sound sound))
+returns-in-Ok-Some-clause-same g c =
+    subst (λ (s : Stored). OnErr c.carry_out.result (SameButMark s (g.S.Store.shows c.carry_out.new.store))) c.planned_deletion.ensures.shows c.carry_out.ensures.same
 
 pub returns-in-Ok-Some-clause-device : goal.returns-in-Ok-Some-clause-device
-returns-in-Ok-Some-clause-device g c = IfErr-weaker c.carry_out.result _ _ (λ refusal h e. let risen = h e in omega (arith, risen, c.planned_deletion.ensures.counts)) c.carry_out.ensures.device
+returns-in-Ok-Some-clause-device g c = IfErr-weaker c.carry_out.result _ _ (λ refusal h e. let risen = h e in omega (arith, risen, ((g.met.S.Store.goes_on_goes _ _ _ c.planned_deletion.ensures.goes).refused))) c.carry_out.ensures.device
 
 pub returns-in-Err-clause-refused : goal.returns-in-Err-clause-refused
 returns-in-Err-clause-refused g c = λ reading sound of decided. c.in-Err.ensures.refused reading sound of
@@ -64,3 +65,12 @@ returns-in-Ok-Some-clause-limits g c =
 
 pub returns-in-Err-clause-limits : goal.returns-in-Err-clause-limits
 returns-in-Err-clause-limits g c = tells_none (ChangingReaches (g.S.Store.counted c.planned_deletion.new.store)) c.in-Err.refusal c.in-Err.ensures.limits
+
+pub returns-in-Ok-Some-clause-goes : goal.returns-in-Ok-Some-clause-goes
+returns-in-Ok-Some-clause-goes g c = g.met.S.Store.goes_on_trans _ _ _ Going.reads Going.changes c.planned_deletion.ensures.goes c.carry_out.ensures.goes
+
+pub returns-in-Ok-None-clause-goes : goal.returns-in-Ok-None-clause-goes
+returns-in-Ok-None-clause-goes g c = g.met.S.Store.goes_on_trans _ _ _ Going.reads Going.changes c.planned_deletion.ensures.goes (g.met.S.Store.goes_on_refl _ Going.changes)
+
+pub returns-in-Err-clause-goes : goal.returns-in-Err-clause-goes
+returns-in-Err-clause-goes g c = g.met.S.Store.goes_on_trans _ _ _ Going.reads Going.changes c.planned_deletion.ensures.goes (g.met.S.Store.goes_on_refl _ Going.changes)

@@ -1,4 +1,4 @@
-use Rattle.std.proofs.Common.{◌≡◌, ◌∙◌, sym, subst, ap, arith}
+use Rattle.std.proofs.Common.{◌∙◌, sym, subst}
 use Rattle.std.proofs.lemmas.Result.{IfOk-weaker, IfErr-weaker}
 use Rattle.std.specs.FinMap.{get}
 use Rattle.sqlval.specs.declared.schema.Schema.{Schema}
@@ -6,6 +6,7 @@ use Rattle.denote.specs.SchemaOf.{IsSchemaOf}
 use Rattle.store.specs.Contents.{database_of}
 use Rattle.store.specs.Stored.{Stored}
 use Rattle.update_delete.specs.Candidates.{AreCandidates}
+use Rattle.store.specs.Going.{Going}
 use Rattle.update_delete.proofs.delete.planned_deletion.Goals as goal
 
 pub returns-clause-planned : goal.returns-clause-planned
@@ -20,7 +21,7 @@ returns-clause-planned g c = IfOk-weaker c.all_deletions.result _ _
     (subst (λ (s : Stored). IsSchemaOf (g.S.Store.prepared c.args.store.now) (database_of s.working)) (sym c.lent_to_delete.ensures.shows) of) in
     let entries : AreCandidates (get old.working c.args.delete.now.table) c.in-Ok.filter c.in-Ok-candidates.found =
     subst (λ (s : Stored). AreCandidates (get s.working c.args.delete.now.table) c.in-Ok.filter c.in-Ok-candidates.found) c.lent_to_delete.ensures.shows
-    (c.in-Ok-candidates.ensures.rows (c.lent_to_delete.ensures.sound sound) of_lent) in
+    (c.in-Ok-candidates.ensures.rows ((g.met.S.Store.goes_on_goes _ _ _ c.lent_to_delete.ensures.goes).sound sound) of_lent) in
     h reading old.working schema c.in-Ok.ensures.tree (c.in-Ok-lent_to_delete.ensures.lent sound) entries)
     c.all_deletions.ensures.planned
 
@@ -36,9 +37,15 @@ returns-clause-refused g c = IfErr-weaker c.all_deletions.result _ _
     (subst (λ (s : Stored). IsSchemaOf (g.S.Store.prepared c.args.store.now) (database_of s.working)) (sym c.lent_to_delete.ensures.shows) of) in
     let entries : AreCandidates (get old.working c.args.delete.now.table) c.in-Ok.filter c.in-Ok-candidates.found =
     subst (λ (s : Stored). AreCandidates (get s.working c.args.delete.now.table) c.in-Ok.filter c.in-Ok-candidates.found) c.lent_to_delete.ensures.shows
-    (c.in-Ok-candidates.ensures.rows (c.lent_to_delete.ensures.sound sound) of_lent) in
+    (c.in-Ok-candidates.ensures.rows ((g.met.S.Store.goes_on_goes _ _ _ c.lent_to_delete.ensures.goes).sound sound) of_lent) in
     h reading old.working schema c.in-Ok.ensures.tree (c.in-Ok-lent_to_delete.ensures.lent sound) entries)
     c.all_deletions.ensures.refused
 
 pub returns-clause-device : goal.returns-clause-device
 returns-clause-device g c = IfErr-weaker c.all_deletions.result _ _ (λ refusal h e. absurd (h e)) c.all_deletions.ensures.device
+
+pub returns-in-Err-candidates-clause-goes : goal.returns-in-Err-candidates-clause-goes
+returns-in-Err-candidates-clause-goes g c = g.met.S.Store.goes_on_trans _ _ _ Going.reads Going.reads c.lent_to_delete.ensures.goes c.candidates.ensures.goes
+
+pub returns-clause-goes : goal.returns-clause-goes
+returns-clause-goes g c = g.met.S.Store.goes_on_trans _ _ _ Going.reads Going.reads c.lent_to_delete.ensures.goes c.candidates.ensures.goes

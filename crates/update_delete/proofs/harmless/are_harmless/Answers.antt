@@ -1,4 +1,4 @@
-use Rattle.std.proofs.Common.{◌≡◌, subst, List}
+use Rattle.std.proofs.Common.{subst, List}
 use Rattle.sqlval.specs.Value.{Row}
 use Rattle.denote.specs.Database.{table_of}
 use Rattle.update_delete.specs.declared.change.RowChange.{RowChange}

@@ -1,4 +1,3 @@
-use Rattle.std.proofs.lemmas.Result.{IfOk-weaker}
 use Rattle.update_delete.proofs.harmless.is_harmless.Goals as goal
 
 pub returns-in-Stays-clause-sure : goal.returns-in-Stays-clause-sure

@@ -1,5 +1,4 @@
-use Rattle.std.proofs.Common.{◌≡◌, ◌∙◌, sym, true}
-use Rattle.update_delete.specs.Kept.{keep_keys}
+use Rattle.std.proofs.Common.{◌∙◌, sym}
 use Rattle.update_delete.proofs.Keeping.{keeps-tested}
 use Rattle.update_delete.proofs.harmless.may_replace.Goals as goal
 

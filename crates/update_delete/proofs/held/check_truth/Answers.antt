@@ -1,4 +1,3 @@
-use Rattle.std.proofs.Common.{refl}
 use Rattle.update_delete.proofs.held.check_truth.Goals as goal
 
 pub returns : goal.returns

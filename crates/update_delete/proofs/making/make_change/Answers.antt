@@ -1,7 +1,7 @@
-use Rattle.std.proofs.Common.{[], ◌∷◌, sym, subst, rules}
+use Rattle.std.proofs.Common.{[], ◌∷◌, sym, subst}
 use Rattle.session_definitions.specs.Refusals.{IsReserved}
-use Rattle.store.specs.Errors.{ChangingReaches, StoringReaches, indexes_of}
-use Rattle.transactions.proofs.Tests.{reserved, tells_reached}
+use Rattle.store.specs.Errors.{ChangingReaches, StoringReaches}
+use Rattle.transactions.proofs.Tests.{tells_reached}
 use Rattle.update_delete.proofs.Standing.{withheld}
 use Rattle.std.specs.FinMap.{get}
 use Rattle.update_delete.specs.Reached.{IsNumberedOut}

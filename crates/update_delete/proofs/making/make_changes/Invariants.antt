@@ -1,4 +1,5 @@
-use Rattle.std.specs.Prelude.{◌≤◌}
+use Rattle.store.specs.Going.{Going}
+use Rattle.store.specs.Stored.{IsAlone}
 use Rattle.update_delete.proofs.Reaching.{LeavesNone}
 use Rattle.update_delete.proofs.Standing.{StandsAt}
 use Rattle.update_delete.proofs.making.make_changes.Given as goal
@@ -8,7 +9,7 @@ use Rattle.update_delete.proofs.making.make_changes.Given as goal
 abbrev pub invariant-loop-change : goal.invariant-loop-change
 invariant-loop-change g l = record {
   stands : g.S.Store.is_sound l.fn.store → StandsAt (g.S.Store.shows l.fn.store) l.name l.numbers l.fn.changes (g.S.Store.shows l.store) l.rest l.change-iterator.rest.items;
-  sound : g.S.Store.is_sound l.fn.store → g.S.Store.is_sound l.store;
   none : LeavesNone l.fn.changes l.change-iterator.rest.items;
-  counts : g.S.Store.refused l.fn.store ≤ g.S.Store.refused l.store;
+  alone : IsAlone (g.S.Store.shows l.fn.store) (g.S.Store.shows l.store);
+  goes : g.S.Store.goes_on l.fn.store l.store Going.changes;
 }

@@ -1,4 +1,3 @@
-use Rattle.algebra.specs.Described.{described_in}
 use Rattle.query_answers.proofs.Meant.{described_named}
 use Rattle.update_delete.proofs.Steps.{filter_of}
 use Rattle.update_delete.proofs.trees.filter_tree.Goals as goal

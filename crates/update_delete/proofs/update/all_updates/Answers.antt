@@ -1,4 +1,4 @@
-use Rattle.std.proofs.Common.{◌≡◌, ◌∙◌, refl, sym, subst, List, filter}
+use Rattle.std.proofs.Common.{◌∙◌, refl, sym, subst, List, filter}
 use Rattle.sqlval.specs.Value.{Row}
 use Rattle.session_definitions.specs.Refusals.{IsReserved}
 use Rattle.constraints.specs.Changed.{RefusesChange}

@@ -1,8 +1,7 @@
-use Rattle.std.proofs.Common.{◌≡◌, ◌∙◌, refl, sym, ap, inl, inr}
+use Rattle.std.proofs.Common.{refl}
 use Rattle.pool.specs.Versions.{versions_of, device_of}
 use Rattle.overlay.specs.WriteSet.{fresh_of, settled_of, private_of, undone_of}
 use Rattle.snapshot_pins.specs.Pinned.{numbers_of}
-use Rattle.std.specs.FinMap.{get}
 use Rattle.database_versions.proofs.RefusalLemmas.{commit_fails}
 use Rattle.store.specs.Errors.{CommittingReaches}
 use Rattle.store.specs.declared.error.StoreLimit.{StoreLimit}
@@ -15,6 +14,8 @@ use Rattle.paged_store.proofs.SoundLemmas.{sound_committed, same_sound}
 use Rattle.paged_store.proofs.ChangeLemmas.{told_fails}
 use Rattle.paged_store.proofs.OrderlyLemmas.{orderly_committed, orderly_same}
 use Rattle.paged_store.proofs.SteadyLemmas.{steady_none, steady_same}
+use Rattle.paged_store.proofs.GoesLemmas.{pool_tells}
+use Rattle.paged_store.proofs.OrderlyLemmas.{no_more}
 use Rattle.paged_store.proofs.paged.PagedStore.commit.Goals as goal
 
 pub returns-in-Ok-clause-shows : goal.returns-in-Ok-clause-shows
@@ -25,23 +26,10 @@ returns-in-Ok-clause-shows g c =
     (λ q n e. c.in-Ok.ensures.kept n (c.found_is_pinned.ensures s.readers (versions_of s.pool).pins q n s.ordered.pinned e)) s.ordered.first
     (none_private (fresh_of c.new.result) (settled_of c.new.result) c.new.ensures.fresh c.new.ensures.settled) c.new.ensures.settled
 
-pub returns-in-Ok-clause-sound : goal.returns-in-Ok-clause-sound
-returns-in-Ok-clause-sound g c =
-    let s = c.args.self.now in
-    sound_committed g.D.Disk.is_honest (versions_of s.pool) (versions_of c.commit.new.pool) (numbers_of s.readers) (private_of s.changes) (settled_of s.changes) (private_of c.new.result) (settled_of c.new.result)
-    c.in-Ok.ensures.written
-    (λ q n e. c.in-Ok.ensures.kept n (c.found_is_pinned.ensures s.readers (versions_of s.pool).pins q n s.ordered.pinned e)) s.ordered.first
-    (none_private (fresh_of c.new.result) (settled_of c.new.result) c.new.ensures.fresh c.new.ensures.settled) c.new.ensures.settled
-
 pub returns-in-Err-clause-same : goal.returns-in-Err-clause-same
 returns-in-Err-clause-same g c =
     let s = c.args.self.now in
     shown_with g.D.Disk.is_honest (versions_of s.pool) (versions_of c.commit.new.pool) (numbers_of s.readers) (private_of s.changes) (settled_of s.changes) (private_of s.changes) (settled_of s.changes) c.in-Err.ensures.refused refl refl
-
-pub returns-in-Err-clause-sound : goal.returns-in-Err-clause-sound
-returns-in-Err-clause-sound g c =
-    let s = c.args.self.now in
-    same_sound g.D.Disk.is_honest (versions_of s.pool) (versions_of c.commit.new.pool) (numbers_of s.readers) (private_of s.changes) (settled_of s.changes) c.in-Err.ensures.refused
 
 pub returns-in-Err-clause-refused : goal.returns-in-Err-clause-refused
 returns-in-Err-clause-refused g c =
@@ -65,4 +53,51 @@ invariant_of-self-in-Err-1 g c =
     record {
       ordered = orderly_same g.D.Disk.is_honest (versions_of s.pool) (versions_of c.commit.new.pool) s.readers s.commits c.in-Err.ensures.refused s.ordered;
       steady = steady_same (versions_of s.pool) (versions_of c.commit.new.pool) (private_of s.changes) (settled_of s.changes) c.in-Err.ensures.refused s.steady;
+    }
+
+pub returns-in-Ok-clause-damage : goal.returns-in-Ok-clause-damage
+returns-in-Ok-clause-damage g c =
+    (refl, tt)
+
+pub returns-in-Ok-clause-idle : goal.returns-in-Ok-clause-idle
+returns-in-Ok-clause-idle g c =
+    c.commit.ensures.idle
+
+pub returns-in-Ok-clause-unchanged : goal.returns-in-Ok-clause-unchanged
+returns-in-Ok-clause-unchanged g c =
+    none_private (fresh_of c.new.result) (settled_of c.new.result) c.new.ensures.fresh c.new.ensures.settled
+
+pub returns-in-Ok-clause-goes : goal.returns-in-Ok-clause-goes
+returns-in-Ok-clause-goes g c =
+    let s = c.args.self.now in
+    record {
+      sound = sound_committed g.D.Disk.is_honest (versions_of s.pool) (versions_of c.commit.new.pool) (numbers_of s.readers) (private_of s.changes) (settled_of s.changes) (private_of c.new.result) (settled_of c.new.result)
+          c.in-Ok.ensures.written
+          (λ q n e. c.in-Ok.ensures.kept n (c.found_is_pinned.ensures s.readers (versions_of s.pool).pins q n s.ordered.pinned e)) s.ordered.first
+          (none_private (fresh_of c.new.result) (settled_of c.new.result) c.new.ensures.fresh c.new.ensures.settled) c.new.ensures.settled;
+      refused = c.commit.ensures.rising;
+      damaged = no_more s.damaged;
+      read = no_more s.read;
+      stays = tt;
+      unchanged = tt;
+    }
+
+pub returns-in-Err-clause-damage : goal.returns-in-Err-clause-damage
+returns-in-Err-clause-damage g c =
+    (tt, pool_tells c.of_pool.result c.in-Err.error c.args.self.now.damaged c.of_pool.ensures)
+
+pub returns-in-Err-clause-idle : goal.returns-in-Err-clause-idle
+returns-in-Err-clause-idle g c =
+    c.commit.ensures.idle
+
+pub returns-in-Err-clause-goes : goal.returns-in-Err-clause-goes
+returns-in-Err-clause-goes g c =
+    let s = c.args.self.now in
+    record {
+      sound = same_sound g.D.Disk.is_honest (versions_of s.pool) (versions_of c.commit.new.pool) (numbers_of s.readers) (private_of s.changes) (settled_of s.changes) c.in-Err.ensures.refused;
+      refused = c.commit.ensures.rising;
+      damaged = no_more s.damaged;
+      read = no_more s.read;
+      stays = tt;
+      unchanged = tt;
     }

@@ -1,9 +1,11 @@
+use Rattle.std.proofs.Common.{◌∙◌}
 use Rattle.store.specs.Contents.{Contents, with_table}
 use Rattle.pool.specs.Versions.{versions_of, device_of}
 use Rattle.overlay.specs.WriteSet.{settled_of, private_of, undone_of}
 use Rattle.snapshot_pins.specs.Pinned.{numbers_of}
-use Rattle.paged_store.proofs.DoneLemmas.{done_shows, done_undone, done_sound, done_steady, change_fails}
-use Rattle.paged_store.proofs.OrderlyLemmas.{orderly_same}
+use Rattle.paged_store.proofs.DoneLemmas.{done_shows, done_undone, done_sound, done_alone, done_steady, change_fails}
+use Rattle.paged_store.proofs.OrderlyLemmas.{no_more, orderly_same}
+use Rattle.paged_store.proofs.GoesLemmas.{last_same}
 use Rattle.paged_store.proofs.paged.PagedStore.create_table.Goals as goal
 
 pub returns-clause-shows : goal.returns-clause-shows
@@ -20,12 +22,29 @@ returns-clause-undone g c =
     s.commits s.ordered.counted c.create_table-done.ensures.versions c.create_table-done.ensures.settled c.undo_refused.ensures.settled (λ (x : Contents). with_table x c.args.table)
     c.undo_refused.result c.create_table-done.result c.undo_refused.ensures.same c.undo_refused.ensures.left
 
-pub returns-clause-sound : goal.returns-clause-sound
-returns-clause-sound g c =
+pub returns-clause-goes : goal.returns-clause-goes
+returns-clause-goes g c =
     let s = c.args.self.now in
-    done_sound g.D.Disk.is_honest (versions_of s.pool) (versions_of c.create_table-done.new.pool) (numbers_of s.readers) (private_of s.changes) (settled_of s.changes) (private_of c.create_table-done.new.changes) (settled_of c.create_table-done.new.changes) (private_of c.undo_refused.new.changes) (settled_of c.undo_refused.new.changes)
-    s.commits s.ordered.counted c.create_table-done.ensures.versions c.create_table-done.ensures.settled c.undo_refused.ensures.settled (λ (x : Contents). with_table x c.args.table)
-    c.create_table-done.result c.undo_refused.ensures.made c.undo_refused.ensures.left c.create_table-done.ensures.owned
+    record {
+      sound = done_sound g.D.Disk.is_honest (versions_of s.pool) (versions_of c.create_table-done.new.pool) (numbers_of s.readers) (private_of s.changes) (settled_of s.changes) (private_of c.create_table-done.new.changes) (settled_of c.create_table-done.new.changes) (private_of c.undo_refused.new.changes) (settled_of c.undo_refused.new.changes)
+          s.commits s.ordered.counted c.create_table-done.ensures.versions c.create_table-done.ensures.settled c.undo_refused.ensures.settled (λ (x : Contents). with_table x c.args.table)
+          c.create_table-done.result c.undo_refused.ensures.made c.undo_refused.ensures.left c.create_table-done.ensures.owned;
+      refused = c.create_table-done.ensures.rising;
+      damaged = c.undo_refused.ensures.damage_rises;
+      read = no_more s.read;
+      stays = last_same g.D.Disk.is_honest (versions_of s.pool) (versions_of c.create_table-done.new.pool) (numbers_of s.readers) (numbers_of s.readers) (private_of s.changes) (settled_of s.changes) (private_of c.undo_refused.new.changes) (settled_of c.undo_refused.new.changes) _ _ _ _ _ _ _ _ _ _
+          c.create_table-done.ensures.versions c.create_table-done.ensures.writes;
+      unchanged = tt;
+    }
+
+pub returns-clause-damage : goal.returns-clause-damage
+returns-clause-damage g c = c.undo_refused.ensures.damage
+
+pub returns-clause-alone : goal.returns-clause-alone
+returns-clause-alone g c =
+    let s = c.args.self.now in
+    done_alone g.D.Disk.is_honest (versions_of s.pool) (versions_of c.create_table-done.new.pool) (numbers_of s.readers) (private_of s.changes) (settled_of s.changes) (private_of c.undo_refused.new.changes) (settled_of c.undo_refused.new.changes) c.undo_refused.result
+    c.create_table-done.ensures.versions (c.undo_refused.ensures.settled ∙ c.create_table-done.ensures.settled)
 
 pub returns-clause-refused : goal.returns-clause-refused
 returns-clause-refused g c =

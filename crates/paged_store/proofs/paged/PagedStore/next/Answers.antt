@@ -1,45 +1,57 @@
-use Rattle.std.proofs.Common.{◌≡◌, ◌∙◌, refl, sym, ap, inl, inr}
+use Rattle.std.proofs.Common.{refl, sym, subst, Option, Result, IfOk}
+use Rattle.std.specs.FinMap.{get}
+use Rattle.store.specs.declared.error.StoreError.{StoreError}
+use Rattle.store.specs.declared.rows.NumberedRow.{NumberedRow}
+use Rattle.store.specs.Indexes.{entries_of, entry_after}
+use Rattle.store.specs.View.{IsEntry, seen_by}
 use Rattle.pool.specs.Versions.{versions_of, device_of}
-use Rattle.overlay.specs.WriteSet.{fresh_of, settled_of, private_of}
+use Rattle.overlay.specs.WriteSet.{settled_of, private_of}
 use Rattle.snapshot_pins.specs.Pinned.{numbers_of}
+use Rattle.paged_store.specs.Store.{shown_of, sound_of}
 use Rattle.paged_store.proofs.ShownLemmas.{shown_with}
 use Rattle.paged_store.proofs.SoundLemmas.{same_sound}
 use Rattle.paged_store.proofs.OrderlyLemmas.{orderly_same}
 use Rattle.paged_store.proofs.SteadyLemmas.{steady_same}
+use Rattle.paged_store.proofs.GoesLemmas.{fails_so}
 use Rattle.paged_store.proofs.paged.PagedStore.next.Goals as goal
 
 pub invariant_of-self : goal.invariant_of-self
 invariant_of-self g c =
     let s = c.args.self.now in
-    record { ordered = orderly_same g.D.Disk.is_honest (versions_of s.pool) (versions_of c.next_seen.new.pool) s.readers s.commits c.next_seen.ensures.versions s.ordered; steady = steady_same (versions_of s.pool) (versions_of c.next_seen.new.pool) (private_of s.changes) (settled_of s.changes) c.next_seen.ensures.versions s.steady }
+    record {
+      ordered = orderly_same g.D.Disk.is_honest (versions_of s.pool) (versions_of c.next_seen-found.new.pool) s.readers s.commits c.next_seen-found.ensures.versions s.ordered;
+      steady = steady_same (versions_of s.pool) (versions_of c.next_seen-found.new.pool) (private_of s.changes) (settled_of s.changes) c.next_seen-found.ensures.versions s.steady;
+    }
 
-pub invariant_of-self-in-Err-1 : goal.invariant_of-self-in-Err-1
-invariant_of-self-in-Err-1 g c =
+pub returns-clause-row : goal.returns-clause-row
+returns-clause-row g c =
     let s = c.args.self.now in
-    record { ordered = orderly_same g.D.Disk.is_honest (versions_of s.pool) (versions_of c.next_seen.new.pool) s.readers s.commits c.next_seen.ensures.versions s.ordered; steady = steady_same (versions_of s.pool) (versions_of c.next_seen.new.pool) (private_of s.changes) (settled_of s.changes) c.next_seen.ensures.versions s.steady }
+    λ sound. subst (λ (r : Result (Option NumberedRow) StoreError). IfOk r (λ found. IsEntry found (entry_after c.args.after (entries_of (get (seen_by (shown_of s) c.args.view) c.args.name.now))))) (sym c.counted_row.ensures.same)
+    (c.next_seen-found.ensures.row (settled_of s.changes) sound)
 
-pub returns-in-Ok-clause-shows : goal.returns-in-Ok-clause-shows
-returns-in-Ok-clause-shows g c =
+pub returns-clause-read : goal.returns-clause-read
+returns-clause-read g c = c.counted_row.ensures.read
+
+pub returns-clause-refused : goal.returns-clause-refused
+returns-clause-refused g c =
     let s = c.args.self.now in
-    shown_with g.D.Disk.is_honest (versions_of s.pool) (versions_of c.next_seen.new.pool) (numbers_of s.readers) (private_of s.changes) (settled_of s.changes) (private_of s.changes) (settled_of s.changes) c.next_seen.ensures.versions refl refl
+    fails_so c.counted_row.result c.next_seen-found.result (sound_of s) (g.D.Disk.refused (device_of s.pool)) (g.D.Disk.refused (device_of c.next_seen-found.new.pool)) c.counted_row.ensures.same (c.next_seen-found.ensures.refused (settled_of s.changes))
 
-pub returns-in-Ok-clause-sound : goal.returns-in-Ok-clause-sound
-returns-in-Ok-clause-sound g c =
+pub returns-clause-damage : goal.returns-clause-damage
+returns-clause-damage g c = c.counted_row.ensures.damage
+
+pub returns-clause-goes : goal.returns-clause-goes
+returns-clause-goes g c =
     let s = c.args.self.now in
-    same_sound g.D.Disk.is_honest (versions_of s.pool) (versions_of c.next_seen.new.pool) (numbers_of s.readers) (private_of s.changes) (settled_of s.changes) c.next_seen.ensures.versions
-
-pub returns-in-Err-clause-shows : goal.returns-in-Err-clause-shows
-returns-in-Err-clause-shows g c =
-    let s = c.args.self.now in
-    shown_with g.D.Disk.is_honest (versions_of s.pool) (versions_of c.next_seen.new.pool) (numbers_of s.readers) (private_of s.changes) (settled_of s.changes) (private_of s.changes) (settled_of s.changes) c.next_seen.ensures.versions refl refl
-
-pub returns-in-Err-clause-sound : goal.returns-in-Err-clause-sound
-returns-in-Err-clause-sound g c =
-    let s = c.args.self.now in
-    same_sound g.D.Disk.is_honest (versions_of s.pool) (versions_of c.next_seen.new.pool) (numbers_of s.readers) (private_of s.changes) (settled_of s.changes) c.next_seen.ensures.versions
-
-pub returns-in-Ok-clause-row : goal.returns-in-Ok-clause-row
-returns-in-Ok-clause-row g c = λ sound. c.in-Ok.ensures.row (settled_of c.args.self.now.changes) sound
-
-pub returns-in-Err-clause-refused : goal.returns-in-Err-clause-refused
-returns-in-Err-clause-refused g c = c.in-Err.ensures.refused (settled_of c.args.self.now.changes)
+    record {
+      sound = same_sound g.D.Disk.is_honest (versions_of s.pool) (versions_of c.next_seen-found.new.pool) (numbers_of s.readers) (private_of s.changes) (settled_of s.changes) c.next_seen-found.ensures.versions;
+      refused = c.next_seen-found.ensures.rising;
+      damaged = c.counted_row.ensures.damage_rises;
+      read = c.counted_row.ensures.rows_rise;
+      stays = record {
+        shows = shown_with g.D.Disk.is_honest (versions_of s.pool) (versions_of c.next_seen-found.new.pool) (numbers_of s.readers) (private_of s.changes) (settled_of s.changes) (private_of s.changes) (settled_of s.changes) c.next_seen-found.ensures.versions refl refl;
+        prepared = refl;
+        writes = c.next_seen-found.ensures.writes;
+      };
+      unchanged = λ none. none;
+    }

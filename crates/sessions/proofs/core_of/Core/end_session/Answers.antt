@@ -30,7 +30,7 @@ pub returns-clause-sound : goal.returns-clause-sound
 returns-clause-sound g c = λ sound.
     let is : slot_at c.args.self.now.slots.modes c.args.session.number ≡ Some c.in-Some._mode = sym c.mode_of.ensures.is ∙ c.in-Some.is in
     record {
-      store = c.drop_session.ensures.sound sound.store;
+      store = (g.met.S.Store.goes_on_goes _ _ _ c.drop_session.ensures.goes).sound sound.store;
       order = c.drop_session.ensures.order sound.order;
       readers = λ q none. readers_kept (g.S.Store.shows c.args.self.now.store) (g.S.Store.shows c.drop_session.new.store) c.args.self.now.slots.modes c.args.session.number None
           (slot_within c.args.self.now.slots.modes c.args.session.number _ is) c.drop_session.ensures.others sound.readers (λ gone. c.drop_session.ensures.gone) q
@@ -52,3 +52,6 @@ returns-clause-live g c =
       set_there (g.S.Store.shows c.drop_session.new.store) c.drop_session.new.writer c.args.self.now.slots.modes c.args.session.number None within,
       set_beside (g.S.Store.shows c.args.self.now.store) (g.S.Store.shows c.drop_session.new.store) c.args.self.now.writer c.drop_session.new.writer c.args.self.now.slots.modes c.args.session.number None,
     )
+
+pub returns-clause-counts : goal.returns-clause-counts
+returns-clause-counts g c = (g.met.S.Store.goes_on_goes _ _ _ c.drop_session.ensures.goes).refused

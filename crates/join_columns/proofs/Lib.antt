@@ -1,0 +1,4 @@
+pub mod Opened
+pub mod Truths
+pub mod JoinColumns
+mod Matching

@@ -1,0 +1,2 @@
+pub mod JoinKeys
+pub mod Standing
