@@ -9,7 +9,7 @@ ghost use Rattle.key_lookups.specs.Sought.{compared_literal, conjuncts_at, is_co
 use algebra::{Condition, Expression};
 use denote::Row;
 use items::Items;
-use rewrite::condition_can_raise;
+use raising::condition_can_raise;
 use sqlval::{CompOp, Value};
 use std::alloc::{AllocError, Global};
 use std::slice::from_ref;

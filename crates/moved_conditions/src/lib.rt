@@ -11,4 +11,4 @@ mod together;
 pub use moving::{moved, moved_all};
 pub use parting::{Division, into_conjuncts, parted};
 pub use shift::Shift;
-pub use together::{and_of, filtered, joined};
+pub use together::{and_of, filter_of, filtered, inner_of, joined};

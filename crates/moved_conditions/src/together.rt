@@ -33,7 +33,8 @@ pub fn filtered(alloc: Global, conditions: Items<Condition>, rows: Tree) -> Resu
     filter_of(alloc, and_of(conditions), rows)
 }
 
-fn filter_of(alloc: Global, condition: Condition, rows: Tree) -> Result<Tree, AllocError>
+/// A filter by this condition. Refuses for want of memory alone.
+pub fn filter_of(alloc: Global, condition: Condition, rows: Tree) -> Result<Tree, AllocError>
     ensures { IfOk result (λ tree. tree ≡ t.Filter condition rows) }
 {
     let (condition, rows) = both(Boxed::new(alloc, condition), Boxed::new(alloc, rows))?;
@@ -62,7 +63,8 @@ fn product_of(alloc: Global, left: Tree, right: Tree) -> Result<Tree, AllocError
     Ok(Tree::Product(left, right))
 }
 
-fn inner_of(alloc: Global, on: Condition, left: Tree, right: Tree) -> Result<Tree, AllocError>
+/// A join by this condition. Refuses for want of memory alone.
+pub fn inner_of(alloc: Global, on: Condition, left: Tree, right: Tree) -> Result<Tree, AllocError>
     ensures { IfOk result (λ tree. tree ≡ t.Inner on left right) }
 {
     let on = Boxed::new(alloc, on);

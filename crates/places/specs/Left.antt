@@ -136,11 +136,11 @@ module _ (entries : Entries) where
       joined_on join.pairing (kept_for side) row matched (λ one. drop tried (kept_for side one))
       (before ahead (left join.left))
 
-  -- the joins that may keep their right rows by keys
+  -- the join that keeps its right rows by keys
   abbrev pub keyed : Node → Option Join
   keyed (Tree-F.HashJoin on left right left_places right_places) =
       Some (record { pairing = true_pairs (truth_listing (rows_by entries) on); left = left; right = right })
-  keyed node = nested (rows_by entries) node
+  keyed _ = None
 
   abbrev pub left_at : Place-F (Tree → Outcome) → Tree → Node → Outcome
   left_at Place-F.Start tree node = tree_listing (rows_by entries) tree []

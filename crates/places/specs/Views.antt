@@ -116,23 +116,12 @@ pub record ByKeys : Type 0 where
 pub data Standing : Type 0 where
   Tests : Place → Standing
   Pairs : Paired → Standing
-  Keys : ByKeys → Standing
 
 -- from the beginning the right side is run through
 abbrev pub standing_in : Layer → Standing
 standing_in (Place-F.Testing right) = Tests right
 standing_in (Place-F.Pairs left ahead row matched right) =
     Pairs (record { left = left; ahead = into_iter_items ahead; row = row; matched = matched; right = right })
-standing_in (Place-F.Keyed left ahead row matched tried side) =
-    Keys (record {
-      left = left;
-      ahead = into_iter_items ahead;
-      row = row;
-      matched = matched;
-      tried = tried;
-      side =
-          side;
-    })
 standing_in _ = Tests p.Start
 
 abbrev pub standing : Place → Standing
@@ -184,4 +173,3 @@ module _ (entries : Entries) where
   abbrev pub standing_left : Join → Standing → Outcome
   standing_left join (Tests right) = tested_left join right
   standing_left join (Pairs at) = paired_left join at
-  standing_left join (Keys at) = keyed_left join at

@@ -9,7 +9,8 @@ mod turn;
 
 pub use indexes::index_place;
 pub use parts::{
-    above, asked, asked_above, below, is_whole, last_number, place_after, seen, seen_above,
+    above, asked, asked_above, below, is_whole, last_number, last_position, place_after,
+    place_beyond, seen, seen_above,
 };
 pub use place::{KeyedRows, Members, Place};
 pub use rows::{first_row, kept_rows};

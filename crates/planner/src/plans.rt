@@ -2,7 +2,7 @@ ghost use Rattle.std.specs.Prelude.{◌≡◌, []};
 
 use algebra::Tree;
 use items::Items;
-use rewrite::Step;
+use rules::Step;
 use std::alloc::Global;
 
 /// A tree that is to be carried out as it stands.

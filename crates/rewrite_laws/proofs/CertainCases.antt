@@ -9,7 +9,7 @@ use Rattle.closed_trees.specs.Outside.{depths_in_tree}
 use Rattle.denote.specs.Expression.{column}
 use Rattle.denote.specs.Group.{members}
 use Rattle.key_lookups.specs.Sought.{conjuncts_at}
-use Rattle.rewrite.specs.declared.rule.Rule.{Rule}
+use Rattle.rules.specs.declared.rule.Rule.{Rule}
 use Rattle.rewrite_laws.proofs.Conditions.{Denials, plain-quiet, none-there}
 use Rattle.rewrite_laws.proofs.Found.{map-found, first-is}
 use Rattle.rewrite_laws.proofs.Pairs.{pairs}
@@ -37,7 +37,7 @@ use Rattle.std.specs.Prelude.{◌+◌, ◌-◌, nat_lt, Contains, filter, if◌t
 use Rattle.algebra.specs.declared.tree.Condition.TheVariants as c
 use Rattle.algebra.specs.declared.tree.Expression.TheVariants as e
 use Rattle.algebra.specs.declared.tree.Tree.TheVariants as t
-use Rattle.rewrite.specs.declared.rule.Rule.TheVariants as rule
+use Rattle.rules.specs.declared.rule.Rule.TheVariants as rule
 use Rattle.sqlval.specs.declared.comparison.CompOp.TheVariants as comparing
 
 -- ---- lists

@@ -21,7 +21,7 @@ use Rattle.std.specs.Prelude.{Contains, option_and_then}
 use Rattle.algebra.specs.declared.tree.Condition.TheVariants as c
 use Rattle.algebra.specs.declared.tree.Expression.TheVariants as e
 use Rattle.algebra.specs.declared.tree.Tree.TheVariants as t
-use Rattle.rewrite.specs.declared.rule.Rule.TheVariants as rule
+use Rattle.rules.specs.declared.rule.Rule.TheVariants as rule
 
 -- ---- Q13
 

@@ -3,7 +3,7 @@
 use Rattle.algebra.specs.Raising.{is_plain}
 use Rattle.algebra.specs.declared.tree.Condition.{Condition}
 use Rattle.algebra.specs.declared.tree.Tree.{Tree, out-Tree}
-use Rattle.rewrite.specs.declared.rule.Rule.{Rule}
+use Rattle.rules.specs.declared.rule.Rule.{Rule}
 use Rattle.rewrite_laws.proofs.CalmTrees.{node-plain, plain-quiet-tree}
 use Rattle.rewrite_laws.proofs.CertainCases.{out-filter, out-left, Made, split-certain, try-certain, join-certain, right-certain, member-certain, padding-certain, hash-certain, loop-certain, distinct-certain}
 use Rattle.rewrite_laws.proofs.CertainFilters.{half-certain, below-certain, left-certain}
@@ -21,7 +21,7 @@ use Rattle.std.proofs.Common.{◌≡◌, refl, sym, ap, ◌∙◌, ℕ, zero, Li
 use Rattle.std.specs.List.{list_all}
 use Rattle.std.specs.Prelude.{slice_get, option_and_then}
 use Rattle.algebra.specs.declared.tree.Tree.TheVariants as t
-use Rattle.rewrite.specs.declared.rule.Rule.TheVariants as rule
+use Rattle.rules.specs.declared.rule.Rule.TheVariants as rule
 
 -- what is made of the node at the end of a path stands there
 lifted : (rule : Rule) (path : List ℕ) (tree node : Tree) → node_at path tree ≡ Some node

@@ -24,7 +24,7 @@ use Rattle.std.specs.Prelude.{Contains, if◌then◌else◌, option_and_then}
 use Rattle.algebra.specs.declared.tree.Condition.TheVariants as c
 use Rattle.algebra.specs.declared.tree.Expression.TheVariants as e
 use Rattle.algebra.specs.declared.tree.Tree.TheVariants as t
-use Rattle.rewrite.specs.declared.rule.Rule.TheVariants as rule
+use Rattle.rules.specs.declared.rule.Rule.TheVariants as rule
 use Rattle.sqlval.specs.declared.comparison.CompOp.TheVariants as comparing
 
 -- ---- a column beside a literal

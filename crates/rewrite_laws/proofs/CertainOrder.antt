@@ -14,7 +14,7 @@ use Rattle.std.specs.List.{position_from}
 use Rattle.std.specs.Prelude.{◌+◌, slice_get}
 use Rattle.typing.specs.declared.typed.OrderKey.{OrderKey}
 use Rattle.algebra.specs.declared.tree.Tree.TheVariants as t
-use Rattle.rewrite.specs.declared.rule.Rule.TheVariants as rule
+use Rattle.rules.specs.declared.rule.Rule.TheVariants as rule
 
 head-is : {X : Type 0} {x y : X} {xs ys : List X} → (x ∷ xs) ≡ (y ∷ ys) → x ≡ y
 head-is e = cc

@@ -1,8 +1,8 @@
 -- What the rules make, at a node and at the end of a path, and what a list of steps makes: it may
 -- stand for the old tree.
 use Rattle.algebra.specs.declared.tree.Tree.{Tree}
-use Rattle.rewrite.specs.declared.rule.Rule.{Rule}
-use Rattle.rewrite.specs.declared.rule.Step.{Step}
+use Rattle.rules.specs.declared.rule.Rule.{Rule}
+use Rattle.rules.specs.declared.rule.Step.{Step}
 use Rattle.rewrite_laws.proofs.Conditions.{Denials}
 use Rattle.rewrite_laws.proofs.FilterRuleLaws.{split_filter-keeps, filter_below_product-keeps, filter_left-keeps, pre_filter-keeps}
 use Rattle.rewrite_laws.proofs.Found.{some-is, then-found, chain}
@@ -17,7 +17,7 @@ use Rattle.rules.specs.Quiet.{conditions_quiet}
 use Rattle.rules.specs.Same.{Keeps}
 use Rattle.same_laws.proofs.Composed.{keeps-refl}
 use Rattle.std.proofs.Common.{◌≡◌, subst, ℕ, Bool, List, [], ◌∷◌, Some}
-use Rattle.rewrite.specs.declared.rule.Rule.TheVariants as rule
+use Rattle.rules.specs.declared.rule.Rule.TheVariants as rule
 
 -- what a rule makes of a node may stand for it
 pub here-keeps : Denials → LookUps → (calm : Bool) (rule : Rule) (old new : Tree) → here calm rule old ≡ Some new

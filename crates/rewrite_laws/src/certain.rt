@@ -2,7 +2,7 @@
 
 ghost use Rattle.std.specs.Prelude.{◌≡◌, ℕ, List, Some};
 ghost use Rattle.algebra.specs.declared.tree.Tree.{Tree};
-ghost use Rattle.rewrite.specs.declared.rule.Rule.{Rule};
+ghost use Rattle.rules.specs.declared.rule.Rule.{Rule};
 ghost use Rattle.rules.specs.Applied.{applied, here};
 ghost use Rattle.rules.specs.Certain.{Certain, Certainly};
 ghost use Rattle.rules.specs.Paths.{node_at};

@@ -1,9 +1,9 @@
 -- What a rule makes of a tree at the end of a path, and a list of steps of a tree.
 use Rattle.std.specs.Prelude.{ℕ, Bool, List, [], ◌∷◌, Option, Some, option_and_then}
 use Rattle.algebra.specs.declared.tree.Tree.{Tree}
-use Rattle.rewrite.specs.declared.rule.Rule.{Rule}
-use Rattle.rewrite.specs.declared.rule.Rule.TheVariants as by
-use Rattle.rewrite.specs.declared.rule.Step.{Step}
+use Rattle.rules.specs.declared.rule.Rule.{Rule}
+use Rattle.rules.specs.declared.rule.Rule.TheVariants as by
+use Rattle.rules.specs.declared.rule.Step.{Step}
 use Rattle.rules.specs.FilterRules.{split_filter, filter_below_product, filter_left_of_left_join, pre_filter}
 use Rattle.rules.specs.JoinRules.{on_into_right_side, product_to_inner, regroup_inner, left_to_inner, inner_to_hash_join, inner_to_index_loop}
 use Rattle.rules.specs.LookupRules.{filter_to_seek, filter_to_range}

@@ -12,8 +12,8 @@ use Rattle.algebra.specs.declared.tree.StoredTable.{StoredTable}
 use Rattle.algebra.specs.declared.tree.Tree.TheVariants as t
 use Rattle.algebra.specs.declared.tree.Tree.{Tree, Tree-F, out-Tree}
 use Rattle.closed_trees.specs.Outside.{depths_in_tree}
-use Rattle.rewrite.specs.declared.rule.Rule.TheVariants as by
-use Rattle.rewrite.specs.declared.rule.Rule.{Rule}
+use Rattle.rules.specs.declared.rule.Rule.TheVariants as by
+use Rattle.rules.specs.declared.rule.Rule.{Rule}
 use Rattle.rules.specs.Applied.{applied}
 use Rattle.rules.specs.Columns.{Place, names_only, in_left, in_right, in_half}
 use Rattle.rules.specs.Conjuncts.{conjuncts}

@@ -3,4 +3,3 @@ mod PlainConditions
 mod QuietNodes
 mod RaisingAlike
 mod WidthNodes
-mod ToldWidths

@@ -1,3 +1,2 @@
 pub mod Calm
-pub mod Counted
 pub mod Within

@@ -1,91 +1,70 @@
 //! How many columns a tree's rows have.
 
-ghost use Rattle.std.specs.Prelude.{◌≡◌, ◌+◌, Some, IfSome};
+ghost use Rattle.std.specs.Prelude.{◌≡◌, ◌+◌, Some, IfOk};
 ghost use Rattle.rules.specs.Width.{added, agreed, count_columns, width_of_tree};
-ghost use Rattle.tree_columns.specs.Counted.{counted};
 
 use algebra::Tree;
 use items::Items;
+use std::alloc::AllocError;
 
-/// How many columns each row of a tree has. `None` where rows of two widths meet, and where a row
-/// would have more columns than a `usize` counts, which no memory holds.
-pub fn width_of(tree: &Tree) -> Option<usize>
-    ensures counted { result ≡ counted (width_of_tree tree.now) }
-    ensures told { IfSome result (λ width. width_of_tree tree.now ≡ Some width) }
-{
-    counted_width(tree)
-}
-
+/// How many columns each row of a tree has; `None` where rows of two widths meet. It takes no
+/// memory. Refuses where a row would have more columns than a `usize` counts, which no memory
+/// holds.
 #[tactic(auto, using(crate::proofs::WidthNodes::width_nodes))]
-fn counted_width(tree: &Tree) -> Option<usize>
-    ensures { result ≡ counted (width_of_tree tree.now) }
+pub fn width_of(tree: &Tree) -> Result<Option<usize>, AllocError>
+    ensures { IfOk result (λ width. width ≡ width_of_tree tree.now) }
 {
     match tree {
-        Tree::Scan(table) => known(table.width),
-        Tree::Filter(_, rows) => counted_width(rows.get()),
-        Tree::Product(left, right) => sum_of(counted_width(left.get()), counted_width(right.get())),
-        Tree::Inner(_, left, right) => sum_of(
-            counted_width(left.get()),
-            counted_width(right.get()),
-        ),
+        Tree::Scan(table) => Ok(Some(table.width)),
+        Tree::Filter(_, rows) => width_of(rows.get()),
+        Tree::Product(left, right) => sum_of(width_of(left.get())?, width_of(right.get())?),
+        Tree::Inner(_, left, right) => sum_of(width_of(left.get())?, width_of(right.get())?),
         Tree::Left {
             on: _,
             left,
             right,
             width,
-        } => sum_of(
-            counted_width(left.get()),
-            same_of(counted_width(right.get()), known(*width)),
-        ),
-        Tree::Half(_, left, _) => counted_width(left.get()),
-        Tree::OppositeHalf(_, left, _) => counted_width(left.get()),
+        } => sum_of(width_of(left.get())?, same_of(width_of(right.get())?, Some(*width))),
+        Tree::Half(_, left, _) => width_of(left.get()),
+        Tree::OppositeHalf(_, left, _) => width_of(left.get()),
         Tree::Group {
             columns,
             functions,
             ..
-        } => sum_of(known(number_of(columns)), known(functions.len())),
-        Tree::Project(items, _) => known(items.len()),
-        Tree::Distinct(rows) => counted_width(rows.get()),
-        Tree::Set(_, left, right) => same_of(counted_width(left.get()), counted_width(right.get())),
-        Tree::Sort(_, rows) => counted_width(rows.get()),
-        Tree::Seek { table, .. } => known(table.width),
-        Tree::Range { table, .. } => known(table.width),
-        Tree::IndexLoop { left, table, .. } => sum_of(
-            counted_width(left.get()),
-            known(table.width),
-        ),
+        } => sum(number_of(columns), functions.len()),
+        Tree::Project(items, _) => Ok(Some(items.len())),
+        Tree::Distinct(rows) => width_of(rows.get()),
+        Tree::Set(_, left, right) => Ok(same_of(width_of(left.get())?, width_of(right.get())?)),
+        Tree::Sort(_, rows) => width_of(rows.get()),
+        Tree::Seek { table, .. } => Ok(Some(table.width)),
+        Tree::Range { table, .. } => Ok(Some(table.width)),
+        Tree::IndexLoop { left, table, .. } => sum_of(width_of(left.get())?, Some(table.width)),
         Tree::HashJoin { left, right, .. } => {
-            sum_of(counted_width(left.get()), counted_width(right.get()))
+            sum_of(width_of(left.get())?, width_of(right.get())?)
         }
-        Tree::Member { rows, .. } => counted_width(rows.get()),
+        Tree::Member { rows, .. } => width_of(rows.get()),
     }
 }
 
-fn known(width: usize) -> Option<usize>
-    ensures { result ≡ counted (Some width) }
-{
-    Some(width)
-}
-
-fn sum_of(left: Option<usize>, right: Option<usize>) -> Option<usize>
-    ensures { result ≡ counted (added left right) }
+fn sum_of(left: Option<usize>, right: Option<usize>) -> Result<Option<usize>, AllocError>
+    ensures { IfOk result (λ width. width ≡ added left right) }
 {
     match left {
         Some(left) => match right {
             Some(right) => sum(left, right),
-            None => None,
+            None => Ok(None),
         },
-        None => None,
+        None => Ok(None),
     }
 }
 
-fn sum(left: usize, right: usize) -> Option<usize>
-    ensures { result ≡ counted (Some (left + right)) }
+fn sum(left: usize, right: usize) -> Result<Option<usize>, AllocError>
+    ensures { IfOk result (λ width. width ≡ Some (left + right)) }
 {
     if left <= usize::MAX - right {
-        Some(left + right)
+        Ok(Some(left + right))
     } else {
-        None
+        Err(AllocError)
     }
 }
 

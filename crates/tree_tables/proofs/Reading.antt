@@ -2,9 +2,9 @@
 use Rattle.std.proofs.Common.{◌≡◌, refl, sym, subst, ap, ◌∙◌, ℕ, Bool, List, [], ◌∷◌, ◌++◌, map, flat_map, Contains, Option}
 use Rattle.std.proofs.lemmas.List.Elements.{Contains-append_left, Contains-append_right, Contains-push}
 use Rattle.typing.specs.declared.typed.Arithmetic.{Arithmetic}
-use Rattle.algebra.specs.declared.tree.Condition.{Condition, Condition-F, roll-Condition, map-Condition, fold-roll-Condition}
+use Rattle.algebra.specs.declared.tree.Condition.{Condition, Condition-F, roll-Condition, map-Condition, ind-Condition, fold-roll-Condition}
 use Rattle.algebra.specs.declared.tree.Expression.{Expression, Expression-F, roll-Expression, map-Expression, ind-Expression, fold-roll-Expression}
-use Rattle.algebra.specs.declared.tree.SetFunction.{SetFunction, SetFunction-F, roll-SetFunction, map-SetFunction, fold-roll-SetFunction}
+use Rattle.algebra.specs.declared.tree.SetFunction.{SetFunction, SetFunction-F, roll-SetFunction, map-SetFunction, ind-SetFunction, fold-roll-SetFunction}
 use Rattle.algebra.specs.declared.tree.Tree.{Tree, Tree-F, roll-Tree, map-Tree, ind-Tree, fold-roll-Tree}
 use Rattle.algebra.specs.Meaning.{Layer, TreeMeaning, MeantFunction, Argument, condition_step, expression_step, function_step, value_by, truth_by, function_by, tree_by}
 use Rattle.algebra.specs.Listing.{listing_step, tree_listing, listed_rows, onwards, in_order, pairs_of}
@@ -252,3 +252,9 @@ module _ (tables others : Tables) where
 
   pub expressions-read : (e : Expression) → SameExpression e
   expressions-read = ind-Expression SameCondition SameExpression SameFunction SameTree condition_node expression_node function_node tree_node
+
+  pub conditions-read : (c : Condition) → SameCondition c
+  conditions-read = ind-Condition SameCondition SameExpression SameFunction SameTree condition_node expression_node function_node tree_node
+
+  pub functions-read : (f : SetFunction) → SameFunction f
+  functions-read = ind-SetFunction SameCondition SameExpression SameFunction SameTree condition_node expression_node function_node tree_node

@@ -188,9 +188,10 @@ pub fn tables_in_expression(
     }
 }
 
+/// Those that some expressions read, one after another. Refuses for want of memory alone.
 #[cycle(named)]
 #[tactic(auto, using(crate::proofs::Nodes::naming_nodes))]
-fn tables_in_expressions(alloc: Global, items: &[Expression]) -> Result<Items<Text>, AllocError>
+pub fn tables_in_expressions(alloc: Global, items: &[Expression]) -> Result<Items<Text>, AllocError>
     ensures named { IfOk result (λ names. names ≡ all_names (map tables_in_expression items.now)) }
 {
     let mut names = Items::new(alloc);
@@ -216,9 +217,10 @@ fn tables_in_operands(
     Ok(names)
 }
 
+/// Those that some set functions read, one after another. Refuses for want of memory alone.
 #[cycle(named)]
 #[tactic(auto, using(crate::proofs::Nodes::naming_nodes))]
-fn tables_in_functions(alloc: Global, functions: &[SetFunction]) -> Result<Items<Text>, AllocError>
+pub fn tables_in_functions(alloc: Global, functions: &[SetFunction]) -> Result<Items<Text>, AllocError>
     ensures named { IfOk result (λ names. names ≡ all_names (map tables_in_function functions.now)) }
 {
     let mut names = Items::new(alloc);

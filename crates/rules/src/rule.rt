@@ -1,4 +1,4 @@
-//! The names of rules, and where in a tree one is used. What each does comes with the rules.
+//! The names of rules, and where in a tree one is used.
 
 use items::Items;
 
@@ -41,8 +41,9 @@ pub enum Rule {
 }
 
 /// A way from the root of a tree to one of its nodes: at each node the place of the part in which
-/// it goes on, from 0. The parts of a node are its trees, in the order of their fields, and then
-/// the subqueries in its expressions and conditions, in the order of the text.
+/// it goes on, from 0. The parts of a node are its children, left first (of a member node its rows
+/// and then its members; of an index loop its outer side alone), and then the subqueries in its
+/// expressions and conditions, in the order of the text.
 #[derive(Drop)]
 pub struct Path {
     pub places: Items<usize>,
