@@ -3,7 +3,6 @@ use Rattle.std.proofs.Common.{◌≡◌, ℕ, zero, suc, List, [], ◌∷◌, �
 use Rattle.std.specs.List.{flat_map, AllByRecursion}
 use Rattle.std.proofs.lemmas.List.{append-nil as append_nil}
 use Rattle.btree_read.specs.declared.entry.Entry.{Entry}
-use Rattle.btree_read.specs.declared.entry.Branch.{Branch}
 use Rattle.btree_read.specs.Nodes.{Key, precedes}
 use Rattle.btree_read.specs.Tree.{Tree, kids, branch_to, entries_of, IsBelow, IsWithin, Divides, Chain, Ordered}
 use Rattle.btree_read.specs.Search.{route_of, child_at}

@@ -1,5 +1,5 @@
 -- A tree's levels by its pages: an inner page has two children at least.
-use Rattle.std.proofs.Common.{◌≡◌, ℕ, zero, suc, ◌+◌, ◌*◌, ◌^◌, ◌<◌, ◌≤◌, ◌-◌, List, [], ◌∷◌, ◌++◌, map, length, length-append, refl, sym, ap, ◌∙◌, subst, ◌⊎◌, inl, inr, Option, Some, None, IsSome, Bool, true, false, ◌||◌, nat_eq as eqb, nat_lt, lit≤, arith}
+use Rattle.std.proofs.Common.{◌≡◌, ℕ, zero, suc, ◌+◌, ◌*◌, ◌^◌, ◌<◌, ◌≤◌, List, [], ◌∷◌, ◌++◌, map, length, length-append, refl, sym, ap, ◌∙◌, subst, ◌⊎◌, inl, inr, None, IsSome, Bool, true, false, ◌||◌, nat_eq as eqb, nat_lt, lit≤, arith}
 use Rattle.std.specs.List.{flat_map, IsDistinct, list_any, AllByRecursion}
 use Rattle.std.proofs.lemmas.Bool.{eqb-true, false_from_ne_true}
 use Rattle.std.proofs.lemmas.Map.Keys.{IsDistinct-cons}
@@ -9,12 +9,11 @@ use borrow.Author.Tests.{ltb-true, ltb-false}
 use Rattle.std.proofs.lemmas.Map.Steps.{length-le_from_distinct_below}
 use Rattle.page_space.specs.Space.{PageMap}
 use Rattle.btree_read.specs.Lists.{Has, Apart}
-use Rattle.btree_read.specs.Nodes.{Key, Node, LeafNode, InnerNode, HasNode, IsStocked}
-use Rattle.btree_read.specs.Tree.{Tree, page_of, branch_to, kids, nodes_of, pages_in, Holds, IsTree, IsTreeOf}
-use Rattle.btree_read.specs.Search.{IsUnder, HasNoTree, IsNoTree}
+use Rattle.btree_read.specs.Nodes.{Key, Node}
+use Rattle.btree_read.specs.Tree.{Tree, branch_to, nodes_of, pages_in, Holds}
+use Rattle.btree_read.specs.Search.{HasNoTree, IsNoTree}
 use Rattle.btree_read.proofs.ListLemmas.{each_left, each_right}
-use Rattle.btree_read.proofs.NodeLemmas.{not_fresh, node_is_used}
-use Rattle.btree_read.proofs.PageLemmas.{holds_used, pages_append}
+use Rattle.btree_read.proofs.PageLemmas.{holds_used}
 use Rattle.btree_read.proofs.SearchLemmas.{under_root}
 
 -- ---- numbers that stand once and are below a bound

@@ -6,5 +6,6 @@ pub mod ChainLemmas
 pub mod PageLemmas
 pub mod PlaceLemmas
 pub mod SearchLemmas
+pub mod LastLemmas
 pub mod CountLemmas
 pub mod LeafLemmas

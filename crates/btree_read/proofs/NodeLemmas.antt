@@ -1,15 +1,14 @@
 -- What lies at a page and what its reader sees.
-use Rattle.std.proofs.Common.{◌≡◌, ◌≢◌, ℕ, ◌+◌, ◌≤◌, List, [], ◌∷◌, map, length, refl, sym, ap, ◌∙◌, subst, Option, Some, None, IsSome, Result, Ok, Err, IfErr, IfOk, rules, arith}
+use Rattle.std.proofs.Common.{◌≡◌, ℕ, ◌≤◌, List, [], ◌∷◌, length, refl, sym, ap, ◌∙◌, subst, Option, Some, None, IsSome, Result, Ok, Err, IfErr, rules, arith}
 use Rattle.page_space.specs.Space.{PageMap, ReadRefused}
 use Rattle.page_space.specs.declared.error.SpaceError.{SpaceError}
 use Rattle.page_space.specs.declared.error.SpaceError.TheVariants.{Memory, Disk, Damaged, Pages, Private}
 use Rattle.sqlrecord.specs.declared.kind.PageKind.{PageKind}
 use Rattle.sqlrecord.specs.declared.kind.PageKind.TheVariants.{Leaf, Inner}
-use Rattle.sqlrecord.specs.Page.{link_of, cells_of, kind_byte, IsSound, PageView}
+use Rattle.sqlrecord.specs.Page.{link_of, cells_of, IsSound}
 use Rattle.sqlrecord.specs.Build.{Fits}
 use Rattle.sqlrecord.proofs.FitLemmas.{sound_fit}
-use Rattle.btree_read.specs.Nodes.{Node, LeafNode, InnerNode, HasNode, IsStocked, node_of, shown, entry_of, branch_of}
-use Rattle.btree_read.specs.Search.{Sees}
+use Rattle.btree_read.specs.Nodes.{Node, HasNode, IsStocked, node_of}
 
 -- a page has one kind
 same_kind : (page : List ℕ) (a b : PageKind) → IsSound page a → IsSound page b → a ≡ b

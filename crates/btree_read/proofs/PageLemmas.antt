@@ -1,6 +1,6 @@
 -- The pages of a tree: what is kept while other pages change, and a list of nodes in which a part
 -- is exchanged.
-use Rattle.std.proofs.Common.{◌≡◌, ℕ, zero, suc, List, [], ◌∷◌, ◌++◌, map, ◌⊎◌, inl, inr, refl, sym, ap, ◌∙◌, subst, Option, Some, None, IsSome, append_assoc, take, drop}
+use Rattle.std.proofs.Common.{◌≡◌, ℕ, zero, suc, List, [], ◌∷◌, ◌++◌, map, ◌⊎◌, inl, inr, refl, sym, ap, ◌∙◌, subst, None, IsSome, append_assoc, take, drop}
 use Rattle.std.specs.List.{flat_map}
 use Rattle.std.proofs.lemmas.List.{append-nil as append_nil, map-append}
 use Rattle.std.proofs.Math.Seq.{take-nil, drop-nil}

@@ -1,13 +1,10 @@
 -- Places in a page's cells and in the lists that they show.
-use Rattle.std.proofs.Common.{◌≡◌, ℕ, zero, suc, ◌+◌, ◌<◌, ◌≤◌, List, [], ◌∷◌, map, length, refl, sym, ap, ◌∙◌, subst, ◌⊎◌, inl, inr, Option, Some, None, Bool, true, false, not, if◌then◌else◌, arith, rules, add-one, nat_lt}
+use Rattle.std.proofs.Common.{◌≡◌, ℕ, zero, suc, ◌<◌, ◌≤◌, List, [], ◌∷◌, map, length, refl, sym, ap, subst, ◌⊎◌, inl, inr, Option, Some, None, Bool, true, false, not, if◌then◌else◌, arith, add-one, nat_lt}
 use Rattle.std.proofs.lemmas.Bool.{ltb-true, not-true}
 use borrow.Author.Tests.{ltb-false}
 use Rattle.std.specs.Prelude.{slice_index_or}
-use Rattle.std.specs.Ordering.{is_lt}
 use Rattle.sqlrecord.specs.declared.kind.PageKind.{PageKind}
-use Rattle.sqlrecord.specs.Key.{byte_order}
 use Rattle.sqlrecord.specs.Page.{key_of, value_of, child_of, AreCells}
-use Rattle.btree_read.specs.declared.entry.Entry.{Entry}
 use Rattle.btree_read.specs.declared.entry.Start.{Start}
 use Rattle.btree_read.specs.declared.entry.Start.TheVariants.{At, Behind}
 use Rattle.btree_read.specs.Nodes.{Key, precedes, entry_of, branch_of}

@@ -1,22 +1,20 @@
 -- One step of a search, over plain variables.
-use Rattle.std.proofs.Common.{◌≡◌, ℕ, zero, suc, ◌+◌, ◌<◌, ◌≤◌, List, [], ◌∷◌, ◌++◌, map, length, refl, sym, ap, ◌∙◌, subst, Option, Some, None, Bool, true, false, if◌then◌else◌, not, ◌⊎◌, inl, inr, Result, Ok, Err, IfOk, arith, append_assoc, add-one, nat_lt}
+use Rattle.std.proofs.Common.{◌≡◌, ℕ, zero, suc, ◌+◌, ◌<◌, ◌≤◌, List, [], ◌∷◌, ◌++◌, map, length, refl, sym, ap, ◌∙◌, subst, Option, Some, None, Bool, true, false, if◌then◌else◌, not, ◌⊎◌, inl, inr, Result, Ok, Err, IfOk, arith, add-one, nat_lt}
 use borrow.Author.Tests.{ltb-true, ltb-false}
 use Rattle.std.specs.List.{flat_map, AllByRecursion}
-use Rattle.std.proofs.lemmas.List.{append-nil as append_nil, length-map}
+use Rattle.std.proofs.lemmas.List.{append-nil as append_nil}
 use Rattle.page_space.specs.declared.error.SpaceError.{SpaceError}
 use Rattle.page_space.specs.Space.{PageMap}
-use Rattle.sqlrecord.specs.declared.kind.PageKind.{PageKind}
 use Rattle.sqlrecord.specs.declared.kind.PageKind.TheVariants.{Leaf, Inner}
 use Rattle.sqlrecord.specs.Page.{PageView}
 use Rattle.btree_read.specs.declared.entry.Entry.{Entry}
 use Rattle.btree_read.specs.declared.entry.Start.{Start}
 use Rattle.btree_read.specs.declared.entry.Start.TheVariants.{At, Behind}
 use Rattle.btree_read.specs.Lists.{Apart}
-use Rattle.btree_read.specs.declared.entry.Branch.{Branch}
 use Rattle.btree_read.specs.Nodes.{Key, precedes, Node, LeafNode, InnerNode, HasNode, node_of, shown, entry_of, branch_of}
 use Rattle.btree_read.specs.Sorted.{get_of, is_from, first_from}
-use Rattle.btree_read.specs.Tree.{Tree, page_of, branch_to, kids, entries_of, nodes_of, pages_in, Holds, Chain, Ordered, IsTree, IsTreeOf}
-use Rattle.btree_read.specs.Search.{Sees, IsUnder, HasNoTree, route_of, child_at, Answers, AnswersAt, IsNoTree}
+use Rattle.btree_read.specs.Tree.{Tree, page_of, branch_to, kids, entries_of, nodes_of, pages_in, Holds, Chain, Ordered, IsTreeOf}
+use Rattle.btree_read.specs.Search.{Sees, IsUnder, HasNoTree, route_of, child_at, Answers, AnswersAt}
 use Rattle.btree_read.proofs.Kids.{kid_at, low_at, high_at}
 use Rattle.btree_read.proofs.ListLemmas.{each_left, each_right, apart_parts}
 use Rattle.btree_read.proofs.OrderLemmas.{not_both}
@@ -88,7 +86,7 @@ answers_leaf pages page view f result s k h (suc d) t lo hi u =
     let e : LeafNode view.link (map entry_of view.cells) ≡ InnerNode (page_of d t.first) (map (branch_to d) t.rest) =
     sym (leaf_shown pages page view k) ∙ sees_inner pages page view d t lo hi s u in cc
 
-no_leaf : (pages : PageMap) (page : ℕ) (view : PageView) (t : Tree zero) (lo : Key) (hi : Option Key) → Sees pages page view → view.kind ≡ Inner → IsUnder pages page zero t lo hi → ⊥
+pub no_leaf : (pages : PageMap) (page : ℕ) (view : PageView) (t : Tree zero) (lo : Key) (hi : Option Key) → Sees pages page view → view.kind ≡ Inner → IsUnder pages page zero t lo hi → ⊥
 no_leaf pages page view t lo hi s k u =
     let e : InnerNode view.link (map branch_of view.cells) ≡ LeafNode t.next t.entries = sym (inner_shown pages page view k) ∙ sees_leaf pages page view t lo hi s u in cc
 
@@ -160,7 +158,7 @@ first_either start k (x ∷ xs) ys = by (is_from start k x.key) (first_either st
 first_head : (start : Start) (k : Key) (x : Entry) (xs ys : List Entry) → precedes k x.key ≡ true → first_from start k ((x ∷ xs) ++ ys) ≡ first_from start k (x ∷ xs)
 first_head start k x xs ys h = rw (from_behind start k x.key h)
 
-some_entries : (pages : PageMap) (d : ℕ) (t : Tree d) → Holds pages (nodes_of d t) → (x : Entry) × (xs : List Entry) × (entries_of d t ≡ x ∷ xs)
+pub some_entries : (pages : PageMap) (d : ℕ) (t : Tree d) → Holds pages (nodes_of d t) → (x : Entry) × (xs : List Entry) × (entries_of d t ≡ x ∷ xs)
 some_entries pages zero t h = by t.entries refl (h.0.stocked.0)
   where
     by : (es : List Entry) → es ≡ t.entries → (t.entries ≡ [] → ⊥) → (x : Entry) × (xs : List Entry) × (t.entries ≡ x ∷ xs)
@@ -222,7 +220,7 @@ same_length d [] (c ∷ rest) e = cc
 same_length d (x ∷ cells) [] e = cc
 same_length d (x ∷ cells) (c ∷ rest) e = let f : map branch_of cells ≡ map (branch_to d) rest = cc in ap suc (same_length d cells rest f)
 
-as_many : (pages : PageMap) (page : ℕ) (view : PageView) (d : ℕ) (t : Tree (suc d)) (lo : Key) (hi : Option Key)
+pub as_many : (pages : PageMap) (page : ℕ) (view : PageView) (d : ℕ) (t : Tree (suc d)) (lo : Key) (hi : Option Key)
     → Sees pages page view → view.kind ≡ Inner → IsUnder pages page (suc d) t lo hi → length view.cells ≡ length t.rest
 as_many pages page view d t lo hi s k u =
     let e : InnerNode view.link (map branch_of view.cells) ≡ InnerNode (page_of d t.first) (map (branch_to d) t.rest) =

@@ -1,14 +1,12 @@
 -- What searches give.
-use Rattle.std.specs.Prelude.{◌≡◌, ℕ, ◌≤◌, List, [], map, Option, Result, IfOk, if◌then◌else◌, zero, suc, ◌∷◌}
+use Rattle.std.specs.Prelude.{◌≡◌, ℕ, ◌≤◌, List, [], Option, Result, IfOk, if◌then◌else◌, zero, suc, ◌∷◌}
 use Rattle.page_space.specs.declared.error.SpaceError.{SpaceError}
 use Rattle.page_space.specs.Space.{PageMap}
 use Rattle.sqlrecord.specs.Page.{PageView}
 use Rattle.btree_read.specs.declared.entry.Entry.{Entry}
-use Rattle.btree_read.specs.declared.entry.Start.{Start}
 use Rattle.btree_read.specs.Lists.{Apart}
 use Rattle.btree_read.specs.declared.entry.Branch.{Branch}
 use Rattle.btree_read.specs.Nodes.{Key, precedes, Node, HasNode, shown}
-use Rattle.btree_read.specs.Sorted.{get_of, first_from}
 use Rattle.btree_read.specs.Tree.{Tree, page_of, entries_of, nodes_of, pages_in, Holds, Ordered, IsTree}
 
 -- a page's reader sees the node that the page has, if it has one

@@ -1,5 +1,5 @@
 -- The sorted map that a tree stands for, as the list of its entries.
-use Rattle.std.specs.Prelude.{◌≡◌, ℕ, List, [], ◌∷◌, Option, Some, None, Bool, true, false, not, if◌then◌else◌, ⊤}
+use Rattle.std.specs.Prelude.{◌≡◌, ℕ, List, [], ◌∷◌, Option, Some, None, Bool, true, not, if◌then◌else◌, ⊤}
 use Rattle.std.specs.List.{AllByRecursion}
 use Rattle.btree_read.specs.declared.entry.Entry.{Entry}
 use Rattle.btree_read.specs.declared.entry.Start.{Start}
@@ -33,3 +33,9 @@ put k v (e ∷ es) =
     if precedes e.key k then e ∷ put k v es
     else if precedes k e.key then record { key = k; value = v } ∷ e ∷ es
     else record { key = k; value = v } ∷ es
+
+-- the last key
+abbrev pub last_key : List Entry → Option Key
+last_key [] = None
+last_key (e ∷ []) = Some e.key
+last_key (e ∷ f ∷ es) = last_key (f ∷ es)

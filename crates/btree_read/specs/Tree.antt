@@ -3,7 +3,7 @@ use Rattle.std.specs.Prelude.{◌≡◌, ℕ, zero, suc, List, [], ◌∷◌, ma
 use Rattle.std.specs.List.{flat_map, AllByRecursion}
 use Rattle.page_space.specs.Space.{PageMap}
 use Rattle.btree_read.specs.declared.entry.Entry.{Entry}
-use Rattle.btree_read.specs.Lists.{Has, Apart, Leads}
+use Rattle.btree_read.specs.Lists.{Apart, Leads}
 use Rattle.btree_read.specs.declared.entry.Branch.{Branch}
 use Rattle.btree_read.specs.Nodes.{Key, precedes, Node, LeafNode, InnerNode, HasNode}
 use Rattle.btree_read.specs.Sorted.{Ascends}

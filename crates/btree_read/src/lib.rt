@@ -2,6 +2,7 @@
 #![tactic(auto)]
 
 mod entry;
+mod last;
 mod leaf;
 mod node;
 mod place;
@@ -10,6 +11,7 @@ mod walk;
 mod whole;
 
 pub use entry::{Branch, Entry, Start};
+pub use last::last_key;
 pub use node::read_node;
 pub use place::{child_at, first_place, is_before};
 pub use value::get;

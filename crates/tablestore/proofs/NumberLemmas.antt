@@ -1,21 +1,23 @@
 -- Row numbers in a tree.
-use Rattle.std.proofs.Common.{◌≡◌, ℕ, ◌^◌, ◌<◌, ◌≤◌, Bool, true, false, List, [], ◌∷◌, Option, Some, None, refl, sym, ap, ◌∙◌, arith, nat_lt}
+use Rattle.std.proofs.Common.{◌≡◌, ℕ, ◌^◌, ◌+◌, ◌<◌, ◌≤◌, Bool, true, false, List, [], ◌∷◌, Option, Some, None, refl, sym, ap, ◌∙◌, subst, arith, nat_lt}
 use Rattle.std.specs.Prelude.{filter, slice_get, if◌then◌else◌, IfSome, IsSome}
+use Rattle.std.specs.List.{AllByRecursion}
 use Rattle.std.specs.Option.{option_map}
 use Rattle.std.specs.Ordering.{is_lt, nat_cmp}
 use Rattle.std.specs.Bool.{◌==◌}
 use Rattle.std.specs.declared.cmp.Ordering.TheVariants as order
-use Rattle.std.proofs.lemmas.Bool.{ltb-true, ltb-false}
+use Rattle.std.proofs.lemmas.Bool.{ltb-true, ltb-false, lt-ltb}
 use Rattle.store.specs.Contents as stored
 use Rattle.store.specs.Indexes.{is_after, entry_after}
 use Rattle.sqlrecord.specs.Key.{number_code}
 use Rattle.sqlrecord.proofs.OrderLemmas.{index_keys}
 use Rattle.btree_read.specs.declared.entry.Entry.{Entry}
 use Rattle.btree_read.specs.declared.entry.Start.TheVariants.{At, Behind}
-use Rattle.btree_read.specs.Nodes.{precedes}
-use Rattle.btree_read.specs.Sorted.{first_from}
+use Rattle.btree_read.specs.Nodes.{Key, precedes}
+use Rattle.btree_read.specs.Sorted.{Ascends, is_from, first_from, last_key}
+use Rattle.btree_read.proofs.OrderLemmas.{lt_trans, not_self}
 use Rattle.btree.proofs.WalkLemmas.{first_of, from_least}
-use Rattle.tablestore.specs.Held.{row_entry, entries_of, IsKept, AreKept}
+use Rattle.tablestore.specs.Held.{row_entry, entries_of, IsKept, AreKept, ArePast}
 
 less_is : (m n : ℕ) (b : Bool) → b ≡ nat_lt m n → is_lt (nat_cmp m n) ≡ b
 less_is m n true e = rw (sym e) refl
@@ -69,12 +71,8 @@ kept_after after (e ∷ rows) kept = by (is_after after e.0) (kept_after after r
 
 -- ---- the next number
 
-pub next_bounded : (rows : List stored.Entry) → AreKept rows → stored.next_number rows ≤ 2 ^ 63
-next_bounded [] kept = omega arith
-next_bounded (e ∷ rows) kept = let one = kept.0.number in let others = next_bounded rows kept.1 in omega (arith, one, others)
-
 -- none is found from a number on
-pub none_from : (n : ℕ) (rows : List stored.Entry) → n < 2 ^ 64 → AreKept rows → first_from At (number_code n) (entries_of rows) ≡ None → stored.next_number rows ≤ n
+none_from : (n : ℕ) (rows : List stored.Entry) → n < 2 ^ 64 → AreKept rows → first_from At (number_code n) (entries_of rows) ≡ None → stored.next_number rows ≤ n
 none_from n [] h kept none = omega arith
 none_from n (e ∷ rows) h kept none =
     let order : precedes (number_code e.0) (number_code n) ≡ nat_lt e.0 n = number_order e.0 n (omega (arith, kept.0.number)) h in
@@ -86,20 +84,75 @@ none_from n (e ∷ rows) h kept none =
     by false is order none again = let found : Some (row_entry e) ≡ None = rw order at none in absurd (cc)
 
 -- one is
-pub some_from : (n : ℕ) (rows : List stored.Entry) (found : Entry) → n < 2 ^ 64 → AreKept rows → first_from At (number_code n) (entries_of rows) ≡ Some found → n < stored.next_number rows
-some_from n [] found h kept is = absurd (cc)
-some_from n (e ∷ rows) found h kept is =
+some_from : (n : ℕ) (rows : List stored.Entry) → n < 2 ^ 64 → AreKept rows → IsSome (first_from At (number_code n) (entries_of rows)) → n < stored.next_number rows
+some_from n [] h kept is = absurd (let bad : false ≡ true = is in cc)
+some_from n (e ∷ rows) h kept is =
     let order : precedes (number_code e.0) (number_code n) ≡ nat_lt e.0 n = number_order e.0 n (omega (arith, kept.0.number)) h in
-    by (nat_lt e.0 n) refl order is (some_from n rows found h kept.1)
+    by (nat_lt e.0 n) refl order is (some_from n rows h kept.1)
   where
-    by : (b : Bool) → b ≡ nat_lt e.0 n → precedes (number_code e.0) (number_code n) ≡ b → first_from At (number_code n) (row_entry e ∷ entries_of rows) ≡ Some found
-        → (first_from At (number_code n) (entries_of rows) ≡ Some found → n < stored.next_number rows) → n < stored.next_number (e ∷ rows)
+    by : (b : Bool) → b ≡ nat_lt e.0 n → precedes (number_code e.0) (number_code n) ≡ b → IsSome (first_from At (number_code n) (row_entry e ∷ entries_of rows))
+        → (IsSome (first_from At (number_code n) (entries_of rows)) → n < stored.next_number rows) → n < stored.next_number (e ∷ rows)
     by true less order is again = let others = again (rw order at is) in omega (arith, others)
     by false less order is again = let above = ltb-false e.0 n (sym less) in omega (arith, above)
 
-pub absent_from : (n : ℕ) (rows : List stored.Entry) (o : Option Entry) → n < 2 ^ 64 → AreKept rows → o ≡ first_from At (number_code n) (entries_of rows) → o ≡ None → stored.next_number rows ≤ n
-absent_from n rows o h kept is none = none_from n rows h kept (sym is ∙ none)
+-- what all keys are, the last one is
+last_is : (P : Key → Type 0) (e : Entry) (es : List Entry) (k : Key) → AllByRecursion (λ x. P x.key) (e ∷ es) → last_key (e ∷ es) ≡ Some k → P k
+last_is P e [] k each is = let same : e.key ≡ k = cc in subst P same each.0
+last_is P e (f ∷ es) k each is = last_is P f es k each.1 is
 
-pub present_from : (n : ℕ) (rows : List stored.Entry) (o : Option Entry) → n < 2 ^ 64 → AreKept rows → o ≡ first_from At (number_code n) (entries_of rows) → IsSome o → n < stored.next_number rows
-present_from n rows (Some found) h kept is some = some_from n rows found h kept (sym is)
-present_from n rows None h kept is some = absurd (let bad : false ≡ true = some in cc)
+-- behind the last key there is none
+none_behind : (es : List Entry) (k next : Key) → Ascends es → last_key es ≡ Some k → precedes k next ≡ true → first_from At next es ≡ None
+none_behind [] k next rises is less = refl
+none_behind (e ∷ []) k next rises is less =
+    let same : e.key ≡ k = cc in
+    let below : precedes e.key next ≡ true = subst (λ x. precedes x next ≡ true) (sym same) less in rw below refl
+none_behind (e ∷ f ∷ es) k next rises is less =
+    let below : precedes e.key next ≡ true = lt_trans e.key k next (last_is (λ x. precedes e.key x ≡ true) f es k rises.0 is) less in
+    rw below (none_behind (f ∷ es) k next rises.1 is less)
+
+-- from the last key on there is one
+one_at_last : (es : List Entry) (k : Key) → last_key es ≡ Some k → IsSome (first_from At k es)
+one_at_last [] k is = absurd (cc)
+one_at_last (e ∷ []) k is =
+    let same : e.key ≡ k = cc in
+    let other : precedes e.key k ≡ false = subst (λ x. precedes e.key x ≡ false) same (not_self e.key) in rw other refl
+one_at_last (e ∷ f ∷ es) k is = by (is_from At k e.key) (one_at_last (f ∷ es) k is)
+  where
+    by : (b : Bool) → IsSome (first_from At k (f ∷ es)) → IsSome (if b then Some e else first_from At k (f ∷ es))
+    by true again = refl
+    by false again = again
+
+one_more_behind : (n : ℕ) → n < 2 ^ 63 → precedes (number_code n) (number_code (n + 1)) ≡ true
+one_more_behind n h = number_order n (n + 1) (omega (arith, h)) (omega (arith, h)) ∙ lt-ltb n (n + 1) (omega arith)
+
+pub past_last : (es : List Entry) (n : ℕ) → n < 2 ^ 63 → Ascends es → last_key es ≡ Some (number_code n) → ArePast es (n + 1)
+past_last es n h rises is = none_behind es (number_code n) (number_code (n + 1)) rises is (one_more_behind n h)
+
+pub next_of_last : (rows : List stored.Entry) (n : ℕ) → n < 2 ^ 63 → AreKept rows → Ascends (entries_of rows) → last_key (entries_of rows) ≡ Some (number_code n) → n + 1 ≡ stored.next_number rows
+next_of_last rows n h kept rises is =
+    let most = none_from (n + 1) rows (omega (arith, h)) kept (past_last (entries_of rows) n h rises is) in
+    let least = some_from n rows (omega (arith, h)) kept (one_at_last (entries_of rows) (number_code n) is) in
+    omega (arith, most, least)
+
+pub none_last : (es : List Entry) → last_key es ≡ None → es ≡ []
+none_last [] is = refl
+none_last (e ∷ []) is = absurd (cc)
+none_last (e ∷ f ∷ es) is = let bad : f ∷ es ≡ [] = none_last (f ∷ es) is in absurd (cc)
+
+pub next_of_none : (rows : List stored.Entry) → last_key (entries_of rows) ≡ None → 0 ≡ stored.next_number rows
+next_of_none [] is = refl
+next_of_none (e ∷ rows) is = let bad : row_entry e ∷ entries_of rows ≡ [] = none_last (row_entry e ∷ entries_of rows) is in absurd (cc)
+
+pub past_none : (es : List Entry) → last_key es ≡ None → ArePast es 0
+past_none es is = ap (λ (all : List Entry). first_from At (number_code 0) all) (none_last es is)
+
+-- the last key of rows is the code of a number that a row may have
+pub record IsLast (k : Key) : Type 0 where
+  pub number : ℕ
+  pub below : number < 2 ^ 63
+  pub code : k ≡ number_code number
+
+pub last_of_rows : (rows : List stored.Entry) (k : Key) → AreKept rows → last_key (entries_of rows) ≡ Some k → IsLast k
+last_of_rows [] k kept is = absurd (cc)
+last_of_rows (e ∷ []) k kept is = record { number = e.0; below = kept.0.number; code = let same : number_code e.0 ≡ k = cc in sym same }
+last_of_rows (e ∷ f ∷ rows) k kept is = last_of_rows (f ∷ rows) k kept.1 is

@@ -20,7 +20,7 @@ const KEY_BYTES: usize = 8;
 
 /// The row number that a key in a table's tree is the code of; `None` where it is that of no row
 /// number: it has another length, or the number is 2^63 or more.
-fn number_of(key: &[u8]) -> Option<u64>
+pub(crate) fn number_of(key: &[u8]) -> Option<u64>
     ensures kept { (n : ℕ) → n < 2 ^ 63 → key.now ≡ number_code n → result ≡ Some n }
     ensures below { IfSome result (λ n. n < 2 ^ 63) }
     ensures code { IfSome result (λ n. key.now ≡ number_code n) }
