@@ -1,7 +1,8 @@
 //! The program.
-ghost use Rattle.std.specs.Prelude.{◌≡◌, ◌≢◌, ◌⊎◌, ℕ, List, length, map};
+ghost use Rattle.std.specs.Prelude.{◌≡◌, ◌≢◌, ◌⊎◌, ℕ, List, false, length, map};
 ghost use Rattle.clap.specs.Words.{kind_of};
-ghost use Rattle.parallel_scripts.specs.Alone.{EndsAlone};
+ghost use Rattle.refusals.specs.declared.refusal.Refusal.TheVariants.{Disk as RefusedDisk};
+ghost use Rattle.parallel_scripts.specs.Alone.{EndsAlone, IsNotRead};
 ghost use Rattle.parallel_scripts.specs.Words.{Asks};
 
 use crate::command_line::settings;
@@ -26,22 +27,31 @@ const WRONG_WORDS: u8 = 2;
 /// Does what the words of a command line of `sqlmany` ask for, of which the first is the program's
 /// name, and answers the exit status: 2 for words that ask for nothing that there is, 0 where they
 /// ask for help, both with nothing written here, 3 where a script cannot be read, which is told,
-/// and else that of `many_in_memory`. The tables are let go at the end.
+/// and else that of `many_in_memory`. Where standard output is not open (`is_open`), no script is
+/// read, and the status is 3. The tables are let go at the end.
 ///
 /// That the scripts are what stands in the files that the words name is tested: what a file is, no
 /// contract of the runtime says.
 pub fn sqlmany<R: Files + Print + Eprint + AllocGlobal + Threads + Wait + Sync, S: AsStr, W: Write>(
     rt: &R,
     words: &[S],
+    is_open: bool,
     writer: &mut W,
 ) -> u8
     ensures asked { (count : ℕ) (names : List (List ℕ)) → Asks (map S.text words.now) count names
         → EndsAlone (length names) (W.contents writer.old) (W.contents writer.new) result }
+    ensures closed { is_open ≡ false → (count : ℕ) (names : List (List ℕ)) → Asks (map S.text words.now) count names
+        → IsNotRead RefusedDisk (W.contents writer.old) (W.contents writer.new) result }
     ensures others { ((count : ℕ) (names : List (List ℕ)) → Asks (map S.text words.now) count names → ⊥)
         → (W.contents writer.new ≡ W.contents writer.old) × ((result ≡ 0) ⊎ (result ≡ 2)) }
 {
     match settings(rt.alloc(), words) {
-        Ok(settings) => run_files(rt, &settings, writer),
+        Ok(settings) => {
+            if !is_open {
+                return not_read(Refusal::Disk, writer);
+            }
+            run_files(rt, &settings, writer)
+        }
         Err(error) => wrong_words(rt, &error),
     }
 }
@@ -75,9 +85,10 @@ fn run_texts<R: AllocGlobal + Threads + Wait + Sync, W: Write>(
     done.status
 }
 
-/// Says that a script was not read.
+/// Says that no script was read.
 fn not_read<W: Write>(refusal: Refusal, writer: &mut W) -> u8
-    ensures { (count : ℕ) → EndsAlone count (W.contents writer.old) (W.contents writer.new) result }
+    ensures ends { (count : ℕ) → EndsAlone count (W.contents writer.old) (W.contents writer.new) result }
+    ensures told { IsNotRead refusal (W.contents writer.old) (W.contents writer.new) result }
 {
     ended(say(refusal, FAILED, writer), writer).status
 }

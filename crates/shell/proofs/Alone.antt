@@ -12,6 +12,18 @@ use Rattle.shell.specs.Runs.{Ends, Left, Runs, ScriptEnds, database_in}
 use Rattle.shell.specs.Tells.{Tells}
 use Rattle.shell.specs.Words.{name_of}
 
+-- nothing was read, said or written
+pub untouched : (given : List ℕ) (held : Option (List ℕ)) → EndsAlone (between given given held held) 3
+untouched given held = EndsAlone.not_opened false Disk refl
+    (record { front = []; rest = printed_reply (says.Refused Disk); whole = refl; taken = Appends-nil held; complete = λ done. absurd (cc) }) refl
+
+-- what was refused behind a command line
+pub refused_alone : (streams : Streams) (status : ℕ) → IsRefused streams status → EndsAlone streams status
+refused_alone streams status r = EndsAlone.not_opened r.is_told Disk r.unread r.told r.failed
+
+pub refused_in_memory : (rules : Rules) (old : World) (streams : Streams) (status : ℕ) → IsGood rules.check old.last → IsRefused streams status → RunsAlone rules old streams status
+refused_in_memory rules old streams status good r = record { is_told = r.is_told; runs = Runs.not_opened Disk refl r.unread r.told r.failed good }
+
 -- a file that is named has a name
 pub has_name : (file : Option (Bor (List ℕ))) (path : Bor (List ℕ)) → file ≡ Some path → name_of file ≡ None → ⊥
 has_name file path is none = let bad : Some path.now ≡ None = subst (λ (f : Option (Bor (List ℕ))). name_of f ≡ None) is none in cc

@@ -24,3 +24,10 @@ pub data EndsAlone (streams : Streams) (status : ℕ) : Type 0 where
 pub record RunsAlone (rules : Rules) (old : World) (streams : Streams) (status : ℕ) : Type 0 where
   pub is_told : Bool
   pub runs : Runs rules old streams status is_told (λ left. IfSome (database_in left) (IsGood rules.check))
+
+-- Nothing was read or opened, X0002 is said, and the status is 3.
+pub record IsRefused (streams : Streams) (status : ℕ) : Type 0 where
+  pub is_told : Bool
+  pub unread : streams.left ≡ streams.given
+  pub told : Tells Disk is_told streams.held streams.holds
+  pub failed : status ≡ 3

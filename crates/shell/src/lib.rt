@@ -2,6 +2,7 @@
 #![tactic(auto)]
 
 mod command_line;
+mod file;
 mod options;
 mod program;
 mod run;

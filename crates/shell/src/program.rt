@@ -1,5 +1,5 @@
 //! The program.
-ghost use Rattle.std.specs.Prelude.{◌≡◌, ◌≢◌, ◌⊎◌, ℕ, List, [], Option, None, map, IfOk, OnErr, IsTrue};
+ghost use Rattle.std.specs.Prelude.{◌≡◌, ◌≢◌, ◌⊎◌, ℕ, List, [], Option, None, false, map, IfOk, OnErr, IsTrue};
 ghost use Rattle.clap.specs.Words.{kind_of};
 ghost use Rattle.denote.specs.Database.{Database, IsGood};
 ghost use Rattle.session_definitions.specs.Rules.{Rules, AreRules};
@@ -7,18 +7,20 @@ ghost use Rattle.session_definitions.specs.World.{new_world, opened};
 ghost use Rattle.scripts.specs.Played.{between};
 ghost use Rattle.scripts.specs.Settled.{store_of};
 ghost use Rattle.sessions.specs.Opening.{Stays};
-ghost use Rattle.shell.specs.Alone.{EndsAlone, RunsAlone};
+ghost use Rattle.shell.specs.Alone.{EndsAlone, IsRefused, RunsAlone};
 ghost use Rattle.shell.specs.Runs.{Ends, HasRefused, HasSameBytes, IsNotOpened, Leaves, Runs};
 ghost use Rattle.shell.specs.Status.{IsStatus};
 ghost use Rattle.shell.specs.Tells.{Tells};
 ghost use Rattle.shell.specs.Words.{Asks, name_of};
 
 use crate::command_line::settings;
+use crate::file::{is_output, opened_file};
 use crate::options::Settings;
-use crate::run::{EndedRun, failed, run_to_end};
+use crate::run::{EndedRun, FAILED, failed, run_to_end};
+use crate::telling::tell;
 use clap::Error;
 use clap::error::ErrorKind;
-use disk::{Disk, DiskError, FileDisk, MemDisk};
+use disk::{Disk, DiskError, MemDisk};
 use paged_store::Paged;
 use refusals::Refusal;
 use session_laws::databases_stay_good;
@@ -34,14 +36,17 @@ const WRONG_WORDS: u8 = 2;
 /// Does what the words of a command line of `sqlsh` ask for, of which the first is the program's
 /// name, from reader to writer, and answers the exit status. Words that ask for nothing that there
 /// is are told of on the runtime's own streams, with nothing read or written here: status 2, or 0
-/// where they ask for help. Others run a script over the tables in FILE, where they name one, and
-/// else over new tables on a device in memory, and the status is that of the run. What a run leaves
-/// of its device, `run_over_pages` says, which hands it back; the device ends here.
+/// where they ask for help. Where standard input or output is not open (`are_open`), nothing is read
+/// or opened, X0002 is said and the status is 3. Others run a script over the tables in FILE, where
+/// they name one, and else over new tables on a device in memory, and the status is that of the run.
 ///
-/// That it is FILE that is opened is tested: what a file is, no contract of the runtime says.
+/// What a run leaves of its device, `run_over_pages` says, which hands it back; the device ends
+/// here. That it is FILE that is opened, and by one line made a `FileDisk`, is tested: what a file
+/// is, no contract of the runtime says.
 pub fn sqlsh<P: Files<File = File> + Print + Eprint + AllocGlobal, S: AsStr, R: Read, W: Write>(
     rt: &P,
     words: &[S],
+    are_open: bool,
     reader: &mut R,
     writer: &mut W,
 ) -> u8
@@ -49,14 +54,29 @@ pub fn sqlsh<P: Files<File = File> + Print + Eprint + AllocGlobal, S: AsStr, R: 
         → EndsAlone (between (R.remaining reader.old) (R.remaining reader.new) (W.contents writer.old) (W.contents writer.new)) result }
     ensures in_memory { (count : ℕ) → Asks (map S.text words.now) count None → (rules : Rules) → AreRules rules
         → RunsAlone rules new_world (between (R.remaining reader.old) (R.remaining reader.new) (W.contents writer.old) (W.contents writer.new)) result }
+    ensures closed { are_open ≡ false → (count : ℕ) (file : Option (List ℕ)) → Asks (map S.text words.now) count file
+        → IsRefused (between (R.remaining reader.old) (R.remaining reader.new) (W.contents writer.old) (W.contents writer.new)) result }
     ensures others { ((count : ℕ) (file : Option (List ℕ)) → Asks (map S.text words.now) count file → ⊥)
         → (R.remaining reader.new ≡ R.remaining reader.old) × (W.contents writer.new ≡ W.contents writer.old)
         × ((result ≡ 0) ⊎ (result ≡ 2)) }
 {
     match settings(rt.alloc(), words) {
-        Ok(settings) => run_asked(rt, &settings, reader, writer),
+        Ok(settings) => {
+            if !are_open {
+                return refuse_closed(writer);
+            }
+            run_asked(rt, &settings, reader, writer)
+        }
         Err(error) => told(rt, &error),
     }
+}
+
+/// Says that standard input or output is not open, and answers the exit status.
+fn refuse_closed<W: Write>(writer: &mut W) -> u8
+    ensures { (given : List ℕ) → IsRefused (between given given (W.contents writer.old) (W.contents writer.new)) result }
+{
+    let _ = tell(Refusal::Disk, writer);
+    FAILED
 }
 
 /// Does what `sqlsh run` does: over the tables in FILE, where it is asked for, and else over tables
@@ -72,46 +92,30 @@ fn run_asked<P: Files<File = File> + AllocGlobal, R: Read, W: Write>(
         → RunsAlone rules new_world (between (R.remaining reader.old) (R.remaining reader.new) (W.contents writer.old) (W.contents writer.new)) result }
 {
     match settings.file {
-        Some(path) => run_over_file(
-            rt.alloc(),
-            settings,
-            FileDisk::open(rt, path),
-            reader,
-            writer,
-        ),
-        None => run_in_memory(rt.alloc(), settings, reader, writer),
+        Some(path) => run_file(rt, settings, path, reader, writer),
+        None => {
+            let device: Result<MemDisk, DiskError> = Ok(MemDisk::new(rt.alloc()));
+            run_over_pages(rt.alloc(), settings, device, reader, writer).status
+        }
     }
 }
 
-/// Does what `sqlsh run` does over the tables in a file, or says that it could not be opened.
-fn run_over_file<R: Read, W: Write>(
-    alloc: Global,
+/// Does what `sqlsh run` does over the tables in a file. Where that is where standard output goes,
+/// nothing is read or written.
+fn run_file<P: Files<File = File> + AllocGlobal, R: Read, W: Write>(
+    rt: &P,
     settings: &Settings<'_>,
-    file: Result<FileDisk, DiskError>,
+    path: &str,
     reader: &mut R,
     writer: &mut W,
 ) -> u8
-    requires { IfOk file (λ device. device.refused ≡ 0) }
     ensures { EndsAlone (between (R.remaining reader.old) (R.remaining reader.new) (W.contents writer.old) (W.contents writer.new)) result }
 {
-    let ended = run_over_pages(alloc, settings, file, reader, writer);
-    ended.status
-}
-
-/// Does what `sqlsh run` does over new tables on a device in memory.
-fn run_in_memory<R: Read, W: Write>(
-    alloc: Global,
-    settings: &Settings<'_>,
-    reader: &mut R,
-    writer: &mut W,
-) -> u8
-    ensures ends { EndsAlone (between (R.remaining reader.old) (R.remaining reader.new) (W.contents writer.old) (W.contents writer.new)) result }
-    ensures runs { (rules : Rules) → AreRules rules
-        → RunsAlone rules new_world (between (R.remaining reader.old) (R.remaining reader.new) (W.contents writer.old) (W.contents writer.new)) result }
-{
-    let device: Result<MemDisk, DiskError> = Ok(MemDisk::new(alloc));
-    let ended = run_over_pages(alloc, settings, device, reader, writer);
-    ended.status
+    if is_output(rt, path) {
+        return FAILED;
+    }
+    let file = opened_file(rt, path);
+    run_over_pages(rt.alloc(), settings, file, reader, writer).status
 }
 
 /// Does what `sqlsh run` does over the tables in the pages of a device, as `run_to_end` does over

@@ -2,6 +2,7 @@
 #![tactic(auto)]
 
 use parallel_scripts::sqlmany;
+use standard_streams::StandardStreams;
 use std::io::BufWriter;
 use std::process::ExitCode;
 use std::rt::Env;
@@ -14,9 +15,12 @@ fn main(rt: HostRuntime) -> ExitCode {
     let Ok(words) = words(&rt) else {
         return ExitCode::from(NO_WORDS);
     };
+    // Before any file is opened, and to the end.
+    let streams = StandardStreams::new(&rt);
+    let is_open = streams.has_output();
     let status = match BufWriter::new(rt.alloc(), io::writer(&rt)) {
-        Ok(mut writer) => sqlmany(&rt, words.as_slice(), &mut writer),
-        Err(_) => sqlmany(&rt, words.as_slice(), &mut io::writer(&rt)),
+        Ok(mut writer) => sqlmany(&rt, words.as_slice(), is_open, &mut writer),
+        Err(_) => sqlmany(&rt, words.as_slice(), is_open, &mut io::writer(&rt)),
     };
     ExitCode::from(status)
 }

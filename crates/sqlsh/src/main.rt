@@ -2,6 +2,7 @@
 #![tactic(auto)]
 
 use shell::sqlsh;
+use standard_streams::StandardStreams;
 use std::io::BufWriter;
 use std::process::ExitCode;
 use std::rt::Env;
@@ -14,10 +15,13 @@ fn main(rt: HostRuntime) -> ExitCode {
     let Ok(words) = words(&rt) else {
         return ExitCode::from(NO_WORDS);
     };
+    // Before any file is opened, and to the end.
+    let streams = StandardStreams::new(&rt);
+    let are_open = streams.has_input() && streams.has_output();
     let mut reader = rt.reader();
     let status = match BufWriter::new(rt.alloc(), io::writer(&rt)) {
-        Ok(mut writer) => sqlsh(&rt, words.as_slice(), &mut reader, &mut writer),
-        Err(_) => sqlsh(&rt, words.as_slice(), &mut reader, &mut io::writer(&rt)),
+        Ok(mut writer) => sqlsh(&rt, words.as_slice(), are_open, &mut reader, &mut writer),
+        Err(_) => sqlsh(&rt, words.as_slice(), are_open, &mut reader, &mut io::writer(&rt)),
     };
     ExitCode::from(status)
 }

@@ -7,4 +7,4 @@ pub returns-in-Ok : goal.returns-in-Ok
 returns-in-Ok g c = ends_for (ap length c.as_slice.ensures.value ∙ c.in-Ok.ensures) c.run_texts.ensures
 
 pub returns-in-Err : goal.returns-in-Err
-returns-in-Err g c = c.not_read.ensures _
+returns-in-Err g c = c.not_read.ensures.ends _
