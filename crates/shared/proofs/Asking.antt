@@ -1,5 +1,6 @@
 -- The calls of a script, as its answers come.
-use Rattle.std.proofs.Common.{Bool, ◌≡◌, ◌⊎◌, inl, inr, ⊎_elim, slice_get, get_or, ℕ, zero, suc, ◌+◌, ◌<◌, List, [], ◌∷◌, ◌++◌, length, Some, refl, sym, ap, ◌∙◌, subst, arith, append_assoc, append-nil}
+use Rattle.std.specs.Prelude.{IfErr}
+use Rattle.std.proofs.Common.{Bool, true, false, Ok, Err, ◌≡◌, ◌⊎◌, inl, inr, ⊎_elim, slice_get, get_or, ℕ, zero, suc, ◌+◌, ◌<◌, List, [], ◌∷◌, ◌++◌, length, Some, refl, sym, ap, ◌∙◌, subst, arith, append_assoc, append-nil}
 use Rattle.std.proofs.lemmas.Bool.{cases_eq}
 use mathlib.Core.List.{IsPrefix}
 use Rattle.session_definitions.specs.World.{World}
@@ -7,7 +8,7 @@ use Rattle.shared.specs.declared.event.Event.{Event}
 use Rattle.shared.specs.declared.event.Act.{Act}
 use Rattle.shared.specs.History.{event}
 use Rattle.shared.specs.Views.{Past, Extends}
-use Rattle.shared.specs.Scripts.{Answer, Ask, ask_of, asks, asked, after, stood, opened, texts_of, Text, Asks}
+use Rattle.shared.specs.Scripts.{Answer, Ask, ask_of, asks, asked, after, stood, opened, texts_of, RefusedWhereNone, Text, Asks}
 
 asks_append : (xs ys : List Event) → asks (xs ++ ys) ≡ asks xs ++ asks ys
 asks_append [] ys = refl
@@ -41,6 +42,13 @@ opened_snoc stands (s ∷ ts) (x ∷ answers) t a same = ap (λ l. asked stands 
 pub stood_snoc : (stands : Bool) (answers : List Answer) (a : Answer) → stood stands (answers ++ a ∷ []) ≡ after (stood stands answers) a
 stood_snoc stands [] a = refl
 stood_snoc stands (x ∷ answers) a = stood_snoc (after stands x) answers a
+
+pub none_snoc : (stands : Bool) (answers : List Answer) (a : Answer) (now : Bool) → now ≡ stood stands answers → RefusedWhereNone stands answers → IfErr a (λ _. now ≡ false)
+    → RefusedWhereNone stands (answers ++ a ∷ [])
+none_snoc stands [] (Err refusal) now is old new = (sym is ∙ new, tt)
+none_snoc stands [] (Ok reply) now is old new = tt
+none_snoc stands (Err refusal ∷ answers) a now is old new = (old.0, none_snoc stands answers a now is old.1 new)
+none_snoc stands (Ok reply ∷ answers) a now is old new = none_snoc true answers a now is old new
 
 pub texts_snoc : (ts : List Text) (t : Text) → texts_of (ts ++ t ∷ []) ≡ texts_of ts ++ t.items ∷ []
 texts_snoc [] t = refl

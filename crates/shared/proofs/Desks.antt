@@ -9,10 +9,10 @@ use Rattle.sessions.specs.OfCore.{StandBeside}
 use Rattle.shared.specs.declared.event.Act.{Act}
 use Rattle.shared.specs.declared.event.Act.TheVariants.{Connects, Refused, Says, Ends}
 use Rattle.shared.specs.declared.rule.View.{View}
-use Rattle.shared.specs.History.{Happens, IsCounted, event, given, moved, holder_of, lives_after}
+use Rattle.shared.specs.History.{Happens, IsCounted, IsOwn, event, given, moved, holder_of, lives_after}
 use Rattle.shared.specs.Views.{host, keeper_in, caller_in, one_more, extended, past, IsAt, Told, IsDesk, Extends}
 use Rattle.shared.proofs.Goods.{KeepsGood, good_told}
-use Rattle.shared.proofs.Histories.{same, differs, told_snoc, holder_snoc, all_snoc, all_more, none_some, calls_own}
+use Rattle.shared.proofs.Histories.{same, differs, told_snoc, holder_snoc, all_snoc, own_snoc, all_more, none_some, calls_own}
 
 count_on : (count n : ℕ) → count ≡ n % 2 ^ 64 → (count + 1) % 2 ^ 64 ≡ (n + 1) % 2 ^ 64
 count_on count n is = omega (arith, is)
@@ -67,26 +67,27 @@ nobodys premise start callers sound w count k id d free = by (holder_of id k.log
 -- ---- calls
 
 module _ (keeps : KeepsGood) (premise : Type 0) (start : World) (callers : Option ℕ) (sound sound' : Type 0) (w w' : World) (count : ℕ) (k m : View) (act : Act) (n : ℕ) where
-  pub desk_after : IsDesk premise start callers sound w count k → Told (host k m)
+  pub desk_after : IsDesk premise start callers sound w count k → Told (host k m) → IsOwn k.log m.who act
       → ((id : ℕ) → is_live w' id ≡ lives_after act id (is_live w id))
       → ((rules : Rules) → AreRules rules → sound → IsGoodWorld rules.check w → sound' × Happens rules w act w')
       → IsDesk premise start callers sound' w' ((count + 1) % 2 ^ 64) (keeper_in (extended (event m.who act n) (host k m)))
-  desk_after d told live on = record {
+  desk_after d told own live on = record {
     keeps = refl;
     counted = count_on count (length k.log) d.counted ∙ ap (λ (n : ℕ). n % 2 ^ 64) (sym (length-append k.log (event m.who act n ∷ [])));
     live = λ id. live id ∙ lives_on id m.who act (is_live w id) (holder_of id k.log) (d.live id) ∙ ap is_some (sym (holder_snoc id None k.log (event m.who act n)));
     limit = d.limit;
     all_of = all_snoc k.names k.log (event m.who act n) d.all_of told.named;
+    own = own_snoc [] k.log (event m.who act n) d.own own;
     tells = λ p rules are good.
         let was = d.tells p rules are good in
         let next = on rules are was.0 (good_told keeps rules are start k.log w good was.1) in
         (next.0, told_snoc rules start k.log (event m.who act n) w w' was.1 next.1);
   }
 
-  pub extends_after : (before : ℕ) → IsDesk premise start callers sound w count k → Told (host k m) → IsCounted before n (k.log ++ event m.who act n ∷ [])
+  pub extends_after : (before : ℕ) → IsDesk premise start callers sound w count k → Told (host k m) → IsOwn k.log m.who act → IsCounted before n (k.log ++ event m.who act n ∷ [])
       → ((rules : Rules) → AreRules rules → sound → IsGoodWorld rules.check w → sound' × Happens rules w act w')
       → Extends premise start before (past m) act (past (caller_in (extended (event m.who act n) (host k m))))
-  extends_after before d told counted on = record {
+  extends_after before d told own counted on = record {
     who = refl;
     at = refl;
     refused = n;
@@ -94,6 +95,7 @@ module _ (keeps : KeepsGood) (premise : Type 0) (start : World) (callers : Optio
     seen = ap (λ l. l ++ event m.who act n ∷ []) (sym told.saw.1);
     mine = refl;
     made = calls_own m.who k.log m.mine (event m.who act n) refl told.made;
+    own = own_snoc [] k.log (event m.who act n) d.own own;
     counted = counted;
     legal = λ p rules are good.
         let was = d.tells p rules are good in
@@ -109,5 +111,6 @@ desk_opened premise start callers sound w count v none d = record {
   live = d.live;
   limit = λ n e. none_some n (sym none ∙ e);
   all_of = all_more v.names v.log d.all_of;
+  own = d.own;
   tells = d.tells;
 }

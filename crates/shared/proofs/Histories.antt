@@ -13,7 +13,7 @@ use Rattle.shared.specs.declared.event.Event.{Event}
 use Rattle.shared.specs.declared.event.Act.{Act}
 use Rattle.shared.specs.declared.event.Act.TheVariants.{Connects, Refused, Says, Ends}
 use Rattle.shared.specs.declared.rule.View.{View}
-use Rattle.shared.specs.History.{IsTold, Happens, event, told_of, acts_of, kept, calls_by, given, moved, holder_from, holder_of, AllOf, at_after}
+use Rattle.shared.specs.History.{IsTold, Happens, event, told_of, acts_of, kept, calls_by, given, moved, holder_from, holder_of, IsOwn, AreOwnBehind, AllOf, at_after}
 use Rattle.shared.specs.Views.{IsAt, May, Calls, extended}
 
 pub same : (a : ℕ) → (a == a) ≡ true
@@ -53,6 +53,10 @@ holder_snoc id h (d ∷ log) e = holder_snoc id (moved id d.who d.act h) log e
 pub all_snoc : (n : ℕ) (log : List Event) (e : Event) → AllOf n log → e.who < n → AllOf n (log ++ e ∷ [])
 all_snoc n [] e all less = (less, tt)
 all_snoc n (d ∷ log) e all less = (all.0, all_snoc n log e all.1 less)
+
+pub own_snoc : (before log : List Event) (e : Event) → AreOwnBehind before log → IsOwn (before ++ log) e.who e.act → AreOwnBehind before (log ++ e ∷ [])
+own_snoc before [] e all own = (subst (λ (l : List Event). IsOwn l e.who e.act) (append-nil before) own, tt)
+own_snoc before (d ∷ log) e all own = (all.0, own_snoc (before ++ d ∷ []) log e all.1 (subst (λ (l : List Event). IsOwn l e.who e.act) (sym (append_assoc before (d ∷ []) log)) own))
 
 pub all_more : (n : ℕ) (log : List Event) → AllOf n log → AllOf (n + 1) log
 all_more n [] all = tt

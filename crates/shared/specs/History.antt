@@ -109,6 +109,23 @@ holder_from id holder (e ∷ es) = holder_from id (moved id e.who e.act holder) 
 abbrev pub holder_of : ℕ → List Event → Option ℕ
 holder_of id log = holder_from id None log
 
+-- The call is of the session that its caller has then, by the calls before it; where it is made
+-- one, nobody had a session of that number.
+abbrev pub IsOwn : List Event → ℕ → Act → Type 0
+IsOwn before who (Connects id) = holder_of id before ≡ None
+IsOwn before who (Refused refusal) = Unit {0}
+IsOwn before who (Says id text reply) = holder_of id before ≡ Some who
+IsOwn before who (Ends id) = holder_of id before ≡ Some who
+
+-- and so is each of these calls, which come behind those
+abbrev pub AreOwnBehind : List Event → List Event → Type 0
+AreOwnBehind before [] = Unit {0}
+AreOwnBehind before (e ∷ es) = IsOwn before e.who e.act × AreOwnBehind (before ++ e ∷ []) es
+
+-- each call of a history is of its caller's own session
+abbrev pub AreOwn : List Event → Type 0
+AreOwn log = AreOwnBehind [] log
+
 -- every call is one of the first n callers
 abbrev pub AllOf : ℕ → List Event → Type 0
 AllOf n [] = Unit {0}

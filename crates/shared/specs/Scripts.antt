@@ -13,7 +13,7 @@ use Rattle.transactions.specs.Refused.{IfRefused, TellsReached}
 use Rattle.shared.specs.declared.event.Event.{Event}
 use Rattle.shared.specs.declared.event.Act.{Act}
 use Rattle.shared.specs.declared.event.Act.TheVariants.{Connects, Refused, Says, Ends}
-use Rattle.shared.specs.History.{Stays, AllOf, IsCounted, MayReach, calls_by}
+use Rattle.shared.specs.History.{Stays, AllOf, AreOwn, IsCounted, MayReach, calls_by}
 use Rattle.shared.specs.Views.{Past}
 
 -- a text's answer: its reply, or why no session was made for it
@@ -67,9 +67,17 @@ closing false = []
 abbrev pub expected : List (List ℕ) → List Answer → List Ask
 expected texts answers = opened false texts answers ++ closing (stood false answers)
 
--- these are all calls of a script of these texts that was answered so; each text has an answer
+-- no text was refused a session where one stands
+abbrev pub RefusedWhereNone : Bool → List Answer → Type 0
+RefusedWhereNone stands [] = Unit {0}
+RefusedWhereNone stands (Err refusal ∷ answers) = (stands ≡ false) × RefusedWhereNone stands answers
+RefusedWhereNone stands (Ok reply ∷ answers) = RefusedWhereNone true answers
+
+-- these are all calls of a script of these texts that was answered so; each text has an answer, and
+-- no session is refused where one stands
 abbrev pub Played : List (List ℕ) → List Event → List Answer → Type 0
 Played texts mine answers = (asks mine ≡ expected texts answers) × (length answers ≡ length texts)
+    × RefusedWhereNone false answers
 
 -- ---- the texts of scripts as the code has them
 
@@ -123,12 +131,13 @@ AnswersTellLimits (text ∷ texts) (a ∷ answers) = AnswerTellsLimits text a ×
 abbrev pub store_of : {S L D : Type 0} → Core S L D → S
 store_of core = core.store
 
--- There is one history. Each call in it is a script's; of each script it has the calls of its
--- texts, each once and in order, with the answers that are given, and no others. Under the premise
--- it is legal, and leads from the first world to the last.
+-- There is one history. Each call in it is a script's, and of that script's own session; of each
+-- script it has the calls of its texts, each once and in order, with the answers that are given,
+-- and no others. Under the premise it is legal, and leads from the first world to the last.
 pub record OneHistory (premise : Type 0) (start : World) (scripts : List Script) (replies : List Answers) (sound : Type 0) (end : World) : Type 0 where
   pub log : List Event
   pub all_of : AllOf (length scripts) log
+  pub own : AreOwn log
   pub all : length replies ≡ length scripts
   pub each : (k : ℕ) (answers : Answers) → slice_get replies k ≡ Some answers
       → Played (texts_at scripts k) (calls_by k log) answers.items

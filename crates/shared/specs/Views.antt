@@ -15,7 +15,7 @@ use Rattle.shared.specs.declared.event.Event.{Event}
 use Rattle.shared.specs.declared.event.Act.{Act}
 use Rattle.shared.specs.declared.event.Act.TheVariants.{Connects, Refused, Says, Ends}
 use Rattle.shared.specs.declared.rule.View.{View}
-use Rattle.shared.specs.History.{IsCounted, IsLegal, Stays, event, calls_by, holder_of, AllOf, MayReach, at_after}
+use Rattle.shared.specs.History.{IsCounted, IsLegal, Stays, event, calls_by, holder_of, AllOf, AreOwn, MayReach, at_after}
 
 -- the name of no cell
 abbrev pub no_table : TableId
@@ -118,6 +118,7 @@ pub record IsDesk (premise : Type 0) (start : World) (callers : Option ℕ) (is_
   pub live : (id : ℕ) → is_live world id ≡ is_some (holder_of id v.log)
   pub limit : (n : ℕ) → callers ≡ Some n → v.names ≡ n
   pub all_of : AllOf v.names v.log
+  pub own : AreOwn v.log
   pub tells : premise → Stays start v.log is_sound world
 
 -- ---- what a call tells
@@ -154,21 +155,22 @@ AllHeard log (caller ∷ callers) = IsHeard log caller × AllHeard log callers
 
 -- There is one history, in which each of these callers is heard; where it was settled how many
 -- callers there are, no other made a call in it. The device had refused `before` calls when it
--- began, and has refused `after` in the core that is handed back. The sessions that stand are those
--- that the history leaves to somebody. Under the premise it is legal, and the world is the one
+-- began, and has refused `after` in the core that is handed back. Each call is of its caller's own
+-- session, and the sessions that stand are those that the history leaves to somebody. Under the premise it is legal, and the world is the one
 -- after it.
 pub record HasHistory (premise : Type 0) (start : World) (before : ℕ) (settled : Option ℕ) (callers : List Past) (is_sound : Type 0) (world : World) (after : ℕ) : Type 0 where
   pub log : List Event
   pub heard : AllHeard log callers
   pub all_of : (n : ℕ) → settled ≡ Some n → AllOf n log
+  pub own : AreOwn log
   pub counted : IsCounted before after log
   pub live : (id : ℕ) → is_live world id ≡ is_some (holder_of id log)
   pub tells : premise → Stays start log is_sound world
 
 -- One call. The history after it begins with all that the caller had seen, and ends with the call.
 -- The calls of the caller in it are those that it made: those from before, and this one. The device
--- had refused `before` calls when the history began, and `refused` after this call. Under the
--- premise the history is legal.
+-- had refused `before` calls when the history began, and `refused` after this call. Each call of
+-- the history is of its caller's own session. Under the premise it is legal.
 pub record Extends (premise : Type 0) (start : World) (before : ℕ) (v : Past) (act : Act) (w : Past) : Type 0 where
   pub who : w.who ≡ v.who
   pub at : w.at ≡ at_after act v.at
@@ -177,6 +179,7 @@ pub record Extends (premise : Type 0) (start : World) (before : ℕ) (v : Past) 
   pub seen : w.seen ≡ (v.seen ++ between) ++ event v.who act refused ∷ []
   pub mine : w.mine ≡ v.mine ++ event v.who act refused ∷ []
   pub made : calls_by w.who w.seen ≡ w.mine
+  pub own : AreOwn w.seen
   pub counted : IsCounted before refused w.seen
   pub legal : premise → IsLegal start w.seen
 

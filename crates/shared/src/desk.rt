@@ -6,7 +6,7 @@ ghost use mathlib.Core.List.{IsPrefix};
 ghost use Rattle.crossbeam_utils.specs.Seq.{cell_view};
 ghost use Rattle.session_definitions.specs.World.{is_live};
 ghost use Rattle.sessions.specs.OfCore.{IsSound, world_of};
-ghost use Rattle.shared.specs.History.{event, calls_by, holder_of, AllOf, IsCounted, Stays};
+ghost use Rattle.shared.specs.History.{event, calls_by, holder_of, AllOf, AreOwn, IsCounted, Stays};
 ghost use Rattle.shared.specs.Scripts.{store_of};
 ghost use Rattle.shared.specs.Views.{keeper as keeper_of, one_more, host, keeper_in, caller_in, extended, IsNew, May, Told, Extends, Said, Joined, TurnedAway, Left};
 ghost use Rattle.shared.specs.Called.{act_of};
@@ -83,6 +83,7 @@ impl<S: Store, L: Language + Changes<S>, J: Room> Desk<S, L, J> {
         ensures token { result.1.table_id ≡ J.table }
         ensures keeps { (cell_view result.1).keeps ≡ true }
         ensures all_of { (n : ℕ) → J.callers ≡ Some n → AllOf n (cell_view result.1).log }
+        ensures own { AreOwn (cell_view result.1).log }
         ensures history { J.premise
             → Stays J.start (cell_view result.1).log (IsSound S.is_sound S.shows result.0) (world_of S.shows result.0) }
         ensures device { IsCounted J.refused (S.refused (store_of result.0)) (cell_view result.1).log }

@@ -1,5 +1,5 @@
 //! Scripts, each on a thread of its own, over one core.
-ghost use Rattle.std.specs.Prelude.{◌≡◌, ◌≤◌, ℕ, ◌+◌, ◌<◌, Some, None, [], ◌∷◌, ◌++◌, true, false, length, vec_len, slice_get, slice_index_or, IfOk, IfSome, OnOk};
+ghost use Rattle.std.specs.Prelude.{◌≡◌, ◌≤◌, ℕ, ◌+◌, ◌<◌, Some, None, [], ◌∷◌, ◌++◌, true, false, length, vec_len, slice_get, slice_index_or, IfOk, IfErr, IfSome, OnOk};
 ghost use mathlib.Core.List.{IsPrefix};
 ghost use Rattle.crossbeam_utils.specs.Seq.{cell_view};
 ghost use Rattle.session_definitions.specs.World.{is_live};
@@ -186,6 +186,7 @@ fn call<S: Store, L: Language + Changes<S>, J: Room, R: Wait>(
 ) -> (Caller<J>, Result<Reply, Refusal>)
     ensures asks { Asks (past_of caller) (asked (stands_of caller) text.now result.1) (past_of result.0) }
     ensures stands { stands_of result.0 ≡ after (stands_of caller) result.1 }
+    ensures none { IfErr result.1 (λ _. stands_of caller ≡ false) }
 {
     let mut session = match caller {
         Caller::Stands(session) => session,

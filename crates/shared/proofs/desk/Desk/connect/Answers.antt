@@ -8,7 +8,7 @@ use Rattle.shared.specs.History.{IsCounted, event}
 use Rattle.shared.specs.Views.{keeper_in, caller_in, extended, past, Past, Told, IsDesk, Extends}
 use Rattle.shared.proofs.Goods.{connects_on, refused_on}
 use Rattle.shared.proofs.Counting.{counted_after, not_disk, same_count}
-use Rattle.shared.proofs.Desks.{desk_after, extends_after, live_made}
+use Rattle.shared.proofs.Desks.{desk_after, extends_after, live_made, nobodys}
 use Rattle.shared.proofs.desk.Desk.connect.Goals as goal
 
 pub invariant_of-self : goal.invariant_of-self
@@ -21,7 +21,7 @@ invariant_of-self g c =
     let x = r.1 ∙ ap (λ (v : View). keeper_in (extended (event v.who act n) v)) t.view in (
       r.0 ∙ t.cell.0 ∙ c.self.invariant.0,
       subst (λ (v : View). IsDesk g.J.Room.premise g.J.Room.start g.J.Room.callers (IsSound g.S.Store.is_sound g.S.Store.shows c.new_session.new.self) (world_of g.S.Store.shows c.new_session.new.self) ((c.self.inside.count + 1) % 2 ^ 64) v) (sym x)
-          (desk_after c.databases_stay_good.ensures.run _ _ _ _ _ _ _ _ (cell_view c.self.inside.keeper) (cell_view c.me.inside.token) act n c.self.invariant.1 told (live_made (world_of g.S.Store.shows c.self.inside.core) (world_of g.S.Store.shows c.new_session.new.self) (number_of c.in-Ok.id) c.in-Ok.ensures.live.0 c.in-Ok.ensures.live.1)
+          (desk_after c.databases_stay_good.ensures.run _ _ _ _ _ _ _ _ (cell_view c.self.inside.keeper) (cell_view c.me.inside.token) act n c.self.invariant.1 told (nobodys _ _ _ _ _ _ (cell_view c.self.inside.keeper) (number_of c.in-Ok.id) c.self.invariant.1 c.in-Ok.ensures.free) (live_made (world_of g.S.Store.shows c.self.inside.core) (world_of g.S.Store.shows c.new_session.new.self) (number_of c.in-Ok.id) c.in-Ok.ensures.live.0 c.in-Ok.ensures.live.1)
           (connects_on g.S.Store.is_sound g.S.Store.shows c.self.inside.core c.new_session.new.self c.in-Ok.id c.in-Ok.ensures.makes c.in-Ok.ensures.sound)),
       subst (λ (v : View). IsCounted g.J.Room.refused (g.S.Store.refused c.new_session.new.self.store) v.log) (sym x)
           (counted_after _ _ (cell_view c.self.inside.keeper).log (event (cell_view c.me.inside.token).who act n) (same_count _ _ c.new_session.ensures.counts) tt tt c.self.invariant.2),
@@ -38,7 +38,7 @@ returns-in-Ok-clause-ok g c =
       id = number_of c.in-Ok.id;
       at = ap (λ (v : View). v.at) x;
       call = subst₂ (λ (p q : Past). Extends g.J.Room.premise g.J.Room.start g.J.Room.refused p act q) c.me.view_is (ap past (sym x))
-          (extends_after c.databases_stay_good.ensures.run _ _ _ _ (IsSound g.S.Store.is_sound g.S.Store.shows c.new_session.new.self) _ _ _ (cell_view c.self.inside.keeper) (cell_view c.me.inside.token) act n g.J.Room.refused c.self.invariant.1 told
+          (extends_after c.databases_stay_good.ensures.run _ _ _ _ (IsSound g.S.Store.is_sound g.S.Store.shows c.new_session.new.self) _ _ _ (cell_view c.self.inside.keeper) (cell_view c.me.inside.token) act n g.J.Room.refused c.self.invariant.1 told (nobodys _ _ _ _ _ _ (cell_view c.self.inside.keeper) (number_of c.in-Ok.id) c.self.invariant.1 c.in-Ok.ensures.free)
           (counted_after _ _ (cell_view c.self.inside.keeper).log (event (cell_view c.me.inside.token).who act n) (same_count _ _ c.new_session.ensures.counts) tt tt c.self.invariant.2)
           (connects_on g.S.Store.is_sound g.S.Store.shows c.self.inside.core c.new_session.new.self c.in-Ok.id c.in-Ok.ensures.makes c.in-Ok.ensures.sound));
     }
@@ -53,7 +53,7 @@ invariant_of-self-2 g c =
     let x = r.1 ∙ ap (λ (v : View). keeper_in (extended (event v.who act n) v)) t.view in (
       r.0 ∙ t.cell.0 ∙ c.self.invariant.0,
       subst (λ (v : View). IsDesk g.J.Room.premise g.J.Room.start g.J.Room.callers (IsSound g.S.Store.is_sound g.S.Store.shows c.new_session.new.self) (world_of g.S.Store.shows c.new_session.new.self) ((c.self.inside.count + 1) % 2 ^ 64) v) (sym x)
-          (desk_after c.databases_stay_good.ensures.run _ _ _ _ _ _ _ _ (cell_view c.self.inside.keeper) (cell_view c.me.inside.token) act n c.self.invariant.1 told (λ id. ap (λ x. is_live (world_of g.S.Store.shows x) id) c.in-Err.ensures.refused.1)
+          (desk_after c.databases_stay_good.ensures.run _ _ _ _ _ _ _ _ (cell_view c.self.inside.keeper) (cell_view c.me.inside.token) act n c.self.invariant.1 told tt (λ id. ap (λ x. is_live (world_of g.S.Store.shows x) id) c.in-Err.ensures.refused.1)
           (refused_on g.S.Store.is_sound g.S.Store.shows c.self.inside.core c.new_session.new.self c.in-Err.refusal c.in-Err.ensures.makes c.in-Err.ensures.sound)),
       subst (λ (v : View). IsCounted g.J.Room.refused (g.S.Store.refused c.new_session.new.self.store) v.log) (sym x)
           (counted_after _ _ (cell_view c.self.inside.keeper).log (event (cell_view c.me.inside.token).who act n) (same_count _ _ c.new_session.ensures.counts) (not_disk _ _ _ c.in-Err.ensures.refused.0) c.in-Err.ensures.refused.0 c.self.invariant.2),
@@ -67,6 +67,6 @@ returns-clause-err g c =
     let x = c.record-token-in-Err.ensures.caller.2 ∙ ap (λ (v : View). caller_in (extended (event v.who act n) v)) t.view in
     let told = subst Told t.view t.told in
     subst₂ (λ (p q : Past). Extends g.J.Room.premise g.J.Room.start g.J.Room.refused p act q) c.me.view_is (ap past (sym x))
-    (extends_after c.databases_stay_good.ensures.run _ _ _ _ (IsSound g.S.Store.is_sound g.S.Store.shows c.new_session.new.self) _ _ _ (cell_view c.self.inside.keeper) (cell_view c.me.inside.token) act n g.J.Room.refused c.self.invariant.1 told
+    (extends_after c.databases_stay_good.ensures.run _ _ _ _ (IsSound g.S.Store.is_sound g.S.Store.shows c.new_session.new.self) _ _ _ (cell_view c.self.inside.keeper) (cell_view c.me.inside.token) act n g.J.Room.refused c.self.invariant.1 told tt
     (counted_after _ _ (cell_view c.self.inside.keeper).log (event (cell_view c.me.inside.token).who act n) (same_count _ _ c.new_session.ensures.counts) (not_disk _ _ _ c.in-Err.ensures.refused.0) c.in-Err.ensures.refused.0 c.self.invariant.2)
     (refused_on g.S.Store.is_sound g.S.Store.shows c.self.inside.core c.new_session.new.self c.in-Err.refusal c.in-Err.ensures.makes c.in-Err.ensures.sound))

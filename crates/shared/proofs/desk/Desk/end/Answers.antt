@@ -4,7 +4,7 @@ use Rattle.sessions.specs.OfCore.{IsSound, number_of, world_of}
 use Rattle.shared.specs.declared.rule.View.{View}
 use Rattle.shared.specs.declared.event.Act.TheVariants.{Ends}
 use Rattle.shared.specs.History.{IsCounted, event}
-use Rattle.shared.specs.Views.{keeper_in, caller_in, extended, past, Past, Told, IsDesk, Extends}
+use Rattle.shared.specs.Views.{keeper_in, caller_in, extended, past, Past, Told, IsAt, IsDesk, Extends}
 use Rattle.shared.proofs.Goods.{ends_on}
 use Rattle.shared.proofs.Counting.{counted_after}
 use Rattle.shared.proofs.Desks.{desk_after, extends_after, stands_at, live_ended}
@@ -20,7 +20,7 @@ invariant_of-self g c =
     let x = r.1 ∙ ap (λ (v : View). keeper_in (extended (event v.who act n) v)) t.view in (
       r.0 ∙ t.cell.0 ∙ c.self.invariant.0,
       subst (λ (v : View). IsDesk g.J.Room.premise g.J.Room.start g.J.Room.callers (IsSound g.S.Store.is_sound g.S.Store.shows c.end_session.new.self) (world_of g.S.Store.shows c.end_session.new.self) ((c.self.inside.count + 1) % 2 ^ 64) v) (sym x)
-          (desk_after c.databases_stay_good.ensures.run _ _ _ _ _ _ _ _ (cell_view c.self.inside.keeper) (cell_view c.me.inside.token) act n c.self.invariant.1 told (live_ended (world_of g.S.Store.shows c.self.inside.core) (world_of g.S.Store.shows c.end_session.new.self) (number_of c.me.inside.id) c.end_session.ensures.live.0 c.end_session.ensures.live.1)
+          (desk_after c.databases_stay_good.ensures.run _ _ _ _ _ _ _ _ (cell_view c.self.inside.keeper) (cell_view c.me.inside.token) act n c.self.invariant.1 told (subst (IsAt (cell_view c.self.inside.keeper).log (cell_view c.me.inside.token).who) c.me.invariant.3 told.stands) (live_ended (world_of g.S.Store.shows c.self.inside.core) (world_of g.S.Store.shows c.end_session.new.self) (number_of c.me.inside.id) c.end_session.ensures.live.0 c.end_session.ensures.live.1)
           (ends_on g.S.Store.is_sound g.S.Store.shows c.self.inside.core c.end_session.new.self c.me.inside.id (c.end_session.ensures.drops (stands_at _ _ _ _ _ _ (cell_view c.self.inside.keeper) (cell_view c.me.inside.token) _ c.self.invariant.1 told c.me.invariant.3)) c.end_session.ensures.sound)),
       subst (λ (v : View). IsCounted g.J.Room.refused (g.S.Store.refused c.end_session.new.self.store) v.log) (sym x)
           (counted_after _ _ (cell_view c.self.inside.keeper).log (event (cell_view c.me.inside.token).who act n) c.end_session.ensures.counts tt tt c.self.invariant.2),
@@ -37,7 +37,7 @@ returns g c =
       id = number_of c.me.inside.id;
       at = ap (λ (p : Past). p.at) (sym c.me.view_is) ∙ c.me.invariant.3;
       call = subst₂ (λ (p q : Past). Extends g.J.Room.premise g.J.Room.start g.J.Room.refused p act q) c.me.view_is (ap past (sym x))
-          (extends_after c.databases_stay_good.ensures.run _ _ _ _ (IsSound g.S.Store.is_sound g.S.Store.shows c.end_session.new.self) _ _ _ (cell_view c.self.inside.keeper) (cell_view c.me.inside.token) act n g.J.Room.refused c.self.invariant.1 told
+          (extends_after c.databases_stay_good.ensures.run _ _ _ _ (IsSound g.S.Store.is_sound g.S.Store.shows c.end_session.new.self) _ _ _ (cell_view c.self.inside.keeper) (cell_view c.me.inside.token) act n g.J.Room.refused c.self.invariant.1 told (subst (IsAt (cell_view c.self.inside.keeper).log (cell_view c.me.inside.token).who) c.me.invariant.3 told.stands)
           (counted_after _ _ (cell_view c.self.inside.keeper).log (event (cell_view c.me.inside.token).who act n) c.end_session.ensures.counts tt tt c.self.invariant.2)
           (ends_on g.S.Store.is_sound g.S.Store.shows c.self.inside.core c.end_session.new.self c.me.inside.id (c.end_session.ensures.drops (stands_at _ _ _ _ _ _ (cell_view c.self.inside.keeper) (cell_view c.me.inside.token) _ c.self.invariant.1 told c.me.invariant.3)) c.end_session.ensures.sound));
     }

@@ -43,6 +43,7 @@ returns g c =
       log = log;
       heard = subst (AllHeard log) c.into_iter-client-iterator.ensures.into_iter_gives.0 (was.4 (subst (AllHeard log) (sym none) tt));
       all_of = c.into_parts-core.ensures.all_of;
+      own = c.into_parts-core.ensures.own;
       counted = c.into_parts-core.ensures.device;
       live = c.into_parts-core.ensures.live;
       tells = c.into_parts-core.ensures.history;
