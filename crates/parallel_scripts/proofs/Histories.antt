@@ -26,6 +26,7 @@ module _ (premise sound : Type 0) (start end : World) (before after : ℕ) (scri
     history = record {
       log = h.history.log;
       all_of = h.history.all_of;
+      own = h.history.own;
       all = h.history.all;
       each = h.history.each;
       tells = λ one rules are good. (tt, (h.history.tells holds rules are good).1);

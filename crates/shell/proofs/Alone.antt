@@ -1,5 +1,5 @@
 -- A run whose device is not handed back.
-use Rattle.std.proofs.Common.{◌≡◌, ℕ, Bool, List, Option, Some, None, Result, Ok, Err, subst}
+use Rattle.std.proofs.Common.{◌≡◌, refl, ℕ, Bool, false, List, [], Option, Some, None, Result, Ok, Err, subst}
 use Rattle.std.specs.Prelude.{IfOk, IfSome, OnErr}
 use Rattle.std.specs.Borrow.{Bor}
 use Rattle.denote.specs.Database.{IsGood}
@@ -7,13 +7,16 @@ use Rattle.refusals.specs.declared.refusal.Refusal.TheVariants.{Disk}
 use Rattle.session_definitions.specs.Rules.{Rules}
 use Rattle.session_definitions.specs.World.{World}
 use Rattle.scripts.specs.Played.{Streams, between}
-use Rattle.shell.specs.Alone.{EndsAlone, RunsAlone}
+use Rattle.shell.specs.Alone.{EndsAlone, IsRefused, RunsAlone}
 use Rattle.shell.specs.Runs.{Ends, Left, Runs, ScriptEnds, database_in}
 use Rattle.shell.specs.Tells.{Tells}
 use Rattle.shell.specs.Words.{name_of}
+use Rattle.std.proofs.KnownBytes.{Appends-nil}
+use Rattle.replies.specs.Printed.{printed_reply}
+use Rattle.replies.specs.declared.reply.Reply.TheVariants as says
 
 -- nothing was read, said or written
-pub untouched : (given : List ℕ) (held : Option (List ℕ)) → EndsAlone (between given given held held) 3
+pub untouched : (given held : Option (List ℕ)) → EndsAlone (between given given held held) 3
 untouched given held = EndsAlone.not_opened false Disk refl
     (record { front = []; rest = printed_reply (says.Refused Disk); whole = refl; taken = Appends-nil held; complete = λ done. absurd (cc) }) refl
 
@@ -22,7 +25,7 @@ pub refused_alone : (streams : Streams) (status : ℕ) → IsRefused streams sta
 refused_alone streams status r = EndsAlone.not_opened r.is_told Disk r.unread r.told r.failed
 
 pub refused_in_memory : (rules : Rules) (old : World) (streams : Streams) (status : ℕ) → IsGood rules.check old.last → IsRefused streams status → RunsAlone rules old streams status
-refused_in_memory rules old streams status good r = record { is_told = r.is_told; runs = Runs.not_opened Disk refl r.unread r.told r.failed good }
+refused_in_memory rules old streams status good r = record { is_told = r.is_told; runs = Runs.not_opened Disk tt r.unread r.told r.failed good }
 
 -- a file that is named has a name
 pub has_name : (file : Option (Bor (List ℕ))) (path : Bor (List ℕ)) → file ≡ Some path → name_of file ≡ None → ⊥

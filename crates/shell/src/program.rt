@@ -73,8 +73,11 @@ pub fn sqlsh<P: Files<File = File> + Print + Eprint + AllocGlobal, S: AsStr, R: 
 
 /// Says that standard input or output is not open, and answers the exit status.
 fn refuse_closed<W: Write>(writer: &mut W) -> u8
-    ensures { (given : List ℕ) → IsRefused (between given given (W.contents writer.old) (W.contents writer.new)) result }
+    ensures refused { (given : Option (List ℕ)) → IsRefused (between given given (W.contents writer.old) (W.contents writer.new)) result }
+    ensures in_memory { (given : Option (List ℕ)) (rules : Rules)
+        → RunsAlone rules new_world (between given given (W.contents writer.old) (W.contents writer.new)) result }
 {
+    databases_stay_good();
     let _ = tell(Refusal::Disk, writer);
     FAILED
 }
@@ -95,7 +98,8 @@ fn run_asked<P: Files<File = File> + AllocGlobal, R: Read, W: Write>(
         Some(path) => run_file(rt, settings, path, reader, writer),
         None => {
             let device: Result<MemDisk, DiskError> = Ok(MemDisk::new(rt.alloc()));
-            run_over_pages(rt.alloc(), settings, device, reader, writer).status
+            let ended = run_over_pages(rt.alloc(), settings, device, reader, writer);
+            status_of(ended)
         }
     }
 }
@@ -115,7 +119,15 @@ fn run_file<P: Files<File = File> + AllocGlobal, R: Read, W: Write>(
         return FAILED;
     }
     let file = opened_file(rt, path);
-    run_over_pages(rt.alloc(), settings, file, reader, writer).status
+    let ended = run_over_pages(rt.alloc(), settings, file, reader, writer);
+    status_of(ended)
+}
+
+/// The status of a run. What it hands back of its device ends here.
+fn status_of<D: Disk + Drop>(ended: EndedRun<Paged<D>>) -> u8
+    ensures { result ≡ ended.status }
+{
+    ended.status
 }
 
 /// Does what `sqlsh run` does over the tables in the pages of a device, as `run_to_end` does over

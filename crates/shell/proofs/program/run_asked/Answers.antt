@@ -7,7 +7,8 @@ pub returns-in-Some-clause-in_memory : goal.returns-in-Some-clause-in_memory
 returns-in-Some-clause-in_memory g c = λ none. absurd (has_name c.args.settings.now.file c.in-Some.path c.in-Some.is none)
 
 pub returns-in-None-clause-ends : goal.returns-in-None-clause-ends
-returns-in-None-clause-ends g c = ends_alone _ _ _ _ _ _ _ _ _ _ (ap (λ (d : Held). d.refused) c.new-in-None.ensures) c.run_over_pages-in-None.ensures.ends
+returns-in-None-clause-ends g c = rw c.status_of.ensures (ends_alone _ _ _ _ _ _ _ _ _ _ (ap (λ (d : Held). d.refused) c.new.ensures) c.run_over_pages-ended.ensures.ends)
 
 pub returns-in-None-clause-in_memory : goal.returns-in-None-clause-in_memory
-returns-in-None-clause-in_memory g c = λ none rules are. runs_alone _ _ _ _ _ _ (c.run_over_pages-in-None.ensures.new rules are refl (ap (λ (d : Held). d.bytes) c.new-in-None.ensures)) (λ left h. h.1)
+returns-in-None-clause-in_memory g c = λ none rules are.
+    rw c.status_of.ensures (runs_alone _ _ _ _ _ _ (c.run_over_pages-ended.ensures.new rules are refl (ap (λ (d : Held). d.bytes) c.new.ensures)) (λ left h. h.1))
