@@ -8,8 +8,10 @@ use std::fs::{File, Files};
 use std::io::ErrorKind;
 use std::os::unix::fs::MetadataExt;
 
-/// Standard input and standard output as files.
+/// Standard input as a file.
 const INPUT: &str = "/dev/fd/0";
+
+/// Standard output as a file.
 const OUTPUT: &str = "/dev/fd/1";
 
 /// Whether the file of this path is the file of that one, as far as the system tells.
@@ -35,10 +37,7 @@ fn is_special<R: Files>(rt: &R, path: &str) -> bool {
 
 /// FILE as a device. Refused as `FileDisk::open` is, and with nothing opened where it is no regular
 /// file, or the one from which standard input comes.
-pub(crate) fn opened_file<R: Files<File = File>>(
-    rt: &R,
-    path: &str,
-) -> Result<FileDisk, DiskError>
+pub(crate) fn opened_file<R: Files<File = File>>(rt: &R, path: &str) -> Result<FileDisk, DiskError>
     ensures fresh { IfOk result (λ device. device.refused ≡ 0) }
     ensures cause { IfErr result IsSystem }
 {

@@ -21,7 +21,13 @@ fn main(rt: HostRuntime) -> ExitCode {
     let mut reader = rt.reader();
     let status = match BufWriter::new(rt.alloc(), io::writer(&rt)) {
         Ok(mut writer) => sqlsh(&rt, words.as_slice(), are_open, &mut reader, &mut writer),
-        Err(_) => sqlsh(&rt, words.as_slice(), are_open, &mut reader, &mut io::writer(&rt)),
+        Err(_) => sqlsh(
+            &rt,
+            words.as_slice(),
+            are_open,
+            &mut reader,
+            &mut io::writer(&rt),
+        ),
     };
     ExitCode::from(status)
 }

@@ -24,7 +24,10 @@ pub fn width_of(tree: &Tree) -> Result<Option<usize>, AllocError>
             left,
             right,
             width,
-        } => sum_of(width_of(left.get())?, same_of(width_of(right.get())?, Some(*width))),
+        } => sum_of(
+            width_of(left.get())?,
+            same_of(width_of(right.get())?, Some(*width)),
+        ),
         Tree::Half(_, left, _) => width_of(left.get()),
         Tree::OppositeHalf(_, left, _) => width_of(left.get()),
         Tree::Group {

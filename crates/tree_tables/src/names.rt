@@ -220,7 +220,10 @@ fn tables_in_operands(
 /// Those that some set functions read, one after another. Refuses for want of memory alone.
 #[cycle(named)]
 #[tactic(auto, using(crate::proofs::Nodes::naming_nodes))]
-pub fn tables_in_functions(alloc: Global, functions: &[SetFunction]) -> Result<Items<Text>, AllocError>
+pub fn tables_in_functions(
+    alloc: Global,
+    functions: &[SetFunction],
+) -> Result<Items<Text>, AllocError>
     ensures named { IfOk result (λ names. names ≡ all_names (map tables_in_function functions.now)) }
 {
     let mut names = Items::new(alloc);
