@@ -1,6 +1,8 @@
 //! The null device in place of the standard streams that are not open.
 #![tactic(auto)]
 
+ghost use Rattle.std.specs.Prelude.{◌≡◌, ◌&&◌, not, is_some};
+
 use std::fs::{File, Files, OpenOptions};
 use std::io;
 use std::os::fd::AsRawFd;
@@ -47,12 +49,16 @@ impl StandardStreams {
     }
 
     /// Whether standard input was open.
-    pub fn has_input(&self) -> bool {
+    pub fn has_input(&self) -> bool
+        ensures { result ≡ (self.now.is_known && not (is_some self.now.input)) }
+    {
         self.is_known && self.input.is_none()
     }
 
     /// Whether standard output was open.
-    pub fn has_output(&self) -> bool {
+    pub fn has_output(&self) -> bool
+        ensures { result ≡ (self.now.is_known && not (is_some self.now.output)) }
+    {
         self.is_known && self.output.is_none()
     }
 }
