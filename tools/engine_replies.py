@@ -98,7 +98,7 @@ MAYBE = (GOOD, X)
 NOT_OPENED = "not opened"
 
 # Over "plain": the file is as good as before for the engine; what is wrong lies in the table's page or rows, in the catalogue, or in the list of free pages, at its first or its
-# second page. In TABLE and SECOND_FREE an INSERT meets the damage after its first write: rows are put in place, and then the table is looked at as a whole, or a second page is taken.
+# second page. Page 0 is written where the first page is taken. In TABLE and SECOND_FREE an INSERT meets the damage after its first write: rows are put in place, and then the table is looked at as a whole, or a second page is taken.
 SOUND = [GOOD] * 9
 TABLE = [X, X, X, GOOD, GOOD, GOOD, GOOD, GOOD, X]
 CATALOGUE = [X, X, X, X, X, X, X, GOOD, X]
@@ -146,8 +146,8 @@ REPLIES = {
     "first_free_past_the_end": NOT_OPENED,
     "catalogue_past_the_end": NOT_OPENED,
     "catalogue_of_an_empty_file": NOT_OPENED,
-    "byte_20": SOUND,
-    "byte_4095": SOUND,
+    "byte_20": FIRST_FREE,
+    "byte_4095": FIRST_FREE,
     "no_first_free": SOUND,
     "no_catalogue": NO_TABLE,
     "catalogue_is_free": CATALOGUE,
@@ -211,6 +211,8 @@ REPLIES = {
     # Trees.
     "inner_without_cells": LEFT,
     "child_past_the_end": RIGHT,
+    "child_at_the_page_count": RIGHT,
+    "leftmost_child_past_the_end": LEFT,
     "child_0": RIGHT,
     "leftmost_child_0": LEFT,
     "child_shared": LEFT,
@@ -226,6 +228,8 @@ REPLIES = {
     "divider_twice": MISSED,
     "inner_keys_fall": RIGHT,
     "leaf_link_over_a_leaf": LINK,
+    "leaf_link_past_the_end": LINK,
+    "leaf_link_behind_the_last_leaf": LINK,
     "leaf_link_0_in_the_middle": LINK,
     "leaves_in_a_ring": LINK,
     "leaf_link_backwards": LINK,

@@ -59,6 +59,7 @@ module _ (p : PageMap) (f : List ℕ) (stored : (n : ℕ) (page : List ℕ) → 
       first = list.first;
       there = stored 0 list.first list.there;
       says = list.says;
+      zeros = list.zeros;
       bounds = list.bounds;
       free = list.free;
       listed = list_same p (page_of f) h.first_free list.free

@@ -10,6 +10,7 @@ use Rattle.store.specs.Errors.{MayFail, Never}
 use Rattle.store.proofs.Databases.{database-empty}
 use Rattle.pagefile.specs.declared.header.FileHeader.{FileHeader}
 use Rattle.pagefile.specs.Header.{IsHeader}
+use Rattle.overlay.specs.Zeros.{EndsInZeros}
 use Rattle.pagefile.specs.Pages.{page_of}
 use Rattle.pagefile.specs.Whole as file
 use Rattle.pagefile.specs.declared.error.OpenError.{OpenError}
@@ -43,13 +44,14 @@ new_header = record { page_count = 1; first_free = 0; catalog_root = 0 }
 abbrev pub TheyBegin : Type 0
 TheyBegin = (pages : PageMap) → database.HoldsDatabase pages 0 []
 
-first_whole : (full : Bool) (first : List ℕ) → IsHeader first new_header → IsWholeFor full (only 0 first)
-first_whole full first says = (
+first_whole : (full : Bool) (first : List ℕ) → IsHeader first new_header → EndsInZeros first → IsWholeFor full (only 0 first)
+first_whole full first says zeros = (
   new_header,
   record {
     first = first;
     there = refl;
     says = says;
+    zeros = zeros;
     bounds = record { some = omega arith; few = omega arith; free = omega arith; root = omega arith };
     free = [];
     listed = refl;
@@ -73,8 +75,8 @@ first_whole full first says = (
 first_holds : TheyBegin → (first : List ℕ) → IsHeader first new_header → database.HoldsDatabase (in_use (only 0 first) nothing) (root_of (only 0 first) nothing) []
 first_holds begin first says = subst (λ (r : ℕ). database.HoldsDatabase (in_use (only 0 first) nothing) r []) (sym says.catalog_root) (begin (in_use (only 0 first) nothing))
 
-first_database : TheyBegin → TheyAreRead → TheyRise → (first : List ℕ) → IsHeader first new_header → IsDatabase (only 0 first) nothing
-first_database begin read rise first says = is_database read rise (only 0 first) nothing [] (record { whole = first_whole false first says; full = λ start. start }) (first_holds begin first says)
+first_database : TheyBegin → TheyAreRead → TheyRise → (first : List ℕ) → IsHeader first new_header → EndsInZeros first → IsDatabase (only 0 first) nothing
+first_database begin read rise first says zeros = is_database read rise (only 0 first) nothing [] (record { whole = first_whole false first says zeros; full = λ start. start }) (first_holds begin first says)
 
 first_shows : TheyBegin → TheyAreRead → database.contents_of [] ≡ empty → (first : List ℕ) → IsHeader first new_header → database_of (contents_in (only 0 first) nothing) ≡ empty
 first_shows begin read none first says =
@@ -92,10 +94,10 @@ first_none first n = by (in_use (only 0 first) nothing n) refl
         let differs : n ≢ 0 = omega (arith, some) in
         let bad : None ≡ Some page = sym (only_apart 0 n first differs) ∙ in_use-read (only 0 first) nothing n page e in absurd (cc)
 
-first_owned : TheyBegin → TheyAreRead → TheyRise → (first : List ℕ) → IsHeader first new_header → IsOwned (only 0 first) nothing
-first_owned begin read rise first says = record {
-  is = first_database begin read rise first says;
-  start = first_whole true first says;
+first_owned : TheyBegin → TheyAreRead → TheyRise → (first : List ℕ) → IsHeader first new_header → EndsInZeros first → IsOwned (only 0 first) nothing
+first_owned begin read rise first says zeros = record {
+  is = first_database begin read rise first says zeros;
+  start = first_whole true first says zeros;
   tables = [];
   owned = subst (λ (r : ℕ). database.IsAllOwned (in_use (only 0 first) nothing) r []) (sym says.catalog_root) (at_first (in_use (only 0 first) nothing) (λ alone n. first_none first n));
 }
@@ -104,13 +106,13 @@ first_owned begin read rise first says = record {
 no_page : (bytes first : List ℕ) → bytes ≡ [] → page_of bytes 0 ≡ Some first → ⊥
 no_page bytes first none e = let bad : None ≡ Some first = sym (ap (λ (f : List ℕ). page_of f 0) none) ∙ e in cc
 
-pub new_begins : TheyBegin → TheyAreRead → TheyRise → database.contents_of [] ≡ empty → (honest : Bool) (bytes first : List ℕ) (v : Versions) → (IsTrue honest → bytes ≡ []) → IsHeader first new_header
+pub new_begins : TheyBegin → TheyAreRead → TheyRise → database.contents_of [] ≡ empty → (honest : Bool) (bytes first : List ℕ) (v : Versions) → (IsTrue honest → bytes ≡ []) → IsHeader first new_header → EndsInZeros first
     → v.last ≡ 0 → v.pages ≡ (λ c. known honest (only 0 first)) → v.pins ≡ (λ c. 0) → Begins honest bytes v
-new_begins begin read rise none honest bytes first v empty_is says last pages pins = record {
+new_begins begin read rise none honest bytes first v empty_is says zeros last pages pins = record {
   last = last;
   pins = pins;
   first = λ h. ap (λ (o : Option (List ℕ)). is_some o) (ap (λ (p : PageMap). p 0) (here h));
-  is = λ db saved. subst (λ (p : PageMap). IsDatabase p nothing) (sym (here saved.0)) (first_database begin read rise first says);
+  is = λ db saved. subst (λ (p : PageMap). IsDatabase p nothing) (sym (here saved.0)) (first_database begin read rise first says zeros);
   shows = λ db saved. ap (λ (p : PageMap). database_of (contents_in p nothing)) (here saved.0) ∙ first_shows begin read none first says ∙ sym (is_empty db saved.1 (empty_is saved.0));
 }
   where
@@ -121,9 +123,9 @@ new_begins begin read rise none honest bytes first v empty_is says last pages pi
     is_empty db (inl both) gone = both.1
     is_empty db (inr held) gone = absurd (no_page bytes held.whole.first gone held.whole.there)
 
-pub new_owned : TheyBegin → TheyAreRead → TheyRise → (honest : Bool) (bytes first : List ℕ) (v : Versions) → IsHeader first new_header → v.pages ≡ (λ c. known honest (only 0 first)) → BeginsOwned honest bytes v
-new_owned begin read rise honest bytes first v says pages = λ h saved.
-    subst (λ (p : PageMap). IsOwned p nothing) (sym (ap (λ (p : ℕ → PageMap). p 0) pages ∙ known_of honest (only 0 first) h)) (first_owned begin read rise first says)
+pub new_owned : TheyBegin → TheyAreRead → TheyRise → (honest : Bool) (bytes first : List ℕ) (v : Versions) → IsHeader first new_header → EndsInZeros first → v.pages ≡ (λ c. known honest (only 0 first)) → BeginsOwned honest bytes v
+new_owned begin read rise honest bytes first v says zeros pages = λ h saved.
+    subst (λ (p : PageMap). IsOwned p nothing) (sym (ap (λ (p : ℕ → PageMap). p 0) pages ∙ known_of honest (only 0 first) h)) (first_owned begin read rise first says zeros)
 
 -- ---- a file
 

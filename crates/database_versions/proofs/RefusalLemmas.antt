@@ -150,24 +150,27 @@ fail_weaker sound other k n reached more (refused.Exceeded l) f g h = g l h
 
 -- ---- the pool's
 
-pub commit_fails : (sound : Type 0) (counted : StoreLimit → Type 0) (last k n : ℕ) (error : PoolError) → IsRefused (last ≡ 2 ^ 64 - 1) ⊥ k n error → MayFail sound k n (CommittingReaches counted last) (of_pool error)
+pub commit_fails : (sound : Type 0) (counted : StoreLimit → Type 0) (last k n : ℕ) (error : PoolError) → IsRefused (last ≡ 2 ^ 64 - 1) (counted limit.Kept) k n error → MayFail sound k n (CommittingReaches counted last) (of_pool error)
 commit_fails sound counted last k n pool.Memory h = tt
 commit_fails sound counted last k n (pool.Device cause) h = has_risen k k n (omega arith) h
+commit_fails sound counted last k n pool.Damaged h = absurd h
 commit_fails sound counted last k n pool.Pages h = top last (2 ^ 64) (omega arith) h
   where
     top : (last most : ℕ) → 0 < most → last ≡ most - 1 → most ≤ last + 1
     top last most some e = omega (arith, some, e)
-commit_fails sound counted last k n pool.Kept h = absurd h
+commit_fails sound counted last k n pool.Kept h = h
 
 pub device_fails : (sound : Type 0) (reached : StoreLimit → Type 0) (k n : ℕ) (error : PoolError) → IsOfDevice k n error → MayFail sound k n reached (of_pool error)
 device_fails sound reached k n pool.Memory h = absurd h
 device_fails sound reached k n (pool.Device cause) h = has_risen k k n (omega arith) h
+device_fails sound reached k n pool.Damaged h = absurd h
 device_fails sound reached k n pool.Pages h = absurd h
 device_fails sound reached k n pool.Kept h = absurd h
 
 pub of_device : (k n : ℕ) (error : PoolError) → IsOfDevice k n error → (of_pool error ≡ refused.Device) × HasRisen k n
 of_device k n pool.Memory h = absurd h
 of_device k n (pool.Device cause) h = (refl, has_risen k k n (omega arith) h)
+of_device k n pool.Damaged h = absurd h
 of_device k n pool.Pages h = absurd h
 of_device k n pool.Kept h = absurd h
 

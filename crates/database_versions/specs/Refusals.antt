@@ -33,6 +33,7 @@ of_fault fault.Private = refused.Exceeded limit.Private
 abbrev pub of_pool : PoolError → StoreError
 of_pool pool.Memory = refused.Memory
 of_pool (pool.Device cause) = refused.Device
+of_pool pool.Damaged = refused.Damaged
 of_pool pool.Pages = refused.Exceeded limit.Pages
 of_pool pool.Kept = refused.Exceeded limit.Kept
 

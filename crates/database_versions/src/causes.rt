@@ -25,6 +25,7 @@ pub fn of_pool(error: PoolError) -> StoreError
     match error {
         PoolError::Memory => StoreError::Memory,
         PoolError::Device(_) => StoreError::Device,
+        PoolError::Damaged => StoreError::Damaged,
         PoolError::Pages => StoreError::Exceeded(StoreLimit::Pages),
         PoolError::Kept => StoreError::Exceeded(StoreLimit::Kept),
     }

@@ -2,7 +2,7 @@
 ghost use Rattle.std.specs.Prelude.{◌≡◌, ◌≤◌, [], IsTrue, IfOk, IfErr};
 ghost use Rattle.denote.specs.Database.{Database};
 ghost use Rattle.store.specs.Errors.{MayFail, Never};
-ghost use Rattle.pool.specs.Versions.{versions_of, device_of};
+ghost use Rattle.pool.specs.Versions.{versions_of, device_of, frames_of};
 ghost use Rattle.database_versions.specs.Opened.{Begins, BeginsOwned, IsReadable};
 ghost use Rattle.database_versions.specs.Refusals.{of_open};
 ghost use Rattle.database_versions.specs.Saved.{IsSaved};
@@ -24,6 +24,7 @@ fn new_pool<D: Disk>(alloc: Global, device: D, frames: u32) -> Result<Pool<D>, R
     ensures begins { IfOk result (λ pool. Begins D.is_honest (D.bytes device) (versions_of pool)) }
     ensures owned { IfOk result (λ pool. BeginsOwned D.is_honest (D.bytes device) (versions_of pool)) }
     ensures readable { IfOk result (λ pool. IsReadable D.is_honest (D.bytes device)) }
+    ensures frames { IfOk result (λ pool. frames_of pool ≡ frames) }
     ensures counts { IfOk result (λ pool. D.refused device ≤ D.refused (device_of pool)) }
     ensures left { IfErr result (λ back. back.value ≡ device) }
     ensures refused { IfErr result (λ back. back.error ≡ StoreError.Memory) }
@@ -58,13 +59,20 @@ fn old_pool<D: Disk>(alloc: Global, device: D, frames: u32) -> Result<Pool<D>, R
     ensures begins { IfOk result (λ pool. Begins D.is_honest (D.bytes device) (versions_of pool)) }
     ensures owned { IfOk result (λ pool. BeginsOwned D.is_honest (D.bytes device) (versions_of pool)) }
     ensures readable { IfOk result (λ pool. IsReadable D.is_honest (D.bytes device)) }
+    ensures frames { IfOk result (λ pool. frames_of pool ≡ frames) }
     ensures counts { IfOk result (λ pool. D.refused device ≤ D.refused (device_of pool)) }
     ensures left { IfErr result (λ back. IsTrue D.is_honest → D.bytes back.value ≡ D.bytes device) }
     ensures refused { IfErr result (λ back. MayFail ((db : Database)
         × IsSaved D.is_honest (D.bytes device) db) (D.refused device) (D.refused back.value) Never back.error) }
 {
     match PageFile::open(device) {
-        Ok((file, header)) => Ok(Pool::new(alloc, file, header.page_count, frames)),
+        Ok((file, header)) => match Pool::new(alloc, file, header.page_count, frames) {
+            Ok(pool) => Ok(pool),
+            Err(file) => Err(Returned {
+                error: StoreError::Memory,
+                value: file.into_disk(),
+            }),
+        },
         Err(refused) => Err(Returned {
             error: of_open(refused.cause),
             value: refused.disk,
@@ -80,6 +88,7 @@ pub fn pool_over<D: Disk>(alloc: Global, mut device: D, frames: u32) -> Result<P
     ensures begins { IfOk result (λ pool. Begins D.is_honest (D.bytes device) (versions_of pool)) }
     ensures owned { IfOk result (λ pool. BeginsOwned D.is_honest (D.bytes device) (versions_of pool)) }
     ensures readable { IfOk result (λ pool. IsReadable D.is_honest (D.bytes device)) }
+    ensures frames { IfOk result (λ pool. frames_of pool ≡ frames) }
     ensures counts { IfOk result (λ pool. D.refused device ≤ D.refused (device_of pool)) }
     ensures left { IfErr result (λ back. IsTrue D.is_honest → D.bytes back.value ≡ D.bytes device) }
     ensures refused { IfErr result (λ back. MayFail ((db : Database)

@@ -15,10 +15,13 @@ mod trees;
 mod truths;
 
 pub use expressions::{arguments_of_rows, expression_value};
-pub use joins::joined_by_keys;
+pub use joins::{halves_of_sides, joined_by_keys, joined_sides, keyed_sides, triples_of_sides};
 pub use keys::{key_row, ranged_rows, rows_beside, sought_rows};
 pub use listed::{Env, Listed};
 pub use parts::{combined_listed, distinct_listed, grouped_listed, sorted_listed};
 pub use predicates::condition_truth;
-pub use rows::{put_if, put_pairs};
-pub use trees::{filtered_moving, members_kept, projected, tree_listed};
+pub use rows::{product_listed, put_if, put_pairs};
+pub use trees::{
+    filtered_moving, filtered_part, groups_of_part, members_kept, members_of_sides, projected,
+    projected_part, tree_listed,
+};

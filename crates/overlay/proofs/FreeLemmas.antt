@@ -8,7 +8,7 @@ use Rattle.page_space.specs.declared.error.SpaceError.TheVariants.{Memory, Disk,
 use Rattle.page_space.specs.Space.{ReadRefused, ChangeRefused}
 use Rattle.pool.specs.Pages.{PageMap, over, only, pick}
 use Rattle.overlay.specs.InUse.{in_use}
-use Rattle.overlay.specs.Whole.{IsWholeFor, IsWhole, IsWritable, IsSaid, IsFirstFree}
+use Rattle.overlay.specs.Whole.{IsWholeFor, IsWhole, IsWritable, IsTakable, HasZeros, IsFirstFree}
 use Rattle.overlay.specs.Puts.{PutsBoth, PutsAtMost, Freed, Frees, WritesAtMost, with_first_free}
 use Rattle.overlay.proofs.LayerLemmas.{put_here, put_apart, over_twice}
 use Rattle.overlay.proofs.WholeLemmas.{kind_of_free}
@@ -32,11 +32,11 @@ pub frees_by : {E : Type 0} (result : Result (Unit {0}) E) (pages : PageMap) (pa
 frees_by (Ok done) pages page old new h says bounds some can freed = record { header = h; says = says; bounds = bounds; some = some; can = can; freed = freed }
 frees_by (Err e) pages page old new h says bounds some can freed = freed
 
-pub whole_said : (pages : PageMap) → IsWhole pages → (h : FileHeader) × IsSaid (pages 0) h
-whole_said pages (h, w) = (h, subst (λ (o : Option (List ℕ)). IsSaid o h) (sym w.there) (w.says, w.bounds))
+pub whole_said : (pages : PageMap) → IsWhole pages → (h : FileHeader) × IsTakable (pages 0) h
+whole_said pages (h, w) = (h, subst (λ (o : Option (List ℕ)). IsTakable o h) (sym w.there) ((w.says, w.bounds), w.zeros))
 
-pub never_whole : (pages same : PageMap) → same ≡ pages → ((h : FileHeader) → IsSaid (same 0) h → ⊥) → IsWhole pages → ⊥
-never_whole pages same is never whole = let said = whole_said pages whole in never said.0 (subst (λ (p : PageMap). IsSaid (p 0) said.0) (sym is) said.1)
+pub never_whole : (pages same : PageMap) → same ≡ pages → ((h : FileHeader) → IsTakable (same 0) h → ⊥) → IsWhole pages → ⊥
+never_whole pages same is never whole = let said = whole_said pages whole in never said.0 (subst (λ (p : PageMap). IsTakable (p 0) said.0) (sym is) said.1)
 
 -- after a call
 pub none_after : {E : Type 0} (result : Result (Unit {0}) E) (version next_version written next : PageMap) (page : ℕ) → next_version ≡ version → OnOk result (Frees (over written version) page written next)
@@ -83,7 +83,7 @@ freed_whole_after full (Ok done) version next_version written next page is f = �
     subst (λ (v : PageMap). IsWholeFor full (over next v)) (sym is)
     (subst (IsWholeFor full) (sym (ap (λ (w : PageMap). over w version) f.freed.both.puts ∙ over_twice (only 0 f.freed.both.first) (over (only page f.freed.bytes) written) version
     ∙ ap (λ (p : PageMap). over (only 0 f.freed.both.first) p) (over_twice (only page f.freed.bytes) written version)))
-    (whole_freed (over written version) page f.freed.bytes f.freed.both.first f.header f.some f.can f.freed.free f.freed.both.says f.says f.bounds whole))
+    (whole_freed (over written version) page f.freed.bytes f.freed.both.first f.header f.some f.can f.freed.free f.freed.both.says f.freed.both.zeros f.says f.bounds whole))
 freed_whole_after full (Err e) version next_version written next page is f = f
 
 pub never_used : (o : Option (List ℕ)) → o ≡ None → IsSome o → ⊥

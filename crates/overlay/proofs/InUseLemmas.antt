@@ -58,6 +58,24 @@ none_free version written n kind = by_known version (in_use version written n �
     (λ k. known version written n k ∙ none_if (is_counted (over written version 0) n) (not_free (over written version) n) (not_free-none (over written version) n kind))
     (λ k. unknown version written n k ∙ not_free-none written n (λ page e. kind page (pick_some (written n) (version n) page e)))
 
+pub none_there : (version written : PageMap) (n : ℕ) → over written version n ≡ None → in_use version written n ≡ None
+none_there version written n gone = none_free version written n (λ page e. let bad : None ≡ Some page = sym gone ∙ e in cc)
+
+-- and where it was not written, and the version does not have it
+pub unread_there : (version same written : PageMap) (n : ℕ) → same ≡ version → written n ≡ None → same n ≡ None → in_use version written n ≡ None
+unread_there version same written n is unwritten gone =
+    none_there version written n (ap (λ (o : Option (List ℕ)). pick o (version n)) unwritten ∙ sym (ap (λ (p : PageMap). p n) is) ∙ gone)
+
+-- where page 0 is not there, and the page was not written
+pub none_unwritten : (version written : PageMap) (n : ℕ) → written n ≡ None → over written version 0 ≡ None → in_use version written n ≡ None
+none_unwritten version written n gone first = by_known version (in_use version written n ≡ None)
+    (λ k. let there = some_is (version 0) k in absurd (both (written 0) (version 0) there.0 there.1 first))
+    (λ k. unknown version written n k ∙ not_free-none written n (λ page e. let bad : None ≡ Some page = sym gone ∙ e in cc))
+  where
+    both : (a b : Option (List ℕ)) (page : List ℕ) → b ≡ Some page → pick a b ≡ None → ⊥
+    both (Some x) b page e f = cc
+    both None b page e f = let bad : Some page ≡ None = sym e ∙ f in cc
+
 count_none : (o : Option (List ℕ)) (n : ℕ) → ((first : List ℕ) → o ≡ Some first → number_at first 8 ≤ n) → is_counted o n ≡ false
 count_none None n behind = refl
 count_none (Some first) n behind = lt-false n (number_at first 8) (behind first refl)

@@ -9,4 +9,5 @@ pub mod FreeLemmas
 pub mod RefusalLemmas
 pub mod TakeLemmas
 pub mod RootLemmas
+pub mod ZeroLemmas
 pub mod UndoneLemmas

@@ -4,6 +4,7 @@ use Rattle.std.specs.Prelude.{slice_index, nat_lt}
 use Rattle.std.specs.Option.{is_some}
 use Rattle.pagefile.specs.declared.header.FileHeader.{FileHeader}
 use Rattle.pagefile.specs.Header.{IsHeader, IsInBounds}
+use Rattle.overlay.specs.Zeros.{EndsInZeros}
 use Rattle.pagefile.specs.Free.{IsFree}
 use Rattle.pagefile.specs.Number.{number_at}
 use Rattle.pool.specs.Pages.{PageMap, over, only, pick}
@@ -16,10 +17,10 @@ use Rattle.overlay.proofs.InUseLemmas.{in_use-apart, in_use-others, in_use-freed
 use Rattle.overlay.proofs.WholeLemmas.{list_same, in_list, still_there, same_header, writable_below, writable_apart, same_or_apart}
 
 -- both were put
-pub puts_both : {E : Type 0} (result : Result (Unit {0}) E) (page : ℕ) (bytes first : List ℕ) (header : FileHeader) (old mid new : PageMap) → IsHeader first header
+pub puts_both : {E : Type 0} (result : Result (Unit {0}) E) (page : ℕ) (bytes first : List ℕ) (header : FileHeader) (old mid new : PageMap) → IsHeader first header → EndsInZeros first
     → mid ≡ over (only page bytes) old → OnOk result (new ≡ over (only 0 first) mid) → OnOk result (PutsBoth page bytes header old new)
-puts_both (Ok done) page bytes first header old mid new says put both = record { first = first; says = says; puts = both ∙ ap (λ (p : PageMap). over (only 0 first) p) put }
-puts_both (Err e) page bytes first header old mid new says put both = both
+puts_both (Ok done) page bytes first header old mid new says zeros put both = record { first = first; says = says; zeros = zeros; puts = both ∙ ap (λ (p : PageMap). over (only 0 first) p) put }
+puts_both (Err e) page bytes first header old mid new says zeros put both = both
 
 pub puts_one : {E : Type 0} (result : Result (Unit {0}) E) (page : ℕ) (bytes : List ℕ) (old mid new : PageMap) → mid ≡ over (only page bytes) old → OnErr result (new ≡ mid)
     → OnErr result (PutsAtMost page bytes old new)
@@ -68,14 +69,15 @@ freed_both version written next page bytes new some kind both = in_use-freed ver
     (ap (λ (p : PageMap). p page) both.puts ∙ put_apart 0 page both.first (over (only page bytes) written) (above page some) ∙ put_here page bytes written) kind
 
 -- the list with one page more
-pub whole_freed : {full : Bool} (p : PageMap) (page : ℕ) (bytes first : List ℕ) (h : FileHeader) → 0 < page → IsWritable p page → IsFree bytes h.first_free → IsHeader first (with_first_free h page)
+pub whole_freed : {full : Bool} (p : PageMap) (page : ℕ) (bytes first : List ℕ) (h : FileHeader) → 0 < page → IsWritable p page → IsFree bytes h.first_free → IsHeader first (with_first_free h page) → EndsInZeros first
     → ((f : List ℕ) → p 0 ≡ Some f → IsHeader f h) → IsInBounds h → IsWholeFor full p → IsWholeFor full (over (only 0 first) (over (only page bytes) p))
-whole_freed {full} p page bytes first h some can free head says bounds (g, was) = (
+whole_freed {full} p page bytes first h some can free head zeros says bounds (g, was) = (
   with_first_free h page,
   record {
     first = first;
     there = put_here 0 first (over (only page bytes) p);
     says = head;
+    zeros = zeros;
     bounds = record { some = bounds.some; few = bounds.few; free = writable_below p h page w can; root = bounds.root };
     free = page ∷ w.free;
     listed = (

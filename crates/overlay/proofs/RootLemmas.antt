@@ -2,6 +2,7 @@
 use Rattle.std.proofs.Common.{◌≡◌, ◌≢◌, ℕ, ◌<◌, ◌≤◌, ◌==◌, Bool, true, false, arith, Result, Ok, Err, OnOk, OnErr, Option, Some, None, List, IsSome, refl, sym, ap, subst, ◌∙◌, ◌⊎◌, inl, inr, eqb-true, eq-eqb}
 use Rattle.pagefile.specs.declared.header.FileHeader.{FileHeader}
 use Rattle.pagefile.specs.Header.{IsHeader, IsInBounds}
+use Rattle.overlay.specs.Zeros.{EndsInZeros}
 use Rattle.pagefile.specs.Number.{number_at}
 use Rattle.pool.specs.Pages.{PageMap, over, only, pick}
 use Rattle.overlay.specs.InUse.{in_use}
@@ -16,9 +17,9 @@ use Rattle.overlay.proofs.PutLemmas.{recounted}
 apart_from_0 : (n : ℕ) → 0 < n → n ≢ 0
 apart_from_0 n some = omega arith
 
-pub root_put : {E : Type 0} (result : Result (Unit {0}) E) (bytes : List ℕ) (h : FileHeader) (old new : PageMap) → IsHeader bytes h → OnOk result (new ≡ over (only 0 bytes) old) → OnOk result (PutsHeader h old new)
-root_put (Ok done) bytes h old new is put = record { first = bytes; is = is; puts = put }
-root_put (Err e) bytes h old new is put = put
+pub root_put : {E : Type 0} (result : Result (Unit {0}) E) (bytes : List ℕ) (h : FileHeader) (old new : PageMap) → IsHeader bytes h → EndsInZeros bytes → OnOk result (new ≡ over (only 0 bytes) old) → OnOk result (PutsHeader h old new)
+root_put (Ok done) bytes h old new is zeros put = record { first = bytes; is = is; zeros = zeros; puts = put }
+root_put (Err e) bytes h old new is zeros put = put
 
 pub rooted_by : {E : Type 0} (result : Result (Unit {0}) E) (pages : PageMap) (root : ℕ) (h : FileHeader) (old new : PageMap) → ((first : List ℕ) → pages 0 ≡ Some first → IsHeader first h) → IsInBounds h
     → root < h.page_count → OnOk result (PutsHeader (with_root h root) old new) → OnOk result (Rooted pages root old new)
@@ -55,13 +56,14 @@ rooted_others version written next root r n = by r.which
     by (inl before) = ap (λ (p : PageMap). in_use version p n) before.1
     by (inr put) = put_others put (n == 0) refl
 
-put_whole : {full : Bool} (p : PageMap) (first : List ℕ) (h : FileHeader) (root : ℕ) → root < h.page_count → IsInBounds h → IsHeader first (with_root h root) → HasFreeList full p h → IsWholeFor full (over (only 0 first) p)
-put_whole p first h root below bounds head w = (
+put_whole : {full : Bool} (p : PageMap) (first : List ℕ) (h : FileHeader) (root : ℕ) → root < h.page_count → IsInBounds h → IsHeader first (with_root h root) → EndsInZeros first → HasFreeList full p h → IsWholeFor full (over (only 0 first) p)
+put_whole p first h root below bounds head zeros w = (
   with_root h root,
   record {
     first = first;
     there = put_here 0 first p;
     says = head;
+    zeros = zeros;
     bounds = record { some = bounds.some; few = bounds.few; free = bounds.free; root = below };
     free = w.free;
     listed = list_same p (over (only 0 first) p) h.first_free w.free (λ n i. put_apart 0 n first p (apart_from_0 n (in_list p h.first_free w.free w.listed n i).0)) w.listed;
@@ -79,7 +81,7 @@ rooted_whole {full} version written next root r (g, was) = by r.which
     by : ((r.header.catalog_root ≡ root) × (next ≡ written)) ⊎ PutsHeader (with_root r.header root) written next → IsWholeFor full (over next version)
     by (inl before) = subst (λ (p : PageMap). IsWholeFor full (over p version)) (sym before.1) (g, was)
     by (inr put) = subst (IsWholeFor full) (sym (ap (λ (w : PageMap). over w version) put.puts ∙ over_twice (only 0 put.first) written version))
-        (put_whole (over written version) put.first r.header root r.below r.bounds put.is (same_header (over written version) g r.header r.says r.bounds was))
+        (put_whole (over written version) put.first r.header root r.below r.bounds put.is put.zeros (same_header (over written version) g r.header r.says r.bounds was))
 
 -- a root in use lies below the page count
 pub never_above : (version written : PageMap) (h : FileHeader) (root : ℕ) → ((first : List ℕ) → over written version 0 ≡ Some first → IsHeader first h) → IsInBounds h → h.page_count ≤ root

@@ -6,6 +6,7 @@ use borrow.Author.Tests.{ltb-true, ltb-false}
 use Rattle.std.proofs.lemmas.Bool.{cases_lt}
 use Rattle.pagefile.specs.declared.header.FileHeader.{FileHeader}
 use Rattle.pagefile.specs.Header.{IsHeader, IsInBounds}
+use Rattle.overlay.specs.Zeros.{EndsInZeros}
 use Rattle.pagefile.specs.Free.{IsFree}
 use Rattle.pagefile.specs.Number.{number_at}
 use Rattle.page_space.specs.Space.{IsFresh}
@@ -80,6 +81,17 @@ never_first p h read some says bounds value none (g, was) = by w.free w.listed w
         none listed.2.0.next
         (subst (λ (b : List ℕ). IsFree b listed.2.0.next) (sym (value listed.2.0.bytes (ap p listed.0 ∙ listed.2.0.there))) listed.2.0.free)
         (next_below listed.2.0.next xs listed.2.1 (λ n i. within n (inr i)) bounds.some)
+
+-- the first free page is there
+pub never_missing : (p : PageMap) (h : FileHeader) → 0 < h.first_free → ((first : List ℕ) → p 0 ≡ Some first → IsHeader first h) → IsInBounds h → p h.first_free ≡ None → IsWhole p → ⊥
+never_missing p h some says bounds gone (g, was) = by w.free w.listed
+  where
+    w : HasFreeList false p h
+    w = same_header p g h says bounds was
+
+    by : (free : List ℕ) → IsFreeList p h.first_free free → ⊥
+    by [] ends = let zero_is : h.first_free ≡ 0 = ends in omega (arith, some, zero_is)
+    by (x ∷ xs) listed = let bad : None ≡ Some listed.2.0.bytes = sym gone ∙ ap p listed.0 ∙ listed.2.0.there in cc
 
 -- where the list is one, nothing lies behind the page count
 pub never_behind : (p : PageMap) (h : FileHeader) → ((first : List ℕ) → p 0 ≡ Some first → IsHeader first h) → IsInBounds h → IsSome (p h.page_count) → IsWhole p → ⊥
@@ -162,17 +174,18 @@ left_kept version written next (inr (page, (bytes, (some, unused, put)))) n ther
 -- ---- the list of free pages
 
 -- without its first page
-whole_first : (full : Bool) (p : PageMap) (page : ℕ) (bytes first : List ℕ) (h new : FileHeader) → (w : HasFreeList full p h) → 0 < page → slice_index bytes 0 ≢ 3 → IsInBounds new → IsHeader first new → TakesFirst p h page new
+whole_first : (full : Bool) (p : PageMap) (page : ℕ) (bytes first : List ℕ) (h new : FileHeader) → (w : HasFreeList full p h) → 0 < page → slice_index bytes 0 ≢ 3 → IsInBounds new → IsHeader first new → EndsInZeros first → TakesFirst p h page new
     → (free : List ℕ) → IsFreeList p h.first_free free → AreApart free → ((n : ℕ) → IsIn n free → n < h.page_count)
     → (full ≡ true → ListsAll p h.page_count free) → IsWholeFor full (over (only 0 first) (over (only page bytes) p))
-whole_first full p page bytes first h new w some kind bounds head takes [] ends apart within lists =
+whole_first full p page bytes first h new w some kind bounds head zeros takes [] ends apart within lists =
     let zero_is : h.first_free ≡ 0 = ends in let is = takes.first in absurd (omega (arith, some, zero_is, is))
-whole_first full p page bytes first h new w some kind bounds head takes (x ∷ xs) listed apart within lists = (
+whole_first full p page bytes first h new w some kind bounds head zeros takes (x ∷ xs) listed apart within lists = (
   new,
   record {
     first = first;
     there = put_here 0 first (over (only page bytes) p);
     says = head;
+    zeros = zeros;
     bounds = bounds;
     free = xs;
     listed = list_same p (over (only 0 first) (over (only page bytes) p)) new.first_free xs
@@ -209,14 +222,15 @@ whole_first full p page bytes first h new w some kind bounds head takes (x ∷ x
     listed_in e n b more less there free (inr differs) = rest n differs (lists e n b more (subst (λ (k : ℕ). n < k) takes.count less) (sym (other n (above n more) differs) ∙ there) free)
 
 -- with one page more behind the last
-whole_grown : (full : Bool) (p : PageMap) (page : ℕ) (bytes first : List ℕ) (h new : FileHeader) → (w : HasFreeList full p h) → 0 < page → slice_index bytes 0 ≢ 3 → IsInBounds new → IsHeader first new → TakesNew h page new
+whole_grown : (full : Bool) (p : PageMap) (page : ℕ) (bytes first : List ℕ) (h new : FileHeader) → (w : HasFreeList full p h) → 0 < page → slice_index bytes 0 ≢ 3 → IsInBounds new → IsHeader first new → EndsInZeros first → TakesNew h page new
     → IsWholeFor full (over (only 0 first) (over (only page bytes) p))
-whole_grown full p page bytes first h new w some kind bounds head takes = (
+whole_grown full p page bytes first h new w some kind bounds head zeros takes = (
   new,
   record {
     first = first;
     there = put_here 0 first (over (only page bytes) p);
     says = head;
+    zeros = zeros;
     bounds = bounds;
     free = w.free;
     listed = list_same p (over (only 0 first) (over (only page bytes) p)) new.first_free w.free
@@ -249,22 +263,22 @@ whole_grown full p page bytes first h new w some kind bounds head takes = (
     below n less (inl within) = still_there (only page bytes) p n (w.all n within)
     below n less (inr behind) = ap (λ (o : Option (List ℕ)). is_some o) (ap (over (only page bytes) p) (last n less behind) ∙ put_here page bytes p)
 
-whole_taken : {full : Bool} (version written : PageMap) (page : ℕ) (bytes first : List ℕ) (h new : FileHeader) → ((f : List ℕ) → over written version 0 ≡ Some f → IsHeader f h) → IsInBounds h → IsHeader first new
+whole_taken : {full : Bool} (version written : PageMap) (page : ℕ) (bytes first : List ℕ) (h new : FileHeader) → ((f : List ℕ) → over written version 0 ≡ Some f → IsHeader f h) → IsInBounds h → IsHeader first new → EndsInZeros first
     → Takes version written h page new → slice_index bytes 0 ≢ 3 → IsWholeFor full (over written version) → IsWholeFor full (over (only 0 first) (over (only page bytes) (over written version)))
-whole_taken {full} version written page bytes first h new says bounds head takes kind (g, was) = by takes.which
+whole_taken {full} version written page bytes first h new says bounds head zeros takes kind (g, was) = by takes.which
   where
     w : HasFreeList full (over written version) h
     w = same_header (over written version) g h says bounds was
 
     by : TakesFirst (over written version) h page new ⊎ TakesNew h page new → IsWholeFor full (over (only 0 first) (over (only page bytes) (over written version)))
-    by (inl one) = whole_first full (over written version) page bytes first h new w takes.some kind takes.bounds head one w.free w.listed w.apart w.within w.lists
-    by (inr one) = whole_grown full (over written version) page bytes first h new w takes.some kind takes.bounds head one
+    by (inl one) = whole_first full (over written version) page bytes first h new w takes.some kind takes.bounds head zeros one w.free w.listed w.apart w.within w.lists
+    by (inr one) = whole_grown full (over written version) page bytes first h new w takes.some kind takes.bounds head zeros one
 
 pub took_whole : {full : Bool} (version written next : PageMap) (page : ℕ) → Took version written page next → IsWholeFor full (over written version) → IsWholeFor full (over next version)
 took_whole {full} version written next page t whole =
     subst (IsWholeFor full) (sym (ap (λ (w : PageMap). over w version) t.leaf.both.puts ∙ over_twice (only 0 t.leaf.both.first) (over (only page t.leaf.bytes) written) version
     ∙ ap (λ (p : PageMap). over (only 0 t.leaf.both.first) p) (over_twice (only page t.leaf.bytes) written version)))
-    (whole_taken version written page t.leaf.bytes t.leaf.both.first t.header t.new t.says t.bounds t.leaf.both.says t.takes t.leaf.kind whole)
+    (whole_taken version written page t.leaf.bytes t.leaf.both.first t.header t.new t.says t.bounds t.leaf.both.says t.leaf.both.zeros t.takes t.leaf.kind whole)
 
 -- ---- after a call
 
@@ -323,6 +337,8 @@ names_rest version written next page took = record {
   there = ap (λ (p : PageMap). over p version 0) took.leaf.both.puts ∙ ap (λ (o : Option (List ℕ)). pick o (version 0)) (put_here 0 took.leaf.both.first (over (only page took.leaf.bytes) written));
   rest = λ before bytes e some there. rest_by before bytes e some there took.takes.which;
   none = λ before e zero_is. none_by before e zero_is took.takes.which;
+  same = λ before e some. same_by before e some took.takes.which;
+  more = λ before e zero_is. more_by before e zero_is took.takes.which;
 }
   where
     rest_by : (before bytes : List ℕ) → over written version 0 ≡ Some before → number_at before 12 ≢ 0 → over written version page ≡ Some bytes
@@ -334,6 +350,16 @@ names_rest version written next page took = record {
         → TakesFirst (over written version) took.header page took.new ⊎ TakesNew took.header page took.new → number_at took.leaf.both.first 12 ≡ 0
     none_by before e zero_is (inl first) = absurd (above page took.takes.some (sym first.first ∙ sym (took.says before e).first_free ∙ zero_is))
     none_by before e zero_is (inr new) = took.leaf.both.says.first_free ∙ new.first
+
+    same_by : (before : List ℕ) → over written version 0 ≡ Some before → number_at before 12 ≢ 0
+        → TakesFirst (over written version) took.header page took.new ⊎ TakesNew took.header page took.new → number_at took.leaf.both.first 8 ≡ number_at before 8
+    same_by before e some (inl first) = took.leaf.both.says.page_count ∙ first.count ∙ sym (took.says before e).page_count
+    same_by before e some (inr new) = absurd (some ((took.says before e).first_free ∙ new.none))
+
+    more_by : (before : List ℕ) → over written version 0 ≡ Some before → number_at before 12 ≡ 0
+        → TakesFirst (over written version) took.header page took.new ⊎ TakesNew took.header page took.new → number_at took.leaf.both.first 8 ≡ number_at before 8 + 1
+    more_by before e zero_is (inl first) = absurd (above page took.takes.some (sym first.first ∙ sym (took.says before e).first_free ∙ zero_is))
+    more_by before e zero_is (inr new) = took.leaf.both.says.page_count ∙ new.count ∙ ap (λ (k : ℕ). k + 1) (sym (took.says before e).page_count)
 
 pub rest_after : {E : Type 0} (result : Result ℕ E) (version next_version written next : PageMap) → next_version ≡ version → IfOk result (λ page. Took version written page next)
     → IfOk result (NamesRest (over written version) (over next next_version))

@@ -2,6 +2,7 @@
 use Rattle.std.specs.Prelude.{◌≡◌, ◌≢◌, ◌⊎◌, ℕ, ◌<◌, ◌+◌, List, Some, None, slice_index}
 use Rattle.pagefile.specs.declared.header.FileHeader.{FileHeader}
 use Rattle.pagefile.specs.Header.{IsHeader, IsInBounds}
+use Rattle.overlay.specs.Zeros.{EndsInZeros}
 use Rattle.pagefile.specs.Free.{IsFree}
 use Rattle.pool.specs.Pages.{PageMap, over, only}
 use Rattle.overlay.specs.InUse.{in_use}
@@ -11,6 +12,7 @@ use Rattle.overlay.specs.Whole.{IsWritable}
 pub record PutsBoth (page : ℕ) (bytes : List ℕ) (header : FileHeader) (old new : PageMap) : Type 0 where
   pub first : List ℕ
   pub says : IsHeader first header
+  pub zeros : EndsInZeros first
   pub puts : new ≡ over (only 0 first) (over (only page bytes) old)
 
 -- after a refusal: nothing is there, or the page alone
@@ -95,6 +97,7 @@ with_root h root = record { page_count = h.page_count; first_free = h.first_free
 pub record PutsHeader (header : FileHeader) (old new : PageMap) : Type 0 where
   pub first : List ℕ
   pub is : IsHeader first header
+  pub zeros : EndsInZeros first
   pub puts : new ≡ over (only 0 first) old
 
 -- page 0 has this root of the catalogue, below the page count: it had it, or was written so

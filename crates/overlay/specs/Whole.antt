@@ -1,10 +1,11 @@
 -- Files whose list of free pages is one.
-use Rattle.std.specs.Prelude.{◌≡◌, ◌≢◌, Bool, true, false, Option, ℕ, ◌<◌, ◌≤◌, List, [], ◌∷◌, Some, None, IsSome, ⊤, ◌⊎◌, slice_index}
+use Rattle.std.specs.Prelude.{◌≡◌, ◌≢◌, Bool, true, false, Option, ℕ, ◌+◌, ◌<◌, ◌≤◌, List, [], ◌∷◌, Some, None, IsSome, ⊤, ◌⊎◌, slice_index}
 use Rattle.page_space.specs.declared.error.SpaceError.{SpaceError}
 use Rattle.page_space.specs.declared.error.SpaceError.TheVariants.{Memory, Disk, Damaged, Pages, Private}
 use Rattle.pagefile.specs.Number.{number_at}
 use Rattle.pagefile.specs.declared.header.FileHeader.{FileHeader}
 use Rattle.pagefile.specs.Header.{IsHeader, IsInBounds}
+use Rattle.overlay.specs.Zeros.{EndsInZeros}
 use Rattle.pagefile.specs.Free.{IsFree}
 use Rattle.pool.specs.Pages.{PageMap, over}
 
@@ -35,13 +36,14 @@ abbrev pub ListsAll : PageMap → ℕ → List ℕ → Type 0
 ListsAll pages count free = (n : ℕ) (bytes : List ℕ) → 0 < n → n < count → pages n ≡ Some bytes
     → slice_index bytes 0 ≡ 3 → IsIn n free
 
--- Page 0 is this header, and the free pages are a list in which none stands twice. Each page below
--- the page count is there, and none behind it. If the list is full, each page of the kind free
--- stands in it.
+-- Page 0 is this header with zeros behind it, and the free pages are a list in which none stands
+-- twice. Each page below the page count is there, and none behind it. If the list is full, each page
+-- of the kind free stands in it.
 pub record HasFreeList (full : Bool) (pages : PageMap) (header : FileHeader) : Type 0 where
   pub first : List ℕ
   pub there : pages 0 ≡ Some first
   pub says : IsHeader first header
+  pub zeros : EndsInZeros first
   pub bounds : IsInBounds header
   pub free : List ℕ
   pub listed : IsFreeList pages header.first_free free
@@ -91,6 +93,24 @@ abbrev pub IsSaid : Option (List ℕ) → FileHeader → Type 0
 IsSaid None header = ⊥
 IsSaid (Some first) header = IsHeader first header × IsInBounds header
 
+-- page 0, where it is known, ends in zeros
+abbrev pub HasZeros : Option (List ℕ) → Type 0
+HasZeros None = ⊤
+HasZeros (Some first) = EndsInZeros first
+
+-- A transaction that had not written page 0 took it with this version: the page that lies there ends
+-- in zeros.
+abbrev pub TakesZeros : PageMap → PageMap → Type 0
+TakesZeros version written = written 0 ≡ None → HasZeros (version 0)
+
+-- if the page 0 that the transaction had written ended in zeros, so does the one that it wrote
+abbrev pub KeepsZeros : PageMap → PageMap → Type 0
+KeepsZeros old new = HasZeros (old 0) → HasZeros (new 0)
+
+-- page 0 is this header, which is within its bounds, and has zeros behind it
+abbrev pub IsTakable : Option (List ℕ) → FileHeader → Type 0
+IsTakable page header = IsSaid page header × HasZeros page
+
 -- A page was put before the first of the list of free pages: page 0 names it, and it names the page
 -- that page 0, where it was known, named before.
 pub record IsFirstFree (old new : PageMap) (page : ℕ) : Type 0 where
@@ -101,13 +121,16 @@ pub record IsFirstFree (old new : PageMap) (page : ℕ) : Type 0 where
   pub next : (before : List ℕ) → old 0 ≡ Some before → link.next ≡ number_at before 12
 
 -- A page was taken: page 0, where it was known, names as the first free page the one that the taken
--- page named, where that was the first, and none where it named none.
+-- page named, where that was the first, and none where it named none. Where a page was free the page
+-- count is as it was, and otherwise one more.
 pub record NamesRest (old new : PageMap) (page : ℕ) : Type 0 where
   pub first : List ℕ
   pub there : new 0 ≡ Some first
   pub rest : (before bytes : List ℕ) → old 0 ≡ Some before → number_at before 12 ≢ 0 → old page ≡ Some bytes
       → IsFree bytes (number_at first 12)
   pub none : (before : List ℕ) → old 0 ≡ Some before → number_at before 12 ≡ 0 → number_at first 12 ≡ 0
+  pub same : (before : List ℕ) → old 0 ≡ Some before → number_at before 12 ≢ 0 → number_at first 8 ≡ number_at before 8
+  pub more : (before : List ℕ) → old 0 ≡ Some before → number_at before 12 ≡ 0 → number_at first 8 ≡ number_at before 8 + 1
 
 -- page 0, where it is known, names this root of the catalogue
 abbrev pub HasRoot : Option (List ℕ) → ℕ → Type 0

@@ -2,7 +2,7 @@
 ghost use Rattle.std.specs.Prelude.{◌≡◌, ◌+◌, ◌-◌, ◌<◌, ◌≤◌, ◌^◌, ℕ, None, OnOk, OnErr, IfOk, IfErr};
 ghost use Rattle.pool.specs.Pages.{over, known};
 ghost use Rattle.pool.specs.Refused.{IsRefused};
-ghost use Rattle.pool.specs.Versions.{versions_of, device_of};
+ghost use Rattle.pool.specs.Versions.{NeedsImages, versions_of, device_of};
 ghost use Rattle.overlay.specs.WriteSet.{private_of};
 
 use crate::write_set::WriteSet;
@@ -22,7 +22,8 @@ pub fn commit<D: Disk>(pool: &mut Pool<D>, changes: &WriteSet) -> Result<u64, Po
         → (versions_of pool.new).pages c ≡ (versions_of pool.old).pages c) }
     ensures pins { (versions_of pool.new).pins ≡ (versions_of pool.old).pins }
     ensures refused { OnErr result (versions_of pool.new ≡ versions_of pool.old) }
-    ensures refusal { IfErr result (IsRefused ((versions_of pool.old).last ≡ 2 ^ 64 - 1) ⊥ (D.refused (device_of pool.old)) (D.refused (device_of pool.new))) }
+    ensures refusal { IfErr result (IsRefused ((versions_of pool.old).last ≡ 2 ^ 64 - 1)
+        (NeedsImages pool.old (private_of changes.now)) (D.refused (device_of pool.old)) (D.refused (device_of pool.new))) }
     ensures rising { D.refused (device_of pool.old) ≤ D.refused (device_of pool.new) }
     ensures idle { private_of changes.now ≡ (λ n. None)
         → D.writes (device_of pool.new) ≡ D.writes (device_of pool.old) }

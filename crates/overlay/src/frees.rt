@@ -7,10 +7,10 @@ ghost use Rattle.pool.specs.Versions.{versions_of, device_of};
 ghost use Rattle.overlay.specs.WriteSet.{settled_of, private_of, undone_of};
 ghost use Rattle.overlay.specs.Layers.{size_of, IsNotKept};
 ghost use Rattle.overlay.specs.InUse.{in_use};
-ghost use Rattle.overlay.specs.Whole.{IsWhole, IsFull, AtLimit, IsFirstFree};
+ghost use Rattle.overlay.specs.Whole.{IsWhole, IsFull, AtLimit, IsFirstFree, TakesZeros, KeepsZeros};
 ghost use Rattle.overlay.specs.Puts.{PutsBoth, PutsAtMost, Freed, Frees, WritesAtMost};
 
-use crate::first_page::read_header;
+use crate::first_page::header_to_change;
 use crate::uses::is_in_use;
 use crate::write_set::WriteSet;
 use disk::Disk;
@@ -64,6 +64,7 @@ fn free_used<D: Disk>(
 ) -> Result<(), SpaceError>
     ensures written { OnOk result (Frees (over (private_of changes.old) ((versions_of pool.old).pages at)) page (private_of changes.old) (private_of changes.new)) }
     ensures left { OnErr result (WritesAtMost page (private_of changes.old) (private_of changes.new)) }
+    ensures from_zeros { OnOk result (TakesZeros ((versions_of pool.old).pages at) (private_of changes.old)) }
     ensures settled { settled_of changes.new ≡ settled_of changes.old }
     ensures undone { undone_of changes.new ≡ undone_of changes.old }
     ensures versions { versions_of pool.new ≡ versions_of pool.old }
@@ -78,7 +79,7 @@ fn free_used<D: Disk>(
     if !used {
         return Err(SpaceError::Damaged);
     }
-    match read_header(pool, changes, at) {
+    match header_to_change(pool, changes, at) {
         Ok(header) => put_free(changes, page, header),
         Err(fault) => Err(fault),
     }
@@ -87,7 +88,8 @@ fn free_used<D: Disk>(
 /// Takes a page out of use, at a commit with a transaction's pages over it: it is the first free
 /// page then. Refused for memory, where the device refuses a call, at the limit of private pages,
 /// and as damaged only where the page is not in use, or the list of free pages is none. After a
-/// refusal of this page nothing is said; each other page is as it was.
+/// refusal of this page nothing is said; each other page is as it was. Page 0 is taken where it ends
+/// in zeros alone, and is written so.
 pub fn free_page<D: Disk>(
     pool: &mut Pool<D>,
     changes: &mut WriteSet,
@@ -102,6 +104,8 @@ pub fn free_page<D: Disk>(
         → IsWhole (over (private_of changes.new) ((versions_of pool.new).pages at))) }
     ensures full { OnOk result (IsFull (over (private_of changes.old) ((versions_of pool.old).pages at))
         → IsFull (over (private_of changes.new) ((versions_of pool.new).pages at))) }
+    ensures from_zeros { OnOk result (TakesZeros ((versions_of pool.old).pages at) (private_of changes.old)) }
+    ensures zeros { KeepsZeros (private_of changes.old) (private_of changes.new) }
     ensures settled { settled_of changes.new ≡ settled_of changes.old }
     ensures undone { undone_of changes.new ≡ undone_of changes.old }
     ensures versions { versions_of pool.new ≡ versions_of pool.old }

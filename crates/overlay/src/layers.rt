@@ -1,5 +1,5 @@
 //! Pages that move from one layer into another.
-ghost use Rattle.std.specs.Prelude.{◌≡◌, [], ℕ, ◌==◌, if◌then◌else◌, OnOk, OnErr};
+ghost use Rattle.std.specs.Prelude.{◌≡◌, ◌≤◌, [], ℕ, ◌==◌, length, if◌then◌else◌, OnOk, OnErr};
 ghost use Rattle.std.specs.Option.{is_some};
 ghost use Rattle.pool.specs.Pages.{over, only, pick, pages_in};
 ghost use Rattle.overlay.specs.Layers.{size_of, AreListed};
@@ -43,6 +43,7 @@ fn put_counted(
     ensures put { OnOk result (pages_in set.new ≡ over (only number page.now) (pages_in set.old)) }
     ensures left { OnErr result (set.new ≡ set.old) }
     ensures counted { count.new ≡ size_of (pages_in set.new) }
+    ensures long { length set.old ≤ count.old → length set.new ≤ count.new }
 {
     if has_page(set, number) {
         set.put(number, page)?;
@@ -65,6 +66,7 @@ fn settle_page(
         → pages_in settled.new n ≡ (if number == n then pick (pages_in fresh.now n) (pages_in settled.old n) else pages_in settled.old n)) }
     ensures left { OnErr result (settled.new ≡ settled.old) }
     ensures counted { count.new ≡ size_of (pages_in settled.new) }
+    ensures long { length settled.old ≤ count.old → length settled.new ≤ count.new }
 {
     match fresh.get(number) {
         Some(page) => {
@@ -88,6 +90,7 @@ pub(crate) fn settle_all(
     ensures settled { OnOk result (pages_in settled.new ≡ over (pages_in fresh.now) (pages_in settled.old)) }
     ensures same { over (pages_in fresh.now) (pages_in settled.new) ≡ over (pages_in fresh.now) (pages_in settled.old) }
     ensures counted { count.new ≡ size_of (pages_in settled.new) }
+    ensures long { length settled.old ≤ count.old → length settled.new ≤ count.new }
 {
     for number in numbers {
         settle_page(settled, count, fresh, *number)?;

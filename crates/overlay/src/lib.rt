@@ -14,6 +14,7 @@ mod uses;
 mod version;
 mod write_set;
 mod writes;
+mod zeros;
 
 pub use changed::Changed;
 pub use commits::commit;

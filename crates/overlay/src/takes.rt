@@ -8,10 +8,10 @@ ghost use Rattle.pool.specs.Versions.{versions_of, device_of};
 ghost use Rattle.overlay.specs.WriteSet.{settled_of, private_of, undone_of};
 ghost use Rattle.overlay.specs.Layers.{size_of, IsNotKept};
 ghost use Rattle.overlay.specs.InUse.{in_use};
-ghost use Rattle.overlay.specs.Whole.{IsWhole, IsFull, AtLimit, IsNext, NamesRest};
+ghost use Rattle.overlay.specs.Whole.{IsWhole, IsFull, AtLimit, IsNext, NamesRest, TakesZeros, KeepsZeros};
 ghost use Rattle.overlay.specs.Puts.{PutsLeaf, PutsLeafAtMost, Takes, Took, TookAtMost};
 
-use crate::first_page::read_header;
+use crate::first_page::header_to_change;
 use crate::frees::put_with_header;
 use crate::uses::MOST_PAGES;
 use crate::version::read_changed;
@@ -168,6 +168,7 @@ fn take_page<D: Disk>(
 ) -> Result<u32, SpaceError>
     ensures taken { IfOk result (λ page. Took ((versions_of pool.old).pages at) (private_of changes.old) page (private_of changes.new)) }
     ensures left { OnErr result (TookAtMost ((versions_of pool.old).pages at) (private_of changes.old) (private_of changes.new)) }
+    ensures from_zeros { OnOk result (TakesZeros ((versions_of pool.old).pages at) (private_of changes.old)) }
     ensures settled { settled_of changes.new ≡ settled_of changes.old }
     ensures undone { undone_of changes.new ≡ undone_of changes.old }
     ensures versions { versions_of pool.new ≡ versions_of pool.old }
@@ -177,7 +178,7 @@ fn take_page<D: Disk>(
     ensures rising { D.refused (device_of pool.old) ≤ D.refused (device_of pool.new) }
     ensures writes { D.writes (device_of pool.new) ≡ D.writes (device_of pool.old) }
 {
-    match read_header(pool, changes, at) {
+    match header_to_change(pool, changes, at) {
         Ok(header) => take_by(pool, changes, at, header),
         Err(fault) => Err(fault),
     }
@@ -187,7 +188,8 @@ fn take_page<D: Disk>(
 /// answers its number: the first free page, or the one behind the last where none is free. Refused
 /// for memory, where the device refuses a call, where no page is free and there are 65,536, at the
 /// limit of private pages, and as damaged only where the list of free pages is none. After a
-/// refusal each page in use is as it was.
+/// refusal each page in use is as it was. Page 0 is taken where it ends in zeros alone, and is
+/// written so.
 pub fn allocate_page<D: Disk>(
     pool: &mut Pool<D>,
     changes: &mut WriteSet,
@@ -204,6 +206,8 @@ pub fn allocate_page<D: Disk>(
         → IsWhole (over (private_of changes.new) ((versions_of pool.new).pages at))) }
     ensures full { OnOk result (IsFull (over (private_of changes.old) ((versions_of pool.old).pages at))
         → IsFull (over (private_of changes.new) ((versions_of pool.new).pages at))) }
+    ensures from_zeros { OnOk result (TakesZeros ((versions_of pool.old).pages at) (private_of changes.old)) }
+    ensures zeros { KeepsZeros (private_of changes.old) (private_of changes.new) }
     ensures settled { settled_of changes.new ≡ settled_of changes.old }
     ensures undone { undone_of changes.new ≡ undone_of changes.old }
     ensures versions { versions_of pool.new ≡ versions_of pool.old }

@@ -36,13 +36,15 @@ fn page_count<D: Disk>(pool: &mut Pool<D>, changes: &WriteSet, at: u64) -> Resul
     ensures count { IfOk result (λ count. (first : List ℕ)
         → over (private_of changes.now) ((versions_of pool.old).pages at) 0 ≡ Some first → number_at first 8 ≡ count) }
     ensures versions { versions_of pool.new ≡ versions_of pool.old }
-    ensures refusal { IfErr result (ReadRefused ⊥ (D.refused (device_of pool.old)) (D.refused (device_of pool.new))) }
+    ensures refusal { IfErr result (ReadRefused (over (private_of changes.now) ((versions_of pool.old).pages at) 0 ≡ None) (D.refused (device_of pool.old)) (D.refused (device_of pool.new))) }
     ensures rising { D.refused (device_of pool.old) ≤ D.refused (device_of pool.new) }
     ensures writes { D.writes (device_of pool.new) ≡ D.writes (device_of pool.old) }
 {
     let mut first = [0; PAGE_SIZE];
-    read_changed(pool, changes, at, 0, &mut first)?;
-    Ok(number_in(&first, 8))
+    match read_changed(pool, changes, at, 0, &mut first) {
+        Ok(()) => Ok(number_in(&first, 8)),
+        Err(fault) => Err(fault),
+    }
 }
 
 /// Whether a page of a version, which the transaction has not written, is in use.
@@ -58,7 +60,8 @@ fn is_stored<D: Disk>(
     ensures used { IfOk result (λ used. used ≡ true
         → IsWritable (over (private_of changes.now) ((versions_of pool.old).pages at)) page) }
     ensures versions { versions_of pool.new ≡ versions_of pool.old }
-    ensures refusal { IfErr result (ReadRefused ⊥ (D.refused (device_of pool.old)) (D.refused (device_of pool.new))) }
+    ensures refusal { IfErr result (ReadRefused (in_use ((versions_of pool.old).pages at) (private_of changes.now) page ≡ None)
+        (D.refused (device_of pool.old)) (D.refused (device_of pool.new))) }
     ensures rising { D.refused (device_of pool.old) ≤ D.refused (device_of pool.new) }
     ensures writes { D.writes (device_of pool.new) ≡ D.writes (device_of pool.old) }
 {
@@ -87,7 +90,8 @@ pub(crate) fn is_in_use<D: Disk>(
         → IsWritable (over (private_of changes.now) ((versions_of pool.old).pages at)) page) }
     ensures within { IfOk result (λ used. used ≡ true → 0 < page) }
     ensures versions { versions_of pool.new ≡ versions_of pool.old }
-    ensures refusal { IfErr result (ReadRefused ⊥ (D.refused (device_of pool.old)) (D.refused (device_of pool.new))) }
+    ensures refusal { IfErr result (ReadRefused (in_use ((versions_of pool.old).pages at) (private_of changes.now) page ≡ None)
+        (D.refused (device_of pool.old)) (D.refused (device_of pool.new))) }
     ensures rising { D.refused (device_of pool.old) ≤ D.refused (device_of pool.new) }
     ensures writes { D.writes (device_of pool.new) ≡ D.writes (device_of pool.old) }
 {

@@ -1,5 +1,5 @@
 //! Reads through the changes of a transaction into a version of a pool.
-ghost use Rattle.std.specs.Prelude.{◌≡◌, ◌≤◌, ℕ, List, Some, OnOk, IfOk, IfErr};
+ghost use Rattle.std.specs.Prelude.{◌≡◌, ◌≤◌, ℕ, List, Some, None, IsSome, IsTrue, OnOk, IfOk, IfErr};
 ghost use Rattle.page_space.specs.Space.{ReadRefused};
 ghost use Rattle.pagefile.specs.Number.{number_at};
 ghost use Rattle.pool.specs.Pages.{over};
@@ -12,7 +12,8 @@ use page_space::SpaceError;
 use pagefile::Page;
 use pool::{Pool, PoolError};
 
-/// Gives what lies at a page at a commit, where something does.
+/// Gives what lies at a page at a commit. Refused where the device refuses, and as damaged where no
+/// page lies there.
 pub(crate) fn read_version<D: Disk>(
     pool: &mut Pool<D>,
     at: u64,
@@ -21,15 +22,17 @@ pub(crate) fn read_version<D: Disk>(
 ) -> Result<(), SpaceError>
     ensures value { OnOk result ((bytes : List ℕ) → (versions_of pool.old).pages at page ≡ Some bytes
         → into.new ≡ bytes) }
+    ensures there { OnOk result (IsTrue D.is_honest → IsSome ((versions_of pool.old).pages at page)) }
     ensures versions { versions_of pool.new ≡ versions_of pool.old }
-    ensures refusal { IfErr result (ReadRefused ⊥ (D.refused (device_of pool.old)) (D.refused (device_of pool.new))) }
+    ensures refusal { IfErr result (ReadRefused ((versions_of pool.old).pages at page ≡ None) (D.refused (device_of pool.old)) (D.refused (device_of pool.new))) }
     ensures rising { D.refused (device_of pool.old) ≤ D.refused (device_of pool.new) }
     ensures writes { D.writes (device_of pool.new) ≡ D.writes (device_of pool.old) }
 {
     match pool.read(at, page, into) {
         Ok(()) => Ok(()),
-        Err(PoolError::Memory) => Err(SpaceError::Memory),
         Err(PoolError::Device(_)) => Err(SpaceError::Disk),
+        Err(PoolError::Damaged) => Err(SpaceError::Damaged),
+        Err(PoolError::Memory) => unreachable!(),
         Err(PoolError::Pages) => unreachable!(),
         Err(PoolError::Kept) => unreachable!(),
     }
@@ -45,8 +48,10 @@ pub(crate) fn read_changed<D: Disk>(
 ) -> Result<(), SpaceError>
     ensures value { OnOk result ((bytes : List ℕ)
         → over (private_of changes.now) ((versions_of pool.old).pages at) page ≡ Some bytes → into.new ≡ bytes) }
+    ensures there { OnOk result (IsTrue D.is_honest
+        → IsSome (over (private_of changes.now) ((versions_of pool.old).pages at) page)) }
     ensures versions { versions_of pool.new ≡ versions_of pool.old }
-    ensures refusal { IfErr result (ReadRefused ⊥ (D.refused (device_of pool.old)) (D.refused (device_of pool.new))) }
+    ensures refusal { IfErr result (ReadRefused (over (private_of changes.now) ((versions_of pool.old).pages at) page ≡ None) (D.refused (device_of pool.old)) (D.refused (device_of pool.new))) }
     ensures rising { D.refused (device_of pool.old) ≤ D.refused (device_of pool.new) }
     ensures writes { D.writes (device_of pool.new) ≡ D.writes (device_of pool.old) }
 {

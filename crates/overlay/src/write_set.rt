@@ -1,4 +1,4 @@
-ghost use Rattle.std.specs.Prelude.{◌≡◌, ◌≤◌, ◌<◌, ◌+◌, ℕ, None, IsSome, false, OnOk, OnErr, IfOk, IfErr};
+ghost use Rattle.std.specs.Prelude.{◌≡◌, ◌≤◌, ◌<◌, ◌+◌, ℕ, None, IsSome, false, length, OnOk, OnErr, IfOk, IfErr};
 ghost use Rattle.std.specs.Option.{is_some, option_copied};
 ghost use Rattle.pool.specs.Pages.{over, only, pages_in};
 ghost use Rattle.overlay.specs.Layers.{size_of, AreListed, IsNotKept};
@@ -197,7 +197,8 @@ impl WriteSet {
 
     /// All written pages, as a set of their own. Refuses for memory alone.
     pub(crate) fn all_pages(&self) -> Result<PageSet, AllocError>
-        ensures { IfOk result (λ set. pages_in set ≡ private_of self.now) }
+        ensures pages { IfOk result (λ set. pages_in set ≡ private_of self.now) }
+        ensures most { IfOk result (λ set. length set ≤ 1024) }
     {
         let older_numbers = self.older.numbers(self.alloc)?;
         let mut set = PageSet::new(self.alloc);

@@ -6,7 +6,7 @@ ghost use Rattle.pool.specs.Versions.{versions_of, device_of};
 ghost use Rattle.overlay.specs.WriteSet.{settled_of, private_of, undone_of};
 ghost use Rattle.overlay.specs.InUse.{in_use};
 ghost use Rattle.overlay.specs.Layers.{size_of};
-ghost use Rattle.overlay.specs.Whole.{IsWhole, IsFull, AtLimit};
+ghost use Rattle.overlay.specs.Whole.{IsWhole, IsFull, AtLimit, KeepsZeros};
 
 use crate::uses::write_page;
 use crate::write_set::WriteSet;
@@ -35,6 +35,7 @@ pub fn replace_page<D: Disk>(
         → IsWhole (over (private_of changes.new) ((versions_of pool.new).pages at))) }
     ensures full { OnOk result (IsFull (over (private_of changes.old) ((versions_of pool.old).pages at))
         → IsFull (over (private_of changes.new) ((versions_of pool.new).pages at))) }
+    ensures zeros { KeepsZeros (private_of changes.old) (private_of changes.new) }
     ensures left { OnErr result (private_of changes.new ≡ private_of changes.old) }
     ensures settled { settled_of changes.new ≡ settled_of changes.old }
     ensures undone { undone_of changes.new ≡ undone_of changes.old }

@@ -98,15 +98,15 @@ done_alone honest v w numbers written settled next next_settled (Err e) same kep
 -- ---- refusals
 
 -- The change reached a limit by the pages `mid`, of which this is kept.
-module _ (honest : Bool) (v w : Versions) (numbers : FinMap nat_cmp ℕ) (written settled mid mid_settled next_settled : PageMap) (commits : ℕ) (last : commits ≡ v.last) (same : w ≡ v)
+module _ (Kept : Type 0) (honest : Bool) (v w : Versions) (numbers : FinMap nat_cmp ℕ) (written settled mid mid_settled next_settled : PageMap) (commits : ℕ) (last : commits ≡ v.last) (same : w ≡ v)
     (kept : mid_settled ≡ settled) (left : next_settled ≡ mid_settled) (k n : ℕ) where
   here : v.pages commits ≡ w.pages w.last
   here = ap v.pages last ∙ ap (λ (x : Versions). x.pages x.last) (sym same)
 
-  counted : (u : Undone) (l : StoreLimit) → AreUndone mid u → Reached (v.pages commits) mid l → IsCounted honest (w.pages w.last) next_settled u l
+  counted : (u : Undone) (l : StoreLimit) → AreUndone mid u → Reached (v.pages commits) mid l → IsCounted Kept honest (w.pages w.last) next_settled u l
   counted u limit.Pages a h = inl (was_counted (w.pages w.last) mid u limit.Pages a (subst (λ (p : PageMap). Reached p mid limit.Pages) here h))
   counted u limit.Private a h = was_counted (w.pages w.last) mid u limit.Private a (subst (λ (p : PageMap). Reached p mid limit.Private) here h)
-  counted u limit.Kept a h = h
+  counted u limit.Kept a h = absurd h
   counted u limit.Record a h = h
   counted u limit.Key a h = h
 
@@ -123,7 +123,7 @@ module _ (honest : Bool) (v w : Versions) (numbers : FinMap nat_cmp ℕ) (writte
       by (Ok x) are h = h
       by (Err e) are h = fail_weaker (IsDatabase (v.pages commits) written) (IsSound honest v numbers written settled) k n reached more e working (λ l r. weaker l are r) h
 
-  changing : (u : Undone) (l : StoreLimit) → AreUndone mid u → ChangingReaches (Reached (v.pages commits) mid) l → ChangingReaches (IsCounted honest (w.pages w.last) next_settled u) l
+  changing : (u : Undone) (l : StoreLimit) → AreUndone mid u → ChangingReaches (Reached (v.pages commits) mid) l → ChangingReaches (IsCounted Kept honest (w.pages w.last) next_settled u) l
   changing u limit.Record a h = h
   changing u limit.Key a h = h
   changing u limit.Pages a h = counted u limit.Pages a h
@@ -132,11 +132,11 @@ module _ (honest : Bool) (v w : Versions) (numbers : FinMap nat_cmp ℕ) (writte
 
   pub change_fails : (u : Undone) (result done : Done) → result ≡ done → OnErr done (AreUndone mid u)
       → IfErr done (MayFail (IsDatabase (v.pages commits) written) k n (ChangingReaches (Reached (v.pages commits) mid)))
-      → IfErr result (MayFail (IsSound honest v numbers written settled) k n (ChangingReaches (IsCounted honest (w.pages w.last) next_settled u)))
-  change_fails u result done told are h = fails (ChangingReaches (Reached (v.pages commits) mid)) (ChangingReaches (IsCounted honest (w.pages w.last) next_settled u)) u (changing u) result done told are h
+      → IfErr result (MayFail (IsSound honest v numbers written settled) k n (ChangingReaches (IsCounted Kept honest (w.pages w.last) next_settled u)))
+  change_fails u result done told are h = fails (ChangingReaches (Reached (v.pages commits) mid)) (ChangingReaches (IsCounted Kept honest (w.pages w.last) next_settled u)) u (changing u) result done told are h
 
   indexing : (u : Undone) (rows : List Row) (index : IndexDeclaration) (l : StoreLimit) → AreUndone mid u → ChangingReaches (Reached (v.pages commits) mid) l
-      → IndexingReaches (IsCounted honest (w.pages w.last) next_settled u) rows index l
+      → IndexingReaches (IsCounted Kept honest (w.pages w.last) next_settled u) rows index l
   indexing u rows index limit.Record a h = h
   indexing u rows index limit.Key a h = absurd h
   indexing u rows index limit.Pages a h = counted u limit.Pages a h
@@ -145,12 +145,12 @@ module _ (honest : Bool) (v w : Versions) (numbers : FinMap nat_cmp ℕ) (writte
 
   pub index_fails : (u : Undone) (rows : List Row) (index : IndexDeclaration) (result done : Done) → result ≡ done → OnErr done (AreUndone mid u)
       → IfErr done (MayFail (IsDatabase (v.pages commits) written) k n (ChangingReaches (Reached (v.pages commits) mid)))
-      → IfErr result (MayFail (IsSound honest v numbers written settled) k n (IndexingReaches (IsCounted honest (w.pages w.last) next_settled u) rows index))
+      → IfErr result (MayFail (IsSound honest v numbers written settled) k n (IndexingReaches (IsCounted Kept honest (w.pages w.last) next_settled u) rows index))
   index_fails u rows index result done told are h =
-      fails (ChangingReaches (Reached (v.pages commits) mid)) (IndexingReaches (IsCounted honest (w.pages w.last) next_settled u) rows index) u (indexing u rows index) result done told are h
+      fails (ChangingReaches (Reached (v.pages commits) mid)) (IndexingReaches (IsCounted Kept honest (w.pages w.last) next_settled u) rows index) u (indexing u rows index) result done told are h
 
   storing : (u : Undone) (table : Option StoredTable) (rows : List Row) (l : StoreLimit) → AreUndone mid u → RowsReach (Reached (v.pages commits) mid) rows l
-      → StoringReaches (IsCounted honest (w.pages w.last) next_settled u) table rows l
+      → StoringReaches (IsCounted Kept honest (w.pages w.last) next_settled u) table rows l
   storing u table rows limit.Record a h = h
   storing u table rows limit.Key a h = absurd h
   storing u table rows limit.Pages a h = inl (counted u limit.Pages a h)
@@ -159,9 +159,9 @@ module _ (honest : Bool) (v w : Versions) (numbers : FinMap nat_cmp ℕ) (writte
 
   pub replace_fails : (u : Undone) (table : Option StoredTable) (rows : List Row) (result done : Done) → result ≡ done → OnErr done (AreUndone mid u)
       → IfErr done (MayFail (IsDatabase (v.pages commits) written) k n (RowsReach (Reached (v.pages commits) mid) rows))
-      → IfErr result (MayFail (IsSound honest v numbers written settled) k n (StoringReaches (IsCounted honest (w.pages w.last) next_settled u) table rows))
+      → IfErr result (MayFail (IsSound honest v numbers written settled) k n (StoringReaches (IsCounted Kept honest (w.pages w.last) next_settled u) table rows))
   replace_fails u table rows result done told are h =
-      fails (RowsReach (Reached (v.pages commits) mid) rows) (StoringReaches (IsCounted honest (w.pages w.last) next_settled u) table rows) u (storing u table rows) result done told are h
+      fails (RowsReach (Reached (v.pages commits) mid) rows) (StoringReaches (IsCounted Kept honest (w.pages w.last) next_settled u) table rows) u (storing u table rows) result done told are h
 
   -- ---- the numbers of rows
 
@@ -182,14 +182,14 @@ module _ (honest : Bool) (v w : Versions) (numbers : FinMap nat_cmp ℕ) (writte
 
   appending : (steady : IsSteady (v.pages v.last) written settled) (u : Undone) (name : Name) (rows : List Row) (l : StoreLimit) → AreUndone mid u
       → NewRowsReach (Reached (v.pages commits) mid) (NumbersEnd (v.pages commits) written name rows) rows l
-      → StoringReaches (IsCounted honest (w.pages w.last) next_settled u) (get (known_contents honest (v.pages v.last) written) name) rows l
+      → StoringReaches (IsCounted Kept honest (w.pages w.last) next_settled u) (get (known_contents honest (v.pages v.last) written) name) rows l
   appending steady u name rows limit.Record a h = h
   appending steady u name rows limit.Key a h = absurd h
   appending steady u name rows limit.Pages a (inl h) = inl (counted u limit.Pages a h)
   appending steady u name rows limit.Pages a (inr end) = by (cases_lt (2 ^ 63) (next_number (entries_of (get (known_contents honest (v.pages v.last) written) name)) + length rows))
     where
       by : (2 ^ 63 < next_number (entries_of (get (known_contents honest (v.pages v.last) written) name)) + length rows) ⊎ (next_number (entries_of (get (known_contents honest (v.pages v.last) written) name)) + length rows ≤ 2 ^ 63)
-          → StoringReaches (IsCounted honest (w.pages w.last) next_settled u) (get (known_contents honest (v.pages v.last) written) name) rows limit.Pages
+          → StoringReaches (IsCounted Kept honest (w.pages w.last) next_settled u) (get (known_contents honest (v.pages v.last) written) name) rows limit.Pages
       by (inl more) = inr more
       by (inr few) = inl (inr (ended steady name rows end few))
   appending steady u name rows limit.Private a h = counted u limit.Private a h
@@ -197,7 +197,7 @@ module _ (honest : Bool) (v w : Versions) (numbers : FinMap nat_cmp ℕ) (writte
 
   pub append_fails : (steady : IsSteady (v.pages v.last) written settled) (u : Undone) (name : Name) (rows : List Row) (result done : Done) → result ≡ done → OnErr done (AreUndone mid u)
       → IfErr done (MayFail (IsDatabase (v.pages commits) written) k n (NewRowsReach (Reached (v.pages commits) mid) (NumbersEnd (v.pages commits) written name rows) rows))
-      → IfErr result (MayFail (IsSound honest v numbers written settled) k n (StoringReaches (IsCounted honest (w.pages w.last) next_settled u) (get (known_contents honest (v.pages v.last) written) name) rows))
+      → IfErr result (MayFail (IsSound honest v numbers written settled) k n (StoringReaches (IsCounted Kept honest (w.pages w.last) next_settled u) (get (known_contents honest (v.pages v.last) written) name) rows))
   append_fails steady u name rows result done told are h =
       fails (NewRowsReach (Reached (v.pages commits) mid) (NumbersEnd (v.pages commits) written name rows) rows)
-      (StoringReaches (IsCounted honest (w.pages w.last) next_settled u) (get (known_contents honest (v.pages v.last) written) name) rows) u (appending steady u name rows) result done told are h
+      (StoringReaches (IsCounted Kept honest (w.pages w.last) next_settled u) (get (known_contents honest (v.pages v.last) written) name) rows) u (appending steady u name rows) result done told are h

@@ -1,5 +1,5 @@
 -- What every call keeps, and what it counts.
-use Rattle.std.proofs.Common.{◌≡◌, refl, sym, ap, subst, ℕ, Bool, List, Option, Some, None, Result, IfErr}
+use Rattle.std.proofs.Common.{◌∙◌, ◌≡◌, refl, sym, ap, subst, ℕ, Bool, List, Option, Some, None, Result, IfErr}
 use Rattle.std.specs.Ordering.{nat_cmp}
 use Rattle.std.specs.FinMap.{FinMap}
 use Rattle.sqlval.specs.declared.schema.Schema.{Schema as Declared}
@@ -9,6 +9,7 @@ use Rattle.store.specs.declared.error.StoreError.{StoreError}
 use Rattle.pool.specs.Pages.{PageMap, pick, over}
 use Rattle.pool.specs.Versions.{Versions}
 use Rattle.pool.specs.declared.error.PoolError.{PoolError}
+use Rattle.pool.specs.Refused.{IsRefused, IsOfDevice}
 use Rattle.pool.specs.declared.error.PoolError.TheVariants as pool
 use Rattle.database_versions.specs.Databases.{nothing, known_contents}
 use Rattle.database_versions.specs.Refusals.{of_pool}
@@ -48,15 +49,25 @@ none_settled fresh settled none = λ i n. (at (fresh n) (settled n) (ap (λ (p :
 
 -- ---- refusals
 
--- the pool does not say "damaged"
-pub pool_tells : (error : StoreError) (cause : PoolError) (n : ℕ) → error ≡ of_pool cause → Tells error n n
-pool_tells error cause n is = subst (λ (e : StoreError). Tells e n n) (sym is) (by cause)
+-- what the pool refuses but a read is never told as damage
+pub pool_tells : (error : StoreError) (cause : PoolError) (n : ℕ) → error ≡ of_pool cause → (cause ≡ pool.Damaged → ⊥) → Tells error n n
+pool_tells error cause n is sound = subst (λ (e : StoreError). Tells e n n) (sym is) (by cause sound)
   where
-    by : (cause : PoolError) → Tells (of_pool cause) n n
-    by pool.Memory = refl
-    by (pool.Device e) = refl
-    by pool.Pages = refl
-    by pool.Kept = refl
+    by : (c : PoolError) → (c ≡ pool.Damaged → ⊥) → Tells (of_pool c) n n
+    by pool.Memory h = refl
+    by (pool.Device e) h = refl
+    by pool.Damaged h = absurd (h refl)
+    by pool.Pages h = refl
+    by pool.Kept h = refl
+
+pub of_memory : (c : PoolError) → c ≡ pool.Memory → c ≡ pool.Damaged → ⊥
+of_memory c memory damaged = let bad : pool.Memory ≡ pool.Damaged = sym memory ∙ damaged in cc
+
+pub of_commit : (P Q : Type 0) (k n : ℕ) (c : PoolError) → IsRefused P Q k n c → c ≡ pool.Damaged → ⊥
+of_commit P Q k n c h damaged = subst (IsRefused P Q k n) damaged h
+
+pub of_device : (k n : ℕ) (c : PoolError) → IsOfDevice k n c → c ≡ pool.Damaged → ⊥
+of_device k n c h damaged = subst (IsOfDevice k n) damaged h
 
 -- a refusal that is passed on
 pub fails_so : {A : Type 0} (result found : Result A StoreError) (sound : Type 0) (k n : ℕ) → result ≡ found → IfErr found (MayFail sound k n Never) → IfErr result (MayFail sound k n Never)

@@ -48,7 +48,6 @@ pub struct Paged<D: Disk> {
     read: u64,
     /// How many answers said that it is damaged.
     damaged: u64,
-    frames: usize,
     ghost ordered: { IsOrderly D.is_honest (versions_of pool) readers commits },
     ghost steady: { IsSteady ((versions_of pool).pages (versions_of pool).last) (private_of changes) (settled_of changes) },
 }
@@ -77,8 +76,8 @@ impl<D: Disk + Drop> Store for Paged<D> {
     ghost use Rattle.std.specs.Prelude.{◌≡◌, [], IsTrue};
     ghost use Rattle.std.specs.FinMap.{empty};
     ghost use Rattle.store.specs.Going.{goes_itself, goes_on_and_on};
-    ghost use Rattle.pool.specs.Versions.{versions_of, device_of, unwritten_of};
-    ghost use Rattle.overlay.specs.WriteSet.{settled_of, undone_of};
+    ghost use Rattle.pool.specs.Versions.{NeedsImages, versions_of, device_of, unwritten_of, frames_of};
+    ghost use Rattle.overlay.specs.WriteSet.{private_of, settled_of, undone_of};
     ghost use Rattle.database_versions.specs.Opened.{IsReadable};
     ghost use Rattle.paged_store.specs.Counted.{IsCounted};
     ghost use Rattle.paged_store.specs.Saved.{IsSavedAlone};
@@ -105,13 +104,13 @@ impl<D: Disk + Drop> Store for Paged<D> {
 
     ghost goes_on = { λ a b going. PagedGoes going a b };
 
-    ghost counted = { λ s limit. IsCounted D.is_honest ((versions_of s.pool).pages (versions_of s.pool).last) (settled_of s.changes) (undone_of s.changes) limit };
+    ghost counted = { λ s limit. IsCounted (NeedsImages s.pool (private_of s.changes)) D.is_honest ((versions_of s.pool).pages (versions_of s.pool).last) (settled_of s.changes) (undone_of s.changes) limit };
 
     ghost prepared = { λ s. s.prepared };
 
     ghost unwritten = { λ s. unwritten_of s.pool };
 
-    ghost room = { λ s. s.frames };
+    ghost room = { λ s. frames_of s.pool };
 
     ghost saved = { λ device db. IsSavedAlone D.is_honest (D.bytes device) db };
 
@@ -148,7 +147,6 @@ impl<D: Disk + Drop> Store for Paged<D> {
                 commits: 0,
                 read: 0,
                 damaged: 0,
-                frames,
             }),
             Err(back) => Err(back),
         }
@@ -160,7 +158,6 @@ impl<D: Disk + Drop> Store for Paged<D> {
         let commits = self.commits;
         let read = self.read;
         let damaged = self.damaged;
-        let frames = self.frames;
         let mut pool = self.pool;
         let mut readers = self.readers;
         readers.end_all(&mut pool);
@@ -177,7 +174,6 @@ impl<D: Disk + Drop> Store for Paged<D> {
                     commits,
                     read,
                     damaged,
-                    frames,
                 },
             }),
         }

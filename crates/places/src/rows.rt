@@ -46,8 +46,9 @@ fn taken(
 /// the list has ended. Refuses for want of memory alone.
 #[tactic(auto, using(crate::proofs::Wholes::wholes))]
 pub fn kept_rows(alloc: Global, place: &mut Place, most: usize) -> Result<Rows, AllocError>
-    ensures { (entries : Entries) (tree : Tree) → is_whole place.old ≡ true
+    ensures rows { (entries : Entries) (tree : Tree) → is_whole place.old ≡ true
         → IfOk result (λ rows. before rows (left entries place.new tree) ≡ left entries place.old tree) }
+    ensures kept { is_whole place.old ≡ true → IfOk result (λ _. is_whole place.new ≡ true) }
 {
     match std::mem::replace(place, Place::Start) {
         Place::Kept(mut rows, fault) => match first_row(&mut rows) {

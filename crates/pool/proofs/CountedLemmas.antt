@@ -1,10 +1,10 @@
 -- The list of the pages that are to be written.
-use Rattle.std.proofs.Common.{◌≡◌, ◌≢◌, ℕ, ◌+◌, ◌-◌, ◌≤◌, ◌==◌, Bool, true, false, List, [], ◌∷◌, ◌++◌, Option, Some, None, refl, sym, ap, ◌∙◌, cond, arith, if◌then◌else◌, eqb-true, eq-eqb, length, zero, suc}
+use Rattle.std.proofs.Common.{◌≡◌, ◌≢◌, ℕ, ◌+◌, ◌-◌, ◌≤◌, ◌==◌, Bool, true, false, List, [], ◌∷◌, ◌++◌, Option, Some, None, refl, sym, ap, ◌∙◌, cond, arith, if◌then◌else◌, eqb-true, eq-eqb, zero, suc}
 use Rattle.std.specs.Prelude.{sum_by}
 use Rattle.std.specs.Option.{is_some}
 use Rattle.std.proofs.lemmas.List.Sums.{sum_by-cons, sum_by_push}
 use Rattle.pool.specs.declared.slot.Newest.{Newest}
-use Rattle.pool.specs.declared.slot.Newest.TheVariants.{InFile, Clean, Dirty}
+use Rattle.pool.specs.declared.slot.Newest.TheVariants.{AsOpened, Written, Dirty}
 use Rattle.pool.specs.declared.slot.Slot.{Slot}
 use Rattle.pool.specs.Pages.{pages_in}
 use Rattle.pool.specs.Slots.{slot_at, placed, cleaned}
@@ -13,7 +13,7 @@ use Rattle.pool.proofs.SlotLemmas.{by_place}
 use Rattle.pool.proofs.SetLemmas.{pages_cons}
 use Rattle.pool.proofs.FirstLemmas.{firsts}
 
-not_same : (k n : ℕ) → (k ≡ n → ⊥) → (k == n) ≡ false
+pub not_same : (k n : ℕ) → (k ≡ n → ⊥) → (k == n) ≡ false
 not_same k n differs = by (k == n) refl
   where
     by : (b : Bool) → (k == n) ≡ b → (k == n) ≡ false
@@ -25,18 +25,18 @@ pub times_more : (xs ys : List ℕ) (k n : ℕ) → ys ≡ xs ++ k ∷ [] → ti
 times_more xs ys k n is = ap (λ l. times_in l n) is ∙ sum_by_push (λ i. one_at i n) xs k
 
 pub to_write-le : (w : Newest) → to_write w ≤ 1
-to_write-le InFile = omega arith
-to_write-le (Clean page) = omega arith
+to_write-le AsOpened = omega arith
+to_write-le Written = omega arith
 to_write-le (Dirty page) = omega arith
 
 pub cleaned_none : (w : Newest) → to_write (cleaned w) ≡ 0
-cleaned_none InFile = refl
-cleaned_none (Clean page) = refl
+cleaned_none AsOpened = refl
+cleaned_none Written = refl
 cleaned_none (Dirty page) = refl
 
 pub cleaned_fewer : (w : Newest) → to_write (cleaned w) ≤ to_write w
-cleaned_fewer InFile = omega arith
-cleaned_fewer (Clean page) = omega arith
+cleaned_fewer AsOpened = omega arith
+cleaned_fewer Written = omega arith
 cleaned_fewer (Dirty page) = omega arith
 
 pub placed_to_write : (o : Option (List ℕ)) (w : Newest) → to_write (placed o w) ≡ (if is_some o then 1 else to_write w)
@@ -151,8 +151,8 @@ new_placed set rest slots new_slots k page is gone others =
 
 -- the list is longer by one where the page was not to be written
 pub one_listed : (u v : ℕ) (w : Newest) (a b total : ℕ) → v + to_write w ≡ u + 1 → a ≡ (1 - to_write w) + b → u + a ≡ total → v + b ≡ total
-one_listed u v InFile a b total e f g = omega (arith, e, f, g)
-one_listed u v (Clean page) a b total e f g = omega (arith, e, f, g)
+one_listed u v AsOpened a b total e f g = omega (arith, e, f, g)
+one_listed u v Written a b total e f g = omega (arith, e, f, g)
 one_listed u v (Dirty page) a b total e f g = omega (arith, e, f, g)
 
 pub new_same : (f g : ℕ → ℕ) → ((n : ℕ) → f n ≡ g n) → (set : List (ℕ × List ℕ)) → new_in f set ≡ new_in g set

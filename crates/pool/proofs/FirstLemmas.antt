@@ -1,12 +1,12 @@
 -- A pool over an empty file.
-use Rattle.std.proofs.Common.{◌≡◌, ℕ, ◌*◌, ◌≤◌, ◌<◌, ◌==◌, Bool, true, false, List, [], ◌∷◌, Option, Some, None, zero, suc, refl, sym, ap, ◌∙◌, arith, length, IsTrue, if◌then◌else◌}
-use Rattle.std.specs.List.{list_any}
+use Rattle.std.proofs.Common.{◌≡◌, ℕ, ◌==◌, Bool, true, false, List, [], ◌∷◌, Some, None, zero, suc, refl, sym, ap, subst, ◌∙◌, arith, length, if◌then◌else◌}
 use Rattle.std.proofs.lemmas.Bool.{eqb-true}
 use Rattle.pagefile.specs.Pages.{page_of}
 use Rattle.pool.specs.declared.slot.Slot.{Slot}
-use Rattle.pool.specs.declared.slot.Newest.TheVariants.{InFile, Clean, Dirty}
+use Rattle.pool.specs.declared.slot.Newest.TheVariants.{Written, Dirty}
 use Rattle.pool.specs.Pages.{PageMap, known, only}
-use Rattle.pool.specs.Slots.{slot_at, newest_at, pages_at, seen, file_page}
+use Rattle.pool.specs.Slots.{slot_at, pages_at, file_page}
+use Rattle.pool.specs.Images.{AreKept, AreNeeded, covers}
 use Rattle.pool.specs.Stands.{Stands}
 use Rattle.pool.proofs.PoolLemmas.{known_same}
 use Rattle.pool.proofs.SlotLemmas.{lt-false}
@@ -26,27 +26,33 @@ differs n = by (0 == suc n) refl
     by true e = let same : 0 ≡ suc n = eqb-true 0 (suc n) e in absurd (omega (arith, same))
     by false e = refl
 
-pub first_stands : (file page : List ℕ) (slots : List Slot) (unwritten : List ℕ) → file ≡ [] → slots ≡ firsts page → unwritten ≡ 0 ∷ [] → Stands file 0 0 slots unwritten
-first_stands file page slots unwritten none is list = record {
+pub first_stands : (file page : List ℕ) (slots : List Slot) → file ≡ [] → slots ≡ firsts page → Stands file 0 slots
+first_stands file page slots none is = record {
   size = omega arith;
-  clean = λ n p e. absurd (never_clean n p (sym (ap (λ (s : List Slot). (slot_at s n).newest) is) ∙ e));
+  there = λ n e. absurd (never_written n (sym (ap (λ (s : List Slot). (slot_at s n).newest) is) ∙ e));
   ends = λ m more all. omega (arith, ap (λ (f : List ℕ). length f) none);
-  listed = λ n p e. ap (list_any (λ k. k == n)) list ∙ is_listed n p (sym (ap (λ (s : List Slot). (slot_at s n).newest) is) ∙ e);
-  later = λ c n less d. ap (λ (s : List Slot). seen c (slot_at s n).images d) is ∙ no_image c n d;
-  current = λ n. ap (λ (s : List Slot). seen 0 (slot_at s n).images (newest_at file 0 slots n)) is ∙ no_image 0 n (newest_at file 0 slots n);
 }
   where
-    never_clean : (n : ℕ) (p : List ℕ) → (slot_at (firsts page) n).newest ≡ Clean p → ⊥
-    never_clean zero p e = cc
-    never_clean (suc n) p e = cc
+    never_written : (n : ℕ) → (slot_at (firsts page) n).newest ≡ Written → ⊥
+    never_written zero e = cc
+    never_written (suc n) e = cc
 
-    is_listed : (n : ℕ) (p : List ℕ) → (slot_at (firsts page) n).newest ≡ Dirty p → list_any (λ k. k == n) (0 ∷ []) ≡ true
-    is_listed zero p e = refl
-    is_listed (suc n) p e = cc
+-- where no page has an image, all that is needed holds of them
+pub none_kept : (slots : List Slot) → ((n : ℕ) → (slot_at slots n).images ≡ []) → AreKept 0 [] [] slots
+none_kept slots none = record {
+  before = refl;
+  room = omega arith;
+  old = λ n. ap (covers 0) (none n);
+  needed = λ n. subst (AreNeeded []) (sym (none n)) (λ i less. absurd (omega (arith, less)));
+  noted = λ n k less is. absurd (omega (arith, less));
+}
 
-    no_image : (c n : ℕ) (d : Option (List ℕ)) → seen c (slot_at (firsts page) n).images d ≡ d
-    no_image c zero d = refl
-    no_image c (suc n) d = refl
+pub no_images : (page : List ℕ) (slots : List Slot) → slots ≡ firsts page → (n : ℕ) → (slot_at slots n).images ≡ []
+no_images page slots is n = ap (λ (s : List Slot). (slot_at s n).images) is ∙ by n
+  where
+    by : (m : ℕ) → (slot_at (firsts page) m).images ≡ []
+    by zero = refl
+    by (suc m) = refl
 
 shown_at : (file page : List ℕ) (c n : ℕ) → pages_at file 0 (firsts page) c n ≡ only 0 page n
 shown_at file page c zero = refl

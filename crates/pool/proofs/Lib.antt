@@ -1,8 +1,13 @@
 pub mod PinLemmas
 pub mod SlotLemmas
+pub mod ImageLemmas
+pub mod ImageCounts
+pub mod ReadyLemmas
 pub mod CommitLemmas
 pub mod SetLemmas
 pub mod PoolLemmas
 pub mod DropLemmas
 pub mod FirstLemmas
 pub mod CountedLemmas
+pub mod RefusalLemmas
+pub mod NoteLemmas

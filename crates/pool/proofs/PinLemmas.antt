@@ -7,6 +7,8 @@ use Rattle.std.proofs.lemmas.List.Sums.{sum_by-set, sum_by-remove, sum_by-append
 use Rattle.std.proofs.lemmas.Bool.{eqb-true}
 use Rattle.std.proofs.lemmas.Option.{slice_get_within}
 use Rattle.pool.specs.declared.pins.Pin.{Pin}
+use Rattle.std.proofs.lemmas.List.{map-set, set-get_or}
+use Rattle.pool.specs.Images.{pinned_in}
 use Rattle.pool.specs.Pins.{times, pins_at}
 
 at_place : (pins : List Pin) (i : ℕ) (p : Pin) → slice_get pins i ≡ Some p → get_or pins i p ≡ p
@@ -64,7 +66,7 @@ pub added : (pins : List Pin) (number c : ℕ) → pins_at (pins ++ (record { nu
 added pins number c = add (number == c) (pins_at (pins ++ (record { number = number; more = 0 }) ∷ []) c) (pins_at pins c)
     (pins_at ((record { number = number; more = 0 }) ∷ []) c) (zero-add (times c (record { number = number; more = 0 }))) (sum_by-append (times c) pins ((record { number = number; more = 0 }) ∷ []))
 
-none_pinned : (p : Pin) (ps : List Pin) (c : ℕ) → 0 < pins_at (p ∷ ps) c → (p.number ≡ c) ⊎ (0 < pins_at ps c)
+pub none_pinned : (p : Pin) (ps : List Pin) (c : ℕ) → 0 < pins_at (p ∷ ps) c → (p.number ≡ c) ⊎ (0 < pins_at ps c)
 none_pinned p ps c some = by (p.number == c) refl
   where
     whole : pins_at (p ∷ ps) c ≡ pins_at (p ∷ []) c + pins_at ps c
@@ -82,3 +84,19 @@ choose P n c Rest here rest (inr r) = rest r
 pub of_pinned : (P : ℕ → Type 0) (pins : List Pin) → ((k : ℕ) → k < length pins → (d : Pin) → P (get_or pins k d).number) → (c : ℕ) → 0 < pins_at pins c → P c
 of_pinned P [] each c some = let none : pins_at [] c ≡ 0 = refl in absurd (omega (arith, none, some))
 of_pinned P (p ∷ ps) each c some = choose P p.number c (0 < pins_at ps c) (each 0 (omega arith) p) (of_pinned P ps (λ k less d. each (suc k) (omega arith) d) c) (none_pinned p ps c some)
+
+-- ---- the numbers of the pinned commits
+
+number_at : (pins : List Pin) (i : ℕ) (p : Pin) (d : ℕ) → slice_get pins i ≡ Some p → get_or (pinned_in pins) i d ≡ p.number
+number_at [] i p d e = cc
+number_at (q ∷ pins) zero p d e = let same : q ≡ p = cc in ap (λ (x : Pin). x.number) same
+number_at (q ∷ pins) (suc i) p d e = number_at pins i p d e
+
+pub numbers_set : (pins : List Pin) (i : ℕ) (p q : Pin) → slice_get pins i ≡ Some p → q.number ≡ p.number → pinned_in (set pins i q) ≡ pinned_in pins
+numbers_set pins i p q is same = map-set (λ (x : Pin). x.number) pins i q ∙ ap (set (pinned_in pins) i) (same ∙ sym (number_at pins i p 0 is)) ∙ set-get_or (pinned_in pins) i 0
+
+pub numbers_removed : (pins : List Pin) (i : ℕ) → pinned_in (remove pins i) ≡ remove (pinned_in pins) i
+numbers_removed [] zero = refl
+numbers_removed [] (suc i) = refl
+numbers_removed (p ∷ pins) zero = refl
+numbers_removed (p ∷ pins) (suc i) = ap (λ l. p.number ∷ l) (numbers_removed pins i)

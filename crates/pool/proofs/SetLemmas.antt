@@ -6,9 +6,9 @@ use Rattle.pool.specs.declared.slot.Newest.TheVariants.{Dirty}
 use Rattle.pool.specs.declared.slot.Slot.{Slot}
 use Rattle.pool.specs.Pages.{pages_in, numbers_of}
 use Rattle.pool.specs.Slots.{slot_at, placed}
-use Rattle.pool.specs.Stands.{AreListed}
 use Rattle.pool.proofs.SlotLemmas.{by_place}
 use Rattle.std.specs.List.{list_any}
+use Rattle.std.specs.Option.{is_some}
 
 pub pages_cons : (n k : ℕ) (page : List ℕ) (rest : List (ℕ × List ℕ)) → pages_in ((k, page) ∷ rest) n ≡ cond (n == k) (Some page) (pages_in rest n)
 pages_cons n k page rest = ap (λ b. cond b (Some page) (pages_in rest n)) (unsigned_tied n k)
@@ -78,8 +78,25 @@ module _ (set rest : List (ℕ × List ℕ)) (slots new_slots : List Slot) (k : 
       (λ h. absurd (not_some (subst (λ (o : Option (List ℕ)). IsSome o) gone h)))
       (λ m differs h. subst (λ (o : Option (List ℕ)). IsSome o) (sym (ap (λ es. pages_in es m) is ∙ pages_apart m k page rest differs)) h) n there
 
-  pub listed_placed : (unwritten new_unwritten : List ℕ) → AreListed slots unwritten
-      → ((n : ℕ) → list_any (λ i. i == n) unwritten ≡ true → list_any (λ i. i == n) new_unwritten ≡ true) → list_any (λ i. i == k) new_unwritten ≡ true
-      → AreListed new_slots new_unwritten
-  listed_placed unwritten new_unwritten were more now = by_place (λ n. (p : List ℕ) → (slot_at new_slots n).newest ≡ Dirty p → list_any (λ i. i == n) new_unwritten ≡ true) k
-      (λ p e. now) (λ n differs p e. more n (were n p (sym (ap (λ (s : Slot). s.newest) (others n differs)) ∙ e)))
+-- and no other number is
+pub listed_is : (set : List (ℕ × List ℕ)) (n : ℕ) → list_any (λ k. k == n) (numbers_of set) ≡ is_some (pages_in set n)
+listed_is [] n = refl
+listed_is (e ∷ rest) n = by (n == e.0) refl (listed_is rest n) ∙ ap (λ (o : Option (List ℕ)). is_some o) (sym (pages_cons n e.0 e.1 rest))
+  where
+    flipped : (b : Bool) → (n == e.0) ≡ b → (e.0 == n) ≡ b
+    flipped true same = eq-eqb e.0 n (sym (eqb-true n e.0 same))
+    flipped false apart = other (e.0 == n) refl
+      where
+        other : (b : Bool) → (e.0 == n) ≡ b → (e.0 == n) ≡ false
+        other true same = let bad : true ≡ false = sym (eq-eqb n e.0 (sym (eqb-true e.0 n same))) ∙ apart in cc
+        other false same = same
+
+    by : (b : Bool) → (n == e.0) ≡ b → list_any (λ k. k == n) (numbers_of rest) ≡ is_some (pages_in rest n)
+        → ((e.0 == n) || list_any (λ k. k == n) (numbers_of rest)) ≡ is_some (cond (n == e.0) (Some e.1) (pages_in rest n))
+    by true same again = ap (λ b. b || list_any (λ k. k == n) (numbers_of rest)) (flipped true same) ∙ sym (ap (λ b. is_some (cond b (Some e.1) (pages_in rest n))) same)
+    by false same again = ap (λ b. b || list_any (λ k. k == n) (numbers_of rest)) (flipped false same) ∙ again ∙ sym (ap (λ b. is_some (cond b (Some e.1) (pages_in rest n))) same)
+
+-- a set without pages
+pub empty_set : (set : List (ℕ × List ℕ)) → pages_in set ≡ (λ n. None) → set ≡ []
+empty_set [] none = refl
+empty_set (e ∷ rest) none = let bad : Some e.1 ≡ None = sym (pages_here e.0 e.1 rest) ∙ ap (λ (p : ℕ → Option (List ℕ)). p e.0) none in cc

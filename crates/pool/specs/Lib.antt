@@ -4,5 +4,6 @@ pub mod Stands
 pub mod Unwritten
 pub mod Refused
 pub mod Pins
+pub mod Images
 pub mod Ready
 pub mod Versions

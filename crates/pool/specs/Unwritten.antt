@@ -1,7 +1,7 @@
 -- Which pages are to be written, and the list of these.
 use Rattle.std.specs.Prelude.{◌≡◌, ℕ, ◌-◌, ◌==◌, List, sum_by, if◌then◌else◌}
 use Rattle.pool.specs.declared.slot.Newest.{Newest}
-use Rattle.pool.specs.declared.slot.Newest.TheVariants.{InFile, Clean, Dirty}
+use Rattle.pool.specs.declared.slot.Newest.TheVariants.{AsOpened, Written, Dirty}
 use Rattle.pool.specs.declared.slot.Slot.{Slot}
 use Rattle.pool.specs.Slots.{slot_at}
 
@@ -15,8 +15,8 @@ times_in list n = sum_by (λ k. one_at k n) list
 
 -- 1 where a page is to be written, 0 where it is not
 abbrev pub to_write : Newest → ℕ
-to_write InFile = 0
-to_write (Clean page) = 0
+to_write AsOpened = 0
+to_write Written = 0
 to_write (Dirty page) = 1
 
 -- each page that is to be written stands in the list once, and no other page does

@@ -1,10 +1,14 @@
 -- What a pool shows: versions of pages by the numbers of commits.
-use Rattle.std.specs.Prelude.{◌≡◌, ◌⊎◌, ℕ, ◌<◌, vec_len}
+use Rattle.std.specs.Prelude.{◌≡◌, ◌⊎◌, ℕ, ◌+◌, ◌<◌, ◌==◌, List, vec_len, sum_by}
+use Rattle.std.specs.List.{list_any}
+use Rattle.std.specs.Option.{is_some}
 use Rattle.disk.specs.declared.device.Disk.{Ghosts}
-use Rattle.pagefile.specs.File.{disk_of}
+use Rattle.page_cache.specs.Cached.{device_under, room_of}
 use Rattle.pool.specs.declared.pool.Pool.{Pool}
 use Rattle.pool.specs.Pages.{PageMap, known}
+use Rattle.pool.specs.Images.{images_in, needs, pinned_in}
 use Rattle.pool.specs.Pins.{pins_at}
+use Rattle.pool.specs.Ready.{Ascend}
 use Rattle.pool.specs.Slots.{slot_at, pages_at}
 use Rattle.pool.specs.Unwritten.{to_write}
 
@@ -24,13 +28,13 @@ IsKept v c = (c ≡ v.last) ⊎ (0 < v.pins c)
 abbrev pub versions_of : {D : Type 0} {device : Ghosts D} → Pool D device → Versions
 versions_of {D} {device} pool = record {
   last = pool.last;
-  pages = λ c. known device.is_honest (pages_at (device.bytes (disk_of pool.file)) pool.began pool.slots c);
+  pages = λ c. known device.is_honest (pages_at (device.bytes (device_under pool.file)) pool.began pool.slots c);
   pins = pins_at pool.pins;
 }
 
 -- the device under it
 abbrev pub device_of : {D : Type 0} {device : Ghosts D} → Pool D device → D
-device_of pool = disk_of pool.file
+device_of pool = device_under pool.file
 
 -- 1 where the page of this number was committed and is not written yet, 0 where it is none of these
 abbrev pub unwritten_at : {D : Type 0} {device : Ghosts D} → Pool D device → ℕ → ℕ
@@ -39,3 +43,29 @@ unwritten_at pool n = to_write (slot_at pool.slots n).newest
 -- how many pages were committed and are not written yet
 abbrev pub unwritten_of : {D : Type 0} {device : Ghosts D} → Pool D device → ℕ
 unwritten_of pool = vec_len pool.unwritten
+
+-- how many pages it may keep in memory that the file has too
+abbrev pub frames_of : {D : Type 0} {device : Ghosts D} → Pool D device → ℕ
+frames_of pool = room_of pool.file
+
+-- how many old images it keeps: of pages as they were before a commit
+abbrev pub images_of : {D : Type 0} {device : Ghosts D} → Pool D device → ℕ
+images_of pool = images_in pool.slots
+
+-- how many old images more a commit of these pages would need
+abbrev pub needed_in : {D : Type 0} {device : Ghosts D} → Pool D device → List ℕ → ℕ
+needed_in pool numbers = sum_by (needs pool.began (pinned_in pool.pins) pool.slots) numbers
+
+-- with the images that a commit of these pages would need, the pinned commits need more than 4,096
+pub record NeedsImages {D : Type 0} {device : Ghosts D} (pool : Pool D device) (pages : PageMap) : Type 0 where
+  -- the numbers of the pages
+  pub numbers : List ℕ
+  pub ascend : Ascend numbers
+  pub each : (n : ℕ) → list_any (λ k. k == n) numbers ≡ is_some (pages n)
+  pub more : 4096 < images_of pool + needed_in pool numbers
+
+-- it keeps as many old images, a commit would need as many more, and as many pages may be in memory
+pub record HoldsSame {D : Type 0} {device : Ghosts D} (old new : Pool D device) : Type 0 where
+  pub images : images_of new ≡ images_of old
+  pub needed : (numbers : List ℕ) → needed_in new numbers ≡ needed_in old numbers
+  pub frames : frames_of new ≡ frames_of old

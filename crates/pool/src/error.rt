@@ -14,10 +14,13 @@ pub enum PoolError {
     /// The device refused a call.
     #[error("{0}")]
     Device(DiskError),
+    /// There is no such page.
+    #[error("the file is damaged")]
+    Damaged,
     /// The numbers of commits have come to their end, 2^64 - 1.
     #[error("too many commits")]
     Pages,
-    /// Too many old images of pages would have to be kept.
+    /// The pinned commits would need more than 4,096 old images of pages.
     #[error("too many old pages")]
     Kept,
 }

@@ -1,15 +1,15 @@
 //! Which old images are needed.
-ghost use Rattle.std.specs.Prelude.{◌≡◌, ℕ, ◌<◌, ◌≤◌, nat_lt, false, length, slice_index_or, OnOk, None, Some, List, Option};
-ghost use Rattle.std.specs.Option.{option_copied};
+ghost use Rattle.std.specs.Prelude.{◌≡◌, ◌≢◌, ◌==◌, ◌&&◌, ◌++◌, ◌∷◌, [], ℕ, ◌+◌, ◌-◌, ◌<◌, ◌≤◌, nat_lt, if◌then◌else◌, true, false, not, length, take, slice_index, slice_index_or, OnOk, None, Some, List, Option};
 ghost use Rattle.std.specs.List.{list_any, remove};
-ghost use Rattle.pool.specs.Pins.{pins_at};
-ghost use Rattle.pool.specs.Slots.{slot_at, seen, newest_page, Covered, ReadsNone};
-ghost use Rattle.pool.specs.Ready.{KeepsSeen};
+ghost use Rattle.std.specs.Option.{is_some};
+ghost use Rattle.pool.specs.declared.slot.OldImage.{OldImage};
+ghost use Rattle.pool.specs.Images.{covers, reads_newest, reads, no_image, AreNeeded, with_bytes, images_in, pinned_in};
+ghost use Rattle.pool.specs.Ready.{KeepsSeen, Grows, Ascend};
+ghost use Rattle.pool.specs.Slots.{slot_at};
 
 use crate::pins::Pin;
-use crate::slot::{Newest, OldImage, Slot};
-use items::{Boxed, Items};
-use pagefile::Page;
+use crate::slot::{OldImage, Slot};
+use items::Items;
 use std::alloc::AllocError;
 
 /// The images of a page.
@@ -22,14 +22,14 @@ pub(crate) fn images_at(slots: &[Slot], page: u32) -> &[OldImage]
 
 /// Whether one of these images is of this commit.
 fn is_covered(images: &[OldImage], number: u64) -> bool
-    ensures { result ≡ list_any (λ o. nat_lt number o.until) images.now }
+    ensures { result ≡ covers number images.now }
 {
     images.iter().any(|o| number < o.until)
 }
 
 /// Whether a pinned commit would read the newest version.
 pub(crate) fn is_needed(pins: &[Pin], images: &[OldImage]) -> bool
-    ensures { result ≡ false → (c : ℕ) → 0 < pins_at pins.now c → Covered c images.now }
+    ensures { result ≡ reads_newest (pinned_in pins.now) images.now }
 {
     for pin in pins {
         if !is_covered(images, pin.number) {
@@ -39,6 +39,39 @@ pub(crate) fn is_needed(pins: &[Pin], images: &[OldImage]) -> bool
     false
 }
 
+/// Puts a page into the list at this place.
+fn note_at(touched: &mut Items<Items<u32>>, place: usize, page: u32) -> Result<(), AllocError>
+    requires { place < length touched.old }
+    ensures grows { Grows touched.old touched.new }
+    ensures noted { OnOk result (list_any (λ m. m == page) (slice_index_or touched.new place []) ≡ true) }
+    ensures len { length touched.new ≡ length touched.old }
+{
+    match touched.get_mut(place) {
+        Some(pages) => pages.push(page),
+        None => Ok(()),
+    }
+}
+
+/// Notes a page at the pin of this place, where its commit would read the newest version.
+fn note_pin(
+    touched: &mut Items<Items<u32>>,
+    place: usize,
+    pin: &Pin,
+    images: &[OldImage],
+    page: u32,
+) -> Result<(), AllocError>
+    requires { place < length touched.old }
+    ensures grows { Grows touched.old touched.new }
+    ensures noted { OnOk result (covers pin.now.number images.now ≡ false
+        → list_any (λ m. m == page) (slice_index_or touched.new place []) ≡ true) }
+    ensures len { length touched.new ≡ length touched.old }
+{
+    if is_covered(images, pin.number) {
+        return Ok(());
+    }
+    note_at(touched, place, page)
+}
+
 /// Notes at each pinned commit that would read the newest version of a page that it will read an
 /// old image.
 pub(crate) fn note(
@@ -46,103 +79,184 @@ pub(crate) fn note(
     pins: &[Pin],
     images: &[OldImage],
     page: u32,
-) -> Result<(), AllocError> {
-    for (place, pin) in pins.iter().enumerate() {
-        if !is_covered(images, pin.number)
-            && let Some(pages) = touched.get_mut(place)
-        {
-            pages.push(page)?;
-        }
+) -> Result<(), AllocError>
+    requires { length pins.now ≤ length touched.old }
+    ensures grows { Grows touched.old touched.new }
+    ensures noted { OnOk result ((k : ℕ) → k < length pins.now
+        → covers (slice_index_or (pinned_in pins.now) k 0) images.now ≡ false
+        → list_any (λ m. m == page) (slice_index_or touched.new k []) ≡ true) }
+    ensures len { length touched.new ≡ length touched.old }
+{
+    let mut place = 0;
+    for pin in pins {
+        note_pin(touched, place, pin, images, page)?;
+        place += 1;
     }
     Ok(())
-}
-
-/// What a commit reads of a page, of what stands in memory.
-fn seen_page(slot: &Slot, at: u64) -> Option<&Boxed<Page>>
-    ensures { option_copied result ≡ seen at slot.now.images (newest_page slot.now.newest None) }
-{
-    for image in slot.images.as_slice() {
-        if at < image.until {
-            return image.page.as_ref();
-        }
-    }
-    match &slot.newest {
-        Newest::InFile => None,
-        Newest::Clean(page) => Some(page),
-        Newest::Dirty(page) => Some(page),
-    }
-}
-
-/// Copies what a commit reads of a page, where something stands in memory.
-pub(crate) fn copy_seen(slots: &[Slot], page: u32, at: u64, into: &mut Page)
-    ensures { (bytes : List ℕ)
-        → seen at (slot_at slots.now page).images (newest_page (slot_at slots.now page).newest None) ≡ Some bytes
-        → into.new ≡ bytes }
-{
-    if let Some(slot) = slots.get(page as usize)
-        && let Some(found) = seen_page(slot, at)
-    {
-        *into = *found.get();
-    }
 }
 
 /// Whether a commit reads the image at this place.
 fn is_read_at(images: &[OldImage], place: usize, number: u64) -> bool
     requires { place < length images.now }
-    ensures { result ≡ false → (d : Option (List ℕ))
-        → seen number (remove images.now place) d ≡ seen number images.now d }
+    ensures { result ≡ reads images.now place number }
 {
     number < images[place].until && !is_covered(&images[..place], number)
 }
 
-/// Whether the last commit or a pinned one reads the image at this place.
-fn is_read(images: &[OldImage], place: usize, pins: &[Pin], last: u64) -> bool
+/// Whether a pinned commit reads the image at this place.
+fn is_read(images: &[OldImage], place: usize, pins: &[Pin]) -> bool
     requires { place < length images.now }
-    ensures { result ≡ false → KeepsSeen pins.now last images.now (remove images.now place) }
+    ensures { result ≡ list_any (reads images.now place) (pinned_in pins.now) }
 {
     for pin in pins {
         if is_read_at(images, place, pin.number) {
             return true;
         }
     }
-    is_read_at(images, place, last)
+    false
 }
 
-/// Drops the images that neither the last commit nor a pinned one reads. Takes no memory.
-fn drop_unread(images: &mut Items<OldImage>, pins: &[Pin], last: u64)
-    ensures shown { KeepsSeen pins.now last images.old images.new }
-    ensures later { ReadsNone last images.old → ReadsNone last images.new }
+/// Whether an image has bytes.
+fn has_bytes(image: &OldImage) -> bool
+    ensures { result ≡ is_some image.now.page }
+{
+    image.page.is_some()
+}
+
+/// Lowers a count by one, or not.
+fn lower(count: &mut u32, one: bool)
+    requires { (if one then 1 else 0) ≤ count.old }
+    ensures { count.new + (if one then 1 else 0) ≡ count.old }
+{
+    if one {
+        *count -= 1;
+    }
+}
+
+/// Takes an image out, and counts it off where it has bytes.
+fn drop_image(images: &mut Items<OldImage>, place: usize, count: &mut u32)
+    requires place { place < length images.old }
+    requires few { with_bytes images.old ≤ count.old }
+    ensures removed { images.new ≡ remove images.old place }
+    ensures count { count.new + with_bytes images.old ≡ count.old + with_bytes images.new }
+    ensures fewer { with_bytes images.new ≤ with_bytes images.old }
+{
+    let image = images.remove(place);
+    lower(count, has_bytes(&image));
+}
+
+/// Drops the image at this place, where no pinned commit reads it. Answers the next place to look
+/// at.
+fn look_at(images: &mut Items<OldImage>, place: usize, pins: &[Pin], count: &mut u32) -> usize
+    requires place { place < length images.old }
+    requires few { with_bytes images.old ≤ count.old }
+    ensures count { count.new + with_bytes images.old ≡ count.old + with_bytes images.new }
+    ensures fewer { with_bytes images.new ≤ with_bytes images.old }
+    ensures shown { KeepsSeen pins.now images.old images.new }
+    ensures needed { ((i : ℕ) → i < place → list_any (reads images.old i) (pinned_in pins.now) ≡ true)
+        → (i : ℕ) → i < result → list_any (reads images.new i) (pinned_in pins.now) ≡ true }
+    ensures covers { (c : ℕ) → covers c images.new ≡ true → covers c images.old ≡ true }
+    ensures nearer { length images.new - result < length images.old - place }
+{
+    if is_read(images.as_slice(), place, pins) {
+        return place + 1;
+    }
+    drop_image(images, place, count);
+    place
+}
+
+/// Drops the images that no pinned commit reads, and counts those off that have bytes. Takes no
+/// memory.
+fn drop_unread(images: &mut Items<OldImage>, pins: &[Pin], count: &mut u32)
+    requires { with_bytes images.old ≤ count.old }
+    ensures count { count.new + with_bytes images.old ≡ count.old + with_bytes images.new }
+    ensures fewer { with_bytes images.new ≤ with_bytes images.old }
+    ensures shown { KeepsSeen pins.now images.old images.new }
+    ensures needed { AreNeeded (pinned_in pins.now) images.new }
+    ensures covers { (c : ℕ) → covers c images.new ≡ true → covers c images.old ≡ true }
 {
     let mut place = 0;
     'looked: while place < images.len() {
-        if is_read(images.as_slice(), place, pins, last) {
-            place += 1;
-        } else {
-            let _ = images.remove(place);
-        }
+        place = look_at(images, place, pins, count);
     }
 }
 
 /// The same at one page.
-fn drop_at(slots: &mut Items<Slot>, pins: &[Pin], last: u64, page: u32)
+fn drop_at(slots: &mut Items<Slot>, pins: &[Pin], page: u32, count: &mut u32)
+    requires { with_bytes (slot_at slots.old page).images ≤ count.old }
     ensures newest { (n : ℕ) → (slot_at slots.new n).newest ≡ (slot_at slots.old n).newest }
-    ensures shown { (n : ℕ) → KeepsSeen pins.now last (slot_at slots.old n).images (slot_at slots.new n).images }
-    ensures later { (n : ℕ) → ReadsNone last (slot_at slots.old n).images
-        → ReadsNone last (slot_at slots.new n).images }
+    ensures len { length slots.new ≡ length slots.old }
+    ensures others { (n : ℕ) → n ≢ page → (slot_at slots.new n).images ≡ (slot_at slots.old n).images }
+    ensures count { count.new + with_bytes (slot_at slots.old page).images ≡ count.old + with_bytes (slot_at slots.new page).images }
+    ensures fewer { with_bytes (slot_at slots.new page).images ≤ with_bytes (slot_at slots.old page).images }
+    ensures shown { KeepsSeen pins.now (slot_at slots.old page).images (slot_at slots.new page).images }
+    ensures needed { AreNeeded (pinned_in pins.now) (slot_at slots.new page).images }
+    ensures covers { (c : ℕ) → covers c (slot_at slots.new page).images ≡ true
+        → covers c (slot_at slots.old page).images ≡ true }
 {
-    if let Some(slot) = slots.get_mut(page as usize) {
-        drop_unread(&mut slot.images, pins, last);
+    match slots.get_mut(page as usize) {
+        Some(slot) => drop_unread(&mut slot.images, pins, count),
+        None => {}
     }
 }
 
 /// The same at each of these pages. Takes no memory.
-pub(crate) fn drop_pages(slots: &mut Items<Slot>, pins: &[Pin], last: u64, pages: &[u32])
+pub(crate) fn drop_pages(slots: &mut Items<Slot>, pins: &[Pin], pages: &[u32], count: &mut u32)
+    requires { count.old ≡ images_in slots.old }
     ensures newest { (n : ℕ) → (slot_at slots.new n).newest ≡ (slot_at slots.old n).newest }
-    ensures shown { (n : ℕ) → KeepsSeen pins.now last (slot_at slots.old n).images (slot_at slots.new n).images }
-    ensures later { (n : ℕ) → ReadsNone last (slot_at slots.old n).images
-        → ReadsNone last (slot_at slots.new n).images }
+    ensures count { count.new ≡ images_in slots.new }
+    ensures fewer { count.new ≤ count.old }
+    ensures shown { (n : ℕ) → KeepsSeen pins.now (slot_at slots.old n).images (slot_at slots.new n).images }
+    ensures covers { (n c : ℕ) → covers c (slot_at slots.new n).images ≡ true
+        → covers c (slot_at slots.old n).images ≡ true }
+    ensures needed { (n : ℕ) → list_any (λ m. m == n) pages.now ≡ true
+        → AreNeeded (pinned_in pins.now) (slot_at slots.new n).images }
+    ensures others { (n : ℕ) → list_any (λ m. m == n) pages.now ≡ false
+        → (slot_at slots.new n).images ≡ (slot_at slots.old n).images }
 {
     for page in pages {
-        drop_at(slots, pins, last, *page);
+        drop_at(slots, pins, *page, count);
+    }
+}
+
+/// Takes the last image out where it is from after this commit.
+fn take_newest(images: &mut Items<OldImage>, last: u64)
+    ensures same { covers last images.old ≡ false → images.new ≡ images.old }
+    ensures taken { (others : List OldImage) (image : OldImage) → last < image.until
+        → images.old ≡ others ++ image ∷ [] → images.new ≡ others }
+{
+    let len = images.len();
+    if len > 0 && last < images.as_slice()[len - 1].until {
+        let _ = images.pop();
+    }
+}
+
+/// The same at one page.
+fn take_at(slots: &mut Items<Slot>, page: u32, last: u64)
+    ensures newest { (n : ℕ) → (slot_at slots.new n).newest ≡ (slot_at slots.old n).newest }
+    ensures others { (n : ℕ) → n ≢ page → (slot_at slots.new n).images ≡ (slot_at slots.old n).images }
+    ensures same { covers last (slot_at slots.old page).images ≡ false
+        → (slot_at slots.new page).images ≡ (slot_at slots.old page).images }
+    ensures taken { (others : List OldImage) (image : OldImage) → last < image.until
+        → (slot_at slots.old page).images ≡ others ++ image ∷ [] → (slot_at slots.new page).images ≡ others }
+{
+    match slots.get_mut(page as usize) {
+        Some(slot) => take_newest(&mut slot.images, last),
+        None => {}
+    }
+}
+
+/// Takes back the images that were kept for the commit after this one, of these pages.
+pub(crate) fn take_back(slots: &mut Items<Slot>, numbers: &[u32], last: u64)
+    requires { Ascend numbers.now }
+    ensures newest { (n : ℕ) → (slot_at slots.new n).newest ≡ (slot_at slots.old n).newest }
+    ensures same { (n : ℕ) → covers last (slot_at slots.old n).images ≡ false
+        → (slot_at slots.new n).images ≡ (slot_at slots.old n).images }
+    ensures taken { (k : ℕ) → k < length numbers.now → (others : List OldImage) (image : OldImage) → last < image.until
+        → (slot_at slots.old (slice_index numbers.now k)).images ≡ others ++ image ∷ []
+        → (slot_at slots.new (slice_index numbers.now k)).images ≡ others }
+{
+    for page in numbers {
+        take_at(slots, *page, last);
     }
 }

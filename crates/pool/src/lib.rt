@@ -2,6 +2,7 @@
 #![tactic(auto)]
 
 mod error;
+mod found;
 mod images;
 mod page_set;
 mod pins;

@@ -1,6 +1,7 @@
 //! Which commits are pinned.
-ghost use Rattle.std.specs.Prelude.{◌≡◌, ℕ, ◌<◌, ◌-◌, ◌+◌, ◌++◌, ◌∷◌, [], ◌==◌, if◌then◌else◌, length, slice_get, OnOk, OnErr, IfSome, IsNone, IsTrue, Some};
+ghost use Rattle.std.specs.Prelude.{◌≡◌, ◌⊎◌, ℕ, ◌<◌, ◌-◌, ◌+◌, ◌++◌, ◌∷◌, [], ◌==◌, if◌then◌else◌, length, slice_get, OnOk, OnErr, IfSome, IsNone, IsTrue, Some};
 ghost use Rattle.std.specs.List.{remove};
+ghost use Rattle.pool.specs.Images.{pinned_in};
 ghost use Rattle.pool.specs.Pins.{pins_at};
 
 use items::Items;
@@ -32,6 +33,8 @@ pub(crate) fn pin_once(pins: &mut Items<Pin>, number: u64) -> Result<(), AllocEr
     ensures pinned { OnOk result ((c : ℕ)
         → pins_at pins.new c ≡ (if number == c then pins_at pins.old c + 1 else pins_at pins.old c)) }
     ensures refused { OnErr result (pins.new ≡ pins.old) }
+    ensures numbers { (pinned_in pins.new ≡ pinned_in pins.old)
+        ⊎ (pinned_in pins.new ≡ pinned_in pins.old ++ number ∷ []) }
 {
     match place_of(pins.as_slice(), number) {
         Some((place, more)) => {
@@ -54,7 +57,11 @@ pub(crate) fn pin_once(pins: &mut Items<Pin>, number: u64) -> Result<(), AllocEr
 /// Takes one pin of a commit away. Answers its place where that was its last one, and it is out of
 /// the list.
 pub(crate) fn unpin_once(pins: &mut Items<Pin>, number: u64) -> Option<usize>
-    ensures { (c : ℕ) → pins_at pins.new c ≡ (if number == c then pins_at pins.old c - 1 else pins_at pins.old c) }
+    ensures unpinned { (c : ℕ)
+        → pins_at pins.new c ≡ (if number == c then pins_at pins.old c - 1 else pins_at pins.old c) }
+    ensures same { IsNone result → pinned_in pins.new ≡ pinned_in pins.old }
+    ensures removed { IfSome result (λ place. (place < length pins.old)
+        × (pinned_in pins.new ≡ remove (pinned_in pins.old) place)) }
 {
     match place_of(pins.as_slice(), number) {
         Some((place, more)) => {

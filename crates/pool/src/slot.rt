@@ -1,24 +1,24 @@
 //! What stands in memory of one page.
 
-use items::{Boxed, Items};
-use pagefile::Page;
+use items::Items;
+use page_cache::Frame;
 
 /// The newest version of a page.
 #[derive(Drop)]
 pub(crate) enum Newest {
-    /// It was not asked for yet: as the file has it, or not there.
-    InFile,
-    /// As the file has it too.
-    Clean(Boxed<Page>),
+    /// Not committed since the file was opened: as the file had it then, or not there.
+    AsOpened,
+    /// Committed, and written.
+    Written,
     /// Committed, and not written yet.
-    Dirty(Boxed<Page>),
+    Dirty(Frame),
 }
 
 /// A page as it was before a commit; none where it was not there.
 #[derive(Drop)]
 pub(crate) struct OldImage {
     pub(crate) until: u64,
-    pub(crate) page: Option<Boxed<Page>>,
+    pub(crate) page: Option<Frame>,
 }
 
 /// A page: its newest version, and its old images, oldest first.

@@ -2,6 +2,7 @@ use Rattle.std.proofs.Common.{true, false, ap}
 use Rattle.pool.specs.Versions.{Versions, versions_of}
 use Rattle.overlay.specs.WriteSet.{private_of}
 use Rattle.overlay.proofs.TakeLemmas.{next_after, rest_after, fresh_after, taken_others_after, kept_after, taken_whole_after}
+use Rattle.overlay.proofs.ZeroLemmas.{taken_keeps}
 use Rattle.overlay.proofs.takes.allocate_page.Goals as goal
 
 pub returns-clause-next : goal.returns-clause-next
@@ -24,3 +25,6 @@ returns-clause-whole g c = taken_whole_after false c.take_page.result ((versions
 
 pub returns-clause-full : goal.returns-clause-full
 returns-clause-full g c = taken_whole_after true c.take_page.result ((versions_of c.args.pool.now).pages c.args.at) ((versions_of c.take_page.new.pool).pages c.args.at) (private_of c.args.changes.now) (private_of c.take_page.new.changes) (ap (λ (v : Versions). v.pages c.args.at) c.take_page.ensures.versions) c.take_page.ensures.taken
+
+pub returns-clause-zeros : goal.returns-clause-zeros
+returns-clause-zeros g c = taken_keeps c.take_page.result ((versions_of c.args.pool.now).pages c.args.at) (private_of c.args.changes.now) (private_of c.take_page.new.changes) c.take_page.ensures.taken c.take_page.ensures.left

@@ -2,6 +2,7 @@ use Rattle.std.proofs.Common.{true, false, ap}
 use Rattle.pool.specs.Versions.{Versions, versions_of}
 use Rattle.overlay.specs.WriteSet.{private_of}
 use Rattle.overlay.proofs.WriteLemmas.{shown_after, others_after, whole_after}
+use Rattle.overlay.proofs.ZeroLemmas.{replaced_keeps}
 use Rattle.overlay.proofs.writes.replace_page.Goals as goal
 
 pub returns-clause-written : goal.returns-clause-written
@@ -27,3 +28,8 @@ returns-clause-full g c =
     whole_after true c.write_page.result ((versions_of c.args.pool.now).pages c.args.at) ((versions_of c.write_page.new.pool).pages c.args.at)
     (private_of c.args.changes.now) (private_of c.write_page.new.changes) c.args.page c.args.bytes.now
     (ap (λ (v : Versions). v.pages c.args.at) c.write_page.ensures.versions) c.requires c.write_page.ensures.written c.write_page.ensures.used c.write_page.ensures.within
+
+pub returns-clause-zeros : goal.returns-clause-zeros
+returns-clause-zeros g c =
+    replaced_keeps c.write_page.result (private_of c.args.changes.now) (private_of c.write_page.new.changes) c.args.page c.args.bytes.now
+    c.write_page.ensures.written c.write_page.ensures.within c.write_page.ensures.left

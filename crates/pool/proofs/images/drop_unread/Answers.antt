@@ -1,16 +1,19 @@
-use Rattle.std.proofs.Common.{refl, arith}
-use Rattle.std.specs.List.{remove}
-use Rattle.pool.proofs.DropLemmas.{gone_at, keeps_on}
+use Rattle.std.proofs.Common.{arith}
+use Rattle.pool.proofs.DropLemmas.{keeps_on}
 use Rattle.pool.proofs.images.drop_unread.Goals as goal
 
-pub looked-preserved-else-is_read : goal.looked-preserved-else-is_read
-looked-preserved-else-is_read c = record {
-  shown = rw c.remove.ensures.rest (keeps_on c.args.pins.now c.args.last c.args.images.now c.looked.images (remove c.looked.images c.looked.place) c.looked.invariant.shown (rw c.as_slice.ensures at (c.if-is_read.ensures refl)));
-  later = λ were v less d. rw c.remove.ensures.rest (gone_at v c.looked.images c.looked.place (omega arith) (λ e. c.looked.invariant.later were v less e) d);
-}
-
 pub looked-preserved : goal.looked-preserved
-looked-preserved c = record {
-  shown = rw c.remove.ensures.rest (keeps_on c.args.pins.now c.args.last c.args.images.now c.looked.images (remove c.looked.images c.looked.place) c.looked.invariant.shown (rw c.as_slice.ensures at (c.if-is_read.ensures refl)));
-  later = λ were v less d. rw c.remove.ensures.rest (gone_at v c.looked.images c.looked.place (omega arith) (λ e. c.looked.invariant.later were v less e) d);
-}
+looked-preserved c =
+    let inv = c.looked.invariant in
+    let step = c.look_at-place.ensures in
+    record {
+      few = let few = inv.few in let count = step.count in let fewer = step.fewer in omega (arith, few, count, fewer);
+      count = let was = inv.count in let now = step.count in omega (arith, was, now);
+      fewer = let was = inv.fewer in let now = step.fewer in omega (arith, was, now);
+      shown = keeps_on c.args.pins.now _ _ _ inv.shown step.shown;
+      needed = step.needed inv.needed;
+      covers = λ v h. inv.covers v (step.covers v h);
+    }
+
+pub returns-clause-needed : goal.returns-clause-needed
+returns-clause-needed c = λ i less. c.looked.invariant.needed i (omega arith)

@@ -1,5 +1,5 @@
 use Rattle.std.proofs.Common.{◌≡◌, ap, sym, ◌∙◌}
-use Rattle.pool.specs.declared.slot.Newest.TheVariants.{InFile, Dirty}
+use Rattle.pool.specs.declared.slot.Newest.TheVariants.{AsOpened, Dirty}
 use Rattle.pool.specs.declared.slot.Slot.{Slot}
 use Rattle.pool.specs.Slots.{cleaned}
 use Rattle.pool.proofs.PoolLemmas.{past}
@@ -12,4 +12,4 @@ returns-in-None-clause-written g c =
 
 pub returns-in-None-clause-there : goal.returns-in-None-clause-there
 returns-in-None-clause-there g c = λ honest bytes e.
-    let bad : InFile ≡ Dirty bytes = sym (ap (λ (s : Slot). s.newest) (past c.args.slots.now c.args.page (sym c.in-None.ensures.value))) ∙ e in cc
+    let bad : AsOpened ≡ Dirty bytes = sym (ap (λ (s : Slot). s.newest) (past c.args.slots.now c.args.page (sym c.in-None.ensures.value))) ∙ e in cc

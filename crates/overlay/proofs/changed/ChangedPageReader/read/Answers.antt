@@ -5,6 +5,9 @@ use Rattle.overlay.specs.WriteSet.{private_of}
 use Rattle.overlay.specs.InUse.{in_use}
 use Rattle.overlay.specs.Whole.{IsWhole}
 use Rattle.overlay.proofs.InUseLemmas.{reads_in_use}
+use Rattle.pool.specs.Versions.{device_of}
+use Rattle.overlay.proofs.InUseLemmas.{none_there}
+use Rattle.overlay.proofs.RefusalLemmas.{reads_weaker}
 use Rattle.overlay.proofs.changed.ChangedPageReader.read.Goals as goal
 
 pub returns-clause-bytes : goal.returns-clause-bytes
@@ -16,3 +19,7 @@ returns-clause-same g c = ap (λ (v : Versions). in_use (v.pages c.args.self.now
 
 pub returns-clause-whole : goal.returns-clause-whole
 returns-clause-whole g c = subst (λ (v : Versions). IsWhole (over (private_of c.args.self.now.changes.now) (v.pages c.args.self.now.at))) (sym c.read_changed.ensures.versions)
+
+pub returns-clause-refusal : goal.returns-clause-refusal
+returns-clause-refusal g c = reads_weaker c.read_changed.result _ _ (g.D.Disk.refused (device_of c.args.self.now.pool.now)) (g.D.Disk.refused (device_of c.read_changed.new.pool))
+    (λ gone. none_there ((versions_of c.args.self.now.pool.now).pages c.args.self.now.at) (private_of c.args.self.now.changes.now) c.args.page gone) c.read_changed.ensures.refusal

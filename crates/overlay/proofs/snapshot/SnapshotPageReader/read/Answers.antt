@@ -3,6 +3,9 @@ use Rattle.pool.specs.Versions.{Versions, versions_of}
 use Rattle.overlay.specs.InUse.{in_use}
 use Rattle.overlay.specs.Whole.{IsWhole}
 use Rattle.overlay.proofs.InUseLemmas.{reads_in_use}
+use Rattle.pool.specs.Versions.{device_of}
+use Rattle.overlay.proofs.InUseLemmas.{none_there}
+use Rattle.overlay.proofs.RefusalLemmas.{reads_weaker}
 use Rattle.overlay.proofs.snapshot.SnapshotPageReader.read.Goals as goal
 
 pub returns-clause-bytes : goal.returns-clause-bytes
@@ -13,3 +16,7 @@ returns-clause-same g c = ap (λ (v : Versions). in_use (v.pages c.args.self.now
 
 pub returns-clause-whole : goal.returns-clause-whole
 returns-clause-whole g c = subst (λ (v : Versions). IsWhole (v.pages c.args.self.now.at)) (sym c.read_version.ensures.versions)
+
+pub returns-clause-refusal : goal.returns-clause-refusal
+returns-clause-refusal g c = reads_weaker c.read_version.result _ _ (g.D.Disk.refused (device_of c.args.self.now.pool.now)) (g.D.Disk.refused (device_of c.read_version.new.pool))
+    (λ gone. none_there ((versions_of c.args.self.now.pool.now).pages c.args.self.now.at) (λ n. None) c.args.page gone) c.read_version.ensures.refusal

@@ -9,7 +9,7 @@ use Rattle.paged_store.proofs.SoundLemmas.{sound_begun, sound_same}
 use Rattle.paged_store.proofs.ChangeLemmas.{memory_fails}
 use Rattle.paged_store.proofs.OrderlyLemmas.{orderly_kept, no_less, no_more}
 use Rattle.paged_store.proofs.SteadyLemmas.{steady_kept}
-use Rattle.paged_store.proofs.GoesLemmas.{last_kept, as_it_was, pool_tells}
+use Rattle.paged_store.proofs.GoesLemmas.{last_kept, as_it_was, pool_tells, of_memory}
 use Rattle.paged_store.proofs.paged.PagedStore.begin.Goals as goal
 
 pub invariant_of-self : goal.invariant_of-self
@@ -51,7 +51,7 @@ returns-in-Ok-clause-goes g c =
 
 pub returns-in-Err-clause-damage : goal.returns-in-Err-clause-damage
 returns-in-Err-clause-damage g c =
-    (tt, pool_tells c.of_pool.result c.in-Err.error c.args.self.now.damaged c.of_pool.ensures)
+    (tt, pool_tells c.of_pool.result c.in-Err.error c.args.self.now.damaged c.of_pool.ensures (of_memory c.in-Err.error c.in-Err.ensures.cause))
 
 pub returns-in-Err-clause-goes : goal.returns-in-Err-clause-goes
 returns-in-Err-clause-goes g c =

@@ -11,7 +11,7 @@ use Rattle.paged_store.proofs.ShownLemmas.{shown_with}
 use Rattle.paged_store.proofs.SoundLemmas.{same_sound}
 use Rattle.paged_store.proofs.OrderlyLemmas.{no_more, orderly_same}
 use Rattle.paged_store.proofs.SteadyLemmas.{steady_same}
-use Rattle.paged_store.proofs.GoesLemmas.{pool_tells}
+use Rattle.paged_store.proofs.GoesLemmas.{pool_tells, of_device}
 use Rattle.paged_store.proofs.paged.PagedStore.flush.Goals as goal
 
 pub invariant_of-self : goal.invariant_of-self
@@ -53,7 +53,7 @@ returns-in-Ok-clause-goes g c =
 
 pub returns-in-Err-clause-damage : goal.returns-in-Err-clause-damage
 returns-in-Err-clause-damage g c =
-    (tt, pool_tells c.of_pool.result c.in-Err.error c.args.self.now.damaged c.of_pool.ensures)
+    (tt, pool_tells c.of_pool.result c.in-Err.error c.args.self.now.damaged c.of_pool.ensures (of_device (g.D.Disk.refused (device_of c.args.self.now.pool)) (g.D.Disk.refused (device_of c.write_some.new.pool)) c.in-Err.error c.in-Err.ensures.refusal))
 
 pub returns-in-Err-clause-goes : goal.returns-in-Err-clause-goes
 returns-in-Err-clause-goes g c =

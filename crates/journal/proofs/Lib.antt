@@ -1,0 +1,9 @@
+pub mod Ranges
+pub mod States
+pub mod Steps
+pub mod Numbers
+pub mod Sets
+pub mod Looking
+pub mod Finding
+pub mod Listing
+pub mod Making

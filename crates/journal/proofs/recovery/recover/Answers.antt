@@ -1,0 +1,126 @@
+use Rattle.std.proofs.Common.{◌≡◌, ◌∙◌, refl, sym, subst, get_or}
+use Rattle.std.specs.Prelude.{IsTrue}
+use Rattle.disk.specs.Crashes.{Always, Bytes, Only}
+use Rattle.disk.specs.Keeping.{calm, then}
+use Rattle.pagefile.specs.declared.error.OpenError.{OpenError}
+use Rattle.pagefile.specs.declared.error.OpenError.TheVariants.{Damaged}
+use Rattle.journal.specs.declared.found.Found.{Found}
+use Rattle.journal.specs.Headers.{IsFile, IsNoFile, IsGate, HasList, IsGood, Finds, IsFinished}
+use Rattle.journal.specs.Versions.{Version, IsShut, IsAmong, StandsFor}
+use Rattle.journal.proofs.Finding.{gate_is, good_is_file, if_ok, if_err, stands_header}
+use Rattle.journal.proofs.Looking.{reads_keep}
+use Rattle.journal.proofs.States.{among_some, among_stands, on_disk}
+use Rattle.journal.proofs.recovery.recover.Goals as goal
+
+pub finish-requires-clause-gate : goal.finish-requires-clause-gate
+finish-requires-clause-gate g c honest =
+    subst (λ (b : Bytes). IsGate b c.in-Ok.found.gate) (sym (c.examine.ensures.reads.same honest)) (c.in-Ok.ensures.file honest).gate
+
+pub finish-requires-clause-list : goal.finish-requires-clause-list
+finish-requires-clause-list g c honest =
+    subst (λ (b : Bytes). HasList b c.examine.new.list c.in-Ok.found.gate) (sym (c.examine.ensures.reads.same honest)) (c.in-Ok.ensures.list honest)
+
+pub returns-in-Ok-clause-file : goal.returns-in-Ok-clause-file
+returns-in-Ok-clause-file g c =
+    let old = g.D.Disk.bytes c.args.disk.now in
+    if_ok
+    (λ (told : Found). IsFinished c.in-Ok.found told g.D.Disk.is_honest g.D.Disk.is_durable (g.D.Disk.bytes c.examine.new.disk) (g.D.Disk.bytes c.finish.new.disk)
+    (g.D.Disk.may_leave c.examine.new.disk) (g.D.Disk.may_leave c.finish.new.disk))
+    (λ (told : Found). IsTrue g.D.Disk.is_honest → IsFile (g.D.Disk.bytes c.args.disk.now) told) c.finish.result
+    (λ told d honest.
+    subst (IsFile old) (sym d.same) (subst (λ (b : Bytes). IsFile b c.in-Ok.found) (c.sync.ensures.same honest) (c.in-Ok.ensures.file honest)))
+    c.finish.ensures.done
+
+pub returns-in-Ok-clause-shut : goal.returns-in-Ok-clause-shut
+returns-in-Ok-clause-shut g c =
+    if_ok
+    (λ (told : Found). IsFinished c.in-Ok.found told g.D.Disk.is_honest g.D.Disk.is_durable (g.D.Disk.bytes c.examine.new.disk) (g.D.Disk.bytes c.finish.new.disk)
+    (g.D.Disk.may_leave c.examine.new.disk) (g.D.Disk.may_leave c.finish.new.disk))
+    (λ (told : Found). IsTrue g.D.Disk.is_honest → (v : Version) → StandsFor v (g.D.Disk.bytes c.args.disk.now) → IsShut v (g.D.Disk.bytes c.finish.new.disk)) c.finish.result
+    (λ told d honest v stands. d.shut honest v (subst (StandsFor v) (sym (c.examine.ensures.reads.same honest ∙ c.sync.ensures.same honest)) stands))
+    c.finish.ensures.done
+
+pub returns-in-Ok-clause-found : goal.returns-in-Ok-clause-found
+returns-in-Ok-clause-found g c =
+    if_ok
+    (λ (told : Found). IsFinished c.in-Ok.found told g.D.Disk.is_honest g.D.Disk.is_durable (g.D.Disk.bytes c.examine.new.disk) (g.D.Disk.bytes c.finish.new.disk)
+    (g.D.Disk.may_leave c.examine.new.disk) (g.D.Disk.may_leave c.finish.new.disk))
+    (λ (told : Found). IsTrue g.D.Disk.is_durable → IsTrue g.D.Disk.is_honest → (x y : Version) → Always (g.D.Disk.may_leave c.args.disk.now) (IsAmong x y)
+    → Finds x y told (g.D.Disk.bytes c.args.disk.now) (g.D.Disk.may_leave c.finish.new.disk)) c.finish.result
+    found c.finish.ensures.done
+  where
+    found : (told : Found) → IsFinished c.in-Ok.found told g.D.Disk.is_honest g.D.Disk.is_durable (g.D.Disk.bytes c.examine.new.disk) (g.D.Disk.bytes c.finish.new.disk)
+        (g.D.Disk.may_leave c.examine.new.disk) (g.D.Disk.may_leave c.finish.new.disk) → IsTrue g.D.Disk.is_durable → IsTrue g.D.Disk.is_honest → (x y : Version)
+        → Always (g.D.Disk.may_leave c.args.disk.now) (IsAmong x y) → Finds x y told (g.D.Disk.bytes c.args.disk.now) (g.D.Disk.may_leave c.finish.new.disk)
+    found told d durable honest x y all =
+        let old = g.D.Disk.bytes c.args.disk.now in
+        let now : IsAmong x y old = all _ (g.met.D.Disk.read_is_left c.args.disk.now durable) in
+        let stands = among_stands x y old (get_or old 24 0) (gate_is old (among_some x y old now)) now in
+        let same : g.D.Disk.bytes c.examine.new.disk ≡ old = c.examine.ensures.reads.same honest ∙ c.sync.ensures.same honest in
+        let file : IsFile old told =
+        subst (IsFile old) (sym d.same) (subst (λ (b : Bytes). IsFile b c.in-Ok.found) (c.sync.ensures.same honest) (c.in-Ok.ensures.file honest)) in
+        let only : Only (g.D.Disk.bytes c.examine.new.disk) (g.D.Disk.may_leave c.examine.new.disk) =
+        λ o left. c.in_ok-sync.ensures.durable durable o (c.examine.ensures.reads.crash durable o left) ∙ sym same in
+        record {
+          version = stands.0;
+          one = stands.1;
+          stood = stands.2;
+          header = stands_header stands.0 old told stands.2 file;
+          shut = on_disk (IsShut stands.0) (g.D.Disk.bytes c.finish.new.disk) (g.D.Disk.bytes c.finish.new.disk) (g.D.Disk.may_leave c.finish.new.disk) refl
+              (d.only durable honest only) (d.shut honest stands.0 (subst (StandsFor stands.0) (sym same) stands.2));
+        }
+
+pub returns-in-Ok-clause-keeps : goal.returns-in-Ok-clause-keeps
+returns-in-Ok-clause-keeps g c durable honest x y =
+    let same : g.D.Disk.bytes c.examine.new.disk ≡ g.D.Disk.bytes c.args.disk.now = c.examine.ensures.reads.same honest ∙ c.sync.ensures.same honest in
+    let only : Only (g.D.Disk.bytes c.examine.new.disk) (g.D.Disk.may_leave c.examine.new.disk) =
+    λ d left. c.in_ok-sync.ensures.durable durable d (c.examine.ensures.reads.crash durable d left) ∙ sym same in
+    then g.D.Disk.moment g.D.Disk.left_since g.D.Disk.may_leave c.args.disk.now c.examine.new.disk c.finish.new.disk (IsAmong x y)
+    (then g.D.Disk.moment g.D.Disk.left_since g.D.Disk.may_leave c.args.disk.now c.sync.new.self c.examine.new.disk (IsAmong x y)
+    (calm g.D.Disk.moment g.D.Disk.left_since g.D.Disk.may_leave (λ d b left. g.met.D.Disk.only_now d b durable left)
+    c.args.disk.now c.sync.new.self (IsAmong x y) (c.sync.ensures.crash durable) (c.sync.ensures.time durable))
+    (reads_keep g.D.Disk.is_honest g.D.Disk.is_durable g.D.Disk.bytes g.D.Disk.synced g.D.Disk.writes g.D.Disk.settled g.D.Disk.moment g.D.Disk.left_since g.D.Disk.may_leave
+    c.sync.new.self c.examine.new.disk c.examine.ensures.reads durable (IsAmong x y)))
+    (c.finish.ensures.keeps durable honest only x y)
+
+pub returns-in-Err-clause-keeps : goal.returns-in-Err-clause-keeps
+returns-in-Err-clause-keeps g c durable honest x y =
+    then g.D.Disk.moment g.D.Disk.left_since g.D.Disk.may_leave c.args.disk.now c.sync.new.self c.examine.new.disk (IsAmong x y)
+    (calm g.D.Disk.moment g.D.Disk.left_since g.D.Disk.may_leave (λ d b left. g.met.D.Disk.only_now d b durable left)
+    c.args.disk.now c.sync.new.self (IsAmong x y) (c.sync.ensures.crash durable) (c.sync.ensures.time durable))
+    (reads_keep g.D.Disk.is_honest g.D.Disk.is_durable g.D.Disk.bytes g.D.Disk.synced g.D.Disk.writes g.D.Disk.settled g.D.Disk.moment g.D.Disk.left_since g.D.Disk.may_leave
+    c.sync.new.self c.examine.new.disk c.examine.ensures.reads durable (IsAmong x y))
+
+pub returns-in-Err-clause-damaged : goal.returns-in-Err-clause-damaged
+returns-in-Err-clause-damaged g c is honest = subst IsNoFile (c.sync.ensures.same honest) (c.in-Err.ensures.damaged is honest)
+
+pub returns-in-Err-clause-whole : goal.returns-in-Err-clause-whole
+returns-in-Err-clause-whole g c durable honest x y one two all is =
+    let file = good_is_file x y (g.D.Disk.bytes c.args.disk.now) (all _ (g.met.D.Disk.read_is_left c.args.disk.now durable)) one two in
+    subst IsNoFile (c.sync.ensures.same honest) (c.in-Err.ensures.damaged is honest) file.0 file.1
+
+-- where it was found, it is not damaged
+
+pub returns-in-Ok-clause-damaged : goal.returns-in-Ok-clause-damaged
+returns-in-Ok-clause-damaged g c =
+    if_err (λ (e : OpenError). e ≡ Damaged → ⊥) (λ (e : OpenError). e ≡ Damaged → IsTrue g.D.Disk.is_honest → IsNoFile (g.D.Disk.bytes c.args.disk.now)) c.finish.result
+    (λ e never is honest. absurd (never is)) c.finish.ensures.never
+
+pub returns-in-Ok-clause-left : goal.returns-in-Ok-clause-left
+returns-in-Ok-clause-left g c =
+    if_err (λ (e : OpenError). e ≡ Damaged → ⊥)
+    (λ (e : OpenError). e ≡ Damaged → IsTrue g.D.Disk.is_honest → g.D.Disk.bytes c.finish.new.disk ≡ g.D.Disk.bytes c.args.disk.now) c.finish.result
+    (λ e never is honest. absurd (never is)) c.finish.ensures.never
+
+pub returns-in-Ok-clause-unwritten : goal.returns-in-Ok-clause-unwritten
+returns-in-Ok-clause-unwritten g c =
+    if_err (λ (e : OpenError). e ≡ Damaged → ⊥)
+    (λ (e : OpenError). e ≡ Damaged → g.D.Disk.writes c.finish.new.disk ≡ g.D.Disk.writes c.args.disk.now) c.finish.result
+    (λ e never is. absurd (never is)) c.finish.ensures.never
+
+pub returns-in-Ok-clause-whole : goal.returns-in-Ok-clause-whole
+returns-in-Ok-clause-whole g c =
+    if_err (λ (e : OpenError). e ≡ Damaged → ⊥)
+    (λ (e : OpenError). IsTrue g.D.Disk.is_durable → IsTrue g.D.Disk.is_honest → (x y : Version) → IsGood x → IsGood y
+    → Always (g.D.Disk.may_leave c.args.disk.now) (IsAmong x y) → e ≡ Damaged → ⊥) c.finish.result
+    (λ e never durable honest x y one two all is. never is) c.finish.ensures.never

@@ -1,0 +1,3 @@
+pub mod LoopNodes
+pub mod Reading
+pub mod ScanNodes

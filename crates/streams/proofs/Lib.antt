@@ -1,0 +1,11 @@
+pub mod Blocks
+pub mod Entries
+pub mod Runs
+pub mod TableBlocks
+pub mod RangeBlocks
+pub mod Joining
+pub mod Trying
+pub mod Nodes
+pub mod ReadNodes
+pub mod TableReads
+pub mod Counting

@@ -1,0 +1,15 @@
+use Rattle.std.proofs.Common.{◌≡◌, subst}
+use Rattle.algebra.specs.Listing.{combined_in_order, listed_rows, whole_first}
+use Rattle.denote.specs.Outcome.{Outcome}
+use Rattle.executor.specs.Reply.{outcome_of}
+use Rattle.streams.specs.Steps.{StepGives}
+use Rattle.streams.proofs.whole.set_kept.Goals as goal
+
+pub returns-in-Ok-clause-rows : goal.returns-in-Ok-clause-rows
+returns-in-Ok-clause-rows c = λ entries tree others h.
+    let here : outcome_of c.in-Ok.right ≡ others = rw c.in-Ok.is at h in
+    subst (λ (o : Outcome). StepGives entries tree (whole_first (outcome_of c.args.left) (λ rows. whole_first o (λ more. listed_rows (combined_in_order c.args.operation rows more)))) c.kept.result) here
+    (c.kept.ensures.rows entries tree _ c.combined_listed.ensures.lists)
+
+pub returns-in-Ok-clause-reads : goal.returns-in-Ok-clause-reads
+returns-in-Ok-clause-reads c = λ entries tree count limit h. c.kept.ensures.reads entries tree count limit (rw c.in-Ok.is at h)

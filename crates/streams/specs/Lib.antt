@@ -1,0 +1,5 @@
+pub mod Steps
+pub mod Blocks
+pub mod Numbers
+pub mod Parts
+pub mod Reads
