@@ -143,7 +143,7 @@ start_apart m = by (aside_first m)
     by (inr first) = inl first
 
 -- so it changes no place
-place_gate : (n : ℕ) (d c : Bytes) → ChangesOnly 24 1 d c → 4096 * n + 4096 ≤ length d → place c n ≡ place d n
+pub place_gate : (n : ℕ) (d c : Bytes) → ChangesOnly 24 1 d c → 4096 * n + 4096 ≤ length d → place c n ≡ place d n
 place_gate n d c change there = place_same 24 1 n (suc n) d c change (omega (arith, there)) (omega arith) (gate_apart n)
 
 pub put_gate : (set : List (ℕ × List ℕ)) (x y z : Bytes) → IsPut set x y → ChangesOnly 24 1 y z → IsPut set x z

@@ -133,6 +133,8 @@ pub fn recover<D: Disk>(disk: &mut D) -> Result<Found, OpenError>
     ensures found { IfOk result (λ found. IsTrue D.is_durable → IsTrue D.is_honest → (x y : Version)
         → Always (D.may_leave disk.old) (IsAmong x y)
         → Finds x y found (D.bytes disk.old) (D.may_leave disk.new)) }
+    ensures only { IfOk result (λ _. IsTrue D.is_durable → IsTrue D.is_honest
+        → Only (D.bytes disk.new) (D.may_leave disk.new)) }
     ensures keeps { IsTrue D.is_durable → IsTrue D.is_honest → (x y : Version)
         → Keeps D.moment D.left_since D.may_leave disk.old disk.new (IsAmong x y) }
     ensures damaged { IfErr result (λ e. e ≡ OpenError.Damaged → IsTrue D.is_honest → IsNoFile (D.bytes disk.old)) }

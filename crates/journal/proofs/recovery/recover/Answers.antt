@@ -70,6 +70,19 @@ returns-in-Ok-clause-found g c =
               (d.only durable honest only) (d.shut honest stands.0 (subst (StandsFor stands.0) (sym same) stands.2));
         }
 
+pub returns-in-Ok-clause-only : goal.returns-in-Ok-clause-only
+returns-in-Ok-clause-only g c =
+    if_ok
+    (λ (told : Found). IsFinished c.in-Ok.found told g.D.Disk.is_honest g.D.Disk.is_durable (g.D.Disk.bytes c.examine.new.disk) (g.D.Disk.bytes c.finish.new.disk)
+    (g.D.Disk.may_leave c.examine.new.disk) (g.D.Disk.may_leave c.finish.new.disk))
+    (λ (told : Found). IsTrue g.D.Disk.is_durable → IsTrue g.D.Disk.is_honest → Only (g.D.Disk.bytes c.finish.new.disk) (g.D.Disk.may_leave c.finish.new.disk)) c.finish.result
+    (λ told d durable honest.
+    let same : g.D.Disk.bytes c.examine.new.disk ≡ g.D.Disk.bytes c.args.disk.now = c.examine.ensures.reads.same honest ∙ c.sync.ensures.same honest in
+    let only : Only (g.D.Disk.bytes c.examine.new.disk) (g.D.Disk.may_leave c.examine.new.disk) =
+    λ o left. c.in_ok-sync.ensures.durable durable o (c.examine.ensures.reads.crash durable o left) ∙ sym same in
+    d.only durable honest only)
+    c.finish.ensures.done
+
 pub returns-in-Ok-clause-keeps : goal.returns-in-Ok-clause-keeps
 returns-in-Ok-clause-keeps g c durable honest x y =
     let same : g.D.Disk.bytes c.examine.new.disk ≡ g.D.Disk.bytes c.args.disk.now = c.examine.ensures.reads.same honest ∙ c.sync.ensures.same honest in

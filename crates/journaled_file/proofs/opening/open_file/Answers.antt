@@ -1,0 +1,113 @@
+use Rattle.std.proofs.Common.{◌≡◌, ◌∙◌, ◌<◌, ℕ, length, take, sym, subst, inl}
+use Rattle.std.specs.Prelude.{IsTrue}
+use Rattle.disk.specs.Crashes.{Always}
+use Rattle.disk.specs.Keeping.{joined, weaker}
+use Rattle.pagefile.specs.declared.header.FileHeader.{FileHeader}
+use Rattle.journal.specs.Headers.{IsGood, IsNoFile, magic_of}
+use Rattle.journal.specs.Parts.{place}
+use Rattle.journal.specs.Versions.{Version, IsAmong, IsShut, StandsFor}
+use Rattle.journal.proofs.Finding.{if_err, stands_header}
+use Rattle.journaled_file.specs.declared.opening.OpenRefusal.{OpenRefusal}
+use Rattle.journaled_file.specs.declared.opening.OpenRefusal.TheVariants.{Damaged}
+use Rattle.journaled_file.specs.Renewed.{Opens, IsOpening, first_pages, renewed, renewed_pages}
+use Rattle.journaled_file.specs.Shown.{IsAtRest}
+use Rattle.journaled_file.proofs.Renewing.{both_ok, counts_as, few, found_at_rest, good_one, tells_as, told_damage}
+use Rattle.journaled_file.proofs.opening.open_file.Goals as goal
+
+pub returns-in-Ok-clause-pages : goal.returns-in-Ok-clause-pages
+returns-in-Ok-clause-pages g c =
+    both_ok c.as_second.result (λ (h : FileHeader). h ≡ c.in-Ok.found.header)
+    (λ (h : FileHeader). IsTrue g.D.Disk.is_honest → (v : Version) → take 8 (v.pages 0) ≡ magic_of c.in-Ok.found.format
+    → IsAtRest g.D.Disk.is_honest g.D.Disk.is_durable c.in-Ok.found.header.page_count (g.D.Disk.bytes c.recover.new.disk) (g.D.Disk.may_leave c.recover.new.disk)
+    (first_pages v c.in-Ok.found.header.page_count)
+    → IsAtRest g.D.Disk.is_honest g.D.Disk.is_durable c.in-Ok.found.header.page_count (g.D.Disk.bytes c.as_second.new.disk) (g.D.Disk.may_leave c.as_second.new.disk)
+    (renewed v c.in-Ok.found.header.page_count))
+    (λ (h : FileHeader). IsTrue g.D.Disk.is_honest → (v : Version) → IsGood v → StandsFor v (g.D.Disk.bytes c.args.disk.now)
+    → (n : ℕ) → n < h.page_count → place (g.D.Disk.bytes c.as_second.new.disk) n ≡ renewed_pages v.pages n)
+    (λ h is rest honest v good stands n less.
+    let header = stands_header v (g.D.Disk.bytes c.args.disk.now) c.in-Ok.found stands (c.in-Ok.ensures.file honest) in
+    let fewer = few v (length (g.D.Disk.bytes c.args.disk.now)) c.in-Ok.found.format c.in-Ok.found.header good header in
+    let now = found_at_rest g.D.Disk.is_honest g.D.Disk.is_durable v c.in-Ok.found.header.page_count (g.D.Disk.bytes c.recover.new.disk)
+    (g.D.Disk.may_leave c.recover.new.disk) header.bounds.some fewer (c.in-Ok.ensures.shut honest v stands) c.in-Ok.ensures.only in
+    (rest honest v header.begins now).pages honest n (subst (λ (k : FileHeader). n < k.page_count) is less))
+    c.as_second.ensures.header c.as_second.ensures.rest
+
+pub returns-in-Ok-clause-opened : goal.returns-in-Ok-clause-opened
+returns-in-Ok-clause-opened g c =
+    both_ok c.as_second.result (λ (h : FileHeader). h ≡ c.in-Ok.found.header)
+    (λ (h : FileHeader). IsTrue g.D.Disk.is_honest → (v : Version) → take 8 (v.pages 0) ≡ magic_of c.in-Ok.found.format
+    → IsAtRest g.D.Disk.is_honest g.D.Disk.is_durable c.in-Ok.found.header.page_count (g.D.Disk.bytes c.recover.new.disk) (g.D.Disk.may_leave c.recover.new.disk)
+    (first_pages v c.in-Ok.found.header.page_count)
+    → IsAtRest g.D.Disk.is_honest g.D.Disk.is_durable c.in-Ok.found.header.page_count (g.D.Disk.bytes c.as_second.new.disk) (g.D.Disk.may_leave c.as_second.new.disk)
+    (renewed v c.in-Ok.found.header.page_count))
+    (λ (h : FileHeader). IsTrue g.D.Disk.is_durable → IsTrue g.D.Disk.is_honest → (x y : Version) → IsGood x → IsGood y
+    → Always (g.D.Disk.may_leave c.args.disk.now) (IsAmong x y)
+    → Opens x y h (g.D.Disk.bytes c.args.disk.now) (g.D.Disk.may_leave c.as_second.new.disk))
+    (λ h is rest durable honest x y first second all.
+    let found = c.in-Ok.ensures.found durable honest x y all in
+    let good = good_one x y found.version found.one first second in
+    let fewer = few found.version (length (g.D.Disk.bytes c.args.disk.now)) c.in-Ok.found.format c.in-Ok.found.header good found.header in
+    let now = found_at_rest g.D.Disk.is_honest g.D.Disk.is_durable found.version c.in-Ok.found.header.page_count (g.D.Disk.bytes c.recover.new.disk)
+    (g.D.Disk.may_leave c.recover.new.disk) found.header.bounds.some fewer (c.in-Ok.ensures.shut honest found.version found.stood) c.in-Ok.ensures.only in
+    record {
+      version = found.version;
+      one = found.one;
+      stood = found.stood;
+      rest = subst (λ (k : FileHeader). Always (g.D.Disk.may_leave c.as_second.new.disk) (IsShut (renewed found.version k.page_count))) (sym is)
+          ((rest honest found.version found.header.begins now).shut durable honest);
+    })
+    c.as_second.ensures.header c.as_second.ensures.rest
+
+pub returns-in-Ok-clause-any_moment : goal.returns-in-Ok-clause-any_moment
+returns-in-Ok-clause-any_moment g c durable honest x y first second all =
+    let found = c.in-Ok.ensures.found durable honest x y all in
+    let good = good_one x y found.version found.one first second in
+    let fewer = few found.version (length (g.D.Disk.bytes c.args.disk.now)) c.in-Ok.found.format c.in-Ok.found.header good found.header in
+    let now = found_at_rest g.D.Disk.is_honest g.D.Disk.is_durable found.version c.in-Ok.found.header.page_count (g.D.Disk.bytes c.recover.new.disk)
+    (g.D.Disk.may_leave c.recover.new.disk) found.header.bounds.some fewer (c.in-Ok.ensures.shut honest found.version found.stood) c.in-Ok.ensures.only in
+    let before = c.recover.ensures.keeps durable honest x y all in
+    let after = c.as_second.ensures.any_moment durable honest x y found.version found.one fewer found.shut now in (
+      after.0,
+      joined g.D.Disk.moment g.D.Disk.left_since c.args.disk.now c.recover.new.disk c.as_second.new.disk (IsOpening x y)
+          (weaker g.D.Disk.moment g.D.Disk.left_since c.args.disk.now c.recover.new.disk (IsAmong x y) (IsOpening x y) (λ b a. inl a) before.1) after.1,
+    )
+
+pub returns-in-Ok-clause-damaged : goal.returns-in-Ok-clause-damaged
+returns-in-Ok-clause-damaged g c =
+    if_err (λ (e : OpenRefusal). e ≡ Damaged → ⊥) (λ (e : OpenRefusal). e ≡ Damaged → IsTrue g.D.Disk.is_honest → IsNoFile (g.D.Disk.bytes c.args.disk.now))
+    c.as_second.result (λ e never is honest. absurd (never is)) c.as_second.ensures.never
+
+pub returns-in-Ok-clause-left : goal.returns-in-Ok-clause-left
+returns-in-Ok-clause-left g c =
+    if_err (λ (e : OpenRefusal). e ≡ Damaged → ⊥)
+    (λ (e : OpenRefusal). e ≡ Damaged → IsTrue g.D.Disk.is_honest → g.D.Disk.bytes c.as_second.new.disk ≡ g.D.Disk.bytes c.args.disk.now) c.as_second.result
+    (λ e never is honest. absurd (never is)) c.as_second.ensures.never
+
+pub returns-in-Ok-clause-whole : goal.returns-in-Ok-clause-whole
+returns-in-Ok-clause-whole g c =
+    if_err (λ (e : OpenRefusal). e ≡ Damaged → ⊥)
+    (λ (e : OpenRefusal). IsTrue g.D.Disk.is_durable → IsTrue g.D.Disk.is_honest → (x y : Version) → IsGood x → IsGood y
+    → Always (g.D.Disk.may_leave c.args.disk.now) (IsAmong x y) → e ≡ Damaged → ⊥) c.as_second.result
+    (λ e never durable honest x y first second all is. never is) c.as_second.ensures.never
+
+pub returns-in-Err-clause-any_moment : goal.returns-in-Err-clause-any_moment
+returns-in-Err-clause-any_moment g c durable honest x y first second all =
+    let before = c.recover.ensures.keeps durable honest x y all in (
+      λ b left. inl (before.0 b left),
+      weaker g.D.Disk.moment g.D.Disk.left_since c.args.disk.now c.recover.new.disk (IsAmong x y) (IsOpening x y) (λ b a. inl a) before.1,
+    )
+
+pub returns-in-Err-clause-damaged : goal.returns-in-Err-clause-damaged
+returns-in-Err-clause-damaged g c = λ is honest. c.in-Err.ensures.damaged (told_damage c.in-Err.cause (sym c.refusal_of.ensures ∙ is)) honest
+
+pub returns-in-Err-clause-left : goal.returns-in-Err-clause-left
+returns-in-Err-clause-left g c = λ is honest. c.in-Err.ensures.left (told_damage c.in-Err.cause (sym c.refusal_of.ensures ∙ is)) honest
+
+pub returns-in-Err-clause-whole : goal.returns-in-Err-clause-whole
+returns-in-Err-clause-whole g c = λ durable honest x y first second all is. c.in-Err.ensures.whole durable honest x y first second all (told_damage c.in-Err.cause (sym c.refusal_of.ensures ∙ is))
+
+pub returns-in-Err-clause-count : goal.returns-in-Err-clause-count
+returns-in-Err-clause-count g c = rw c.refusal_of.ensures (counts_as c.in-Err.cause _ _ c.in-Err.ensures.count)
+
+pub returns-in-Err-clause-cause : goal.returns-in-Err-clause-cause
+returns-in-Err-clause-cause g c = rw c.refusal_of.ensures (tells_as _ c.in-Err.cause c.in-Err.ensures.cause)
