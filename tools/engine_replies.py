@@ -104,7 +104,6 @@ TABLE = [X, X, X, GOOD, GOOD, GOOD, GOOD, GOOD, X]
 CATALOGUE = [X, X, X, X, X, X, X, GOOD, X]
 ROOT = [X, X, X, MAYBE, (GOOD, X, NAME), (GOOD, X, NAME), (GOOD, X, NAME), GOOD, X]
 COLUMN = [(X, NAME), (X, ONE), (X, NAME), MAYBE, (GOOD, X, NAME), (GOOD, X, NAME), (GOOD, X, NAME), GOOD, (X, NAME)]
-VALUE = [(X, ANSWERED), (X, ONE), (X, ANSWERED), GOOD, GOOD, GOOD, GOOD, GOOD, (X, ANSWERED)]
 FIRST_FREE = [GOOD, GOOD, GOOD, GOOD, X, X, listed("0"), GOOD, GOOD]
 SECOND_FREE = [GOOD, GOOD, GOOD, GOOD, GOOD, X, listed("1"), GOOD, GOOD]
 NO_TABLE = [NAME, NAME, NAME, GOOD, GOOD, GOOD, GOOD, GOOD, NAME]
@@ -129,6 +128,11 @@ RULE = [MAYBE, X, X, X, X, (K_BEFORE, X), X, MAYBE, MAYBE, MAYBE, GOOD, MAYBE]
 # An index whose tree has no entries of its rows: whatever gives up a row comes across it. LEFT_ALONE: of columns that an UPDATE does not change.
 NO_ENTRIES = [MAYBE, MAYBE, MAYBE, X, X, (K_BEFORE, K_WITH_ONE, X), X, MAYBE, MAYBE, MAYBE, GOOD, MAYBE]
 LEFT_ALONE = [MAYBE, MAYBE, MAYBE, MAYBE, X, (ANSWERED, X), X, MAYBE, MAYBE, MAYBE, GOOD, MAYBE]
+# An entry of the key A that is none of a row, behind all others: a look-up of a value behind them meets it.
+MET = [GOOD, X, GOOD, GOOD, GOOD, GOOD, GOOD, GOOD, GOOD, GOOD, GOOD, GOOD]
+# A row that has not its columns' types: a scan meets it, and each change of rows looks at the table as a whole.
+UNTYPED = [X, GOOD, X, X, X, X, X, GOOD, GOOD, GOOD, GOOD, X]
+K_WITHOUT_A_DELETE = listed("5|'ab'|3", "-1|NULL|7", "6|'ab'|NULL", "8|'cd'|9")
 # What no statement here needs: whether it is found is open.
 UNUSED = [MAYBE] * 12
 
@@ -199,12 +203,12 @@ REPLIES = {
     "text_longer_than_its_row": TABLE,
     "text_with_1f": TABLE,
     "text_with_7f": TABLE,
-    "text_in_an_integer_column": VALUE,
-    "integer_in_a_text_column": VALUE,
-    "a_value_less": VALUE,
-    "a_value_more": VALUE,
-    "no_value": VALUE,
-    "text_wider_than_its_column": VALUE,
+    "text_in_an_integer_column": TABLE,
+    "integer_in_a_text_column": TABLE,
+    "a_value_less": TABLE,
+    "a_value_more": TABLE,
+    "no_value": TABLE,
+    "text_wider_than_its_column": TABLE,
     "row_number_of_7_bytes": TABLE,
     "row_number_of_9_bytes": TABLE,
     "row_number_2_to_63": TABLE,
@@ -296,16 +300,20 @@ REPLIES = {
     "index_of_a_column_past_the_end": [MAYBE, MAYBE, X, X, X, (K_BEFORE, X), X, MAYBE, MAYBE, MAYBE, GOOD, MAYBE],
     "index_left_out": SCHEMA,
     "index_at_a_table": [MAYBE, MAYBE, X, X, X, (K_BEFORE, X), X, MAYBE, MAYBE, MAYBE, GOOD, MAYBE],
+    # A look-up finds no entries, since the keys of rows stand before those of an index.
+    "key_at_its_table": [MAYBE, MAYBE, X, (NONE, X), (NONE, X), (K_BEFORE, X), X, MAYBE, MAYBE, MAYBE, GOOD, MAYBE],
     "index_at_an_index": NO_ENTRIES,
     "index_past_the_end": INDEX_3,
     "index_without_a_tree": NO_ENTRIES,
-    "entry_left_out": [GOOD, GOOD, GOOD, GOOD, (NONE, X), listed("5|'ab'|3", "-1|NULL|7", "6|'ab'|NULL", "8|'cd'|9"), X, GOOD, GOOD, GOOD, GOOD, GOOD],
-    "entry_of_no_row": [GOOD, X, GOOD, GOOD, GOOD, GOOD, GOOD, GOOD, GOOD, GOOD, GOOD, GOOD],
-    "entry_of_another_value": [GOOD, GOOD, GOOD, GOOD, GOOD, GOOD, X, GOOD, GOOD, GOOD, GOOD, GOOD],
-    "entry_of_another_row": [GOOD, GOOD, GOOD, GOOD, X, (ANSWERED, X), X, GOOD, GOOD, GOOD, GOOD, GOOD],
-    "entry_with_a_value": UNUSED,
-    "entry_without_a_row_number": UNUSED,
-    "entry_that_is_no_key": UNUSED,
+    "entry_left_out": [GOOD, GOOD, GOOD, GOOD, (NONE, X), K_WITHOUT_A_DELETE, X, GOOD, GOOD, GOOD, GOOD, GOOD],
+    "entry_of_no_row": MET,
+    # A look-up of 5 looks at the entry behind, which is not that of its row.
+    "entry_of_another_value": [GOOD, X, GOOD, X, GOOD, listed("5|'ab'|7", "6|'ab'|NULL", "8|'cd'|9"), X, GOOD, GOOD, GOOD, GOOD, GOOD],
+    "entry_of_another_row": [GOOD, GOOD, GOOD, GOOD, X, K_WITHOUT_A_DELETE, X, GOOD, GOOD, GOOD, GOOD, GOOD],
+    # An UPDATE of all rows takes entries out by their keys, and need not look at what else they carry.
+    "entry_with_a_value": [GOOD, GOOD, GOOD, GOOD, X, K_WITHOUT_A_DELETE, ("00000 4", X), GOOD, GOOD, GOOD, GOOD, GOOD],
+    "entry_without_a_row_number": MET,
+    "entry_that_is_no_key": MET,
     "entries_not_in_order": INDEX_3,
     "index_1_of_kind_9": INDEX_1,
     "index_2_of_kind_9": INDEX_2,
@@ -314,6 +322,9 @@ REPLIES = {
     "index_3_without_slots": INDEX_3,
     "index_3_with_a_key_past_its_cell": INDEX_3,
     "index_3_as_an_inner_page": INDEX_3,
+    "indexed_row_with_a_text": UNTYPED,
+    "indexed_row_with_a_value_less": UNTYPED,
+    "indexed_row_too_wide": UNTYPED,
     "row_left_out": [K_WITHOUT_ONE, GOOD, GOOD, GOOD, X, GOOD, GOOD, GOOD, GOOD, GOOD, GOOD, K_WITHOUT_ONE],
     "table_of_no_rows_with_a_root": [GOOD, GOOD, GOOD, GOOD, GOOD, GOOD, GOOD, GOOD, GOOD, X, GOOD, GOOD],
 }

@@ -75,17 +75,17 @@ linked_by d t (x ∷ xs) e h = record { leftmost = x.0; links = subst (λ ls. Le
 
 -- ---- the first children
 
-abbrev firsts : {T X : Type 0} → (T → List X) → T → List (Key × T) → ℕ → List X
+abbrev pub firsts : {T X : Type 0} → (T → List X) → T → List (Key × T) → ℕ → List X
 firsts f first rest zero = []
 firsts f first [] (suc n) = f first
 firsts f first (c ∷ rest) (suc n) = f first ++ firsts f c.1 rest n
 
-record IsNext {T X : Type 0} (f : T → List X) (first : T) (rest : List (Key × T)) (at : ℕ) : Type 0 where
+pub record IsNext {T X : Type 0} (f : T → List X) (first : T) (rest : List (Key × T)) (at : ℕ) : Type 0 where
   pub after : List X
   pub all : flat_map f (kids first rest) ≡ firsts f first rest at ++ (f (kid_at first rest at) ++ after)
   pub next : firsts f first rest (suc at) ≡ firsts f first rest at ++ f (kid_at first rest at)
 
-next_child : {T X : Type 0} (f : T → List X) (first : T) (rest : List (Key × T)) (at : ℕ) → at ≤ length rest → IsNext f first rest at
+pub next_child : {T X : Type 0} (f : T → List X) (first : T) (rest : List (Key × T)) (at : ℕ) → at ≤ length rest → IsNext f first rest at
 next_child f first [] zero l = record { after = []; all = refl; next = refl }
 next_child f first [] (suc at) l = absurd (omega arith)
 next_child f first (c ∷ rest) zero l = record { after = flat_map f (kids c.1 rest); all = refl; next = append_nil (f first) }
@@ -97,25 +97,25 @@ next_child f first (c ∷ rest) (suc at) l =
       next = ap (λ xs. f first ++ xs) w.next ∙ sym (append_assoc (f first) (firsts f c.1 rest at) (f (kid_at c.1 rest at)));
     }
 
-firsts_all : {T X : Type 0} (f : T → List X) (first : T) (rest : List (Key × T)) → firsts f first rest (suc (length rest)) ≡ flat_map f (kids first rest)
+pub firsts_all : {T X : Type 0} (f : T → List X) (first : T) (rest : List (Key × T)) → firsts f first rest (suc (length rest)) ≡ flat_map f (kids first rest)
 firsts_all f first [] = sym (append_nil (f first))
 firsts_all f first (c ∷ rest) = ap (λ xs. f first ++ xs) (firsts_all f c.1 rest)
 
 -- ---- what a page shows
 
-leaf_is : (pages : PageMap) (page : ℕ) (view : PageView) (t : Tree zero) (lo : Key) (hi : Option Key) → Sees pages page view → view.kind ≡ Leaf → IsUnder pages page zero t lo hi
+pub leaf_is : (pages : PageMap) (page : ℕ) (view : PageView) (t : Tree zero) (lo : Key) (hi : Option Key) → Sees pages page view → view.kind ≡ Leaf → IsUnder pages page zero t lo hi
     → (view.link ≡ t.next) × (map entry_of view.cells ≡ t.entries)
 leaf_is pages page view t lo hi s k u =
     let e : LeafNode view.link (map entry_of view.cells) ≡ LeafNode t.next t.entries = sym (leaf_shown pages page view k) ∙ sees_leaf pages page view t lo hi s u in
     let a : view.link ≡ t.next = cc in
     let b : map entry_of view.cells ≡ t.entries = cc in (a, b)
 
-no_inner : (pages : PageMap) (page : ℕ) (view : PageView) (d : ℕ) (t : Tree (suc d)) (lo : Key) (hi : Option Key) → Sees pages page view → view.kind ≡ Leaf → IsUnder pages page (suc d) t lo hi → ⊥
+pub no_inner : (pages : PageMap) (page : ℕ) (view : PageView) (d : ℕ) (t : Tree (suc d)) (lo : Key) (hi : Option Key) → Sees pages page view → view.kind ≡ Leaf → IsUnder pages page (suc d) t lo hi → ⊥
 no_inner pages page view d t lo hi s k u =
     let e : LeafNode view.link (map entry_of view.cells) ≡ InnerNode (page_of d t.first) (map (branch_to d) t.rest) =
     sym (leaf_shown pages page view k) ∙ sees_inner pages page view d t lo hi s u in cc
 
-no_leaf : (pages : PageMap) (page : ℕ) (view : PageView) (t : Tree zero) (lo : Key) (hi : Option Key) → Sees pages page view → view.kind ≡ Inner → IsUnder pages page zero t lo hi → ⊥
+pub no_leaf : (pages : PageMap) (page : ℕ) (view : PageView) (t : Tree zero) (lo : Key) (hi : Option Key) → Sees pages page view → view.kind ≡ Inner → IsUnder pages page zero t lo hi → ⊥
 no_leaf pages page view t lo hi s k u =
     let e : InnerNode view.link (map branch_of view.cells) ≡ LeafNode t.next t.entries = sym (inner_shown pages page view k) ∙ sees_leaf pages page view t lo hi s u in cc
 
@@ -125,7 +125,7 @@ same_length d [] (c ∷ rest) e = cc
 same_length d (x ∷ cells) [] e = cc
 same_length d (x ∷ cells) (c ∷ rest) e = let f : map branch_of cells ≡ map (branch_to d) rest = cc in ap suc (same_length d cells rest f)
 
-as_many : (pages : PageMap) (page : ℕ) (view : PageView) (d : ℕ) (t : Tree (suc d)) (lo : Key) (hi : Option Key) → Sees pages page view → view.kind ≡ Inner → IsUnder pages page (suc d) t lo hi
+pub as_many : (pages : PageMap) (page : ℕ) (view : PageView) (d : ℕ) (t : Tree (suc d)) (lo : Key) (hi : Option Key) → Sees pages page view → view.kind ≡ Inner → IsUnder pages page (suc d) t lo hi
     → length view.cells ≡ length t.rest
 as_many pages page view d t lo hi s k u =
     let e : InnerNode view.link (map branch_of view.cells) ≡ InnerNode (page_of d t.first) (map (branch_to d) t.rest) =

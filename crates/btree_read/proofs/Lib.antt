@@ -9,3 +9,4 @@ pub mod SearchLemmas
 pub mod LastLemmas
 pub mod CountLemmas
 pub mod LeafLemmas
+pub mod BlockLemmas

@@ -132,7 +132,7 @@ from_behind : (start : Start) (k x : Key) → precedes k x ≡ true → is_from 
 from_behind At k x h = ap not (not_both k x h)
 from_behind Behind k x h = h
 
-not_from_before : (start : Start) (k x : Key) → precedes x k ≡ true → is_from start k x ≡ false
+pub not_from_before : (start : Start) (k x : Key) → precedes x k ≡ true → is_from start k x ≡ false
 not_from_before At k x h = ap not h
 not_from_before Behind k x h = not_both x k h
 

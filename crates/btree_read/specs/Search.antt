@@ -1,11 +1,13 @@
 -- What searches give.
-use Rattle.std.specs.Prelude.{◌≡◌, ℕ, ◌≤◌, List, [], Option, Result, IfOk, if◌then◌else◌, zero, suc, ◌∷◌}
+use Rattle.std.specs.Prelude.{◌≡◌, ℕ, ◌≤◌, List, [], ◌∷◌, ◌++◌, take, Option, Result, IfOk, OnOk, if◌then◌else◌, zero, suc, ⊤}
 use Rattle.page_space.specs.declared.error.SpaceError.{SpaceError}
 use Rattle.page_space.specs.Space.{PageMap}
 use Rattle.sqlrecord.specs.Page.{PageView}
 use Rattle.btree_read.specs.declared.entry.Entry.{Entry}
 use Rattle.btree_read.specs.Lists.{Apart}
 use Rattle.btree_read.specs.declared.entry.Branch.{Branch}
+use Rattle.btree_read.specs.declared.entry.Start.{Start}
+use Rattle.btree_read.specs.Sorted.{from_on}
 use Rattle.btree_read.specs.Nodes.{Key, precedes, Node, HasNode, shown}
 use Rattle.btree_read.specs.Tree.{Tree, page_of, entries_of, nodes_of, pages_in, Holds, Ordered, IsTree}
 
@@ -49,3 +51,9 @@ AnswersAt pages root f result = (owned : List ℕ) (entries : List Entry) → Is
 -- no tree is at the root
 abbrev pub IsNoTree : PageMap → ℕ → Type 0
 IsNoTree pages root = (owned : List ℕ) (entries : List Entry) → IsTree pages root owned entries → ⊥
+
+-- whatever tree is under the page: its entries from there on stand behind those that were there, as
+-- far as there is room
+abbrev pub TakesBelow : PageMap → ℕ → Start → Key → ℕ → List Entry → List Entry → Result ⊤ SpaceError → Type 0
+TakesBelow pages page start k most was now result = (d : ℕ) (t : Tree d) (lo : Key) (hi : Option Key) → IsUnder pages page d t lo hi
+    → OnOk result (now ≡ take most (was ++ from_on start k (entries_of d t)))

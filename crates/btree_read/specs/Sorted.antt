@@ -1,5 +1,5 @@
 -- The sorted map that a tree stands for, as the list of its entries.
-use Rattle.std.specs.Prelude.{◌≡◌, ℕ, List, [], ◌∷◌, Option, Some, None, Bool, true, not, if◌then◌else◌, ⊤}
+use Rattle.std.specs.Prelude.{◌≡◌, ℕ, List, [], ◌∷◌, filter, Option, Some, None, Bool, true, not, if◌then◌else◌, ⊤}
 use Rattle.std.specs.List.{AllByRecursion}
 use Rattle.btree_read.specs.declared.entry.Entry.{Entry}
 use Rattle.btree_read.specs.declared.entry.Start.{Start}
@@ -25,6 +25,10 @@ is_from Behind k key = precedes k key
 abbrev pub first_from : Start → Key → List Entry → Option Entry
 first_from start k [] = None
 first_from start k (e ∷ es) = if is_from start k e.key then Some e else first_from start k es
+
+-- all entries from there on
+abbrev pub from_on : Start → Key → List Entry → List Entry
+from_on start k es = filter (λ e. is_from start k e.key) es
 
 -- the entries with one more, or with another value in place of a key's
 abbrev pub put : Key → List ℕ → List Entry → List Entry

@@ -21,7 +21,7 @@ pub(crate) struct Walk {
 }
 
 /// The entry of a leaf at a place.
-fn entry_at(alloc: Global, leaf: &SlotPage<'_>, i: usize) -> Result<Entry, AllocError>
+pub(crate) fn entry_at(alloc: Global, leaf: &SlotPage<'_>, i: usize) -> Result<Entry, AllocError>
     requires { i < length leaf.now.cells }
     ensures { IfOk result (λ found. found ≡ entry_of (slice_index_or leaf.now.cells i [])) }
 {

@@ -1,6 +1,7 @@
 //! Search in B+trees over pages, and all entries of one.
 #![tactic(auto)]
 
+mod block;
 mod entry;
 mod last;
 mod leaf;
@@ -10,6 +11,7 @@ mod value;
 mod walk;
 mod whole;
 
+pub use block::entries_from;
 pub use entry::{Branch, Entry, Start};
 pub use last::last_key;
 pub use node::read_node;

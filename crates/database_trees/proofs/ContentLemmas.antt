@@ -16,15 +16,14 @@ use Rattle.store.specs.Errors.{HasLongKey, indexes_of}
 use Rattle.store.specs.Indexes.{entries_of}
 use Rattle.page_space.specs.Space.{PageMap}
 use Rattle.stored_tables.specs.Held as plain
-use Rattle.stored_tables.specs.Named.{root_named}
-use Rattle.stored_tables.proofs.NameLemmas.{tied_name, name_from_tie, Named, found_at, get_none}
+use Rattle.stored_tables.proofs.NameLemmas.{from_same, not_tied, Named, found_at, get_none}
 use Rattle.stored_tables.proofs.ChangeLemmas.{contents_changed}
 use Rattle.database_trees.specs.Held.{TableAt, declared_at, declared_of, rows_at, rows_of_tables, HoldsFor, contents_of}
 use Rattle.database_trees.specs.Changed.{WrittenFor, Reaches}
 use Rattle.database_trees.specs.declared.error.DatabaseError.{DatabaseError}
-use Rattle.database_trees.specs.Named.{table_named}
+use Rattle.stored_tables.specs.Named.{table_named}
 use Rattle.database_trees.specs.Exchanged.{IsWithRows, IsTableOf, RowsExchanged}
-use Rattle.database_trees.proofs.NameLemmas.{same_itself}
+use Rattle.database_trees.proofs.DatabaseLemmas.{declared_rows}
 
 -- ---- the table of a name
 
@@ -37,18 +36,6 @@ pub record IsFoundAt (name : Name) (tables : List TableAt) (table : Table) : Typ
   pub declared : declared_at at ≡ table
   pub named : at.name ≡ name
   pub others : AllByRecursion (λ (b : TableAt). eq_by_cmp text_order name b.name ≡ false) before
-
-from_same : (a b : Name) → same_name a b ≡ true → a ≡ b
-from_same a b h = name_from_tie a b (tied_name a b ∙ h)
-
-pub not_tied : (name other : Name) → same_name other name ≡ false → eq_by_cmp text_order name other ≡ false
-not_tied name other h = by (eq_by_cmp text_order name other) refl
-  where
-    by : (b : Bool) → eq_by_cmp text_order name other ≡ b → b ≡ false
-    by true e =
-        let same : name ≡ other = name_from_tie name other e in
-        let bad : true ≡ false = sym (same_itself name) ∙ ap (λ n. same_name n name) same ∙ h in absurd (cc)
-    by false e = refl
 
 pub is_found : (name : Name) (tables : List TableAt) (table : Table) → table_named name (declared_of tables) ≡ Some table → IsFoundAt name tables table
 is_found name [] table e = absurd (cc)
@@ -76,27 +63,18 @@ pub rows_middle : (before behind : List TableAt) (t : TableAt) → rows_of_table
 rows_middle before behind t = map-append rows_at before (t ∷ behind)
 
 pub get_found : (name : Name) (tables : List TableAt) (table : Table) → (w : IsFoundAt name tables table) → get (contents_of tables) name ≡ Some (plain.stored_of (rows_at w.at))
-get_found name tables table w = found_at name (rows_of_tables tables) w.at.root (record {
+get_found name tables table w = found_at name (rows_of_tables tables) table (record {
   before = rows_of_tables w.before;
   at = rows_at w.at;
   behind = rows_of_tables w.behind;
   is = ap rows_of_tables w.is ∙ rows_middle w.before w.behind w.at;
+  declared = w.declared;
   named = w.named;
-  begins = refl;
   others = others_rows name w.before w.others;
 })
 
-none_rooted : (name : Name) (tables : List TableAt) → table_named name (declared_of tables) ≡ None → root_named name (plain.declared_of (rows_of_tables tables)) ≡ None
-none_rooted name [] e = refl
-none_rooted name (t ∷ tables) e = by (same_name t.name name) refl e (none_rooted name tables)
-  where
-    by : (b : Bool) → same_name t.name name ≡ b → cond b (Some (declared_at t)) (table_named name (declared_of tables)) ≡ None → (table_named name (declared_of tables) ≡ None → root_named name (plain.declared_of (rows_of_tables tables)) ≡ None)
-        → cond (same_name name t.name) (Some t.root) (root_named name (plain.declared_of (rows_of_tables tables))) ≡ None
-    by true h none again = absurd (cc)
-    by false h none again = ap (λ b. cond b (Some t.root) (root_named name (plain.declared_of (rows_of_tables tables)))) (sym (tied_name name t.name) ∙ not_tied name t.name h) ∙ again none
-
 pub get_absent : (name : Name) (tables : List TableAt) → table_named name (declared_of tables) ≡ None → get (contents_of tables) name ≡ None
-get_absent name tables e = get_none name (rows_of_tables tables) (none_rooted name tables e)
+get_absent name tables e = get_none name (rows_of_tables tables) (subst (λ (ts : List Table). table_named name ts ≡ None) (declared_rows tables) e)
 
 -- ---- contents
 

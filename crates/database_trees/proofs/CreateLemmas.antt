@@ -20,9 +20,9 @@ use Rattle.btree.proofs.PageLossLemmas.{loses_known}
 use Rattle.stored_tables.specs.Held as plain
 use Rattle.stored_tables.proofs.NameLemmas.{name_from_tie, tie_itself, contents-get}
 use Rattle.database_trees.specs.Trees.{TreeAt, Lies, IndexOf, pages_of, HoldsTrees}
-use Rattle.database_trees.specs.Held.{IndexAt, TableAt, indexes_declared, declared_at, declared_of, trees_of_indexes, rows_tree, table_trees, trees_of, schema_tree, rows_at, rows_of_tables, HoldsFor, contents_of}
+use Rattle.database_trees.specs.Held.{IndexAt, TableAt, indexes_declared, declared_at, declared_of, trees_of_indexes, rows_tree, table_trees, trees_of, schema_tree, rows_at, rows_of_tables, ItFits, HoldsFor, contents_of}
 use Rattle.database_trees.specs.Changed.{WrittenFor}
-use Rattle.database_trees.specs.Named.{table_named}
+use Rattle.stored_tables.specs.Named.{table_named}
 use Rattle.database_trees.proofs.TreeLemmas.{trees_put, first_changed}
 use Rattle.database_trees.proofs.SettleLemmas.{schema_moved}
 use Rattle.database_trees.proofs.ContentLemmas.{IsFoundAt, get_found, get_absent}
@@ -80,6 +80,14 @@ all_put {alone} (u ∷ tables) pages front t begins indexes h = by (is_lt (text_
     by : (b : Bool) → HoldsTrees alone pages ((front ++ table_trees u) ++ trees_of (with_at (new_at t) tables)) → HoldsTrees alone pages (front ++ trees_of (if b then u ∷ with_at (new_at t) tables else new_at t ∷ u ∷ tables))
     by true again = subst (HoldsTrees alone pages) (sym (joined (trees_of (with_at (new_at t) tables)))) again
     by false again = table_put pages front (trees_of (u ∷ tables)) t begins indexes h
+
+each_with : (P : TableAt → Type 0) (t : TableAt) (tables : List TableAt) → P t → AllByRecursion P tables → AllByRecursion P (with_at t tables)
+each_with P t [] one h = (one, h)
+each_with P t (u ∷ tables) one h = by (is_lt (text_order u.name t.name)) (each_with P t tables one h.1)
+  where
+    by : (b : Bool) → AllByRecursion P (with_at t tables) → AllByRecursion P (if b then u ∷ with_at t tables else t ∷ u ∷ tables)
+    by true again = (h.0, again)
+    by false again = (one, h)
 
 -- ---- what a store shows
 
@@ -139,6 +147,7 @@ created_new {alone} old new root now t tables begins indexes h free w keeps =
         owned = w.now_owned;
         trees = subst (λ (ds : List Table). HoldsTrees alone new (schema_tree now w.now_owned ds ∷ trees_of (with_at (new_at t) tables)))
             (ap (λ (d : Table). schema.with_table d (declared_of tables)) (sym (declared_new t)) ∙ sym (declared_with (new_at t) tables)) moved;
+        fits = each_with ItFits (new_at t) tables tt h.fits;
       };
       shows = contents_with t tables differ ∙ ap (λ (o : Option StoredTable). cond (is_some o) (contents_of tables) (insert (contents_of tables) t.name (new_table t))) (sym (get_absent t.name tables free));
     }

@@ -8,14 +8,15 @@ use Rattle.page_space.specs.Space.{PageMap}
 use Rattle.btree_read.specs.Lists.{Apart, Has}
 use Rattle.btree_read.proofs.ListLemmas.{each_left, each_right, has_left, has_right, has_either, Parted, apart_parts, apart_join}
 use Rattle.catalog.specs.Held.{HoldsSchema}
-use Rattle.tablestore.specs.Held.{HoldsRows}
+use Rattle.tablestore.specs.Held.{HoldsRows, HoldsFitting, AreFitting}
 use Rattle.btree_read.proofs.NodeLemmas.{not_fresh}
 use Rattle.btree.specs.Kept.{LosesNone}
 use Rattle.stored_tables.specs.Held as plain
 use Rattle.database_trees.specs.declared.exchange.Exchange.{Exchange}
 use Rattle.database_trees.specs.Trees.{TreeAt, Lies, pages_of, HoldsTrees, IsMoved}
-use Rattle.database_trees.specs.Held.{IndexAt, TableAt, declared_at, declared_of, trees_of_indexes, rows_tree, table_trees, trees_of, schema_tree, rows_at, rows_of_tables, HoldsFor}
+use Rattle.database_trees.specs.Held.{IndexAt, TableAt, declared_at, declared_of, trees_of_indexes, rows_tree, table_trees, trees_of, schema_tree, rows_at, rows_of_tables, ItFits, HoldsFor}
 use Rattle.database_trees.specs.Exchanged.{Exchanges, AreSameRows, IsUnsettled, IsWithRows, IsSettled, IsTableOf, RowsExchanged}
+use Rattle.database_trees.proofs.FitLemmas.{its_fits, fits_around, fits_now}
 use Rattle.database_trees.proofs.TreeLemmas.{trees_changed, all_used, all_stay, pages_append}
 
 pub trees_middle : (before behind : List TableAt) (t : TableAt) → trees_of (before ++ t ∷ behind) ≡ trees_of before ++ (table_trees t ++ trees_of behind)
@@ -33,11 +34,12 @@ zipped {alone} pages root owned before behind t h =
     (subst (λ (ts : List TreeAt). HoldsTrees alone pages (schema_tree root owned (declared_of (before ++ t ∷ behind)) ∷ ts)) (trees_middle before behind t) h)
 
 pub unzipped : {alone : Bool} (pages : PageMap) (root : ℕ) (owned : List ℕ) (before behind : List TableAt) (t : TableAt) → HoldsTrees alone pages (schema_tree root owned (declared_of before ++ declared_at t ∷ declared_of behind) ∷ (trees_of before ++ (table_trees t ++ trees_of behind)))
-    → HoldsFor alone pages root (before ++ t ∷ behind)
-unzipped {alone} pages root owned before behind t h = record {
+    → AllByRecursion ItFits (before ++ t ∷ behind) → HoldsFor alone pages root (before ++ t ∷ behind)
+unzipped {alone} pages root owned before behind t h fits = record {
   owned = owned;
   trees = subst (λ (ds : List Table). HoldsTrees alone pages (schema_tree root owned ds ∷ trees_of (before ++ t ∷ behind))) (sym (declared_middle before behind t))
       (subst (λ (ts : List TreeAt). HoldsTrees alone pages (schema_tree root owned (declared_of before ++ declared_at t ∷ declared_of behind) ∷ ts)) (sym (trees_middle before behind t)) h);
+  fits = fits;
 }
 
 module _ {alone : Bool} (old : PageMap) (root : ℕ) (table : Table) (h : IsTableOf alone old root table) where
@@ -48,6 +50,12 @@ module _ {alone : Bool} (old : PageMap) (root : ℕ) (table : Table) (h : IsTabl
   pub rows_of_it : HoldsRows old table.root h.at.owned h.at.rows
   rows_of_it = subst (λ (t : Table). HoldsRows old t.root h.at.owned h.at.rows) h.declared
       (each_right (Lies old) (trees_of h.before) (table_trees h.at ++ trees_of h.behind) around_table.each.1).0
+
+  pub fits_of_it : AreFitting table.columns h.at.rows
+  fits_of_it = subst (λ (t : Table). AreFitting t.columns h.at.rows) h.declared (its_fits h.before h.behind h.at h.holds.fits)
+
+  pub fitting_of_it : HoldsFitting old table.root h.at.owned table.columns h.at.rows
+  fitting_of_it = record { holds = rows_of_it; fits = fits_of_it }
 
   pub schema_of_it : HoldsSchema old root h.holds.owned (declared_of h.before ++ table ∷ declared_of h.behind)
   schema_of_it = around_table.each.0
@@ -72,8 +80,14 @@ module _ {alone : Bool} (old : PageMap) (root : ℕ) (table : Table) (h : IsTabl
     same = same;
   }
 
-  pub rows_exchanged : (new : PageMap) (now : ℕ) (rows : List Entry) → IsSettled alone new (declared_of h.before) (declared_of h.behind) (trees_of h.before) (trees_of h.behind) h.at rows now → RowsExchanged alone new h.before h.at h.behind rows now
-  rows_exchanged new now rows s = record { now = s.now; kept = s.kept; holds = unzipped new now s.owned h.before h.behind s.now s.trees }
+  pub rows_exchanged : (new : PageMap) (now : ℕ) (rows : List Entry) → AreFitting table.columns rows → IsSettled alone new (declared_of h.before) (declared_of h.behind) (trees_of h.before) (trees_of h.behind) h.at rows now → RowsExchanged alone new h.before h.at h.behind rows now
+  rows_exchanged new now rows fits s =
+      let here : AreFitting h.at.columns rows = subst (λ (t : Table). AreFitting t.columns rows) (sym h.declared) fits in
+      record {
+        now = s.now;
+        kept = s.kept;
+        holds = unzipped new now s.owned h.before h.behind s.now s.trees (fits_around h.before h.behind h.at s.now h.holds.fits (fits_now h.at s.now rows s.kept here));
+      }
 
   pub rows_kept : (new : PageMap) (rows : List Entry) → new ≡ old → rows ≡ h.at.rows → RowsExchanged alone new h.before h.at h.behind rows root
   rows_kept new rows same e = record {
@@ -90,15 +104,15 @@ table_in {alone} old mid root table same h = record { before = h.before; at = h.
 pub stays : (old new : PageMap) (root : ℕ) (tables : List TableAt) → ((n : ℕ) → IsSome (old n) → new n ≡ old n) → HoldsFor false old root tables → HoldsFor false new root tables
 stays old new root tables same h =
     let ts : List TreeAt = schema_tree root h.owned (declared_of tables) ∷ trees_of tables in
-    record { owned = h.owned; trees = record { each = all_stay old new ts (λ n i. same n (all_used old ts h.trees.each n i)) h.trees.each; apart = h.trees.apart; all = λ a. absurd (cc) } }
+    record { owned = h.owned; trees = record { each = all_stay old new ts (λ n i. same n (all_used old ts h.trees.each n i)) h.trees.each; apart = h.trees.apart; all = λ a. absurd (cc) }; fits = h.fits }
 
 pub at_first : {alone : Bool} (pages : PageMap) → (alone ≡ true → (n : ℕ) → pages n ≡ None) → HoldsFor alone pages 0 []
-at_first pages none = record { owned = []; trees = record { each = (record { tree = (refl, refl); range = tt; coded = tt }, tt); apart = tt; all = λ a n u. absurd (not_fresh pages n u (none a n)) } }
+at_first pages none = record { owned = []; trees = record { each = (record { tree = (refl, refl); range = tt; coded = tt }, tt); apart = tt; all = λ a n u. absurd (not_fresh pages n u (none a n)) }; fits = tt }
 
 -- ---- all pages are owned
 
 pub as_any : (pages : PageMap) (root : ℕ) (tables : List TableAt) → HoldsFor true pages root tables → HoldsFor false pages root tables
-as_any pages root tables h = record { owned = h.owned; trees = record { each = h.trees.each; apart = h.trees.apart; all = λ a. absurd (cc) } }
+as_any pages root tables h = record { owned = h.owned; trees = record { each = h.trees.each; apart = h.trees.apart; all = λ a. absurd (cc) }; fits = h.fits }
 
 pub all_are_owned : (pages : PageMap) (root : ℕ) (tables : List TableAt) → (h : HoldsFor true pages root tables) → (n : ℕ) → IsSome (pages n) → Has n (h.owned ++ pages_of (trees_of tables))
 all_are_owned pages root tables h = h.trees.all refl
@@ -109,17 +123,21 @@ owned_are_used pages root tables h = all_used pages (schema_tree root h.owned (d
 pub owned_stays : (old new : PageMap) (root : ℕ) (tables : List TableAt) → ((n : ℕ) → new n ≡ old n) → HoldsFor true old root tables → HoldsFor true new root tables
 owned_stays old new root tables same h =
     let ts : List TreeAt = schema_tree root h.owned (declared_of tables) ∷ trees_of tables in
-    record { owned = h.owned; trees = record { each = all_stay old new ts (λ n i. same n) h.trees.each; apart = h.trees.apart; all = λ a n u. h.trees.all a n (subst IsSome (same n) u) } }
+    record { owned = h.owned; trees = record { each = all_stay old new ts (λ n i. same n) h.trees.each; apart = h.trees.apart; all = λ a n u. h.trees.all a n (subst IsSome (same n) u) }; fits = h.fits }
 
 -- ---- without its indexes
 
-declared_rows : (tables : List TableAt) → declared_of tables ≡ plain.declared_of (rows_of_tables tables)
+pub declared_rows : (tables : List TableAt) → declared_of tables ≡ plain.declared_of (rows_of_tables tables)
 declared_rows [] = refl
 declared_rows (t ∷ tables) = ap (λ ts. declared_at t ∷ ts) (declared_rows tables)
 
 rows_each : (pages : PageMap) (tables : List TableAt) → AllByRecursion (Lies pages) (trees_of tables) → AllByRecursion (plain.HoldsIts pages) (rows_of_tables tables)
 rows_each pages [] h = tt
 rows_each pages (t ∷ tables) h = (h.0, rows_each pages tables (each_right (Lies pages) (trees_of_indexes t.rows t.indexes) (trees_of tables) h.1))
+
+rows_fit : (tables : List TableAt) → AllByRecursion ItFits tables → AllByRecursion plain.ItFits (rows_of_tables tables)
+rows_fit [] h = tt
+rows_fit (t ∷ tables) h = (h.0, rows_fit tables h.1)
 
 fewer : (n : ℕ) (tables : List TableAt) → Has n (plain.owned_by (rows_of_tables tables)) → Has n (pages_of (trees_of tables))
 fewer n [] h = h
@@ -151,5 +169,6 @@ as_tables pages root tables h =
       owned = h.owned;
       schema = subst (HoldsSchema pages root h.owned) (declared_rows tables) h.trees.each.0;
       rows = rows_each pages tables h.trees.each.1;
+      fits = rows_fit tables h.fits;
       apart = apart_join h.owned (plain.owned_by (rows_of_tables tables)) (record { left = p.left; right = rows_apart tables p.right; none = λ n i j. p.none n i (fewer n tables j) });
     }

@@ -33,12 +33,14 @@ use Rattle.stored_tables.proofs.SchemaLemmas.{AreDifferent, names_differ}
 use Rattle.database_trees.specs.Trees.{TreeAt, Lies, pages_of, HoldsTrees, IsMoved}
 use Rattle.database_trees.specs.Held.{IndexAt, TableAt, indexes_declared, declared_at, declared_of, index_tree, trees_of_indexes, rows_tree, table_trees, trees_of, schema_tree, rows_at, rows_of_tables, HoldsFor, contents_of}
 use Rattle.database_trees.specs.Changed.{WrittenFor}
-use Rattle.database_trees.specs.Named.{table_named}
+use Rattle.stored_tables.specs.Named.{table_named}
 use Rattle.database_trees.specs.Exchanged.{IsTableOf}
 use Rattle.database_trees.specs.Dropped.{AreIndexes, AreTreesOf, TableGone, AreFreed}
 use Rattle.database_trees.proofs.TreeLemmas.{pages_append, all_stay, all_used, owned_left, first_changed}
+use Rattle.database_trees.proofs.FitLemmas.{fits_apart}
 use Rattle.database_trees.proofs.DatabaseLemmas.{around_table, declared_middle}
-use Rattle.database_trees.proofs.ContentLemmas.{IsFoundAt, rows_middle, not_tied, get_absent}
+use Rattle.stored_tables.proofs.NameLemmas.{not_tied}
+use Rattle.database_trees.proofs.ContentLemmas.{IsFoundAt, rows_middle, get_absent}
 
 -- ---- several trees given back
 
@@ -191,6 +193,7 @@ module _ {alone : Bool} (old mid : PageMap) (root top : ℕ) (table : Table) (h 
           owned = w.now_owned;
           trees = subst (λ (ds : List Table). HoldsTrees alone new (schema_tree top w.now_owned ds ∷ trees_of (h.before ++ h.behind))) (sym (map-append declared_at h.before h.behind))
               (subst (λ (ts : List TreeAt). HoldsTrees alone new (schema_tree top w.now_owned (declared_of h.before ++ declared_of h.behind) ∷ ts)) (trees_apart h.before h.behind h.at) t);
+          fits = fits_apart h.before h.behind h.at h.holds.fits;
         };
         gone = dropped.gone;
       }

@@ -31,6 +31,7 @@ use Rattle.database_trees.proofs.RootLemmas.{IsBounded, small_root}
 use Rattle.database_trees.proofs.SettleLemmas.{schema_held}
 use Rattle.database_trees.proofs.IndexLemmas.{index_moved}
 use Rattle.database_trees.proofs.RowLemmas.{more_apart, numbered}
+use Rattle.database_trees.proofs.FitLemmas.{its_fits, fits_around}
 use Rattle.database_trees.proofs.DatabaseLemmas.{zipped, unzipped, around_table}
 use Rattle.database_trees.proofs.ContentLemmas.{IsFoundAt, changed_by}
 
@@ -110,7 +111,8 @@ module _ {alone : Bool} (old mid : PageMap) (root : ℕ) (table : Table) (index 
     stored = λ i. record { columns = h.at.columns; constraints = h.at.constraints; indexes = indexes_with i; entries = h.at.rows };
     holds = unzipped new now p.owned h.before h.behind now_with
         (subst (λ (t : Table). HoldsTrees alone new (schema_tree now p.owned (declared_of h.before ++ t ∷ declared_of h.behind) ∷ (trees_of h.before ++ (table_trees now_with ++ trees_of h.behind)))) (sym declared_with)
-        (subst (λ (ts : List TreeAt). HoldsTrees alone new (schema_tree now p.owned (declared_of h.before ++ table_indexed table index top ∷ declared_of h.behind) ∷ (trees_of h.before ++ ts))) (sym trees_with) p.trees));
+        (subst (λ (ts : List TreeAt). HoldsTrees alone new (schema_tree now p.owned (declared_of h.before ++ table_indexed table index top ∷ declared_of h.behind) ∷ (trees_of h.before ++ ts))) (sym trees_with) p.trees))
+        (fits_around h.before h.behind h.at now_with h.holds.fits (its_fits h.before h.behind h.at h.holds.fits));
   }
 
 pub database_indexed : (alone : Bool) {E : Type 0} (result : Result ℕ E) (new : PageMap) (name : Name) (tables : List TableAt) (table : Table) (index : Index) → (w : IsFoundAt name tables table)

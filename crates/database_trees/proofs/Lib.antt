@@ -7,6 +7,7 @@ pub mod RootLemmas
 pub mod NameLemmas
 pub mod SettleLemmas
 pub mod RowLemmas
+pub mod FitLemmas
 pub mod DatabaseLemmas
 pub mod ContentLemmas
 pub mod IndexingLemmas

@@ -1,5 +1,5 @@
 -- The row of a number.
-use Rattle.std.proofs.Common.{◌≡◌, ℕ, zero, suc, ◌+◌, ◌^◌, ◌<◌, ◌≤◌, Bool, true, false, cond, List, [], ◌∷◌, Option, Some, None, Result, Ok, Err, IfOk, refl, sym, ap, subst, ◌∙◌, arith, nat_lt}
+use Rattle.std.proofs.Common.{◌≡◌, ℕ, zero, suc, ◌+◌, ◌^◌, ◌<◌, ◌≤◌, Bool, true, false, cond, List, [], ◌∷◌, Option, Some, None, Result, Ok, Err, IfOk, refl, sym, ap, subst, ◌∙◌, arith, nat_lt, IfSome}
 use Rattle.std.specs.Prelude.{filter, slice_get, if◌then◌else◌}
 use Rattle.std.specs.Bool.{◌==◌}
 use Rattle.std.specs.Option.{option_map}
@@ -90,3 +90,8 @@ pub row_is_found : (pages : PageMap) (root : ℕ) (owned : List ℕ) (rows : Lis
     → if_numbered number found ≡ row_numbered number rows
 row_is_found pages root owned rows number found asked e h is =
     ap (if_numbered number) (is ∙ ap (λ (o : Option ℕ). entry_after o rows) e) ∙ number_found number rows (rising pages root owned rows h)
+
+-- what holds of what was found holds of what is left of it
+pub some_among : {X : Type 0} (found left : Option X) (P : X → Type 0) → IfSome found P → IfSome left (λ x. found ≡ Some x) → IfSome left P
+some_among found None P h is = tt
+some_among found (Some x) P h is = subst (λ o. IfSome o P) is h

@@ -21,7 +21,7 @@ use Rattle.database_trees.specs.Trees.{TreeAt, Lies, pages_of, HoldsTrees, IsMov
 use Rattle.database_trees.specs.Held.{IndexAt, TableAt, indexes_declared, declared_at, index_tree, trees_of_indexes, rows_tree, table_trees, schema_tree, rows_at}
 use Rattle.database_trees.specs.Exchanged.{with_roots, table_with, AreExchangeable, AreExchanged, HasTable, TablePut, AreSameRows, IsUnsettled, IsWithRows, IsSettled}
 use Rattle.database_trees.proofs.TreeLemmas.{first_changed, pages_append}
-use Rattle.database_trees.specs.Named.{table_named}
+use Rattle.stored_tables.specs.Named.{table_named}
 use Rattle.stored_tables.proofs.SchemaLemmas.{names_differ}
 use Rattle.database_trees.proofs.NameLemmas.{named_itself}
 use Rattle.database_trees.proofs.RootLemmas.{IsBounded, rows_root, range_roots, over_roots, same_declared}

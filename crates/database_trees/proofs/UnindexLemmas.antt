@@ -39,6 +39,7 @@ use Rattle.database_trees.specs.Exchanged.{HasTable, TablePut, IsTableOf}
 use Rattle.database_trees.specs.Unindexed.{without_named, table_without, kept_at, named_at, without_at, AreGiven, IndexesLeft, IndexesGone, TablesUnindexed}
 use Rattle.database_trees.proofs.TreeLemmas.{pages_append, trees_dropped}
 use Rattle.database_trees.proofs.SettleLemmas.{schema_held}
+use Rattle.database_trees.proofs.FitLemmas.{its_fits, fits_around}
 use Rattle.database_trees.proofs.DatabaseLemmas.{around_table, unzipped}
 
 pub not_both : (b : Bool) → b ≡ true → b ≡ false → ⊥
@@ -252,7 +253,8 @@ module _ {alone : Bool} (old : PageMap) (root : ℕ) (table : Table) (name : Nam
       holds = unzipped new top p.owned h.before h.behind (without_at name h.at)
           (subst (λ (t : Table). HoldsTrees alone new (schema_tree top p.owned (declared_of h.before ++ t ∷ declared_of h.behind) ∷ (trees_of h.before ++ (table_trees (without_at name h.at) ++ trees_of h.behind))))
           (ap (table_without name) (sym h.declared) ∙ sym (declared_without name h.at))
-          (subst (HoldsTrees alone new) (split (trees_of_indexes h.at.rows (kept_at name h.at.indexes) ++ trees_of h.behind)) w.trees));
+          (subst (HoldsTrees alone new) (split (trees_of_indexes h.at.rows (kept_at name h.at.indexes) ++ trees_of h.behind)) w.trees))
+          (fits_around h.before h.behind h.at (without_at name h.at) h.holds.fits (its_fits h.before h.behind h.at h.holds.fits));
       given = w.given;
     }
 

@@ -1,7 +1,7 @@
 -- The database that pages hold: a schema, of each table its rows, and each index of it over just
 -- these rows. Our own choice.
 use Rattle.std.specs.Prelude.{◌≡◌, ℕ, List, ◌∷◌, map, Bool, true, false}
-use Rattle.std.specs.List.{flat_map}
+use Rattle.std.specs.List.{flat_map, AllByRecursion}
 use Rattle.sqlval.specs.declared.schema.Table.{Table}
 use Rattle.sqlval.specs.declared.schema.Column.{Column}
 use Rattle.sqlval.specs.declared.schema.Constraint.{Constraint}
@@ -9,6 +9,7 @@ use Rattle.sqlval.specs.declared.schema.Index.{Index}
 use Rattle.denote.specs.Database.{Name}
 use Rattle.store.specs.Contents.{Entry, Contents}
 use Rattle.page_space.specs.Space.{PageMap}
+use Rattle.tablestore.specs.Held.{AreFitting}
 use Rattle.stored_tables.specs.Held as plain
 use Rattle.database_trees.specs.Trees.{TreeAt, SchemaOf, RowsOf, IndexOf, HoldsTrees}
 
@@ -58,11 +59,17 @@ trees_of tables = flat_map table_trees tables
 abbrev pub schema_tree : ℕ → List ℕ → List Table → TreeAt
 schema_tree root owned tables = record { root = root; owned = owned; content = SchemaOf tables }
 
--- the tree at the root has the schema, and no page belongs to two of the trees of the database; if
--- it is alone there, each page in use belongs to one
+-- the rows of a table fit its columns
+abbrev pub ItFits : TableAt → Type 0
+ItFits t = AreFitting t.columns t.rows
+
+-- the tree at the root has the schema, and no page belongs to two of the trees of the database; the
+-- rows of each table fit its columns; if the database is alone there, each page in use belongs to
+-- one of its trees
 pub record HoldsFor (alone : Bool) (pages : PageMap) (root : ℕ) (tables : List TableAt) : Type 0 where
   pub owned : List ℕ
   pub trees : HoldsTrees alone pages (schema_tree root owned (declared_of tables) ∷ trees_of tables)
+  pub fits : AllByRecursion ItFits tables
 
 -- whatever else lies in the pages
 abbrev pub HoldsDatabase : PageMap → ℕ → List TableAt → Type 0

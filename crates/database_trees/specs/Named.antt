@@ -1,15 +1,6 @@
--- Tables of a schema, and rows of a table, looked up.
+-- Rows of a table, looked up.
 use Rattle.std.specs.Prelude.{ℕ, zero, suc, ◌==◌, if◌then◌else◌, List, [], ◌∷◌, Option, None, Some}
-use Rattle.sqlval.specs.declared.schema.Table.{Table}
-use Rattle.sqlval.specs.Schema.{same_name}
-use Rattle.sqlval.specs.Value.{Row}
-use Rattle.denote.specs.Database.{Name}
 use Rattle.store.specs.Contents.{Entry}
-
--- the table of a name: the first, where there are several
-abbrev pub table_named : Name → List Table → Option Table
-table_named name [] = None
-table_named name (t ∷ tables) = if same_name t.name name then Some t else table_named name tables
 
 -- the row of a number
 abbrev pub row_numbered : ℕ → List Entry → Option Entry

@@ -12,11 +12,11 @@ ghost use Rattle.database_trees.specs.Changed.{DatabaseWritten, HoldsNoDatabaseI
 
 use crate::DatabaseError;
 use crate::error::of_change;
-use crate::naming::find_table;
 use catalog::add_table;
 use page_space::PageSpace;
 use sqlval::Table;
 use std::alloc::Global;
+use stored_tables::find_table;
 
 /// Puts a table whose name is free into the schema, and answers its root.
 fn add_new<S: PageSpace>(

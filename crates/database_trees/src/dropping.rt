@@ -11,12 +11,12 @@ ghost use Rattle.database_trees.specs.Dropped.{AreIndexes, AreTreesOf, TableGone
 
 use crate::DatabaseError;
 use crate::error::of_change;
-use crate::naming::find_table;
 use btree_remove::drop_tree;
 use items::{Items, Text};
 use page_space::{PageSpace, SpaceError};
 use sqlval::{Index, Table};
 use std::alloc::Global;
+use stored_tables::find_table;
 
 /// Gives back the trees of these indexes.
 fn drop_indexes<S: PageSpace>(space: &mut S, indexes: &Items<Index>) -> Result<(), SpaceError>

@@ -5,7 +5,7 @@ ghost use Rattle.denote.specs.SchemaOf.{index_of};
 ghost use Rattle.store.specs.Contents as stored;
 ghost use Rattle.store.specs.Errors.{HasLongKey};
 ghost use Rattle.store.specs.Indexes.{entries_of};
-ghost use Rattle.tablestore.specs.Held.{HoldsRows};
+ghost use Rattle.tablestore.specs.Held.{HoldsFitting};
 ghost use Rattle.catalog_records.specs.Keepable.{ArePlaces, AreAmong, IsTable};
 ghost use Rattle.index_trees.specs.Indexed.{IndexWritten};
 ghost use Rattle.btree.specs.Kept.{LosesNoPage};
@@ -16,35 +16,39 @@ ghost use Rattle.database_trees.specs.Indexed.{table_indexed, IndexMade};
 
 use crate::DatabaseError;
 use crate::exchange::{Exchange, exchange_rows};
-use crate::naming::find_table;
 use crate::settling::put_table;
 use catalog_records::are_among;
 use items::Text;
 use page_space::{PageSpace, SpaceError};
-use sqlval::{Index, Table};
+use sqlval::{Column, Index, Table};
 use std::alloc::Global;
+use stored_tables::find_table;
 use tablestore::scan;
 
-/// Makes the tree of an index over the rows of the tree at a root, and answers its root.
+/// Makes the tree of an index over the rows of the tree at a root, which are of these types, and
+/// answers its root.
 fn filled<S: PageSpace>(
     space: &mut S,
     alloc: Global,
     rows: u32,
+    types: &[Column],
     columns: &[usize],
 ) -> Result<u32, DatabaseError>
-    ensures filled { (owned : List ℕ) (held : List stored.Entry) → HoldsRows (S.pages space.old) rows owned held
+    ensures filled { (owned : List ℕ) (held : List stored.Entry)
+        → HoldsFitting (S.pages space.old) rows owned types.now held
         → IfOk result (IndexWritten (S.pages space.old) (S.pages space.new) [] columns.now held) }
     ensures keeps { IfOk result (LosesNoPage (S.pages space.old) (S.pages space.new) 0) }
-    ensures limits { (owned : List ℕ) (held : List stored.Entry) → HoldsRows (S.pages space.old) rows owned held
+    ensures limits { (owned : List ℕ) (held : List stored.Entry)
+        → HoldsFitting (S.pages space.old) rows owned types.now held
         → IfErr result (Reaches ⊥ (HasLongKeyIn columns.now (stored.rows_of held)) ⊥) }
     ensures whole { OnOk result (S.is_whole space.old → S.is_whole space.new) }
     ensures refusal { IfErr result (SpaceRefused (S.at_limit space.new) ((owned : List ℕ) (held : List stored.Entry)
-        → HoldsRows (S.pages space.old) rows owned held → S.is_whole space.old
+        → HoldsFitting (S.pages space.old) rows owned types.now held → S.is_whole space.old
         → ⊥) (S.refused space.old) (S.refused space.new)) }
     ensures rising { S.refused space.old ≤ S.refused space.new }
     ensures follows { S.follows space.old space.new }
 {
-    match scan(space, alloc, rows) {
+    match scan(space, alloc, rows, types) {
         Ok(put) => {
             let exchange = Exchange { taken: None, put };
             exchange_rows(space, alloc, 0, columns, &exchange)
@@ -137,7 +141,13 @@ fn index_on<S: PageSpace>(
     ensures rising { S.refused space.old ≤ S.refused space.new }
     ensures follows { S.follows space.old space.new }
 {
-    match filled(space, alloc, table.root, index.columns.as_slice()) {
+    match filled(
+        space,
+        alloc,
+        table.root,
+        table.columns.as_slice(),
+        index.columns.as_slice(),
+    ) {
         Ok(top) => put_index(space, alloc, root, table, index, top),
         Err(error) => Err(error),
     }

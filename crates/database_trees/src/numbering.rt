@@ -1,11 +1,11 @@
 //! The numbers of rows.
-ghost use Rattle.std.specs.Prelude.{◌≡◌, ◌≤◌, ◌<◌, ◌+◌, ◌^◌, ℕ, List, length, map, IfOk, IfErr};
+ghost use Rattle.std.specs.Prelude.{◌≡◌, ◌≤◌, ◌<◌, ◌+◌, ◌^◌, ℕ, List, Some, length, map, IfOk, IfErr, IfSome};
 ghost use Rattle.std.specs.List.{enumerate_from};
 ghost use Rattle.std.specs.Option.{option_map};
 ghost use Rattle.store.specs.Contents as stored;
 ghost use Rattle.store.specs.View.{entry_of, IsEntry};
 ghost use Rattle.page_space.specs.Space.{ReadRefused};
-ghost use Rattle.tablestore.specs.Held.{HoldsRows, HoldsNoRows};
+ghost use Rattle.tablestore.specs.Held.{HoldsFitting, HoldsNoFitting, Fits};
 ghost use Rattle.database_trees.specs.Changed.{Reaches, IsOfMemory};
 ghost use Rattle.database_trees.specs.Named.{row_numbered, one_before, if_numbered};
 
@@ -13,6 +13,7 @@ use crate::DatabaseError;
 use denote::Row;
 use items::Items;
 use page_space::{PageReader, SpaceError};
+use sqlval::Column;
 use std::alloc::Global;
 use store::NumberedRow;
 use tablestore::next;
@@ -51,7 +52,8 @@ fn one_before(number: u64) -> Option<u64>
 
 /// What was found, where it has this number.
 fn if_numbered(number: u64, found: Option<NumberedRow>) -> Option<NumberedRow>
-    ensures { option_map entry_of result ≡ if_numbered number (option_map entry_of found) }
+    ensures is { option_map entry_of result ≡ if_numbered number (option_map entry_of found) }
+    ensures same { IfSome result (λ row. found ≡ Some row) }
 {
     match found {
         Some(row) => {
@@ -65,22 +67,25 @@ fn if_numbered(number: u64, found: Option<NumberedRow>) -> Option<NumberedRow>
     }
 }
 
-/// The row of a number in the tree at a root.
+/// The row of a number in the tree at a root, which fits these columns.
 pub fn row_of<R: PageReader>(
     space: &mut R,
     alloc: Global,
     root: u32,
+    columns: &[Column],
     number: u64,
 ) -> Result<Option<NumberedRow>, SpaceError>
-    ensures found { (owned : List ℕ) (rows : List stored.Entry) → HoldsRows (R.pages space.old) root owned rows
+    ensures found { (owned : List ℕ) (rows : List stored.Entry)
+        → HoldsFitting (R.pages space.old) root owned columns.now rows
         → IfOk result (λ found. IsEntry found (row_numbered number rows)) }
+    ensures typed { IfOk result (λ found. IfSome found (λ row. Fits columns.now (entry_of row))) }
     ensures same { R.pages space.new ≡ R.pages space.old }
     ensures whole { R.is_whole space.old → R.is_whole space.new }
-    ensures refusal { IfErr result (ReadRefused (HoldsNoRows (R.pages space.old) root) (R.refused space.old) (R.refused space.new)) }
+    ensures refusal { IfErr result (ReadRefused (HoldsNoFitting (R.pages space.old) root columns.now) (R.refused space.old) (R.refused space.new)) }
     ensures rising { R.refused space.old ≤ R.refused space.new }
     ensures follows { R.follows space.old space.new }
 {
-    match next(space, alloc, root, one_before(number)) {
+    match next(space, alloc, root, columns, one_before(number)) {
         Ok(found) => Ok(if_numbered(number, found)),
         Err(fault) => Err(fault),
     }

@@ -5,6 +5,7 @@ ghost use Rattle.denote.specs.SchemaOf.{index_of};
 ghost use Rattle.store.specs.Contents as stored;
 ghost use Rattle.store.specs.View.{AreEntries};
 ghost use Rattle.store.specs.Errors.{HasLongRow, HasLongKey};
+ghost use Rattle.tablestore.specs.Held.{RowFits};
 ghost use Rattle.tablestore.specs.Rows.{with_number};
 ghost use Rattle.database_trees.specs.Held.{TableAt, HoldsDatabase, contents_of, IsAllOwned};
 ghost use Rattle.database_trees.specs.Changed.{DatabaseWritten, HoldsNoDatabaseIn, SpaceRefused, Reaches, ReachesNone, StoringReaches, IsOfMemory, IsMemoryAlone, DatabaseOwned};
@@ -13,15 +14,16 @@ ghost use Rattle.database_trees.specs.Exchanged.{IsTableOf, HasRow, RowsExchange
 use crate::DatabaseError;
 use crate::error::of_append;
 use crate::exchange::Exchange;
-use crate::naming::find_table;
 use crate::numbering::row_of;
 use crate::settling::settle;
 use denote::Row;
 use items::{Items, Text};
-use page_space::PageSpace;
+use page_space::{PageSpace, SpaceError};
 use sqlval::Table;
 use std::alloc::Global;
 use store::{Numbered, NumberedRow};
+use stored_tables::find_table;
+use tablestore::is_fitting;
 
 /// One row with its number.
 fn one_row(alloc: Global, number: u64, row: Row) -> Result<Numbered, DatabaseError>
@@ -46,6 +48,7 @@ fn replace_row<S: PageSpace>(
     found: NumberedRow,
     row: Row,
 ) -> Result<u32, DatabaseError>
+    requires { RowFits table.now.columns row }
     ensures replaced { (alone : Bool) (h : HasRow alone (S.pages space.old) root table.now found)
         → IfOk result (RowsExchanged alone (S.pages space.new) h.its.before h.its.at h.its.behind (with_number found.number row h.its.at.rows)) }
     ensures limits { IfErr result (Reaches (HasLongRow (row ∷ [])) (HasLongKey (map index_of table.now.indexes) (row ∷ [])) ⊥) }
@@ -79,6 +82,7 @@ fn replace_in<S: PageSpace>(
     number: u64,
     row: Row,
 ) -> Result<u32, DatabaseError>
+    requires { RowFits table.now.columns row }
     ensures replaced { (alone : Bool) (h : IsTableOf alone (S.pages space.old) root table.now)
         → IfOk result (RowsExchanged alone (S.pages space.new) h.before h.at h.behind (with_number number row h.at.rows)) }
     ensures limits { IfErr result (Reaches (HasLongRow (row ∷ [])) (HasLongKey (map index_of table.now.indexes) (row ∷ [])) ⊥) }
@@ -88,11 +92,36 @@ fn replace_in<S: PageSpace>(
     ensures rising { S.refused space.old ≤ S.refused space.new }
     ensures follows { S.follows space.old space.new }
 {
-    match row_of(space, alloc, table.root, number) {
+    match row_of(space, alloc, table.root, table.columns.as_slice(), number) {
         Ok(Some(found)) => replace_row(space, alloc, root, table, found, row),
         Ok(None) => Ok(root),
         Err(fault) => Err(DatabaseError::Space(fault)),
     }
+}
+
+/// Puts a row in place of the one of a number, as `replace_in`. A row that does not fit the table's
+/// columns, which no statement stores, counts as want of memory.
+fn replace_fitting<S: PageSpace>(
+    space: &mut S,
+    alloc: Global,
+    root: u32,
+    table: &Table,
+    number: u64,
+    row: Row,
+) -> Result<u32, DatabaseError>
+    ensures replaced { (alone : Bool) (h : IsTableOf alone (S.pages space.old) root table.now)
+        → IfOk result (RowsExchanged alone (S.pages space.new) h.before h.at h.behind (with_number number row h.at.rows)) }
+    ensures limits { IfErr result (Reaches (HasLongRow (row ∷ [])) (HasLongKey (map index_of table.now.indexes) (row ∷ [])) ⊥) }
+    ensures whole { OnOk result (S.is_whole space.old → S.is_whole space.new) }
+    ensures refusal { IfErr result (SpaceRefused (S.at_limit space.new) (IsTableOf false (S.pages space.old) root table.now
+        → S.is_whole space.old → ⊥) (S.refused space.old) (S.refused space.new)) }
+    ensures rising { S.refused space.old ≤ S.refused space.new }
+    ensures follows { S.follows space.old space.new }
+{
+    if !is_fitting(table.columns.as_slice(), &row) {
+        return Err(DatabaseError::Space(SpaceError::Memory));
+    }
+    replace_in(space, alloc, root, table, number, row)
 }
 
 /// Puts a row in place of the one of a number in the table of a name, and in each of its indexes,
@@ -118,7 +147,7 @@ pub fn replace<S: PageSpace>(
     ensures follows { S.follows space.old space.new }
 {
     match find_table(space, alloc, root, name) {
-        Ok(Some(table)) => replace_in(space, alloc, root, &table, number, row),
+        Ok(Some(table)) => replace_fitting(space, alloc, root, &table, number, row),
         Ok(None) => Ok(root),
         Err(fault) => Err(DatabaseError::Space(fault)),
     }

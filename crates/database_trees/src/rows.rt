@@ -1,11 +1,12 @@
 //! Rows of a table put behind the others, replaced, and deleted.
 ghost use Rattle.std.specs.Prelude.{◌≡◌, ◌≤◌, ◌<◌, ◌+◌, ◌++◌, ◌^◌, ◌∷◌, [], Some, List, length, map, IfOk, IfErr, OnOk, Bool, false};
-ghost use Rattle.std.specs.List.{enumerate_from};
+ghost use Rattle.std.specs.List.{AllByRecursion, enumerate_from};
 ghost use Rattle.std.specs.FinMap.{get};
 ghost use Rattle.denote.specs.SchemaOf.{index_of};
 ghost use Rattle.store.specs.Contents as stored;
 ghost use Rattle.store.specs.Errors.{HasLongRow, HasLongKey};
 ghost use Rattle.store.specs.View.{AreEntries};
+ghost use Rattle.tablestore.specs.Held.{RowFits};
 ghost use Rattle.tablestore.specs.Rows.{without_number, with_number};
 ghost use Rattle.database_trees.specs.Held.{TableAt, HoldsDatabase, contents_of, IsAllOwned};
 ghost use Rattle.database_trees.specs.Changed.{DatabaseWritten, HoldsNoDatabaseIn, SpaceRefused, Reaches, ReachesNone, NumberingReaches, DatabaseOwned};
@@ -14,16 +15,16 @@ ghost use Rattle.database_trees.specs.Exchanged.{IsTableOf, IsAppendable, IsExch
 use crate::DatabaseError;
 use crate::error::of_append;
 use crate::exchange::Exchange;
-use crate::naming::find_table;
 use crate::numbering::{numbers_on, row_of};
 use crate::settling::settle;
 use denote::{Row, Rows};
 use items::{Items, Text};
-use page_space::PageSpace;
+use page_space::{PageSpace, SpaceError};
 use sqlval::Table;
 use std::alloc::Global;
 use store::{Numbered, NumberedRow};
-use tablestore::next_number;
+use stored_tables::find_table;
+use tablestore::{are_fitting, next_number};
 
 /// Puts the rows of an exchange behind those of a table, and answers the schema's root.
 fn put_rows<S: PageSpace>(
@@ -33,6 +34,7 @@ fn put_rows<S: PageSpace>(
     table: &Table,
     exchange: &Exchange,
 ) -> Result<u32, DatabaseError>
+    requires { AllByRecursion (RowFits table.now.columns) exchange.now.put.rows }
     ensures appended { (alone : Bool) (h : IsAppendable alone (S.pages space.old) root table.now exchange.now)
         → IfOk result (RowsExchanged alone (S.pages space.new) h.its.before h.its.at h.its.behind (h.its.at.rows ++ enumerate_from (stored.next_number h.its.at.rows) exchange.now.put.rows)) }
     ensures limits { IfErr result (Reaches (HasLongRow exchange.now.put.rows) (HasLongKey (map index_of table.now.indexes) exchange.now.put.rows)
@@ -58,6 +60,7 @@ fn append_to<S: PageSpace>(
     table: &Table,
     rows: Rows,
 ) -> Result<u32, DatabaseError>
+    requires { AllByRecursion (RowFits table.now.columns) rows }
     ensures appended { (alone : Bool) (h : IsTableOf alone (S.pages space.old) root table.now)
         → IfOk result (RowsExchanged alone (S.pages space.new) h.before h.at h.behind (h.at.rows ++ enumerate_from (stored.next_number h.at.rows) rows)) }
     ensures limits { IfErr result (Reaches (HasLongRow rows) (HasLongKey (map index_of table.now.indexes) rows)
@@ -82,6 +85,32 @@ fn append_to<S: PageSpace>(
         },
         Err(fault) => Err(DatabaseError::Space(fault)),
     }
+}
+
+/// Puts rows behind those of a table, as `append_to`. Rows that do not fit its columns, which no
+/// statement stores, count as want of memory.
+fn append_fitting<S: PageSpace>(
+    space: &mut S,
+    alloc: Global,
+    root: u32,
+    table: &Table,
+    rows: Rows,
+) -> Result<u32, DatabaseError>
+    ensures appended { (alone : Bool) (h : IsTableOf alone (S.pages space.old) root table.now)
+        → IfOk result (RowsExchanged alone (S.pages space.new) h.before h.at h.behind (h.at.rows ++ enumerate_from (stored.next_number h.at.rows) rows)) }
+    ensures limits { IfErr result (Reaches (HasLongRow rows) (HasLongKey (map index_of table.now.indexes) rows)
+        ((h : IsTableOf false (S.pages space.old) root table.now)
+        → 2 ^ 63 < stored.next_number h.at.rows + length rows)) }
+    ensures whole { OnOk result (S.is_whole space.old → S.is_whole space.new) }
+    ensures refusal { IfErr result (SpaceRefused (S.at_limit space.new) (IsTableOf false (S.pages space.old) root table.now
+        → S.is_whole space.old → ⊥) (S.refused space.old) (S.refused space.new)) }
+    ensures rising { S.refused space.old ≤ S.refused space.new }
+    ensures follows { S.follows space.old space.new }
+{
+    if !are_fitting(table.columns.as_slice(), rows.as_slice()) {
+        return Err(DatabaseError::Space(SpaceError::Memory));
+    }
+    append_to(space, alloc, root, table, rows)
 }
 
 /// Puts rows behind those of the table of a name, numbered on, and into each of its indexes, and
@@ -110,7 +139,7 @@ pub fn append<S: PageSpace>(
     ensures follows { S.follows space.old space.new }
 {
     match find_table(space, alloc, root, name) {
-        Ok(Some(table)) => append_to(space, alloc, root, &table, rows),
+        Ok(Some(table)) => append_fitting(space, alloc, root, &table, rows),
         Ok(None) => Ok(root),
         Err(fault) => Err(DatabaseError::Space(fault)),
     }
@@ -172,7 +201,7 @@ fn delete_from<S: PageSpace>(
     ensures rising { S.refused space.old ≤ S.refused space.new }
     ensures follows { S.follows space.old space.new }
 {
-    match row_of(space, alloc, table.root, number) {
+    match row_of(space, alloc, table.root, table.columns.as_slice(), number) {
         Ok(Some(found)) => {
             let exchange = nothing_put(alloc, found);
             delete_row(space, alloc, root, table, number, &exchange)

@@ -10,12 +10,12 @@ use crate::DatabaseError;
 use crate::error::of_change;
 use crate::exchange::Exchange;
 use crate::indexes::exchange_each;
-use crate::naming::find_table;
 use catalog::alter_table;
 use items::Items;
 use page_space::{PageSpace, SpaceError};
 use sqlval::{Index, Table};
 use std::alloc::Global;
+use stored_tables::find_table;
 
 /// Whether there is an index at a place, and begins at a root.
 fn begins_at(indexes: &Items<Index>, at: usize, root: u32) -> bool

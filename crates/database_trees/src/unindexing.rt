@@ -12,7 +12,6 @@ ghost use Rattle.database_trees.specs.Exchanged.{IsTableOf, HasTable, TablePut};
 ghost use Rattle.database_trees.specs.Unindexed.{without_named, table_without, IndexesLeft, IndexesGone, TablesUnindexed};
 
 use crate::DatabaseError;
-use crate::naming::find_table;
 use crate::settling::put_table;
 use btree_remove::drop_tree;
 use catalog::read_schema;
@@ -20,6 +19,7 @@ use items::{Items, Text};
 use page_space::{PageSpace, SpaceError};
 use sqlval::{Index, Table};
 use std::alloc::Global;
+use stored_tables::find_table;
 
 /// Indexes without those of a name.
 fn without_named(

@@ -16,7 +16,7 @@ mod schema;
 pub use blocks::{some_rows_of, some_rows_sought, some_rows_within};
 pub use causes::of_pool;
 pub use closing::close_pool;
-pub use laws::each_page_has_its_place;
+pub use laws::{each_page_has_its_place, saved_files_end_in_zeros};
 pub use looking::{row_beyond, rows_sought, rows_within};
 pub use opening::pool_over;
 pub use reading::{row_after, rows_of, schema_of};

@@ -5,3 +5,4 @@ pub mod StepLemmas
 pub mod StandLemmas
 pub mod PlaceLemmas
 pub mod BlockLemmas
+pub mod AheadLemmas

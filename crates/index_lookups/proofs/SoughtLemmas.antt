@@ -1,11 +1,13 @@
 -- Which rows a walk along an index may pass over.
 use Rattle.std.proofs.Common.{◌≡◌, ◌∙◌, refl, sym, ap, subst, ℕ, Bool, true, false, List, [], ◌∷◌, ◌++◌, append_assoc, ◌⊎◌, inl, inr, Ordering}
-use Rattle.std.specs.Prelude.{◌&&◌, filter, if◌then◌else◌, slice_index_or}
-use Rattle.std.specs.Ordering.{ordering_then, is_lt, is_gt, is_eq, is_le, is_ge, int_cmp}
+use Rattle.std.specs.Prelude.{◌&&◌, Some, filter, nat_lt, if◌then◌else◌, slice_index_or}
+use Rattle.std.specs.Ordering.{nat_cmp, ordering_then, is_lt, is_gt, is_eq, is_le, is_ge, int_cmp}
 use Rattle.std.specs.Cmp.Lexicographic.{slice_cmp, pointwise}
 use Rattle.std.specs.declared.cmp.Ordering.TheVariants.{Less, Equal, Greater}
 use Rattle.std.specs.declared.ops.Bound.{Bound}
 use Rattle.std.specs.declared.ops.Bound.TheVariants.{Included, Excluded, Unbounded}
+use Rattle.std.specs.Cmp.{nat_cmp_is}
+use Rattle.std.proofs.lemmas.Bool.{ltb-true}
 use Rattle.std.proofs.lemmas.Cmp.{lists_total, nat_cmp_total, tied_itself, upto}
 use Rattle.std.proofs.lemmas.List.{append-nil as append_nil}
 use Rattle.sqlval.specs.declared.value.Value.{Value}
@@ -17,7 +19,7 @@ use Rattle.sqlval.specs.Matching.{is_equal, key_of, matches}
 use Rattle.sqlval.specs.Truth.{same_truth, truth_of}
 use Rattle.sqlval.proofs.ValueOrderLaws.{value_order_total, value_order-level}
 use Rattle.store.specs.Contents.{Entry}
-use Rattle.store.specs.Indexes.{by_columns, first_of, is_above, is_below}
+use Rattle.store.specs.Indexes.{by_columns, first_of, is_above, is_below, is_beyond}
 use Rattle.store.specs.Sorted.{put_by, sorted_by}
 use Rattle.sqlrecord.specs.Storable.{AllStorable}
 use Rattle.sqlrecord.specs.Key.{value_key, key_code, number_code, byte_order}
@@ -97,6 +99,15 @@ key_past columns key e f h g greater before = refuted (matches columns key f.1) 
     let same : key_of columns f.1 ≡ key = equal_keys (key_of columns f.1) key m in
     let less : is_gt (slice_cmp value_order (key_of columns e.1) key) ≡ false = subst (λ (k : List Value). is_gt (slice_cmp value_order (key_of columns e.1) k) ≡ false) same (values_not_greater columns e f h g before) in
     never (sym less ∙ greater))
+
+-- one that matches a key, and is not beyond it with a number, has no greater number
+pub key_not_above : (columns : List ℕ) (key : List Value) (number : ℕ) (e : Entry) → is_beyond (Some (key, number)) (key_of columns e.1) e.0 ≡ false → (matches columns key e.1 && nat_lt number e.0) ≡ false
+key_not_above columns key number e before = refuted (matches columns key e.1 && nat_lt number e.0) (λ m.
+    let both = both_true (matches columns key e.1) (nat_lt number e.0) m in
+    let tied : slice_cmp value_order (key_of columns e.1) key ≡ Equal =
+    ap (λ (k : List Value). slice_cmp value_order k key) (equal_keys (key_of columns e.1) key both.0) ∙ tied_itself (lists_total value_order_total) key in
+    let greater : nat_cmp e.0 number ≡ Greater = sym (nat_cmp_is e.0 number Greater (ltb-true number e.0 both.1)) in
+    never (sym before ∙ ap (λ o. is_gt (ordering_then o (nat_cmp e.0 number))) tied ∙ ap is_gt greater))
 
 -- rows that match one key tie
 pub matching_tie : (columns : List ℕ) (key : List Value) (e f : Entry) → matches columns key e.1 ≡ true → matches columns key f.1 ≡ true → is_gt (by_columns columns e f) ≡ false

@@ -6,6 +6,7 @@ use Rattle.std.specs.List.{AllByRecursion}
 use Rattle.std.specs.Option.{option_map}
 use Rattle.std.specs.declared.ops.Bound.{Bound}
 use Rattle.std.specs.declared.ops.Bound.TheVariants.{Included, Excluded, Unbounded}
+use Rattle.sqlval.specs.declared.schema.Column.{Column}
 use Rattle.sqlval.specs.declared.value.Value.{Value}
 use Rattle.sqlval.specs.Matching.{key_of, matches}
 use Rattle.store.specs.declared.rows.NumberedRow.{NumberedRow}
@@ -29,34 +30,35 @@ use Rattle.tablestore.specs.Held.{IsKept, AreKept}
 use Rattle.index_trees.specs.Indexed.{index_entry, IsRow}
 use Rattle.database_trees.specs.Named.{row_numbered}
 use Rattle.database_trees.proofs.NumberLemmas.{AreRising, rising}
+use Rattle.database_trees.proofs.SmallLemmas.{held_is_short}
 use Rattle.index_lookups.specs.declared.sought.Sought.{Sought}
 use Rattle.index_lookups.specs.declared.sought.Sought.TheVariants.{Key, KeyAbove, Within, Beyond, Above}
 use Rattle.index_lookups.specs.declared.walking.Walk.{Walk}
 use Rattle.index_lookups.specs.Sought.{is_wanted, is_past}
-use Rattle.index_lookups.specs.Walked.{walk_of, HoldsIndexed, StandsAt, HasStepped}
+use Rattle.index_lookups.specs.Walked.{walk_of, HoldsIndexed, StandsAt, StandsBefore, HasStepped}
 use Rattle.index_lookups.specs.Begun.{MaySkip, MayPass, IsStart, StartsBelow, IsNextRow, IsRowBehind, rows_within, block_within}
 use Rattle.index_lookups.proofs.CodeOrder.{code_of, beyond_place}
 use Rattle.index_lookups.proofs.WalkLemmas.{AreCoded, walk_is, sorted_all, sorted_coded, sorted_has}
-use Rattle.index_lookups.proofs.SoughtLemmas.{key_skipped, key_past_itself, key_past, matching_tie, sorted_filtered, over_not_below, over_on, first_not_greater, low_skipped}
+use Rattle.index_lookups.proofs.SoughtLemmas.{key_skipped, key_past_itself, key_past, key_not_above, matching_tie, sorted_filtered, over_not_below, over_on, first_not_greater, low_skipped}
 use Rattle.index_lookups.proofs.StepLemmas.{filter_front, filter_none, filter_each, filter_step, from_on, coded_left, next_entry_of, row_is_there, row_middle}
 
 -- ---- an index that lies there
 
-pub indexed_in : (old new : PageMap) (root rows_root : ℕ) (columns : List ℕ) (rows : List stored.Entry) → new ≡ old → HoldsIndexed old root rows_root columns rows → HoldsIndexed new root rows_root columns rows
-indexed_in old new root rows_root columns rows same h = subst (λ (p : PageMap). HoldsIndexed p root rows_root columns rows) (sym same) h
+pub indexed_in : (old new : PageMap) (root rows_root : ℕ) (types : List Column) (columns : List ℕ) (rows : List stored.Entry) → new ≡ old → HoldsIndexed old root rows_root types columns rows → HoldsIndexed new root rows_root types columns rows
+indexed_in old new root rows_root types columns rows same h = subst (λ (p : PageMap). HoldsIndexed p root rows_root types columns rows) (sym same) h
 
-module _ (pages : PageMap) (root rows_root : ℕ) (columns : List ℕ) (rows : List stored.Entry) (h : HoldsIndexed pages root rows_root columns rows) where
+module _ (pages : PageMap) (root rows_root : ℕ) (types : List Column) (columns : List ℕ) (rows : List stored.Entry) (h : HoldsIndexed pages root rows_root types columns rows) where
   rise : AreRising rows
-  rise = rising pages rows_root h.rows_owned rows h.table
+  rise = rising pages rows_root h.rows_owned rows h.table.holds
 
   pub entries_walked : h.index.entries ≡ map (index_entry columns) (walk_of columns rows)
-  entries_walked = walk_is pages root h.owned columns rows h.index h.table.kept rise
+  entries_walked = walk_is pages root h.owned columns rows h.index h.table.holds.kept rise
 
   pub walk_coded : AreCoded columns (walk_of columns rows)
-  walk_coded = sorted_coded columns rows h.table.kept rise
+  walk_coded = sorted_coded columns rows h.table.holds.kept rise
 
   pub walk_kept : AreKept (walk_of columns rows)
-  walk_kept = sorted_all (by_columns columns) IsKept rows h.table.kept
+  walk_kept = sorted_all (by_columns columns) IsKept rows h.table.holds.kept
 
   -- a walk that begins at a code
   pub record HasBegun (start : Start) (code : List ℕ) (next : Option Entry) : Type 0 where
@@ -90,6 +92,23 @@ module _ (pages : PageMap) (root rows_root : ℕ) (columns : List ℕ) (rows : L
   -- the row of the entry at which a walk stands
   pub row_stands_there : (entry : Entry) (e : stored.Entry) (rest : List stored.Entry) → StandsAt columns rows (Some entry) (e ∷ rest) → row_numbered e.0 rows ≡ Some e
   row_stands_there entry e rest s = row_is_there e rows rise (sorted_has (by_columns columns) e rows (subst (IsRow e) (sym s.whole) (row_middle s.front rest e)))
+
+  -- the entry at which a walk stands is that of the row
+  pub entry_is : (entry : Entry) (left : List stored.Entry) (row : stored.Entry) → StandsAt columns rows (Some entry) left → slice_get left 0 ≡ Some row → entry ≡ index_entry columns row
+  entry_is entry left row s is = same_entry entry (index_entry columns row) (s.first ∙ ap (option_map (index_entry columns)) is)
+    where
+      same_entry : (a b : Entry) → Some a ≡ Some b → a ≡ b
+      same_entry a b q = cc
+
+  row_among : (left : List stored.Entry) (row : stored.Entry) (front : List stored.Entry) → walk_of columns rows ≡ front ++ left → slice_get left 0 ≡ Some row → IsRow row rows
+  row_among [] row front whole is = absurd (cc)
+  row_among (e ∷ rest) row front whole is =
+      let same : e ≡ row = cc in
+      subst (λ (r : stored.Entry). IsRow r rows) same (sorted_has (by_columns columns) e rows (subst (IsRow e) (sym whole) (row_middle front rest e)))
+
+  -- whose key is not too long
+  pub never_long : (entry : Entry) (left : List stored.Entry) (row : stored.Entry) → StandsAt columns rows (Some entry) left → slice_get left 0 ≡ Some row → 600 < key_length (key_of columns row.1) + 8 → ⊥
+  never_long entry left row s is long = held_is_short pages root h.owned columns rows row h.index (row_among left row s.front s.whole is) long
 
   -- a walk that stands at an entry has a row left
   pub record HasFirst (entry : Entry) (left : List stored.Entry) : Type 0 where
@@ -230,7 +249,7 @@ split_first (x ∷ left) e h = ap (λ y. y ∷ left) (same x e h)
     same : (a b : stored.Entry) → Some a ≡ Some b → a ≡ b
     same a b q = cc
 
-pub step_ended : (columns : List ℕ) (rows : List stored.Entry) (wanted : stored.Entry → Bool) (left list : List stored.Entry) (walk : Walk) → StandsAt columns rows walk.next left → AreEntries walk.found list → filter wanted left ≡ [] → HasStepped columns rows wanted left list walk true
+pub step_ended : (columns : List ℕ) (rows : List stored.Entry) (wanted : stored.Entry → Bool) (left list : List stored.Entry) (walk : Walk) → StandsBefore columns rows walk.ahead left → AreEntries walk.found list → filter wanted left ≡ [] → HasStepped columns rows wanted left list walk true
 step_ended columns rows wanted left list walk s are none = record {
   rest = left;
   more = [];
@@ -240,10 +259,10 @@ step_ended columns rows wanted left list walk s are none = record {
   last = λ e. none;
 }
 
-pub stands_first : (columns : List ℕ) (rows left : List stored.Entry) (next : Option Entry) (e : stored.Entry) (rest : List stored.Entry) → left ≡ e ∷ rest → StandsAt columns rows next left → StandsAt columns rows next (e ∷ rest)
-stands_first columns rows left next e rest q s = subst (StandsAt columns rows next) q s
+pub stands_first : (columns : List ℕ) (rows left : List stored.Entry) (ahead : List Entry) (e : stored.Entry) (rest : List stored.Entry) → left ≡ e ∷ rest → StandsBefore columns rows ahead left → StandsBefore columns rows ahead (e ∷ rest)
+stands_first columns rows left ahead e rest q s = subst (StandsBefore columns rows ahead) q s
 
-pub step_on : (columns : List ℕ) (rows : List stored.Entry) (wanted : stored.Entry → Bool) (e : stored.Entry) (rest list : List stored.Entry) (left : List stored.Entry) (walk : Walk) → left ≡ e ∷ rest → StandsAt columns rows walk.next rest
+pub step_on : (columns : List ℕ) (rows : List stored.Entry) (wanted : stored.Entry → Bool) (e : stored.Entry) (rest list : List stored.Entry) (left : List stored.Entry) (walk : Walk) → left ≡ e ∷ rest → StandsBefore columns rows walk.ahead rest
     → AreEntries walk.found (list ++ (if wanted e then e ∷ [] else [])) → HasStepped columns rows wanted left list walk false
 step_on columns rows wanted e rest list left walk q s are = record {
   rest = rest;
@@ -257,20 +276,20 @@ step_on columns rows wanted e rest list left walk q s are = record {
     never : false ≡ true → ⊥
     never w = cc
 
-module _ (pages : PageMap) (root rows_root : ℕ) (columns : List ℕ) (rows : List stored.Entry) (h : HoldsIndexed pages root rows_root columns rows) where
-  pub ended_past : (sought : Sought) (left list : List stored.Entry) (walk : Walk) (e : stored.Entry) → StandsAt columns rows walk.next left → slice_get left 0 ≡ Some e → AreEntries walk.found list
+module _ (pages : PageMap) (root rows_root : ℕ) (types : List Column) (columns : List ℕ) (rows : List stored.Entry) (h : HoldsIndexed pages root rows_root types columns rows) where
+  pub ended_past : (sought : Sought) (left list : List stored.Entry) (walk : Walk) (e : stored.Entry) → StandsBefore columns rows walk.ahead left → slice_get left 0 ≡ Some e → AreEntries walk.found list
       → is_past sought columns e ≡ true → HasStepped columns rows (is_wanted sought columns) left list walk true
   ended_past sought left list walk e s first are past =
       let q = split_first left e first in
       step_ended columns rows (is_wanted sought columns) left list walk s are
       (ap (filter (is_wanted sought columns)) q ∙ none_past sought columns e (rest_of left e first)
-      (subst AreKept q (kept_there pages root rows_root columns rows h walk.next left s)) (subst (AreCoded columns) q (coded_there pages root rows_root columns rows h walk.next left s)) past)
+      (subst AreKept q (kept_there pages root rows_root types columns rows h (slice_get walk.ahead 0) left s.stands)) (subst (AreCoded columns) q (coded_there pages root rows_root types columns rows h (slice_get walk.ahead 0) left s.stands)) past)
 
 nothing_left : (left : List stored.Entry) → None ≡ slice_get left 0 → left ≡ []
 nothing_left [] e = refl
 nothing_left (x ∷ left) e = absurd (cc)
 
-pub ended_behind : (columns : List ℕ) (rows : List stored.Entry) (wanted : stored.Entry → Bool) (left list : List stored.Entry) (walk : Walk) → StandsAt columns rows walk.next left → None ≡ slice_get left 0 → AreEntries walk.found list
+pub ended_behind : (columns : List ℕ) (rows : List stored.Entry) (wanted : stored.Entry → Bool) (left list : List stored.Entry) (walk : Walk) → StandsBefore columns rows walk.ahead left → None ≡ slice_get left 0 → AreEntries walk.found list
     → HasStepped columns rows wanted left list walk true
 ended_behind columns rows wanted left list walk s none are = step_ended columns rows wanted left list walk s are (ap (filter wanted) (nothing_left left none))
 
@@ -326,7 +345,7 @@ first_of_all columns xs = ap (λ ys. slice_get ys 0) (filter_each (λ (e : store
 pub record IsWalking (columns : List ℕ) (rows : List stored.Entry) (wanted : stored.Entry → Bool) (left : List stored.Entry) (walk : Walk) : Type 0 where
   pub rest : List stored.Entry
   pub list : List stored.Entry
-  pub stands : StandsAt columns rows walk.next rest
+  pub stands : StandsBefore columns rows walk.ahead rest
   pub are : AreEntries walk.found list
   pub is : list ++ filter wanted rest ≡ filter wanted left
 
@@ -389,6 +408,13 @@ first_block_is low high columns rows most = ap (take most) (sym (filter_all (row
 
 pub key_above_may_skip : (key : Bor (List Value)) (number : ℕ) (columns code : List ℕ) → IsStart key.now code → MaySkip (KeyAbove key number) columns code
 key_above_may_skip key number columns code start e kept before = and_first (matches columns key.now e.1) (nat_lt number e.0) (key_may_skip key.now columns code start e before)
+
+-- no row up to a number is sought above it
+pub key_above_may_pass : (key : Bor (List Value)) (number : ℕ) (columns code : List ℕ) → AllStorable key.now → length key.now ≡ length columns → number < 2 ^ 64
+    → code ≡ index_key_code key.now number → MayPass (KeyAbove key number) columns code
+key_above_may_pass key number columns code storable long small is e kept before =
+    key_not_above columns key.now number e
+    (sym (beyond_place columns key.now number e storable long small kept) ∙ ap (λ (k : List ℕ). precedes k (code_of columns e)) (sym is) ∙ before)
 
 -- those that match a key above a number, in the order of their numbers
 pub sought_above_is : (key : Bor (List Value)) (number : ℕ) (columns : List ℕ) (rows : List stored.Entry) (most : ℕ)

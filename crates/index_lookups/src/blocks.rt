@@ -1,13 +1,15 @@
 //! Blocks of rows: at most so many behind a place.
-ghost use Rattle.std.specs.Prelude.{◌≡◌, ◌≤◌, ℕ, List, Some, None, ◌++◌, ◌∷◌, [], filter, take, IfOk, IfErr, OnOk};
+ghost use Rattle.std.specs.Prelude.{◌≡◌, ◌≤◌, ℕ, List, Some, None, filter, take, IfOk, IfErr};
 ghost use Rattle.std.specs.FinMap.{get};
 ghost use Rattle.std.specs.Option.{option_map};
+ghost use Rattle.sqlval.specs.declared.schema.Table.{Table as AnyTable};
 ghost use Rattle.sqlval.specs.Matching.{matches};
 ghost use Rattle.store.specs.Contents as stored;
 ghost use Rattle.store.specs.Indexes.{entries_of, some_after, some_sought, some_ranged};
-ghost use Rattle.store.specs.View.{AreEntries, entry_of, position_of};
+ghost use Rattle.store.specs.View.{AreEntries, position_of};
 ghost use Rattle.page_space.specs.Space.{ReadRefused};
-ghost use Rattle.tablestore.specs.Held.{HoldsRows, HoldsNoRows};
+ghost use Rattle.catalog.specs.Held.{HoldsSchema};
+ghost use Rattle.stored_tables.specs.Named.{table_named, AreTyped};
 ghost use Rattle.database_trees.specs.Held.{TableAt, HoldsDatabase, HoldsNoDatabase, contents_of};
 ghost use Rattle.index_lookups.specs.Sought.{is_wanted};
 ghost use Rattle.index_lookups.specs.Walked.{walk_of, HoldsIndexed, HoldsNoIndexed};
@@ -16,60 +18,20 @@ ghost use Rattle.index_lookups.specs.Begun.{MaySkip, MayPass, rows_within, block
 use crate::lookups::{no_rows, start_above, start_of};
 use crate::places::{Place, index_at};
 use crate::sought::Sought;
-use crate::walking::some_from;
-use database_trees::find_table;
+use crate::walking::{FIRST, some_from};
+use btree_read::{Start, entries_from};
 use items::Text;
 use page_space::{PageReader, SpaceError};
 use sqlrecord::{EncodeError, encode_index_key};
 use sqlval::Value;
-use std::alloc::{AllocError, Global};
+use std::alloc::Global;
 use std::ops::Bound;
-use store::{Numbered, NumberedRow, Position};
-
-/// Puts a row behind others.
-fn put_row(found: &mut Numbered, row: NumberedRow) -> Result<(), AllocError>
-    ensures { (rows : List stored.Entry) → AreEntries found.old rows
-        → OnOk result (AreEntries found.new (rows ++ entry_of row ∷ [])) }
-{
-    let NumberedRow { number, row } = row;
-    found.numbers.push(number)?;
-    found.rows.push(row)?;
-    Ok(())
-}
-
-/// The first rows above a number of the tree at a root, at most so many.
-fn rows_above<R: PageReader>(
-    space: &mut R,
-    alloc: Global,
-    root: u32,
-    after: Option<u64>,
-    most: usize,
-) -> Result<Numbered, SpaceError>
-    ensures rows { (owned : List ℕ) (rows : List stored.Entry) → HoldsRows (R.pages space.old) root owned rows
-        → IfOk result (λ found. AreEntries found (some_after after most rows)) }
-    ensures same { R.pages space.new ≡ R.pages space.old }
-    ensures whole { R.is_whole space.old → R.is_whole space.new }
-    ensures refusal { IfErr result (ReadRefused (HoldsNoRows (R.pages space.old) root) (R.refused space.old) (R.refused space.new)) }
-    ensures rising { R.refused space.old ≤ R.refused space.new }
-    ensures follows { R.follows space.old space.new }
-{
-    let mut found = no_rows(alloc);
-    let mut place = after;
-    'read: for _row in 0..most {
-        match tablestore::next(space, alloc, root, place) {
-            Ok(Some(row)) => {
-                place = Some(row.number);
-                put_row(&mut found, row)?;
-            }
-            Ok(None) => return Ok(found),
-            Err(fault) => return Err(fault),
-        }
-    }
-    Ok(found)
-}
+use store::{Numbered, Position};
+use stored_tables::find_table;
 
 /// The first rows above a number of the table of a name, at most so many; none where no table has
-/// the name. It reads the pages on the way to each row.
+/// the name. Wherever a schema lies they have the types of the table's columns. It reads the pages
+/// on one way down, and those behind it that have such rows.
 ///
 /// Refused as `seek` is.
 pub fn scan_block<R: PageReader>(
@@ -82,6 +44,8 @@ pub fn scan_block<R: PageReader>(
 ) -> Result<Numbered, SpaceError>
     ensures rows { (tables : List TableAt) → HoldsDatabase (R.pages space.old) root tables
         → IfOk result (λ found. AreEntries found (some_after after most (entries_of (get (contents_of tables) name.now)))) }
+    ensures typed { (owned : List ℕ) (tables : List AnyTable) → HoldsSchema (R.pages space.old) root owned tables
+        → IfOk result (λ found. AreTyped (table_named name.now tables) found.rows) }
     ensures same { R.pages space.new ≡ R.pages space.old }
     ensures whole { R.is_whole space.old → R.is_whole space.new }
     ensures refusal { IfErr result (ReadRefused (HoldsNoDatabase (R.pages space.old) root) (R.refused space.old) (R.refused space.new)) }
@@ -89,7 +53,10 @@ pub fn scan_block<R: PageReader>(
     ensures follows { R.follows space.old space.new }
 {
     match find_table(space, alloc, root, name) {
-        Ok(Some(table)) => rows_above(space, alloc, table.root, after, most),
+        Ok(Some(table)) => {
+            let columns = table.columns.as_slice();
+            tablestore::some_rows(space, alloc, table.root, columns, after, most)
+        }
         Ok(None) => Ok(no_rows(alloc)),
         Err(fault) => Err(fault),
     }
@@ -106,16 +73,16 @@ fn some_at<R: PageReader>(
     most: usize,
 ) -> Result<Numbered, SpaceError>
     ensures rows { (rows : List stored.Entry)
-        → HoldsIndexed (R.pages space.old) place.now.root place.now.rows_root place.now.columns rows
+        → HoldsIndexed (R.pages space.old) place.now.root place.now.rows_root place.now.types place.now.columns rows
         → MaySkip sought.entry place.now.columns code.now
         → IfOk result (λ found. AreEntries found (take most (filter (is_wanted sought.entry place.now.columns) (walk_of place.now.columns rows)))) }
     ensures same { R.pages space.new ≡ R.pages space.old }
     ensures whole { R.is_whole space.old → R.is_whole space.new }
-    ensures refusal { IfErr result (ReadRefused (HoldsNoIndexed (R.pages space.old) place.now.root place.now.rows_root place.now.columns) (R.refused space.old) (R.refused space.new)) }
+    ensures refusal { IfErr result (ReadRefused (HoldsNoIndexed (R.pages space.old) place.now.root place.now.rows_root place.now.types place.now.columns) (R.refused space.old) (R.refused space.new)) }
     ensures rising { R.refused space.old ≤ R.refused space.new }
     ensures follows { R.follows space.old space.new }
 {
-    match btree_read::seek(space, alloc, place.root, code) {
+    match entries_from(space, alloc, place.root, Start::At, code, FIRST) {
         Ok(first) => some_from(space, alloc, place, sought, first, most),
         Err(fault) => Err(fault),
     }
@@ -131,16 +98,16 @@ fn some_behind<R: PageReader>(
     most: usize,
 ) -> Result<Numbered, SpaceError>
     ensures rows { (rows : List stored.Entry)
-        → HoldsIndexed (R.pages space.old) place.now.root place.now.rows_root place.now.columns rows
+        → HoldsIndexed (R.pages space.old) place.now.root place.now.rows_root place.now.types place.now.columns rows
         → MayPass sought.entry place.now.columns code.now
         → IfOk result (λ found. AreEntries found (take most (filter (is_wanted sought.entry place.now.columns) (walk_of place.now.columns rows)))) }
     ensures same { R.pages space.new ≡ R.pages space.old }
     ensures whole { R.is_whole space.old → R.is_whole space.new }
-    ensures refusal { IfErr result (ReadRefused (HoldsNoIndexed (R.pages space.old) place.now.root place.now.rows_root place.now.columns) (R.refused space.old) (R.refused space.new)) }
+    ensures refusal { IfErr result (ReadRefused (HoldsNoIndexed (R.pages space.old) place.now.root place.now.rows_root place.now.types place.now.columns) (R.refused space.old) (R.refused space.new)) }
     ensures rising { R.refused space.old ≤ R.refused space.new }
     ensures follows { R.follows space.old space.new }
 {
-    match btree_read::next(space, alloc, place.root, code) {
+    match entries_from(space, alloc, place.root, Start::Behind, code, FIRST) {
         Ok(first) => some_from(space, alloc, place, sought, first, most),
         Err(fault) => Err(fault),
     }
@@ -155,11 +122,11 @@ fn first_sought<R: PageReader>(
     most: usize,
 ) -> Result<Numbered, SpaceError>
     ensures rows { (rows : List stored.Entry)
-        → HoldsIndexed (R.pages space.old) place.now.root place.now.rows_root place.now.columns rows
+        → HoldsIndexed (R.pages space.old) place.now.root place.now.rows_root place.now.types place.now.columns rows
         → IfOk result (λ found. AreEntries found (some_after None most (filter (λ (e : stored.Entry). matches place.now.columns key.now e.1) rows))) }
     ensures same { R.pages space.new ≡ R.pages space.old }
     ensures whole { R.is_whole space.old → R.is_whole space.new }
-    ensures refusal { IfErr result (ReadRefused (HoldsNoIndexed (R.pages space.old) place.now.root place.now.rows_root place.now.columns) (R.refused space.old) (R.refused space.new)) }
+    ensures refusal { IfErr result (ReadRefused (HoldsNoIndexed (R.pages space.old) place.now.root place.now.rows_root place.now.types place.now.columns) (R.refused space.old) (R.refused space.new)) }
     ensures rising { R.refused space.old ≤ R.refused space.new }
     ensures follows { R.follows space.old space.new }
 {
@@ -169,8 +136,9 @@ fn first_sought<R: PageReader>(
     }
 }
 
-/// The first rows whose columns equal a key above a number, at most so many.
-fn sought_above<R: PageReader>(
+/// The first rows whose columns equal a key above a number, at most so many, by a walk that begins at
+/// the key and passes over its rows up to the number.
+fn sought_past<R: PageReader>(
     space: &mut R,
     alloc: Global,
     place: &Place,
@@ -179,11 +147,11 @@ fn sought_above<R: PageReader>(
     most: usize,
 ) -> Result<Numbered, SpaceError>
     ensures rows { (rows : List stored.Entry)
-        → HoldsIndexed (R.pages space.old) place.now.root place.now.rows_root place.now.columns rows
+        → HoldsIndexed (R.pages space.old) place.now.root place.now.rows_root place.now.types place.now.columns rows
         → IfOk result (λ found. AreEntries found (some_after (Some number) most (filter (λ (e : stored.Entry). matches place.now.columns key.now e.1) rows))) }
     ensures same { R.pages space.new ≡ R.pages space.old }
     ensures whole { R.is_whole space.old → R.is_whole space.new }
-    ensures refusal { IfErr result (ReadRefused (HoldsNoIndexed (R.pages space.old) place.now.root place.now.rows_root place.now.columns) (R.refused space.old) (R.refused space.new)) }
+    ensures refusal { IfErr result (ReadRefused (HoldsNoIndexed (R.pages space.old) place.now.root place.now.rows_root place.now.types place.now.columns) (R.refused space.old) (R.refused space.new)) }
     ensures rising { R.refused space.old ≤ R.refused space.new }
     ensures follows { R.follows space.old space.new }
 {
@@ -200,6 +168,42 @@ fn sought_above<R: PageReader>(
     }
 }
 
+/// The first rows whose columns equal a key above a number, at most so many.
+fn sought_above<R: PageReader>(
+    space: &mut R,
+    alloc: Global,
+    place: &Place,
+    key: &[Value],
+    number: u64,
+    most: usize,
+) -> Result<Numbered, SpaceError>
+    ensures rows { (rows : List stored.Entry)
+        → HoldsIndexed (R.pages space.old) place.now.root place.now.rows_root place.now.types place.now.columns rows
+        → IfOk result (λ found. AreEntries found (some_after (Some number) most (filter (λ (e : stored.Entry). matches place.now.columns key.now e.1) rows))) }
+    ensures same { R.pages space.new ≡ R.pages space.old }
+    ensures whole { R.is_whole space.old → R.is_whole space.new }
+    ensures refusal { IfErr result (ReadRefused (HoldsNoIndexed (R.pages space.old) place.now.root place.now.rows_root place.now.types place.now.columns) (R.refused space.old) (R.refused space.new)) }
+    ensures rising { R.refused space.old ≤ R.refused space.new }
+    ensures follows { R.follows space.old space.new }
+{
+    if key.len() != place.columns.len() {
+        return sought_past(space, alloc, place, key, number, most);
+    }
+    match encode_index_key(alloc, key, number) {
+        Ok(code) => some_behind(
+            space,
+            alloc,
+            place,
+            Sought::KeyAbove(key, number),
+            code.as_slice(),
+            most,
+        ),
+        Err(EncodeError::Key) => sought_past(space, alloc, place, key, number, most),
+        Err(EncodeError::OutOfMemory) => Err(SpaceError::Memory),
+        Err(EncodeError::Record) => unreachable!(),
+    }
+}
+
 /// The first rows whose columns equal a key, above a number where there is one, at most so many.
 fn sought_at<R: PageReader>(
     space: &mut R,
@@ -210,11 +214,11 @@ fn sought_at<R: PageReader>(
     most: usize,
 ) -> Result<Numbered, SpaceError>
     ensures rows { (rows : List stored.Entry)
-        → HoldsIndexed (R.pages space.old) place.now.root place.now.rows_root place.now.columns rows
+        → HoldsIndexed (R.pages space.old) place.now.root place.now.rows_root place.now.types place.now.columns rows
         → IfOk result (λ found. AreEntries found (some_after after most (filter (λ (e : stored.Entry). matches place.now.columns key.now e.1) rows))) }
     ensures same { R.pages space.new ≡ R.pages space.old }
     ensures whole { R.is_whole space.old → R.is_whole space.new }
-    ensures refusal { IfErr result (ReadRefused (HoldsNoIndexed (R.pages space.old) place.now.root place.now.rows_root place.now.columns) (R.refused space.old) (R.refused space.new)) }
+    ensures refusal { IfErr result (ReadRefused (HoldsNoIndexed (R.pages space.old) place.now.root place.now.rows_root place.now.types place.now.columns) (R.refused space.old) (R.refused space.new)) }
     ensures rising { R.refused space.old ≤ R.refused space.new }
     ensures follows { R.follows space.old space.new }
 {
@@ -225,8 +229,8 @@ fn sought_at<R: PageReader>(
 }
 
 /// The first rows whose columns equal a key above a number, at most so many, in the order of their
-/// numbers. It reads the pages on the way to the key, and on the way to each row that has the key,
-/// to the last one that it gives.
+/// numbers. It reads the pages on the way to the key with the number, and those behind with its
+/// entries, and the pages on the way to each row that it gives.
 ///
 /// Refused as `seek` is.
 pub fn seek_block<R: PageReader>(
@@ -264,11 +268,11 @@ fn first_block<R: PageReader>(
     most: usize,
 ) -> Result<Numbered, SpaceError>
     ensures rows { (rows : List stored.Entry)
-        → HoldsIndexed (R.pages space.old) place.now.root place.now.rows_root place.now.columns rows
+        → HoldsIndexed (R.pages space.old) place.now.root place.now.rows_root place.now.types place.now.columns rows
         → IfOk result (λ found. AreEntries found (take most (rows_within low.now high.now place.now.columns rows))) }
     ensures same { R.pages space.new ≡ R.pages space.old }
     ensures whole { R.is_whole space.old → R.is_whole space.new }
-    ensures refusal { IfErr result (ReadRefused (HoldsNoIndexed (R.pages space.old) place.now.root place.now.rows_root place.now.columns) (R.refused space.old) (R.refused space.new)) }
+    ensures refusal { IfErr result (ReadRefused (HoldsNoIndexed (R.pages space.old) place.now.root place.now.rows_root place.now.types place.now.columns) (R.refused space.old) (R.refused space.new)) }
     ensures rising { R.refused space.old ≤ R.refused space.new }
     ensures follows { R.follows space.old space.new }
 {
@@ -297,11 +301,11 @@ fn block_sought<R: PageReader>(
     most: usize,
 ) -> Result<Numbered, SpaceError>
     ensures rows { (rows : List stored.Entry)
-        → HoldsIndexed (R.pages space.old) place.now.root place.now.rows_root place.now.columns rows
+        → HoldsIndexed (R.pages space.old) place.now.root place.now.rows_root place.now.types place.now.columns rows
         → IfOk result (λ found. AreEntries found (block_within low.now high.now place.now.columns rows (Some (position_of after.now)) most)) }
     ensures same { R.pages space.new ≡ R.pages space.old }
     ensures whole { R.is_whole space.old → R.is_whole space.new }
-    ensures refusal { IfErr result (ReadRefused (HoldsNoIndexed (R.pages space.old) place.now.root place.now.rows_root place.now.columns) (R.refused space.old) (R.refused space.new)) }
+    ensures refusal { IfErr result (ReadRefused (HoldsNoIndexed (R.pages space.old) place.now.root place.now.rows_root place.now.types place.now.columns) (R.refused space.old) (R.refused space.new)) }
     ensures rising { R.refused space.old ≤ R.refused space.new }
     ensures follows { R.follows space.old space.new }
 {
@@ -329,11 +333,11 @@ fn block_behind<R: PageReader>(
     most: usize,
 ) -> Result<Numbered, SpaceError>
     ensures rows { (rows : List stored.Entry)
-        → HoldsIndexed (R.pages space.old) place.now.root place.now.rows_root place.now.columns rows
+        → HoldsIndexed (R.pages space.old) place.now.root place.now.rows_root place.now.types place.now.columns rows
         → IfOk result (λ found. AreEntries found (block_within low.now high.now place.now.columns rows (Some (position_of after.now)) most)) }
     ensures same { R.pages space.new ≡ R.pages space.old }
     ensures whole { R.is_whole space.old → R.is_whole space.new }
-    ensures refusal { IfErr result (ReadRefused (HoldsNoIndexed (R.pages space.old) place.now.root place.now.rows_root place.now.columns) (R.refused space.old) (R.refused space.new)) }
+    ensures refusal { IfErr result (ReadRefused (HoldsNoIndexed (R.pages space.old) place.now.root place.now.rows_root place.now.types place.now.columns) (R.refused space.old) (R.refused space.new)) }
     ensures rising { R.refused space.old ≤ R.refused space.new }
     ensures follows { R.follows space.old space.new }
 {
@@ -367,11 +371,11 @@ fn block_at<R: PageReader>(
     most: usize,
 ) -> Result<Numbered, SpaceError>
     ensures rows { (rows : List stored.Entry)
-        → HoldsIndexed (R.pages space.old) place.now.root place.now.rows_root place.now.columns rows
+        → HoldsIndexed (R.pages space.old) place.now.root place.now.rows_root place.now.types place.now.columns rows
         → IfOk result (λ found. AreEntries found (block_within low.now high.now place.now.columns rows (option_map (λ p. position_of p.now) after.entry) most)) }
     ensures same { R.pages space.new ≡ R.pages space.old }
     ensures whole { R.is_whole space.old → R.is_whole space.new }
-    ensures refusal { IfErr result (ReadRefused (HoldsNoIndexed (R.pages space.old) place.now.root place.now.rows_root place.now.columns) (R.refused space.old) (R.refused space.new)) }
+    ensures refusal { IfErr result (ReadRefused (HoldsNoIndexed (R.pages space.old) place.now.root place.now.rows_root place.now.types place.now.columns) (R.refused space.old) (R.refused space.new)) }
     ensures rising { R.refused space.old ≤ R.refused space.new }
     ensures follows { R.follows space.old space.new }
 {

@@ -15,8 +15,8 @@ ghost use Rattle.index_lookups.specs.Begun.{MaySkip, IsStart, StartsBelow, rows_
 
 use crate::places::{Place, index_at};
 use crate::sought::Sought;
-use crate::walking::{row_found, rows_from};
-use btree_read::next;
+use crate::walking::{FIRST, row_found, rows_from};
+use btree_read::{Start, entries_from, next};
 use items::{Items, Text};
 use page_space::{PageReader, SpaceError};
 use sqlrecord::{EncodeError, encode_index_key, encode_key};
@@ -44,16 +44,16 @@ fn rows_behind<R: PageReader>(
     code: &[u8],
 ) -> Result<Numbered, SpaceError>
     ensures rows { (rows : List stored.Entry)
-        → HoldsIndexed (R.pages space.old) place.now.root place.now.rows_root place.now.columns rows
+        → HoldsIndexed (R.pages space.old) place.now.root place.now.rows_root place.now.types place.now.columns rows
         → MaySkip sought.entry place.now.columns code.now
         → IfOk result (λ found. AreEntries found (filter (is_wanted sought.entry place.now.columns) (walk_of place.now.columns rows))) }
     ensures same { R.pages space.new ≡ R.pages space.old }
     ensures whole { R.is_whole space.old → R.is_whole space.new }
-    ensures refusal { IfErr result (ReadRefused (HoldsNoIndexed (R.pages space.old) place.now.root place.now.rows_root place.now.columns) (R.refused space.old) (R.refused space.new)) }
+    ensures refusal { IfErr result (ReadRefused (HoldsNoIndexed (R.pages space.old) place.now.root place.now.rows_root place.now.types place.now.columns) (R.refused space.old) (R.refused space.new)) }
     ensures rising { R.refused space.old ≤ R.refused space.new }
     ensures follows { R.follows space.old space.new }
 {
-    match btree_read::seek(space, alloc, place.root, code) {
+    match entries_from(space, alloc, place.root, Start::At, code, FIRST) {
         Ok(first) => rows_from(space, alloc, place, sought, first),
         Err(fault) => Err(fault),
     }
@@ -81,11 +81,11 @@ fn matching<R: PageReader>(
     key: &[Value],
 ) -> Result<Numbered, SpaceError>
     ensures rows { (rows : List stored.Entry)
-        → HoldsIndexed (R.pages space.old) place.now.root place.now.rows_root place.now.columns rows
+        → HoldsIndexed (R.pages space.old) place.now.root place.now.rows_root place.now.types place.now.columns rows
         → IfOk result (λ found. AreEntries found (filter (λ (e : stored.Entry). matches place.now.columns key.now e.1) rows)) }
     ensures same { R.pages space.new ≡ R.pages space.old }
     ensures whole { R.is_whole space.old → R.is_whole space.new }
-    ensures refusal { IfErr result (ReadRefused (HoldsNoIndexed (R.pages space.old) place.now.root place.now.rows_root place.now.columns) (R.refused space.old) (R.refused space.new)) }
+    ensures refusal { IfErr result (ReadRefused (HoldsNoIndexed (R.pages space.old) place.now.root place.now.rows_root place.now.types place.now.columns) (R.refused space.old) (R.refused space.new)) }
     ensures rising { R.refused space.old ≤ R.refused space.new }
     ensures follows { R.follows space.old space.new }
 {
@@ -146,11 +146,11 @@ fn within<R: PageReader>(
     high: &Bound<Value>,
 ) -> Result<Numbered, SpaceError>
     ensures rows { (rows : List stored.Entry)
-        → HoldsIndexed (R.pages space.old) place.now.root place.now.rows_root place.now.columns rows
+        → HoldsIndexed (R.pages space.old) place.now.root place.now.rows_root place.now.types place.now.columns rows
         → IfOk result (λ found. AreEntries found (rows_within low.now high.now place.now.columns rows)) }
     ensures same { R.pages space.new ≡ R.pages space.old }
     ensures whole { R.is_whole space.old → R.is_whole space.new }
-    ensures refusal { IfErr result (ReadRefused (HoldsNoIndexed (R.pages space.old) place.now.root place.now.rows_root place.now.columns) (R.refused space.old) (R.refused space.new)) }
+    ensures refusal { IfErr result (ReadRefused (HoldsNoIndexed (R.pages space.old) place.now.root place.now.rows_root place.now.types place.now.columns) (R.refused space.old) (R.refused space.new)) }
     ensures rising { R.refused space.old ≤ R.refused space.new }
     ensures follows { R.follows space.old space.new }
 {
@@ -220,11 +220,11 @@ fn first_beyond<R: PageReader>(
     after: &Position,
 ) -> Result<Option<NumberedRow>, SpaceError>
     ensures row { (rows : List stored.Entry)
-        → HoldsIndexed (R.pages space.old) place.now.root place.now.rows_root place.now.columns rows
+        → HoldsIndexed (R.pages space.old) place.now.root place.now.rows_root place.now.types place.now.columns rows
         → IfOk result (IsNextRow place.now.columns rows (Some (position_of after.now))) }
     ensures same { R.pages space.new ≡ R.pages space.old }
     ensures whole { R.is_whole space.old → R.is_whole space.new }
-    ensures refusal { IfErr result (ReadRefused (HoldsNoIndexed (R.pages space.old) place.now.root place.now.rows_root place.now.columns) (R.refused space.old) (R.refused space.new)) }
+    ensures refusal { IfErr result (ReadRefused (HoldsNoIndexed (R.pages space.old) place.now.root place.now.rows_root place.now.types place.now.columns) (R.refused space.old) (R.refused space.new)) }
     ensures rising { R.refused space.old ≤ R.refused space.new }
     ensures follows { R.follows space.old space.new }
 {
@@ -242,11 +242,11 @@ fn row_behind<R: PageReader>(
     code: &[u8],
 ) -> Result<Option<NumberedRow>, SpaceError>
     ensures row { (rows : List stored.Entry)
-        → HoldsIndexed (R.pages space.old) place.now.root place.now.rows_root place.now.columns rows
+        → HoldsIndexed (R.pages space.old) place.now.root place.now.rows_root place.now.types place.now.columns rows
         → IfOk result (IsRowBehind place.now.columns rows code.now) }
     ensures same { R.pages space.new ≡ R.pages space.old }
     ensures whole { R.is_whole space.old → R.is_whole space.new }
-    ensures refusal { IfErr result (ReadRefused (HoldsNoIndexed (R.pages space.old) place.now.root place.now.rows_root place.now.columns) (R.refused space.old) (R.refused space.new)) }
+    ensures refusal { IfErr result (ReadRefused (HoldsNoIndexed (R.pages space.old) place.now.root place.now.rows_root place.now.types place.now.columns) (R.refused space.old) (R.refused space.new)) }
     ensures rising { R.refused space.old ≤ R.refused space.new }
     ensures follows { R.follows space.old space.new }
 {
@@ -263,11 +263,11 @@ fn first_row<R: PageReader>(
     place: &Place,
 ) -> Result<Option<NumberedRow>, SpaceError>
     ensures row { (rows : List stored.Entry)
-        → HoldsIndexed (R.pages space.old) place.now.root place.now.rows_root place.now.columns rows
+        → HoldsIndexed (R.pages space.old) place.now.root place.now.rows_root place.now.types place.now.columns rows
         → IfOk result (IsNextRow place.now.columns rows None) }
     ensures same { R.pages space.new ≡ R.pages space.old }
     ensures whole { R.is_whole space.old → R.is_whole space.new }
-    ensures refusal { IfErr result (ReadRefused (HoldsNoIndexed (R.pages space.old) place.now.root place.now.rows_root place.now.columns) (R.refused space.old) (R.refused space.new)) }
+    ensures refusal { IfErr result (ReadRefused (HoldsNoIndexed (R.pages space.old) place.now.root place.now.rows_root place.now.types place.now.columns) (R.refused space.old) (R.refused space.new)) }
     ensures rising { R.refused space.old ≤ R.refused space.new }
     ensures follows { R.follows space.old space.new }
 {
@@ -285,11 +285,11 @@ fn row_beyond<R: PageReader>(
     after: &Position,
 ) -> Result<Option<NumberedRow>, SpaceError>
     ensures row { (rows : List stored.Entry)
-        → HoldsIndexed (R.pages space.old) place.now.root place.now.rows_root place.now.columns rows
+        → HoldsIndexed (R.pages space.old) place.now.root place.now.rows_root place.now.types place.now.columns rows
         → IfOk result (IsNextRow place.now.columns rows (Some (position_of after.now))) }
     ensures same { R.pages space.new ≡ R.pages space.old }
     ensures whole { R.is_whole space.old → R.is_whole space.new }
-    ensures refusal { IfErr result (ReadRefused (HoldsNoIndexed (R.pages space.old) place.now.root place.now.rows_root place.now.columns) (R.refused space.old) (R.refused space.new)) }
+    ensures refusal { IfErr result (ReadRefused (HoldsNoIndexed (R.pages space.old) place.now.root place.now.rows_root place.now.types place.now.columns) (R.refused space.old) (R.refused space.new)) }
     ensures rising { R.refused space.old ≤ R.refused space.new }
     ensures follows { R.follows space.old space.new }
 {

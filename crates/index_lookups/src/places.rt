@@ -6,38 +6,42 @@ ghost use Rattle.page_space.specs.Space.{ReadRefused};
 ghost use Rattle.database_trees.specs.Held.{TableAt, HoldsDatabase, HoldsNoDatabase, contents_of};
 ghost use Rattle.index_lookups.specs.Walked.{place_of, IsPlaceOf};
 
-use database_trees::find_table;
 use items::{Items, Text};
 use page_space::{PageReader, SpaceError};
-use sqlval::{Index, Table};
+use sqlval::{Column, Index, Table};
 use std::alloc::Global;
+use stored_tables::find_table;
 
-/// An index of a table: its columns, the root of its tree, and the root of the table's rows.
+/// An index of a table: its columns, the root of its tree, the table's columns, and the root of its
+/// rows.
 #[derive(Drop)]
 pub(crate) struct Place {
     pub(crate) columns: Items<usize>,
     pub(crate) root: u32,
+    pub(crate) types: Items<Column>,
     pub(crate) rows_root: u32,
 }
 
-fn of_index(index: Index, rows_root: u32) -> Place
-    ensures { result ≡ place_of rows_root index }
+fn of_index(index: Index, types: Items<Column>, rows_root: u32) -> Place
+    ensures { result ≡ place_of types rows_root index }
 {
     Place {
         columns: index.columns,
         root: index.root,
+        types,
         rows_root,
     }
 }
 
 /// The index at a place of a table; `None` behind the last.
 fn place_in(table: Table, at: usize) -> Option<Place>
-    ensures { result ≡ option_map (place_of table.root) (slice_get table.indexes at) }
+    ensures { result ≡ option_map (place_of table.columns table.root) (slice_get table.indexes at) }
 {
     let rows_root = table.root;
+    let types = table.columns;
     let mut indexes = table.indexes;
     if at < indexes.len() {
-        Some(of_index(indexes.remove(at), rows_root))
+        Some(of_index(indexes.remove(at), types, rows_root))
     } else {
         None
     }

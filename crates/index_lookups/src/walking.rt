@@ -1,56 +1,126 @@
 //! Rows read in the order of an index.
-ghost use Rattle.std.specs.Prelude.{◌≡◌, ◌≤◌, ℕ, ◌++◌, ◌∷◌, [], List, Some, slice_get, filter, take, if◌then◌else◌, IfOk, IfErr, OnOk};
+ghost use Rattle.std.specs.Prelude.{◌≡◌, ◌≢◌, ◌≤◌, ◌<◌, ◌+◌, ℕ, ◌++◌, ◌∷◌, [], List, Some, slice_get, filter, take, if◌then◌else◌, IfOk, IfErr, OnOk};
 ghost use Rattle.std.specs.Option.{option_map};
+ghost use Rattle.sqlval.specs.CodedLength.{key_length};
+ghost use Rattle.sqlval.specs.Matching.{key_of};
 ghost use Rattle.store.specs.Contents as stored;
 ghost use Rattle.store.specs.View.{AreEntries, entry_of};
 ghost use Rattle.page_space.specs.Space.{ReadRefused};
-ghost use Rattle.tablestore.specs.Held.{HoldsRows, HoldsNoRows};
+ghost use Rattle.tablestore.specs.Held.{HoldsFitting, HoldsNoFitting, Fits};
+ghost use Rattle.index_trees.specs.Indexed.{index_entry};
 ghost use Rattle.database_trees.specs.Named.{row_numbered};
 ghost use Rattle.index_lookups.specs.Sought.{is_wanted};
-ghost use Rattle.index_lookups.specs.Walked.{HoldsIndexed, StandsAt, StandsNowhere, HasStepped};
+ghost use Rattle.index_lookups.specs.Walked.{HoldsIndexed, HoldsNoIndexed, StandsAt, StandsNowhere, StandsBefore, NoneStandsBefore, HasStepped};
 
 use crate::places::Place;
 use crate::sought::{Sought, is_past, is_wanted};
-use btree_read::{Entry, next};
+use btree_read::{Entry, Start, entries_from};
 use database_trees::row_of;
+use index_trees::is_entry_of;
 use items::Items;
 use page_space::{PageReader, SpaceError};
 use sqlrecord::row_number_of;
+use sqlval::Column;
 use std::alloc::{AllocError, Global};
 use store::{Numbered, NumberedRow};
 
-/// A walk along an index: the rows that were found, and the entry at which it stands.
+/// How many entries are read at the beginning of a walk: those of a key that one row has, and the
+/// one behind it.
+pub(crate) const FIRST: usize = 2;
+
+/// How many are read ahead later.
+const AHEAD: usize = 16;
+
+/// A walk along an index: the rows that were found, and the entries that come next, as far as they
+/// were read; none where it has ended.
 #[derive(Drop)]
 pub(crate) struct Walk {
     pub(crate) found: Numbered,
-    pub(crate) next: Option<Entry>,
+    pub(crate) ahead: Items<Entry>,
 }
 
-/// The row of a number, which the table has.
+/// The row of a number, which the table has, of these types.
 fn row_there<R: PageReader>(
     space: &mut R,
     alloc: Global,
     rows_root: u32,
+    types: &[Column],
     number: u64,
 ) -> Result<NumberedRow, SpaceError>
-    ensures row { (owned : List ℕ) (rows : List stored.Entry) → HoldsRows (R.pages space.old) rows_root owned rows
+    ensures row { (owned : List ℕ) (rows : List stored.Entry)
+        → HoldsFitting (R.pages space.old) rows_root owned types.now rows
         → IfOk result (λ found. row_numbered number rows ≡ Some (entry_of found)) }
+    ensures typed { IfOk result (λ found. Fits types.now (entry_of found)) }
     ensures same { R.pages space.new ≡ R.pages space.old }
     ensures whole { R.is_whole space.old → R.is_whole space.new }
     ensures refusal { IfErr result (ReadRefused ((owned : List ℕ) (rows : List stored.Entry) (e : stored.Entry)
-        → HoldsRows (R.pages space.old) rows_root owned rows → row_numbered number rows ≡ Some e
+        → HoldsFitting (R.pages space.old) rows_root owned types.now rows → row_numbered number rows ≡ Some e
         → ⊥) (R.refused space.old) (R.refused space.new)) }
     ensures rising { R.refused space.old ≤ R.refused space.new }
     ensures follows { R.follows space.old space.new }
 {
-    match row_of(space, alloc, rows_root, number) {
+    match row_of(space, alloc, rows_root, types, number) {
         Ok(Some(found)) => Ok(found),
         Ok(None) => Err(SpaceError::Damaged),
         Err(fault) => Err(fault),
     }
 }
 
-/// The row of an entry of an index.
+/// The row of the number that an entry of an index ends with.
+fn row_named<R: PageReader>(
+    space: &mut R,
+    alloc: Global,
+    place: &Place,
+    entry: &Entry,
+) -> Result<NumberedRow, SpaceError>
+    ensures row { (rows left : List stored.Entry)
+        → HoldsIndexed (R.pages space.old) place.now.root place.now.rows_root place.now.types place.now.columns rows
+        → StandsAt place.now.columns rows (Some entry.now) left
+        → IfOk result (λ found. slice_get left 0 ≡ Some (entry_of found)) }
+    ensures typed { IfOk result (λ found. Fits place.now.types (entry_of found)) }
+    ensures same { R.pages space.new ≡ R.pages space.old }
+    ensures whole { R.is_whole space.old → R.is_whole space.new }
+    ensures refusal { IfErr result (ReadRefused (StandsNowhere (R.pages space.old) place.now.root place.now.rows_root place.now.types place.now.columns (Some entry.now)) (R.refused space.old) (R.refused space.new)) }
+    ensures rising { R.refused space.old ≤ R.refused space.new }
+    ensures follows { R.follows space.old space.new }
+{
+    match row_number_of(entry.key.as_slice()) {
+        Some(number) => row_there(
+            space,
+            alloc,
+            place.rows_root,
+            place.types.as_slice(),
+            number,
+        ),
+        None => Err(SpaceError::Damaged),
+    }
+}
+
+/// The row that was found, where the entry is the one that it has in the index.
+fn if_entry(
+    alloc: Global,
+    columns: &[usize],
+    entry: &Entry,
+    found: NumberedRow,
+) -> Result<NumberedRow, SpaceError>
+    ensures row { IfOk result (λ row. row ≡ found) }
+    ensures entry { IfOk result (λ row. entry.now ≡ index_entry columns.now (entry_of row)) }
+    ensures refusal { (a b : ℕ) → IfErr result (ReadRefused (entry.now ≡ index_entry columns.now (entry_of found)
+        → 600 < key_length (key_of columns.now found.row) + 8) a b) }
+{
+    match is_entry_of(alloc, columns, &found, entry) {
+        Ok(is_one) => {
+            if is_one {
+                return Ok(found);
+            }
+            Err(SpaceError::Damaged)
+        }
+        Err(fault) => Err(fault),
+    }
+}
+
+/// The row of an entry of an index: of the table's types, and one of which this is the entry,
+/// whatever lies there.
 fn row_of_entry<R: PageReader>(
     space: &mut R,
     alloc: Global,
@@ -58,22 +128,24 @@ fn row_of_entry<R: PageReader>(
     entry: &Entry,
 ) -> Result<NumberedRow, SpaceError>
     ensures row { (rows left : List stored.Entry)
-        → HoldsIndexed (R.pages space.old) place.now.root place.now.rows_root place.now.columns rows
+        → HoldsIndexed (R.pages space.old) place.now.root place.now.rows_root place.now.types place.now.columns rows
         → StandsAt place.now.columns rows (Some entry.now) left
         → IfOk result (λ found. slice_get left 0 ≡ Some (entry_of found)) }
+    ensures typed { IfOk result (λ found. Fits place.now.types (entry_of found)) }
+    ensures entry { IfOk result (λ found. entry.now ≡ index_entry place.now.columns (entry_of found)) }
     ensures same { R.pages space.new ≡ R.pages space.old }
     ensures whole { R.is_whole space.old → R.is_whole space.new }
-    ensures refusal { IfErr result (ReadRefused (StandsNowhere (R.pages space.old) place.now.root place.now.rows_root place.now.columns (Some entry.now)) (R.refused space.old) (R.refused space.new)) }
+    ensures refusal { IfErr result (ReadRefused (StandsNowhere (R.pages space.old) place.now.root place.now.rows_root place.now.types place.now.columns (Some entry.now)) (R.refused space.old) (R.refused space.new)) }
     ensures rising { R.refused space.old ≤ R.refused space.new }
     ensures follows { R.follows space.old space.new }
 {
-    match row_number_of(entry.key.as_slice()) {
-        Some(number) => row_there(space, alloc, place.rows_root, number),
-        None => Err(SpaceError::Damaged),
+    match row_named(space, alloc, place, entry) {
+        Ok(found) => if_entry(alloc, place.columns.as_slice(), entry, found),
+        Err(fault) => Err(fault),
     }
 }
 
-/// The row of the entry at which a walk stands, if it has not ended.
+/// The row of an entry at which a walk may stand, if it has not ended.
 pub(crate) fn row_found<R: PageReader>(
     space: &mut R,
     alloc: Global,
@@ -81,12 +153,12 @@ pub(crate) fn row_found<R: PageReader>(
     entry: &Option<Entry>,
 ) -> Result<Option<NumberedRow>, SpaceError>
     ensures row { (rows left : List stored.Entry)
-        → HoldsIndexed (R.pages space.old) place.now.root place.now.rows_root place.now.columns rows
+        → HoldsIndexed (R.pages space.old) place.now.root place.now.rows_root place.now.types place.now.columns rows
         → StandsAt place.now.columns rows entry.now left
         → IfOk result (λ found. option_map entry_of found ≡ slice_get left 0) }
     ensures same { R.pages space.new ≡ R.pages space.old }
     ensures whole { R.is_whole space.old → R.is_whole space.new }
-    ensures refusal { IfErr result (ReadRefused (StandsNowhere (R.pages space.old) place.now.root place.now.rows_root place.now.columns entry.now) (R.refused space.old) (R.refused space.new)) }
+    ensures refusal { IfErr result (ReadRefused (StandsNowhere (R.pages space.old) place.now.root place.now.rows_root place.now.types place.now.columns entry.now) (R.refused space.old) (R.refused space.new)) }
     ensures rising { R.refused space.old ≤ R.refused space.new }
     ensures follows { R.follows space.old space.new }
 {
@@ -113,26 +185,35 @@ fn put_if(found: &mut Numbered, is_one: bool, row: NumberedRow) -> Result<(), Al
     Ok(())
 }
 
-/// The entry behind the one at which a walk stands.
-fn entry_behind<R: PageReader>(
+/// Goes on to the next entry: of those that were read ahead, or of some more that are read then.
+fn pass<R: PageReader>(
     space: &mut R,
     alloc: Global,
     place: &Place,
-    at: &Option<Entry>,
-) -> Result<Option<Entry>, SpaceError>
+    ahead: &mut Items<Entry>,
+) -> Result<(), SpaceError>
+    requires { ahead.old ≢ [] }
     ensures stands { (rows rest : List stored.Entry) (e : stored.Entry)
-        → HoldsIndexed (R.pages space.old) place.now.root place.now.rows_root place.now.columns rows
-        → StandsAt place.now.columns rows at.now (e ∷ rest)
-        → IfOk result (λ entry. StandsAt place.now.columns rows entry rest) }
+        → HoldsIndexed (R.pages space.old) place.now.root place.now.rows_root place.now.types place.now.columns rows
+        → StandsBefore place.now.columns rows ahead.old (e ∷ rest)
+        → OnOk result (StandsBefore place.now.columns rows ahead.new rest) }
     ensures same { R.pages space.new ≡ R.pages space.old }
     ensures whole { R.is_whole space.old → R.is_whole space.new }
-    ensures refusal { IfErr result (ReadRefused (StandsNowhere (R.pages space.old) place.now.root place.now.rows_root place.now.columns at.now) (R.refused space.old) (R.refused space.new)) }
+    ensures refusal { IfErr result (ReadRefused (HoldsNoIndexed (R.pages space.old) place.now.root place.now.rows_root place.now.types place.now.columns) (R.refused space.old) (R.refused space.new)) }
     ensures rising { R.refused space.old ≤ R.refused space.new }
     ensures follows { R.follows space.old space.new }
 {
-    match at {
-        Some(entry) => next(space, alloc, place.root, entry.key.as_slice()),
-        None => Ok(None),
+    let entry = ahead.remove(0);
+    if !ahead.is_empty() {
+        return Ok(());
+    }
+    let key = entry.key.as_slice();
+    match entries_from(space, alloc, place.root, Start::Behind, key, AHEAD) {
+        Ok(more) => {
+            *ahead = more;
+            Ok(())
+        }
+        Err(fault) => Err(fault),
     }
 }
 
@@ -145,25 +226,25 @@ fn go_on<R: PageReader>(
     walk: &mut Walk,
     row: NumberedRow,
 ) -> Result<bool, SpaceError>
+    requires { walk.old.ahead ≢ [] }
     ensures stepped { (rows left list : List stored.Entry)
-        → HoldsIndexed (R.pages space.old) place.now.root place.now.rows_root place.now.columns rows
-        → StandsAt place.now.columns rows walk.old.next left
+        → HoldsIndexed (R.pages space.old) place.now.root place.now.rows_root place.now.types place.now.columns rows
+        → StandsBefore place.now.columns rows walk.old.ahead left
         → slice_get left 0 ≡ Some (entry_of row) → AreEntries walk.old.found list
         → IfOk result (HasStepped place.now.columns rows (is_wanted sought.entry place.now.columns) left list walk.new) }
     ensures same { R.pages space.new ≡ R.pages space.old }
     ensures whole { R.is_whole space.old → R.is_whole space.new }
-    ensures refusal { IfErr result (ReadRefused (StandsNowhere (R.pages space.old) place.now.root place.now.rows_root place.now.columns walk.old.next) (R.refused space.old) (R.refused space.new)) }
+    ensures refusal { IfErr result (ReadRefused (NoneStandsBefore (R.pages space.old) place.now.root place.now.rows_root place.now.types place.now.columns walk.old.ahead) (R.refused space.old) (R.refused space.new)) }
     ensures rising { R.refused space.old ≤ R.refused space.new }
     ensures follows { R.follows space.old space.new }
 {
     if is_past(sought, place.columns.as_slice(), &row) {
         return Ok(true);
     }
-    match entry_behind(space, alloc, place, &walk.next) {
-        Ok(entry) => {
+    match pass(space, alloc, place, &mut walk.ahead) {
+        Ok(()) => {
             let is_one = is_wanted(sought, place.columns.as_slice(), &row);
             put_if(&mut walk.found, is_one, row)?;
-            walk.next = entry;
             Ok(false)
         }
         Err(fault) => Err(fault),
@@ -179,41 +260,43 @@ fn step<R: PageReader>(
     walk: &mut Walk,
 ) -> Result<bool, SpaceError>
     ensures stepped { (rows left list : List stored.Entry)
-        → HoldsIndexed (R.pages space.old) place.now.root place.now.rows_root place.now.columns rows
-        → StandsAt place.now.columns rows walk.old.next left
+        → HoldsIndexed (R.pages space.old) place.now.root place.now.rows_root place.now.types place.now.columns rows
+        → StandsBefore place.now.columns rows walk.old.ahead left
         → AreEntries walk.old.found list
         → IfOk result (HasStepped place.now.columns rows (is_wanted sought.entry place.now.columns) left list walk.new) }
     ensures same { R.pages space.new ≡ R.pages space.old }
     ensures whole { R.is_whole space.old → R.is_whole space.new }
-    ensures refusal { IfErr result (ReadRefused (StandsNowhere (R.pages space.old) place.now.root place.now.rows_root place.now.columns walk.old.next) (R.refused space.old) (R.refused space.new)) }
+    ensures refusal { IfErr result (ReadRefused (NoneStandsBefore (R.pages space.old) place.now.root place.now.rows_root place.now.types place.now.columns walk.old.ahead) (R.refused space.old) (R.refused space.new)) }
     ensures rising { R.refused space.old ≤ R.refused space.new }
     ensures follows { R.follows space.old space.new }
 {
-    match row_found(space, alloc, place, &walk.next) {
-        Ok(Some(row)) => go_on(space, alloc, place, sought, walk, row),
-        Ok(None) => Ok(true),
-        Err(fault) => Err(fault),
+    match walk.ahead.get(0) {
+        None => Ok(true),
+        Some(entry) => match row_of_entry(space, alloc, place, entry) {
+            Ok(row) => go_on(space, alloc, place, sought, walk, row),
+            Err(fault) => Err(fault),
+        },
     }
 }
 
-/// The rows of a walk from an entry on that are sought, in the order of the index.
+/// The rows of a walk from these entries on that are sought, in the order of the index.
 ///
 /// Refused for want of memory, where the device refuses a call, and as damaged only where no walk
-/// along an index stands at the entry.
+/// along an index stands before these entries.
 pub(crate) fn rows_from<R: PageReader>(
     space: &mut R,
     alloc: Global,
     place: &Place,
     sought: Sought<'_>,
-    first: Option<Entry>,
+    first: Items<Entry>,
 ) -> Result<Numbered, SpaceError>
     ensures rows { (rows left : List stored.Entry)
-        → HoldsIndexed (R.pages space.old) place.now.root place.now.rows_root place.now.columns rows
-        → StandsAt place.now.columns rows first left
+        → HoldsIndexed (R.pages space.old) place.now.root place.now.rows_root place.now.types place.now.columns rows
+        → StandsBefore place.now.columns rows first left
         → IfOk result (λ found. AreEntries found (filter (is_wanted sought.entry place.now.columns) left)) }
     ensures same { R.pages space.new ≡ R.pages space.old }
     ensures whole { R.is_whole space.old → R.is_whole space.new }
-    ensures refusal { IfErr result (ReadRefused (StandsNowhere (R.pages space.old) place.now.root place.now.rows_root place.now.columns first) (R.refused space.old) (R.refused space.new)) }
+    ensures refusal { IfErr result (ReadRefused (NoneStandsBefore (R.pages space.old) place.now.root place.now.rows_root place.now.types place.now.columns first) (R.refused space.old) (R.refused space.new)) }
     ensures rising { R.refused space.old ≤ R.refused space.new }
     ensures follows { R.follows space.old space.new }
 {
@@ -222,7 +305,7 @@ pub(crate) fn rows_from<R: PageReader>(
             numbers: Items::new(alloc),
             rows: Items::new(alloc),
         },
-        next: first,
+        ahead: first,
     };
     'walked: for _ in 0..u64::MAX {
         if step(space, alloc, place, sought, &mut walk)? {
@@ -244,26 +327,26 @@ fn first_rows(found: Numbered, most: usize) -> Numbered
     Numbered { numbers, rows }
 }
 
-/// At most so many of the rows of a walk from an entry on that are sought, in the order of the
+/// At most so many of the rows of a walk from these entries on that are sought, in the order of the
 /// index.
 ///
 /// Refused for want of memory, where the device refuses a call, and as damaged only where no walk
-/// along an index stands at the entry.
+/// along an index stands before these entries.
 pub(crate) fn some_from<R: PageReader>(
     space: &mut R,
     alloc: Global,
     place: &Place,
     sought: Sought<'_>,
-    first: Option<Entry>,
+    first: Items<Entry>,
     most: usize,
 ) -> Result<Numbered, SpaceError>
     ensures rows { (rows left : List stored.Entry)
-        → HoldsIndexed (R.pages space.old) place.now.root place.now.rows_root place.now.columns rows
-        → StandsAt place.now.columns rows first left
+        → HoldsIndexed (R.pages space.old) place.now.root place.now.rows_root place.now.types place.now.columns rows
+        → StandsBefore place.now.columns rows first left
         → IfOk result (λ found. AreEntries found (take most (filter (is_wanted sought.entry place.now.columns) left))) }
     ensures same { R.pages space.new ≡ R.pages space.old }
     ensures whole { R.is_whole space.old → R.is_whole space.new }
-    ensures refusal { IfErr result (ReadRefused (StandsNowhere (R.pages space.old) place.now.root place.now.rows_root place.now.columns first) (R.refused space.old) (R.refused space.new)) }
+    ensures refusal { IfErr result (ReadRefused (NoneStandsBefore (R.pages space.old) place.now.root place.now.rows_root place.now.types place.now.columns first) (R.refused space.old) (R.refused space.new)) }
     ensures rising { R.refused space.old ≤ R.refused space.new }
     ensures follows { R.follows space.old space.new }
 {
@@ -272,7 +355,7 @@ pub(crate) fn some_from<R: PageReader>(
             numbers: Items::new(alloc),
             rows: Items::new(alloc),
         },
-        next: first,
+        ahead: first,
     };
     'walked: for _ in 0..u64::MAX {
         if walk.found.rows.len() >= most {

@@ -1,2 +1,3 @@
 pub mod EntryLemmas
+pub mod SameLemmas
 pub mod RefusalLemmas

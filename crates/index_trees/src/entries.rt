@@ -42,7 +42,7 @@ fn key_of(alloc: Global, row: &Row, columns: &[usize]) -> Result<Items<Value>, A
 }
 
 /// The code of a row's key in an index, with the row's number.
-fn code_of(
+pub(crate) fn code_of(
     alloc: Global,
     row: &Row,
     columns: &[usize],

@@ -43,11 +43,12 @@ stays old new root tables same h = record {
   owned = h.owned;
   schema = schema_stays old new root h.owned (declared_of tables) (λ n i. same n (schema_used old root h.owned (declared_of tables) h.schema n i)) h.schema;
   rows = each_kept old new tables (λ n i. same n (each_used old tables h.rows n i)) h.rows;
+  fits = h.fits;
   apart = h.apart;
 }
 
 pub at_first : (pages : PageMap) → HoldsTables pages 0 []
-at_first pages = record { owned = []; schema = record { tree = (refl, refl); range = tt; coded = tt }; rows = tt; apart = tt }
+at_first pages = record { owned = []; schema = record { tree = (refl, refl); range = tt; coded = tt }; rows = tt; fits = tt; apart = tt }
 
 -- the pages of a tree are apart
 pub tree_apart : (pages : PageMap) (root : ℕ) (owned : List ℕ) (entries : List Entry) → IsTree pages root owned entries → Apart owned

@@ -1,5 +1,6 @@
 pub mod HeldLemmas
 pub mod NameLemmas
+pub mod PlacedLemmas
 pub mod RiseLemmas
 pub mod SchemaLemmas
 pub mod ChangeLemmas

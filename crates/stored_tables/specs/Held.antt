@@ -10,7 +10,7 @@ use Rattle.store.specs.Contents.{Entry, StoredTable, Contents}
 use Rattle.page_space.specs.Space.{PageMap}
 use Rattle.btree_read.specs.Lists.{Apart}
 use Rattle.catalog.specs.Held.{HoldsSchema}
-use Rattle.tablestore.specs.Held.{HoldsRows}
+use Rattle.tablestore.specs.Held.{HoldsRows, AreFitting}
 
 -- a table: what the catalogue declares, the root of its rows among it; the pages of the tree of its
 -- rows; and these
@@ -29,12 +29,17 @@ owned_by tables = flat_map (λ (t : TableAt). t.owned) tables
 abbrev pub HoldsIts : PageMap → TableAt → Type 0
 HoldsIts pages t = HoldsRows pages t.declared.root t.owned t.rows
 
--- the tree at the root has the schema, that of each table its rows, and no page belongs to two of
--- these trees
+-- its rows fit its columns
+abbrev pub ItFits : TableAt → Type 0
+ItFits t = AreFitting t.declared.columns t.rows
+
+-- the tree at the root has the schema, that of each table its rows, which fit its columns, and no
+-- page belongs to two of these trees
 pub record HoldsTables (pages : PageMap) (root : ℕ) (tables : List TableAt) : Type 0 where
   pub owned : List ℕ
   pub schema : HoldsSchema pages root owned (declared_of tables)
   pub rows : AllByRecursion (HoldsIts pages) tables
+  pub fits : AllByRecursion ItFits tables
   pub apart : Apart (owned ++ owned_by tables)
 
 -- no tables are held there

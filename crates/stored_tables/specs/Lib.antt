@@ -1,6 +1,5 @@
 pub mod Held
 pub mod Named
-pub mod Changed
 pub mod Values
 pub mod Trees
 pub mod Places

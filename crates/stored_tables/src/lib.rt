@@ -2,13 +2,12 @@
 //! tables lie in pages, as a definition for all pages.
 #![tactic(auto)]
 
-mod changing;
 mod content_laws;
 mod laws;
 mod naming;
 mod reading;
 
-pub use changing::{append, create_table};
 pub use content_laws::contents_are_read;
 pub use laws::{no_tables_at_first, numbers_rise, tables_stay};
+pub use naming::find_table;
 pub use reading::{next, read_schema, scan};

@@ -1,5 +1,7 @@
 //! The tables that pages hold.
-ghost use Rattle.std.specs.Prelude.{◌≡◌, ◌≤◌, ℕ, List, IfOk, IfErr};
+ghost use Rattle.std.specs.Prelude.{◌≡◌, ◌≤◌, ℕ, List, [], IfOk, IfErr, IfSome};
+ghost use Rattle.sqlval.specs.declared.schema.Table.{Table as AnyTable};
+ghost use Rattle.catalog.specs.Held.{HoldsSchema};
 ghost use Rattle.std.specs.FinMap.{get};
 ghost use Rattle.denote.specs.SchemaOf.{IsSchemaOf};
 ghost use Rattle.store.specs.Contents.{database_of};
@@ -7,9 +9,10 @@ ghost use Rattle.store.specs.Indexes.{entries_of, entry_after};
 ghost use Rattle.store.specs.View.{AreEntries, IsEntry};
 ghost use Rattle.page_space.specs.Space.{ReadRefused};
 ghost use Rattle.stored_tables.specs.Held.{TableAt, HoldsTables, HoldsNoTables, contents_of};
+ghost use Rattle.stored_tables.specs.Named.{table_named, AreTyped, IsTyped};
 
-use crate::naming::{or_none, table_root};
-use items::Text;
+use crate::naming::find_table;
+use items::{Items, Text};
 use page_space::{PageReader, SpaceError};
 use sqlval::Schema;
 use std::alloc::Global;
@@ -38,7 +41,19 @@ pub fn read_schema<R: PageReader>(
     }
 }
 
+/// No rows.
+fn no_rows(alloc: Global) -> Numbered
+    ensures entries { AreEntries result [] }
+    ensures rows { result.rows ≡ [] }
+{
+    Numbered {
+        numbers: Items::new(alloc),
+        rows: Items::new(alloc),
+    }
+}
+
 /// All rows of the table of a name, in the order of their numbers; none where no table has it.
+/// Wherever a schema lies they have the types of the table's columns.
 ///
 /// Refused as `read_schema` is.
 pub fn scan<R: PageReader>(
@@ -49,20 +64,23 @@ pub fn scan<R: PageReader>(
 ) -> Result<Numbered, SpaceError>
     ensures rows { (tables : List TableAt) → HoldsTables (R.pages space.old) root tables
         → IfOk result (λ found. AreEntries found (entries_of (get (contents_of tables) name.now))) }
+    ensures typed { (owned : List ℕ) (tables : List AnyTable) → HoldsSchema (R.pages space.old) root owned tables
+        → IfOk result (λ found. AreTyped (table_named name.now tables) found.rows) }
     ensures same { R.pages space.new ≡ R.pages space.old }
     ensures whole { R.is_whole space.old → R.is_whole space.new }
     ensures refusal { IfErr result (ReadRefused (HoldsNoTables (R.pages space.old) root) (R.refused space.old) (R.refused space.new)) }
     ensures rising { R.refused space.old ≤ R.refused space.new }
     ensures follows { R.follows space.old space.new }
 {
-    match table_root(space, alloc, root, name) {
-        Ok(found) => tablestore::scan(space, alloc, or_none(found)),
+    match find_table(space, alloc, root, name) {
+        Ok(Some(table)) => tablestore::scan(space, alloc, table.root, table.columns.as_slice()),
+        Ok(None) => Ok(no_rows(alloc)),
         Err(fault) => Err(fault),
     }
 }
 
 /// The first row above a number of the table of a name, or the first of all; none where no table
-/// has the name.
+/// has the name. Wherever a schema lies it has the types of the table's columns.
 ///
 /// Refused as `read_schema` is.
 pub fn next<R: PageReader>(
@@ -74,14 +92,19 @@ pub fn next<R: PageReader>(
 ) -> Result<Option<NumberedRow>, SpaceError>
     ensures row { (tables : List TableAt) → HoldsTables (R.pages space.old) root tables
         → IfOk result (λ found. IsEntry found (entry_after after (entries_of (get (contents_of tables) name.now)))) }
+    ensures typed { (owned : List ℕ) (tables : List AnyTable) → HoldsSchema (R.pages space.old) root owned tables
+        → IfOk result (λ found. IfSome found (λ row. IsTyped (table_named name.now tables) row.row)) }
     ensures same { R.pages space.new ≡ R.pages space.old }
     ensures whole { R.is_whole space.old → R.is_whole space.new }
     ensures refusal { IfErr result (ReadRefused (HoldsNoTables (R.pages space.old) root) (R.refused space.old) (R.refused space.new)) }
     ensures rising { R.refused space.old ≤ R.refused space.new }
     ensures follows { R.follows space.old space.new }
 {
-    match table_root(space, alloc, root, name) {
-        Ok(found) => tablestore::next(space, alloc, or_none(found), after),
+    match find_table(space, alloc, root, name) {
+        Ok(Some(table)) => {
+            tablestore::next(space, alloc, table.root, table.columns.as_slice(), after)
+        }
+        Ok(None) => Ok(None),
         Err(fault) => Err(fault),
     }
 }

@@ -5,3 +5,5 @@ pub mod AppendLemmas
 pub mod OneLemmas
 pub mod RefusalLemmas
 pub mod RowLemmas
+pub mod BlockLemmas
+pub mod FittingLemmas

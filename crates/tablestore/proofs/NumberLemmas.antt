@@ -17,7 +17,8 @@ use Rattle.btree_read.specs.Nodes.{Key, precedes}
 use Rattle.btree_read.specs.Sorted.{Ascends, is_from, first_from, last_key}
 use Rattle.btree_read.proofs.OrderLemmas.{lt_trans, not_self}
 use Rattle.btree.proofs.WalkLemmas.{first_of, from_least}
-use Rattle.tablestore.specs.Held.{row_entry, entries_of, IsKept, AreKept, ArePast}
+use Rattle.sqlval.specs.declared.schema.Column.{Column}
+use Rattle.tablestore.specs.Held.{row_entry, entries_of, IsKept, AreKept, ArePast, Fits, AreFitting}
 
 less_is : (m n : ℕ) (b : Bool) → b ≡ nat_lt m n → is_lt (nat_cmp m n) ≡ b
 less_is m n true e = rw (sym e) refl
@@ -67,6 +68,15 @@ kept_after after (e ∷ rows) kept = by (is_after after e.0) (kept_after after r
   where
     by : (b : Bool) → IfSome (entry_after after rows) IsKept → IfSome (slice_get (if b then e ∷ filter (λ (x : stored.Entry). is_after after x.0) rows else filter (λ (x : stored.Entry). is_after after x.0) rows) 0) IsKept
     by true again = kept.0
+    by false again = again
+
+pub fitting_after : (columns : List Column) (after : Option ℕ) (rows : List stored.Entry) → AreFitting columns rows → IfSome (entry_after after rows) (Fits columns)
+fitting_after columns after [] fitting = tt
+fitting_after columns after (e ∷ rows) fitting = by (is_after after e.0) (fitting_after columns after rows fitting.1)
+  where
+    by : (b : Bool) → IfSome (entry_after after rows) (Fits columns)
+        → IfSome (slice_get (if b then e ∷ filter (λ (x : stored.Entry). is_after after x.0) rows else filter (λ (x : stored.Entry). is_after after x.0) rows) 0) (Fits columns)
+    by true again = fitting.0
     by false again = again
 
 -- ---- the next number

@@ -31,6 +31,17 @@ read_first AtLimit H G a b new fault.Damaged f h = f h
 read_first AtLimit H G a b new fault.Pages f h = absurd h
 read_first AtLimit H G a b new fault.Private f h = absurd h
 
+-- a read, of which less is known where it is refused for damage
+pub read_weaker : (f : SpaceError) (H G : Type 0) (a b : ℕ) → (H → G) → ReadRefused H a b f → ReadRefused G a b f
+read_weaker fault.Memory H G a b f h = h
+read_weaker fault.Disk H G a b f h = h
+read_weaker fault.Damaged H G a b f h = f h
+read_weaker fault.Pages H G a b f h = h
+read_weaker fault.Private H G a b f h = h
+
+pub reads_weaker : {A : Type 0} (result : Result A SpaceError) (fault_ : SpaceError) (H G : Type 0) (a b : ℕ) → IsErrAnd result (λ y. y ≡ fault_) → (H → G) → ReadRefused H a b fault_ → IfErr result (ReadRefused G a b)
+reads_weaker result fault_ H G a b is f h = let p = err_from_is_err_and result is in rw (p.1, p.2) (read_weaker fault_ H G a b f h)
+
 -- a look-up's refusal
 pub read_refused : {A : Type 0} (result : Result A AppendError) (fault_ : SpaceError) (AtLimit : SpaceError → Type 0) (H G : Type 0) (a b : ℕ) (new : List Row) → IsErrAnd result (λ y. y ≡ Space fault_) → (H → G) → ReadRefused H a b fault_ → IfErr result (MayRefuse AtLimit G a b new)
 read_refused result fault_ AtLimit H G a b new is f h = let p = err_from_is_err_and result is in rw (p.1, p.2) (read_first AtLimit H G a b new fault_ f h)

@@ -1,6 +1,9 @@
 -- Rows by their numbers, as the entries of a tree. Our own choice.
-use Rattle.std.specs.Prelude.{◌≡◌, ℕ, ◌<◌, ◌≤◌, ◌^◌, List, length, map, None, Result, Ok, Err}
+use Rattle.std.specs.Prelude.{◌≡◌, ℕ, ◌<◌, ◌≤◌, ◌^◌, true, List, length, map, None, Result, Ok, Err}
 use Rattle.std.specs.List.{AllByRecursion}
+use Rattle.sqlval.specs.declared.schema.Column.{Column}
+use Rattle.sqlval.specs.Value.{Row}
+use Rattle.denote.specs.Database.{fits_columns}
 use Rattle.store.specs.Contents as stored
 use Rattle.sqlrecord.specs.declared.error.DecodeError.{DecodeError}
 use Rattle.sqlrecord.specs.declared.error.DecodeError.TheVariants.{OutOfMemory}
@@ -29,6 +32,16 @@ pub record IsKept (e : stored.Entry) : Type 0 where
 abbrev pub AreKept : List stored.Entry → Type 0
 AreKept rows = AllByRecursion IsKept rows
 
+-- a row has as many values as there are columns, each one that its column may hold
+abbrev pub RowFits : List Column → Row → Type 0
+RowFits columns row = fits_columns columns row ≡ true
+
+abbrev pub Fits : List Column → stored.Entry → Type 0
+Fits columns e = RowFits columns e.1
+
+abbrev pub AreFitting : List Column → List stored.Entry → Type 0
+AreFitting columns rows = AllByRecursion (Fits columns) rows
+
 -- the entry's key is the code of this number, which a row may have
 pub record IsNumbered (entry : Entry) (number : ℕ) : Type 0 where
   pub below : number < 2 ^ 63
@@ -46,6 +59,16 @@ pub record HoldsRows (pages : PageMap) (root : ℕ) (owned : List ℕ) (rows : L
 -- no rows are held there
 abbrev pub HoldsNoRows : PageMap → ℕ → Type 0
 HoldsNoRows pages root = (owned : List ℕ) (rows : List stored.Entry) → HoldsRows pages root owned rows → ⊥
+
+-- the tree at the root has just these rows, and they fit these columns
+pub record HoldsFitting (pages : PageMap) (root : ℕ) (owned : List ℕ) (columns : List Column) (rows : List stored.Entry) : Type 0 where
+  pub holds : HoldsRows pages root owned rows
+  pub fits : AreFitting columns rows
+
+-- no rows that fit these columns are held there
+abbrev pub HoldsNoFitting : PageMap → ℕ → List Column → Type 0
+HoldsNoFitting pages root columns = (owned : List ℕ) (rows : List stored.Entry)
+    → HoldsFitting pages root owned columns rows → ⊥
 
 -- what is decoded is so, or else memory was refused
 abbrev pub Gives : {A : Type 0} → Result A DecodeError → (A → Type 0) → Type 0

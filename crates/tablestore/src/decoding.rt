@@ -1,17 +1,21 @@
 //! Rows from the entries of a tree.
-ghost use Rattle.std.specs.Prelude.{◌≡◌, ◌<◌, ◌^◌, List, ℕ, Option, Some, IfOk, IfSome};
+ghost use Rattle.std.specs.Prelude.{◌≡◌, ◌<◌, ◌^◌, true, List, ℕ, Option, Some, IfOk, IfSome};
+ghost use Rattle.std.specs.List.{AllByRecursion};
 ghost use Rattle.std.specs.Option.{option_map};
 ghost use Rattle.sqlval.specs.Value.{Row as AnyRow};
 ghost use Rattle.sqlrecord.specs.Key.{number_code};
 ghost use Rattle.sqlrecord.specs.Row.{IsCodeOf};
 ghost use Rattle.store.specs.Contents as stored;
 ghost use Rattle.store.specs.View.{AreEntries, IsEntry, entry_of};
-ghost use Rattle.tablestore.specs.Held.{row_entry, entries_of, IsKept, AreKept, IsNumbered, Gives};
+ghost use Rattle.tablestore.specs.Held.{row_entry, entries_of, IsKept, AreKept, RowFits, Fits, AreFitting, IsNumbered, Gives};
 
+use crate::fitting::fits_columns;
 use crate::number::NUMBERS;
 use btree_read::Entry;
+use denote::Row;
 use items::Items;
 use sqlrecord::{DecodeError, decode_row, row_number_of};
+use sqlval::Column;
 use std::alloc::Global;
 use store::{Numbered, NumberedRow};
 
@@ -35,28 +39,51 @@ pub(crate) fn number_of(key: &[u8]) -> Option<u64>
     Some(number)
 }
 
-/// The row of an entry, with its number.
-pub(crate) fn row_of_entry(alloc: Global, entry: &Entry) -> Result<NumberedRow, DecodeError>
-    ensures kept { (e : stored.Entry) → IsKept e → entry.now ≡ row_entry e
+/// The row of these bytes, which fits these columns.
+fn row_fitting(alloc: Global, columns: &[Column], bytes: &[u8]) -> Result<Row, DecodeError>
+    ensures given { (row : AnyRow) → IsCodeOf bytes.now row → RowFits columns.now row
+        → Gives result (λ given. given ≡ row) }
+    ensures typed { IfOk result (RowFits columns.now) }
+{
+    let row = decode_row(alloc, bytes)?;
+    if !fits_columns(columns, row.as_slice()) {
+        return Err(DecodeError::Damaged);
+    }
+    Ok(row)
+}
+
+/// The row of an entry, which fits these columns, with its number.
+pub(crate) fn row_of_entry(
+    alloc: Global,
+    columns: &[Column],
+    entry: &Entry,
+) -> Result<NumberedRow, DecodeError>
+    ensures kept { (e : stored.Entry) → IsKept e → Fits columns.now e → entry.now ≡ row_entry e
         → Gives result (λ found. entry_of found ≡ e) }
+    ensures typed { IfOk result (λ found. Fits columns.now (entry_of found)) }
     ensures numbered { IfOk result (λ found. IsNumbered entry.now found.number) }
 {
     let Some(number) = number_of(entry.key.as_slice()) else {
         return Err(DecodeError::Damaged);
     };
-    let row = decode_row(alloc, entry.value.as_slice())?;
+    let row = row_fitting(alloc, columns, entry.value.as_slice())?;
     Ok(NumberedRow { number, row })
 }
 
 /// The rows of entries, with their numbers.
-pub(crate) fn rows_of_entries(alloc: Global, entries: &[Entry]) -> Result<Numbered, DecodeError>
-    ensures { (all : List stored.Entry) → AreKept all → entries.now ≡ entries_of all
+pub(crate) fn rows_of_entries(
+    alloc: Global,
+    columns: &[Column],
+    entries: &[Entry],
+) -> Result<Numbered, DecodeError>
+    ensures kept { (all : List stored.Entry) → AreKept all → AreFitting columns.now all → entries.now ≡ entries_of all
         → Gives result (λ found. AreEntries found all) }
+    ensures typed { IfOk result (λ found. AllByRecursion (RowFits columns.now) found.rows) }
 {
     let mut numbers = Items::new(alloc);
     let mut rows = Items::new(alloc);
     for entry in entries {
-        let found = row_of_entry(alloc, entry)?;
+        let found = row_of_entry(alloc, columns, entry)?;
         numbers.push(found.number)?;
         rows.push(found.row)?;
     }
@@ -66,15 +93,17 @@ pub(crate) fn rows_of_entries(alloc: Global, entries: &[Entry]) -> Result<Number
 /// The row of an entry, where one was found.
 pub(crate) fn row_found(
     alloc: Global,
+    columns: &[Column],
     found: &Option<Entry>,
 ) -> Result<Option<NumberedRow>, DecodeError>
-    ensures { (one : Option stored.Entry) → IfSome one IsKept → found.now ≡ option_map row_entry one
-        → Gives result (λ given. IsEntry given one) }
+    ensures kept { (one : Option stored.Entry) → IfSome one IsKept → IfSome one (Fits columns.now)
+        → found.now ≡ option_map row_entry one → Gives result (λ given. IsEntry given one) }
+    ensures typed { IfOk result (λ given. IfSome given (λ row. Fits columns.now (entry_of row))) }
 {
     match found {
         None => Ok(None),
         Some(entry) => {
-            let row = row_of_entry(alloc, entry)?;
+            let row = row_of_entry(alloc, columns, entry)?;
             Ok(Some(row))
         }
     }

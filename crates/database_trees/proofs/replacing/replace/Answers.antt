@@ -18,35 +18,35 @@ pub returns-in-Ok-Some-clause-replaced : goal.returns-in-Ok-Some-clause-replaced
 returns-in-Ok-Some-clause-replaced g c = λ tables h.
     let f = is_found c.args.name.now tables c.in-Ok-Some.table (sym (c.in-Ok-Some.ensures.found h.owned (declared_of tables) h.trees.each.0) ∙ c.in-Ok-Some.field-0-is) in
     let t = table_of_name (g.S.PageReader.pages c.find_table.new.space) c.args.root c.args.name.now tables c.in-Ok-Some.table (subst (λ (p : PageMap). HoldsFor false p c.args.root tables) (sym c.find_table.ensures.same) h) f in
-    database_rows _ c.replace_in.result (g.S.PageReader.pages c.replace_in.new.space) c.args.name.now tables c.in-Ok-Some.table (with_row c.args.number c.args.row) (with_number c.args.number c.args.row f.at.rows) f refl (c.replace_in.ensures.replaced _ t)
+    database_rows _ c.replace_fitting.result (g.S.PageReader.pages c.replace_fitting.new.space) c.args.name.now tables c.in-Ok-Some.table (with_row c.args.number c.args.row) (with_number c.args.number c.args.row f.at.rows) f refl (c.replace_fitting.ensures.replaced _ t)
 
 pub returns-in-Ok-Some-clause-owned : goal.returns-in-Ok-Some-clause-owned
 returns-in-Ok-Some-clause-owned g c = λ tables h.
     let f = is_found c.args.name.now tables c.in-Ok-Some.table (sym (c.in-Ok-Some.ensures.found h.owned (declared_of tables) h.trees.each.0) ∙ c.in-Ok-Some.field-0-is) in
     let t = table_of_name (g.S.PageReader.pages c.find_table.new.space) c.args.root c.args.name.now tables c.in-Ok-Some.table (subst (λ (p : PageMap). HoldsFor true p c.args.root tables) (sym c.find_table.ensures.same) h) f in
-    database_rows _ c.replace_in.result (g.S.PageReader.pages c.replace_in.new.space) c.args.name.now tables c.in-Ok-Some.table (with_row c.args.number c.args.row) (with_number c.args.number c.args.row f.at.rows) f refl (c.replace_in.ensures.replaced _ t)
+    database_rows _ c.replace_fitting.result (g.S.PageReader.pages c.replace_fitting.new.space) c.args.name.now tables c.in-Ok-Some.table (with_row c.args.number c.args.row) (with_number c.args.number c.args.row f.at.rows) f refl (c.replace_fitting.ensures.replaced _ t)
 
 pub returns-in-Ok-Some-clause-limits : goal.returns-in-Ok-Some-clause-limits
 returns-in-Ok-Some-clause-limits g c =
-    reaches_so c.replace_in.result (HasLongRow (c.args.row ∷ [])) (HasLongKey (map index_of c.in-Ok-Some.table.indexes) (c.args.row ∷ [])) ⊥
+    reaches_so c.replace_fitting.result (HasLongRow (c.args.row ∷ [])) (HasLongKey (map index_of c.in-Ok-Some.table.indexes) (c.args.row ∷ [])) ⊥
     (HasLongRow (c.args.row ∷ [])) ((tables : List TableAt) → HoldsDatabase (g.S.PageReader.pages c.args.space.now) c.args.root tables → HasLongKey (indexes_of (get (contents_of tables) c.args.name.now)) (c.args.row ∷ []))
     ⊥
     (λ long. long) (λ key tables h. key_shown c.args.name.now tables c.in-Ok-Some.table (c.args.row ∷ []) (is_found c.args.name.now tables c.in-Ok-Some.table (sym (c.in-Ok-Some.ensures.found h.owned (declared_of tables) h.trees.each.0) ∙ c.in-Ok-Some.field-0-is)) key)
     (λ none. none)
-    c.replace_in.ensures.limits
+    c.replace_fitting.ensures.limits
 
 pub returns-in-Ok-Some-clause-whole : goal.returns-in-Ok-Some-clause-whole
-returns-in-Ok-Some-clause-whole g c = whole_later c.replace_in.result (g.S.PageReader.is_whole c.args.space.now) (g.S.PageReader.is_whole c.find_table.new.space) (g.S.PageReader.is_whole c.replace_in.new.space) c.find_table.ensures.whole c.replace_in.ensures.whole
+returns-in-Ok-Some-clause-whole g c = whole_later c.replace_fitting.result (g.S.PageReader.is_whole c.args.space.now) (g.S.PageReader.is_whole c.find_table.new.space) (g.S.PageReader.is_whole c.replace_fitting.new.space) c.find_table.ensures.whole c.replace_fitting.ensures.whole
 
 pub returns-in-Ok-Some-clause-follows : goal.returns-in-Ok-Some-clause-follows
-returns-in-Ok-Some-clause-follows g c = g.met.S.PageReader.follows_trans _ _ _ c.find_table.ensures.follows c.replace_in.ensures.follows
+returns-in-Ok-Some-clause-follows g c = g.met.S.PageReader.follows_trans _ _ _ c.find_table.ensures.follows c.replace_fitting.ensures.follows
 
 pub returns-in-Ok-Some-clause-refusal : goal.returns-in-Ok-Some-clause-refusal
 returns-in-Ok-Some-clause-refusal g c =
-    refused_later c.replace_in.result (g.S.PageSpace.at_limit c.replace_in.new.space) (IsTableOf false (g.S.PageReader.pages c.find_table.new.space) c.args.root c.in-Ok-Some.table → (g.S.PageReader.is_whole c.find_table.new.space) → ⊥) (HoldsNoDatabaseIn (g.S.PageReader.pages c.args.space.now) c.args.root (g.S.PageReader.is_whole c.args.space.now)) (g.S.PageReader.refused c.args.space.now) (g.S.PageReader.refused c.find_table.new.space) (g.S.PageReader.refused c.replace_in.new.space)
+    refused_later c.replace_fitting.result (g.S.PageSpace.at_limit c.replace_fitting.new.space) (IsTableOf false (g.S.PageReader.pages c.find_table.new.space) c.args.root c.in-Ok-Some.table → (g.S.PageReader.is_whole c.find_table.new.space) → ⊥) (HoldsNoDatabaseIn (g.S.PageReader.pages c.args.space.now) c.args.root (g.S.PageReader.is_whole c.args.space.now)) (g.S.PageReader.refused c.args.space.now) (g.S.PageReader.refused c.find_table.new.space) (g.S.PageReader.refused c.replace_fitting.new.space)
     (λ none tables h whole. let f = is_found c.args.name.now tables c.in-Ok-Some.table (sym (c.in-Ok-Some.ensures.found h.owned (declared_of tables) h.trees.each.0) ∙ c.in-Ok-Some.field-0-is) in
     none (table_of_name (g.S.PageReader.pages c.find_table.new.space) c.args.root c.args.name.now tables c.in-Ok-Some.table (subst (λ (p : PageMap). HoldsDatabase p c.args.root tables) (sym c.find_table.ensures.same) h) f) (c.find_table.ensures.whole whole))
-    c.find_table.ensures.rising c.replace_in.ensures.refusal
+    c.find_table.ensures.rising c.replace_fitting.ensures.refusal
 
 pub returns-in-Ok-None-clause-replaced : goal.returns-in-Ok-None-clause-replaced
 returns-in-Ok-None-clause-replaced g c = λ tables h. database_none (g.S.PageReader.pages c.args.space.now) (g.S.PageReader.pages c.find_table.new.space) c.args.root c.args.name.now tables (with_row c.args.number c.args.row) c.find_table.ensures.same h (sym (c.in-Ok-None.ensures.found h.owned (declared_of tables) h.trees.each.0) ∙ c.in-Ok-None.field-0-is)

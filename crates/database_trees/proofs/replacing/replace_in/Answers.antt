@@ -1,19 +1,20 @@
-use Rattle.std.proofs.Common.{ℕ, sym, ap, subst, ◌∙◌, IfOk, false}
+use Rattle.std.proofs.Common.{ℕ, sym, ap, subst, ◌∙◌, IfOk, false, List}
+use Rattle.sqlval.specs.declared.schema.Column.{Column}
 use Rattle.std.specs.Option.{option_map}
 use Rattle.store.specs.View.{entry_of}
 use Rattle.stored_tables.proofs.ChangeLemmas.{whole_later}
-use Rattle.tablestore.specs.Held.{HoldsNoRows}
+use Rattle.tablestore.specs.Held.{HoldsFitting, HoldsNoFitting}
 use Rattle.tablestore.specs.Rows.{with_number}
 use Rattle.database_trees.specs.Exchanged.{IsTableOf, HasRow, RowsExchanged}
 use Rattle.database_trees.proofs.RowLemmas.{with_none, numbered_is}
-use Rattle.database_trees.proofs.DatabaseLemmas.{rows_of_it, rows_kept}
+use Rattle.database_trees.proofs.DatabaseLemmas.{fitting_of_it, rows_kept}
 use Rattle.database_trees.proofs.ChangeLemmas.{to_row}
 use Rattle.database_trees.proofs.RefusalLemmas.{refused_later, read_refused}
 use Rattle.database_trees.proofs.replacing.replace_in.Goals as goal
 
 pub returns-in-Ok-Some-clause-replaced : goal.returns-in-Ok-Some-clause-replaced
 returns-in-Ok-Some-clause-replaced g c = λ alone h.
-    subst (λ (n : ℕ). IfOk c.replace_row.result (RowsExchanged alone (g.S.PageReader.pages c.replace_row.new.space) h.before h.at h.behind (with_number n c.args.row h.at.rows))) (numbered_is c.args.number h.at.rows (entry_of c.in-Ok-Some.found) (sym (c.in-Ok-Some.ensures.found h.at.owned h.at.rows (rows_of_it (g.S.PageReader.pages c.args.space.now) c.args.root c.args.table.now h)) ∙ ap (option_map entry_of) c.in-Ok-Some.field-0-is)).1 (c.replace_row.ensures.replaced _ (to_row (g.S.PageReader.pages c.args.space.now) (g.S.PageReader.pages c.row_of.new.space) c.args.root c.args.number c.args.table.now c.in-Ok-Some.found c.row_of.ensures.same h (sym (c.in-Ok-Some.ensures.found h.at.owned h.at.rows (rows_of_it (g.S.PageReader.pages c.args.space.now) c.args.root c.args.table.now h)) ∙ ap (option_map entry_of) c.in-Ok-Some.field-0-is)))
+    subst (λ (n : ℕ). IfOk c.replace_row.result (RowsExchanged alone (g.S.PageReader.pages c.replace_row.new.space) h.before h.at h.behind (with_number n c.args.row h.at.rows))) (numbered_is c.args.number h.at.rows (entry_of c.in-Ok-Some.found) (sym (c.in-Ok-Some.ensures.found h.at.owned h.at.rows (subst (λ (cs : List Column). HoldsFitting (g.S.PageReader.pages c.args.space.now) c.args.table.now.root h.at.owned cs h.at.rows) (sym c.as_slice.ensures) (fitting_of_it (g.S.PageReader.pages c.args.space.now) c.args.root c.args.table.now h))) ∙ ap (option_map entry_of) c.in-Ok-Some.field-0-is)).1 (c.replace_row.ensures.replaced _ (to_row (g.S.PageReader.pages c.args.space.now) (g.S.PageReader.pages c.row_of.new.space) c.args.root c.args.number c.args.table.now c.in-Ok-Some.found c.row_of.ensures.same h (sym (c.in-Ok-Some.ensures.found h.at.owned h.at.rows (subst (λ (cs : List Column). HoldsFitting (g.S.PageReader.pages c.args.space.now) c.args.table.now.root h.at.owned cs h.at.rows) (sym c.as_slice.ensures) (fitting_of_it (g.S.PageReader.pages c.args.space.now) c.args.root c.args.table.now h))) ∙ ap (option_map entry_of) c.in-Ok-Some.field-0-is)))
 
 pub returns-in-Ok-Some-clause-limits : goal.returns-in-Ok-Some-clause-limits
 returns-in-Ok-Some-clause-limits g c = c.replace_row.ensures.limits
@@ -27,10 +28,10 @@ returns-in-Ok-Some-clause-follows g c = g.met.S.PageReader.follows_trans _ _ _ c
 pub returns-in-Ok-Some-clause-refusal : goal.returns-in-Ok-Some-clause-refusal
 returns-in-Ok-Some-clause-refusal g c =
     refused_later c.replace_row.result (g.S.PageSpace.at_limit c.replace_row.new.space) (HasRow false (g.S.PageReader.pages c.row_of.new.space) c.args.root c.args.table.now c.in-Ok-Some.found → (g.S.PageReader.is_whole c.row_of.new.space) → ⊥) (IsTableOf false (g.S.PageReader.pages c.args.space.now) c.args.root c.args.table.now → (g.S.PageReader.is_whole c.args.space.now) → ⊥) (g.S.PageReader.refused c.args.space.now) (g.S.PageReader.refused c.row_of.new.space) (g.S.PageReader.refused c.replace_row.new.space)
-    (λ none h whole. none (to_row (g.S.PageReader.pages c.args.space.now) (g.S.PageReader.pages c.row_of.new.space) c.args.root c.args.number c.args.table.now c.in-Ok-Some.found c.row_of.ensures.same h (sym (c.in-Ok-Some.ensures.found h.at.owned h.at.rows (rows_of_it (g.S.PageReader.pages c.args.space.now) c.args.root c.args.table.now h)) ∙ ap (option_map entry_of) c.in-Ok-Some.field-0-is)) (c.row_of.ensures.whole whole)) c.row_of.ensures.rising c.replace_row.ensures.refusal
+    (λ none h whole. none (to_row (g.S.PageReader.pages c.args.space.now) (g.S.PageReader.pages c.row_of.new.space) c.args.root c.args.number c.args.table.now c.in-Ok-Some.found c.row_of.ensures.same h (sym (c.in-Ok-Some.ensures.found h.at.owned h.at.rows (subst (λ (cs : List Column). HoldsFitting (g.S.PageReader.pages c.args.space.now) c.args.table.now.root h.at.owned cs h.at.rows) (sym c.as_slice.ensures) (fitting_of_it (g.S.PageReader.pages c.args.space.now) c.args.root c.args.table.now h))) ∙ ap (option_map entry_of) c.in-Ok-Some.field-0-is)) (c.row_of.ensures.whole whole)) c.row_of.ensures.rising c.replace_row.ensures.refusal
 
 pub returns-in-Ok-None-clause-replaced : goal.returns-in-Ok-None-clause-replaced
-returns-in-Ok-None-clause-replaced g c = λ alone h. rows_kept (g.S.PageReader.pages c.args.space.now) c.args.root c.args.table.now h (g.S.PageReader.pages c.row_of.new.space) (with_number c.args.number c.args.row h.at.rows) c.row_of.ensures.same (with_none c.args.number c.args.row h.at.rows (sym (c.in-Ok-None.ensures.found h.at.owned h.at.rows (rows_of_it (g.S.PageReader.pages c.args.space.now) c.args.root c.args.table.now h)) ∙ ap (option_map entry_of) c.in-Ok-None.field-0-is))
+returns-in-Ok-None-clause-replaced g c = λ alone h. rows_kept (g.S.PageReader.pages c.args.space.now) c.args.root c.args.table.now h (g.S.PageReader.pages c.row_of.new.space) (with_number c.args.number c.args.row h.at.rows) c.row_of.ensures.same (with_none c.args.number c.args.row h.at.rows (sym (c.in-Ok-None.ensures.found h.at.owned h.at.rows (subst (λ (cs : List Column). HoldsFitting (g.S.PageReader.pages c.args.space.now) c.args.table.now.root h.at.owned cs h.at.rows) (sym c.as_slice.ensures) (fitting_of_it (g.S.PageReader.pages c.args.space.now) c.args.root c.args.table.now h))) ∙ ap (option_map entry_of) c.in-Ok-None.field-0-is))
 
 pub returns-in-Err-clause-refusal : goal.returns-in-Err-clause-refusal
-returns-in-Err-clause-refusal g c = read_refused c.in-Err.fault (g.S.PageSpace.at_limit c.row_of.new.space) (HoldsNoRows (g.S.PageReader.pages c.args.space.now) c.args.table.now.root) (IsTableOf false (g.S.PageReader.pages c.args.space.now) c.args.root c.args.table.now → (g.S.PageReader.is_whole c.args.space.now) → ⊥) (g.S.PageReader.refused c.args.space.now) (g.S.PageReader.refused c.row_of.new.space) (λ none h whole. none h.at.owned h.at.rows (rows_of_it (g.S.PageReader.pages c.args.space.now) c.args.root c.args.table.now h)) c.in-Err.ensures.refusal
+returns-in-Err-clause-refusal g c = read_refused c.in-Err.fault (g.S.PageSpace.at_limit c.row_of.new.space) (HoldsNoFitting (g.S.PageReader.pages c.args.space.now) c.args.table.now.root c.as_slice.result.now) (IsTableOf false (g.S.PageReader.pages c.args.space.now) c.args.root c.args.table.now → (g.S.PageReader.is_whole c.args.space.now) → ⊥) (g.S.PageReader.refused c.args.space.now) (g.S.PageReader.refused c.row_of.new.space) (λ none h whole. none h.at.owned h.at.rows (subst (λ (cs : List Column). HoldsFitting (g.S.PageReader.pages c.args.space.now) c.args.table.now.root h.at.owned cs h.at.rows) (sym c.as_slice.ensures) (fitting_of_it (g.S.PageReader.pages c.args.space.now) c.args.root c.args.table.now h))) c.in-Err.ensures.refusal

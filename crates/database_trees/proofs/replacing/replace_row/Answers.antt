@@ -7,7 +7,8 @@ use Rattle.stored_tables.proofs.ChangeLemmas.{whole_later}
 use Rattle.tablestore.specs.Appended.{HoldsNoRowsIn}
 use Rattle.tablestore.specs.Rows.{with_number}
 use Rattle.database_trees.specs.Exchanged.{IsUnsettled, IsSettled, HasRow, RowsExchanged}
-use Rattle.database_trees.proofs.DatabaseLemmas.{rows_of_it, rows_exchanged}
+use Rattle.database_trees.proofs.DatabaseLemmas.{rows_of_it, fits_of_it, rows_exchanged}
+use Rattle.database_trees.proofs.FitLemmas.{fits_with}
 use Rattle.database_trees.proofs.ChangeLemmas.{replace_unsettled, row_refused, row_reaches}
 use Rattle.database_trees.proofs.RefusalLemmas.{refused_later, reaches, reaches_so, memory_refused}
 use Rattle.database_trees.proofs.replacing.replace_row.Goals as goal
@@ -17,7 +18,8 @@ returns-in-Ok-one_row-clause-replaced g c = λ alone h.
     let w = c.in-Ok.ensures.replaced h.its.at.owned h.its.at.rows (rows_of_it (g.S.PageReader.pages c.args.space.now) c.args.root c.args.table.now h.its) in
     let u = replace_unsettled (g.S.PageReader.pages c.args.space.now) (g.S.PageReader.pages c.replace.new.space) c.args.root c.in-Ok.top c.args.table.now c.args.found c.args.row c.in-Ok-one_row.put c.in-Ok-one_row.ensures.entries h w c.in-Ok.ensures.keeps in
     if_ok (IsSettled alone (g.S.PageReader.pages c.settle.new.space) u.front u.back u.before u.behind u.at u.rows) (RowsExchanged alone (g.S.PageReader.pages c.settle.new.space) h.its.before h.its.at h.its.behind (with_number c.args.found.number c.args.row h.its.at.rows)) c.settle.result
-    (λ now s. rows_exchanged (g.S.PageReader.pages c.args.space.now) c.args.root c.args.table.now h.its (g.S.PageReader.pages c.settle.new.space) now (with_number c.args.found.number c.args.row h.its.at.rows) s) (c.settle.ensures.settled _ u)
+    (λ now s. rows_exchanged (g.S.PageReader.pages c.args.space.now) c.args.root c.args.table.now h.its (g.S.PageReader.pages c.settle.new.space) now (with_number c.args.found.number c.args.row h.its.at.rows)
+    (fits_with c.args.table.now.columns c.args.found.number c.args.row h.its.at.rows (fits_of_it (g.S.PageReader.pages c.args.space.now) c.args.root c.args.table.now h.its) c.requires) s) (c.settle.ensures.settled _ u)
 
 pub returns-in-Ok-one_row-clause-limits : goal.returns-in-Ok-one_row-clause-limits
 returns-in-Ok-one_row-clause-limits g c =

@@ -7,7 +7,8 @@ use Rattle.stored_tables.proofs.ChangeLemmas.{whole_later}
 use Rattle.tablestore.specs.Appended.{HoldsNoRowsIn}
 use Rattle.tablestore.specs.Rows.{without_number}
 use Rattle.database_trees.specs.Exchanged.{IsUnsettled, IsSettled, IsExchangeableAt, RowsExchanged}
-use Rattle.database_trees.proofs.DatabaseLemmas.{rows_of_it, rows_exchanged}
+use Rattle.database_trees.proofs.DatabaseLemmas.{rows_of_it, fits_of_it, rows_exchanged}
+use Rattle.database_trees.proofs.FitLemmas.{fits_without}
 use Rattle.database_trees.proofs.ChangeLemmas.{delete_unsettled, no_long_key}
 use Rattle.database_trees.proofs.RefusalLemmas.{refused_later, reaches_so, fault_refused}
 use Rattle.database_trees.proofs.rows.delete_row.Goals as goal
@@ -17,7 +18,8 @@ returns-in-Ok-clause-deleted g c = λ alone h.
     let w = c.in-Ok.ensures.deleted h.its.at.owned h.its.at.rows (rows_of_it (g.S.PageReader.pages c.args.space.now) c.args.root c.args.table.now h.its) in
     let u = delete_unsettled (g.S.PageReader.pages c.args.space.now) (g.S.PageReader.pages c.delete.new.space) c.args.root c.in-Ok.top c.args.number c.args.table.now c.args.exchange.now h w in
     if_ok (IsSettled alone (g.S.PageReader.pages c.settle.new.space) u.front u.back u.before u.behind u.at u.rows) (RowsExchanged alone (g.S.PageReader.pages c.settle.new.space) h.its.before h.its.at h.its.behind (without_number c.args.number h.its.at.rows)) c.settle.result
-    (λ now s. rows_exchanged (g.S.PageReader.pages c.args.space.now) c.args.root c.args.table.now h.its (g.S.PageReader.pages c.settle.new.space) now (without_number c.args.number h.its.at.rows) s) (c.settle.ensures.settled _ u)
+    (λ now s. rows_exchanged (g.S.PageReader.pages c.args.space.now) c.args.root c.args.table.now h.its (g.S.PageReader.pages c.settle.new.space) now (without_number c.args.number h.its.at.rows)
+    (fits_without c.args.table.now.columns c.args.number h.its.at.rows (fits_of_it (g.S.PageReader.pages c.args.space.now) c.args.root c.args.table.now h.its)) s) (c.settle.ensures.settled _ u)
 
 pub returns-in-Ok-clause-limits : goal.returns-in-Ok-clause-limits
 returns-in-Ok-clause-limits g c = λ are.

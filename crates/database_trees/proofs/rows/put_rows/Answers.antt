@@ -9,7 +9,8 @@ use Rattle.stored_tables.proofs.ChangeLemmas.{whole_later}
 use Rattle.tablestore.specs.Appended.{RowsWritten, HoldsNoRowsIn}
 use Rattle.database_trees.specs.Changed.{Reaches, SpaceRefused}
 use Rattle.database_trees.specs.Exchanged.{IsUnsettled, IsSettled, IsAppendable, RowsExchanged}
-use Rattle.database_trees.proofs.DatabaseLemmas.{rows_of_it, rows_exchanged}
+use Rattle.database_trees.proofs.DatabaseLemmas.{rows_of_it, fits_of_it, rows_exchanged}
+use Rattle.database_trees.proofs.FitLemmas.{fits_appended}
 use Rattle.database_trees.proofs.ChangeLemmas.{append_unsettled, append_refused, append_reaches}
 use Rattle.database_trees.proofs.RefusalLemmas.{refused_later, reaches_so}
 use Rattle.database_trees.proofs.rows.put_rows.Goals as goal
@@ -19,7 +20,8 @@ returns-in-Ok-clause-appended g c = λ alone h.
     let w = subst (λ (rs : List Row). RowsWritten (g.S.PageReader.pages c.args.space.now) (g.S.PageReader.pages c.append.new.space) h.its.at.owned (h.its.at.rows ++ enumerate_from (next_number h.its.at.rows) rs) c.in-Ok.top) c.as_slice.ensures (c.in-Ok.ensures.appended h.its.at.owned h.its.at.rows (rows_of_it (g.S.PageReader.pages c.args.space.now) c.args.root c.args.table.now h.its)) in
     let u = append_unsettled (g.S.PageReader.pages c.args.space.now) (g.S.PageReader.pages c.append.new.space) c.args.root c.in-Ok.top c.args.table.now c.args.exchange.now h w c.in-Ok.ensures.keeps in
     if_ok (IsSettled alone (g.S.PageReader.pages c.settle.new.space) u.front u.back u.before u.behind u.at u.rows) (RowsExchanged alone (g.S.PageReader.pages c.settle.new.space) h.its.before h.its.at h.its.behind (h.its.at.rows ++ enumerate_from (next_number h.its.at.rows) c.args.exchange.now.put.rows)) c.settle.result
-    (λ now s. rows_exchanged (g.S.PageReader.pages c.args.space.now) c.args.root c.args.table.now h.its (g.S.PageReader.pages c.settle.new.space) now (h.its.at.rows ++ enumerate_from (next_number h.its.at.rows) c.args.exchange.now.put.rows) s) (c.settle.ensures.settled _ u)
+    (λ now s. rows_exchanged (g.S.PageReader.pages c.args.space.now) c.args.root c.args.table.now h.its (g.S.PageReader.pages c.settle.new.space) now (h.its.at.rows ++ enumerate_from (next_number h.its.at.rows) c.args.exchange.now.put.rows)
+    (fits_appended c.args.table.now.columns h.its.at.rows (next_number h.its.at.rows) c.args.exchange.now.put.rows (fits_of_it (g.S.PageReader.pages c.args.space.now) c.args.root c.args.table.now h.its) c.requires) s) (c.settle.ensures.settled _ u)
 
 pub returns-in-Ok-clause-limits : goal.returns-in-Ok-clause-limits
 returns-in-Ok-clause-limits g c =

@@ -14,15 +14,15 @@ use Rattle.index_lookups.proofs.lookups.row_behind.Goals as goal
 
 pub returns-in-Ok-clause-row : goal.returns-in-Ok-clause-row
 returns-in-Ok-clause-row g c = λ rows h.
-    let b = has_begun (g.R.PageReader.pages c.args.space.now) c.args.place.now.root c.args.place.now.rows_root c.args.place.now.columns rows h Behind c.args.code.now c.in-Ok.entry (c.in-Ok.ensures.found h.owned h.index.entries h.index.tree) in
+    let b = has_begun (g.R.PageReader.pages c.args.space.now) c.args.place.now.root c.args.place.now.rows_root c.args.place.now.types c.args.place.now.columns rows h Behind c.args.code.now c.in-Ok.entry (c.in-Ok.ensures.found h.owned h.index.entries h.index.tree) in
     IfOk-weaker c.row_found.result (λ (found : Option NumberedRow). option_map entry_of found ≡ slice_get b.left 0) (IsRowBehind c.args.place.now.columns rows c.args.code.now) (λ found e. e ∙ b.head)
-    (c.row_found.ensures.row rows b.left (indexed_in (g.R.PageReader.pages c.args.space.now) (g.R.PageReader.pages c.next.new.space) c.args.place.now.root c.args.place.now.rows_root c.args.place.now.columns rows c.next.ensures.same h) b.stands)
+    (c.row_found.ensures.row rows b.left (indexed_in (g.R.PageReader.pages c.args.space.now) (g.R.PageReader.pages c.next.new.space) c.args.place.now.root c.args.place.now.rows_root c.args.place.now.types c.args.place.now.columns rows c.next.ensures.same h) b.stands)
 
 pub returns-in-Ok-clause-refusal : goal.returns-in-Ok-clause-refusal
 returns-in-Ok-clause-refusal g c =
-    reads_later c.row_found.result (StandsNowhere (g.R.PageReader.pages c.next.new.space) c.args.place.now.root c.args.place.now.rows_root c.args.place.now.columns c.in-Ok.entry) (HoldsNoIndexed (g.R.PageReader.pages c.args.space.now) c.args.place.now.root c.args.place.now.rows_root c.args.place.now.columns)
+    reads_later c.row_found.result (StandsNowhere (g.R.PageReader.pages c.next.new.space) c.args.place.now.root c.args.place.now.rows_root c.args.place.now.types c.args.place.now.columns c.in-Ok.entry) (HoldsNoIndexed (g.R.PageReader.pages c.args.space.now) c.args.place.now.root c.args.place.now.rows_root c.args.place.now.types c.args.place.now.columns)
     (g.R.PageReader.refused c.args.space.now) (g.R.PageReader.refused c.next.new.space) (g.R.PageReader.refused c.row_found.new.space)
-    (λ none rows h. let b = has_begun (g.R.PageReader.pages c.args.space.now) c.args.place.now.root c.args.place.now.rows_root c.args.place.now.columns rows h Behind c.args.code.now c.in-Ok.entry (c.in-Ok.ensures.found h.owned h.index.entries h.index.tree) in none rows b.left (indexed_in (g.R.PageReader.pages c.args.space.now) (g.R.PageReader.pages c.next.new.space) c.args.place.now.root c.args.place.now.rows_root c.args.place.now.columns rows c.next.ensures.same h) b.stands)
+    (λ none rows h. let b = has_begun (g.R.PageReader.pages c.args.space.now) c.args.place.now.root c.args.place.now.rows_root c.args.place.now.types c.args.place.now.columns rows h Behind c.args.code.now c.in-Ok.entry (c.in-Ok.ensures.found h.owned h.index.entries h.index.tree) in none rows b.left (indexed_in (g.R.PageReader.pages c.args.space.now) (g.R.PageReader.pages c.next.new.space) c.args.place.now.root c.args.place.now.rows_root c.args.place.now.types c.args.place.now.columns rows c.next.ensures.same h) b.stands)
     c.next.ensures.rising c.row_found.ensures.refusal
 
 pub returns-in-Ok-clause-whole : goal.returns-in-Ok-clause-whole
@@ -33,5 +33,5 @@ returns-in-Ok-clause-follows g c = g.met.R.PageReader.follows_trans _ _ _ c.next
 
 pub returns-in-Err-clause-refusal : goal.returns-in-Err-clause-refusal
 returns-in-Err-clause-refusal g c =
-    read_harm c.in-Err.fault (IsNoTree (g.R.PageReader.pages c.args.space.now) c.args.place.now.root) (HoldsNoIndexed (g.R.PageReader.pages c.args.space.now) c.args.place.now.root c.args.place.now.rows_root c.args.place.now.columns)
+    read_harm c.in-Err.fault (IsNoTree (g.R.PageReader.pages c.args.space.now) c.args.place.now.root) (HoldsNoIndexed (g.R.PageReader.pages c.args.space.now) c.args.place.now.root c.args.place.now.rows_root c.args.place.now.types c.args.place.now.columns)
     (g.R.PageReader.refused c.args.space.now) (g.R.PageReader.refused c.next.new.space) (λ none rows h. none h.owned h.index.entries h.index.tree) c.in-Err.ensures.refusal

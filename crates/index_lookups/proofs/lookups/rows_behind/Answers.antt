@@ -1,34 +1,36 @@
 use Rattle.std.proofs.Common.{List, IfOk, subst}
+use Rattle.std.specs.Prelude.{slice_get}
 use Rattle.store.specs.Contents as stored
 use Rattle.store.specs.View.{AreEntries}
 use Rattle.btree_read.specs.declared.entry.Start.TheVariants.{At}
 use Rattle.btree_read.specs.Search.{IsNoTree}
 use Rattle.stored_tables.proofs.RefusalLemmas.{read_harm, reads_later}
-use Rattle.index_lookups.specs.Walked.{HoldsNoIndexed, StandsNowhere}
+use Rattle.index_lookups.specs.Walked.{HoldsNoIndexed, NoneStandsBefore}
+use Rattle.index_lookups.proofs.AheadLemmas.{first_taken, begins_ahead}
 use Rattle.index_lookups.proofs.StandLemmas.{has_begun, all_wanted, indexed_in}
 use Rattle.index_lookups.proofs.lookups.rows_behind.Goals as goal
 
 pub returns-in-Ok-clause-rows : goal.returns-in-Ok-clause-rows
 returns-in-Ok-clause-rows g c = λ rows h may.
-    let b = has_begun (g.R.PageReader.pages c.args.space.now) c.args.place.now.root c.args.place.now.rows_root c.args.place.now.columns rows h At c.args.code.now c.in-Ok.first (c.in-Ok.ensures.found h.owned h.index.entries h.index.tree) in
+    let b = has_begun (g.R.PageReader.pages c.args.space.now) c.args.place.now.root c.args.place.now.rows_root c.args.place.now.types c.args.place.now.columns rows h At c.args.code.now (slice_get c.in-Ok.first 0) (first_taken At c.args.code.now 1 h.index.entries c.in-Ok.first (c.in-Ok.ensures.found h.owned h.index.entries h.index.tree)) in
     subst (λ (xs : List stored.Entry). IfOk c.rows_from.result (λ found. AreEntries found xs))
-    (all_wanted (g.R.PageReader.pages c.args.space.now) c.args.place.now.root c.args.place.now.rows_root c.args.place.now.columns rows h c.args.sought c.args.code.now c.in-Ok.first may b)
-    (c.rows_from.ensures.rows rows b.left (indexed_in (g.R.PageReader.pages c.args.space.now) (g.R.PageReader.pages c.seek.new.space) c.args.place.now.root c.args.place.now.rows_root c.args.place.now.columns rows c.seek.ensures.same h) b.stands)
+    (all_wanted (g.R.PageReader.pages c.args.space.now) c.args.place.now.root c.args.place.now.rows_root c.args.place.now.types c.args.place.now.columns rows h c.args.sought c.args.code.now (slice_get c.in-Ok.first 0) may b)
+    (c.rows_from.ensures.rows rows b.left (indexed_in (g.R.PageReader.pages c.args.space.now) (g.R.PageReader.pages c.entries_from.new.space) c.args.place.now.root c.args.place.now.rows_root c.args.place.now.types c.args.place.now.columns rows c.entries_from.ensures.same h) (begins_ahead (g.R.PageReader.pages c.args.space.now) c.args.place.now.root c.args.place.now.rows_root c.args.place.now.types c.args.place.now.columns rows h At c.args.code.now 1 c.in-Ok.first (c.in-Ok.ensures.found h.owned h.index.entries h.index.tree) b))
 
 pub returns-in-Ok-clause-refusal : goal.returns-in-Ok-clause-refusal
 returns-in-Ok-clause-refusal g c =
-    reads_later c.rows_from.result (StandsNowhere (g.R.PageReader.pages c.seek.new.space) c.args.place.now.root c.args.place.now.rows_root c.args.place.now.columns c.in-Ok.first) (HoldsNoIndexed (g.R.PageReader.pages c.args.space.now) c.args.place.now.root c.args.place.now.rows_root c.args.place.now.columns)
-    (g.R.PageReader.refused c.args.space.now) (g.R.PageReader.refused c.seek.new.space) (g.R.PageReader.refused c.rows_from.new.space)
-    (λ none rows h. let b = has_begun (g.R.PageReader.pages c.args.space.now) c.args.place.now.root c.args.place.now.rows_root c.args.place.now.columns rows h At c.args.code.now c.in-Ok.first (c.in-Ok.ensures.found h.owned h.index.entries h.index.tree) in none rows b.left (indexed_in (g.R.PageReader.pages c.args.space.now) (g.R.PageReader.pages c.seek.new.space) c.args.place.now.root c.args.place.now.rows_root c.args.place.now.columns rows c.seek.ensures.same h) b.stands)
-    c.seek.ensures.rising c.rows_from.ensures.refusal
+    reads_later c.rows_from.result (NoneStandsBefore (g.R.PageReader.pages c.entries_from.new.space) c.args.place.now.root c.args.place.now.rows_root c.args.place.now.types c.args.place.now.columns c.in-Ok.first) (HoldsNoIndexed (g.R.PageReader.pages c.args.space.now) c.args.place.now.root c.args.place.now.rows_root c.args.place.now.types c.args.place.now.columns)
+    (g.R.PageReader.refused c.args.space.now) (g.R.PageReader.refused c.entries_from.new.space) (g.R.PageReader.refused c.rows_from.new.space)
+    (λ none rows h. let b = has_begun (g.R.PageReader.pages c.args.space.now) c.args.place.now.root c.args.place.now.rows_root c.args.place.now.types c.args.place.now.columns rows h At c.args.code.now (slice_get c.in-Ok.first 0) (first_taken At c.args.code.now 1 h.index.entries c.in-Ok.first (c.in-Ok.ensures.found h.owned h.index.entries h.index.tree)) in none rows b.left (indexed_in (g.R.PageReader.pages c.args.space.now) (g.R.PageReader.pages c.entries_from.new.space) c.args.place.now.root c.args.place.now.rows_root c.args.place.now.types c.args.place.now.columns rows c.entries_from.ensures.same h) (begins_ahead (g.R.PageReader.pages c.args.space.now) c.args.place.now.root c.args.place.now.rows_root c.args.place.now.types c.args.place.now.columns rows h At c.args.code.now 1 c.in-Ok.first (c.in-Ok.ensures.found h.owned h.index.entries h.index.tree) b))
+    c.entries_from.ensures.rising c.rows_from.ensures.refusal
 
 pub returns-in-Ok-clause-whole : goal.returns-in-Ok-clause-whole
-returns-in-Ok-clause-whole g c = λ whole. c.rows_from.ensures.whole (c.seek.ensures.whole whole)
+returns-in-Ok-clause-whole g c = λ whole. c.rows_from.ensures.whole (c.entries_from.ensures.whole whole)
 
 pub returns-in-Ok-clause-follows : goal.returns-in-Ok-clause-follows
-returns-in-Ok-clause-follows g c = g.met.R.PageReader.follows_trans _ _ _ c.seek.ensures.follows c.rows_from.ensures.follows
+returns-in-Ok-clause-follows g c = g.met.R.PageReader.follows_trans _ _ _ c.entries_from.ensures.follows c.rows_from.ensures.follows
 
 pub returns-in-Err-clause-refusal : goal.returns-in-Err-clause-refusal
 returns-in-Err-clause-refusal g c =
-    read_harm c.in-Err.fault (IsNoTree (g.R.PageReader.pages c.args.space.now) c.args.place.now.root) (HoldsNoIndexed (g.R.PageReader.pages c.args.space.now) c.args.place.now.root c.args.place.now.rows_root c.args.place.now.columns)
-    (g.R.PageReader.refused c.args.space.now) (g.R.PageReader.refused c.seek.new.space) (λ none rows h. none h.owned h.index.entries h.index.tree) c.in-Err.ensures.refusal
+    read_harm c.in-Err.fault (IsNoTree (g.R.PageReader.pages c.args.space.now) c.args.place.now.root) (HoldsNoIndexed (g.R.PageReader.pages c.args.space.now) c.args.place.now.root c.args.place.now.rows_root c.args.place.now.types c.args.place.now.columns)
+    (g.R.PageReader.refused c.args.space.now) (g.R.PageReader.refused c.entries_from.new.space) (λ none rows h. none h.owned h.index.entries h.index.tree) c.in-Err.ensures.refusal

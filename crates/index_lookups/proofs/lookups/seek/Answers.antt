@@ -13,16 +13,16 @@ pub returns-in-Ok-Some-clause-rows : goal.returns-in-Ok-Some-clause-rows
 returns-in-Ok-Some-clause-rows g c = λ tables h.
     let t = get (contents_of tables) c.args.name.now in
     let p = subst (λ (o : Option Place). IsPlaceOf (g.R.PageReader.pages c.args.space.now) t c.args.index o) c.in-Ok-Some.field-0-is (c.in-Ok-Some.ensures.found tables h) in
-    let there = indexed_in (g.R.PageReader.pages c.args.space.now) (g.R.PageReader.pages c.index_at.new.space) c.in-Ok-Some.place.root c.in-Ok-Some.place.rows_root c.in-Ok-Some.place.columns (entries_of t) c.index_at.ensures.same p.1 in
+    let there = indexed_in (g.R.PageReader.pages c.args.space.now) (g.R.PageReader.pages c.index_at.new.space) c.in-Ok-Some.place.root c.in-Ok-Some.place.rows_root c.in-Ok-Some.place.types c.in-Ok-Some.place.columns (entries_of t) c.index_at.ensures.same p.1 in
     subst (λ (o : Option (List ℕ)). IfOk c.matching.result (λ found. AreEntries found (matching o c.args.key.now (entries_of t)))) (sym p.0) (c.matching.ensures.rows (entries_of t) there)
 
 pub returns-in-Ok-Some-clause-refusal : goal.returns-in-Ok-Some-clause-refusal
 returns-in-Ok-Some-clause-refusal g c =
-    reads_later c.matching.result (HoldsNoIndexed (g.R.PageReader.pages c.index_at.new.space) c.in-Ok-Some.place.root c.in-Ok-Some.place.rows_root c.in-Ok-Some.place.columns) (HoldsNoDatabase (g.R.PageReader.pages c.args.space.now) c.args.root)
+    reads_later c.matching.result (HoldsNoIndexed (g.R.PageReader.pages c.index_at.new.space) c.in-Ok-Some.place.root c.in-Ok-Some.place.rows_root c.in-Ok-Some.place.types c.in-Ok-Some.place.columns) (HoldsNoDatabase (g.R.PageReader.pages c.args.space.now) c.args.root)
     (g.R.PageReader.refused c.args.space.now) (g.R.PageReader.refused c.index_at.new.space) (g.R.PageReader.refused c.matching.new.space)
     (λ none tables h. let t = get (contents_of tables) c.args.name.now in
     let p = subst (λ (o : Option Place). IsPlaceOf (g.R.PageReader.pages c.args.space.now) t c.args.index o) c.in-Ok-Some.field-0-is (c.in-Ok-Some.ensures.found tables h) in
-    none (entries_of t) (indexed_in (g.R.PageReader.pages c.args.space.now) (g.R.PageReader.pages c.index_at.new.space) c.in-Ok-Some.place.root c.in-Ok-Some.place.rows_root c.in-Ok-Some.place.columns (entries_of t) c.index_at.ensures.same p.1))
+    none (entries_of t) (indexed_in (g.R.PageReader.pages c.args.space.now) (g.R.PageReader.pages c.index_at.new.space) c.in-Ok-Some.place.root c.in-Ok-Some.place.rows_root c.in-Ok-Some.place.types c.in-Ok-Some.place.columns (entries_of t) c.index_at.ensures.same p.1))
     c.index_at.ensures.rising c.matching.ensures.refusal
 
 pub returns-in-Ok-Some-clause-whole : goal.returns-in-Ok-Some-clause-whole

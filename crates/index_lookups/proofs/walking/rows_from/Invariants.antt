@@ -1,7 +1,7 @@
 use Rattle.std.proofs.Common.{◌≡◌, ◌≤◌, List}
 use Rattle.store.specs.Contents as stored
 use Rattle.index_lookups.specs.Sought.{is_wanted}
-use Rattle.index_lookups.specs.Walked.{HoldsIndexed, StandsAt}
+use Rattle.index_lookups.specs.Walked.{HoldsIndexed, StandsBefore}
 use Rattle.index_lookups.proofs.StandLemmas.{IsWalking}
 use Rattle.index_lookups.proofs.walking.rows_from.Given as goal
 
@@ -11,6 +11,6 @@ invariant-walked g l = record {
   whole : g.R.PageReader.is_whole l.fn.space → g.R.PageReader.is_whole l.space;
   rising : g.R.PageReader.refused l.fn.space ≤ g.R.PageReader.refused l.space;
   follows : g.R.PageReader.follows l.fn.space l.space;
-  walks : (rows left : List stored.Entry) → HoldsIndexed (g.R.PageReader.pages l.fn.space) l.place.root l.place.rows_root l.place.columns rows → StandsAt l.place.columns rows l.fn.first left
+  walks : (rows left : List stored.Entry) → HoldsIndexed (g.R.PageReader.pages l.fn.space) l.place.root l.place.rows_root l.place.types l.place.columns rows → StandsBefore l.place.columns rows l.fn.first left
       → IsWalking l.place.columns rows (is_wanted l.sought l.place.columns) left l.walk;
 }

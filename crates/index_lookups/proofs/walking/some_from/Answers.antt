@@ -4,22 +4,22 @@ use Rattle.store.specs.View.{AreEntries}
 use Rattle.std.proofs.lemmas.Result.{err_from_is_err_and}
 use Rattle.btree_read.proofs.NodeLemmas.{read_refused}
 use Rattle.index_lookups.specs.Sought.{is_wanted}
-use Rattle.index_lookups.specs.Walked.{StandsNowhere}
+use Rattle.index_lookups.specs.Walked.{NoneStandsBefore}
 use Rattle.index_lookups.proofs.StandLemmas.{indexed_in, walks_on, has_walked, has_enough}
 use Rattle.index_lookups.proofs.walking.some_from.Goals as goal
 
 pub returns-in_err-step-clause-refusal : goal.returns-in_err-step-clause-refusal
 returns-in_err-step-clause-refusal g c =
     let p = err_from_is_err_and c.from_residual.result c.from_residual.ensures.1 in
-    rw (p.1, p.2) (read_refused (StandsNowhere (g.R.PageReader.pages c.walked.space) c.args.place.now.root c.args.place.now.rows_root c.args.place.now.columns c.walked.walk.next) (StandsNowhere (g.R.PageReader.pages c.args.space.now) c.args.place.now.root c.args.place.now.rows_root c.args.place.now.columns c.args.first)
+    rw (p.1, p.2) (read_refused (NoneStandsBefore (g.R.PageReader.pages c.walked.space) c.args.place.now.root c.args.place.now.rows_root c.args.place.now.types c.args.place.now.columns c.walked.walk.ahead) (NoneStandsBefore (g.R.PageReader.pages c.args.space.now) c.args.place.now.root c.args.place.now.rows_root c.args.place.now.types c.args.place.now.columns c.args.first)
     (g.R.PageReader.refused c.args.space.now) (g.R.PageReader.refused c.walked.space) (g.R.PageReader.refused c.step.new.space) c.in_err-step.field-0.0 c.walked.invariant.rising
-    (λ none rows left h s. let w = c.walked.invariant.walks rows left h s in none rows w.rest (indexed_in (g.R.PageReader.pages c.args.space.now) (g.R.PageReader.pages c.walked.space) c.args.place.now.root c.args.place.now.rows_root c.args.place.now.columns rows c.walked.invariant.same h) w.stands) c.in_err-step.ensures.refusal)
+    (λ none rows left h s. let w = c.walked.invariant.walks rows left h s in none rows w.rest (indexed_in (g.R.PageReader.pages c.args.space.now) (g.R.PageReader.pages c.walked.space) c.args.place.now.root c.args.place.now.rows_root c.args.place.now.types c.args.place.now.columns rows c.walked.invariant.same h) w.stands) c.in_err-step.ensures.refusal)
 
 pub returns-then-branch-clause-rows : goal.returns-then-branch-clause-rows
 returns-then-branch-clause-rows g c = λ rows left h s.
     let w = c.walked.invariant.walks rows left h s in
     c.first_rows-then-branch.ensures (filter (is_wanted c.args.sought c.args.place.now.columns) left)
-    (has_walked c.args.place.now.columns rows (is_wanted c.args.sought c.args.place.now.columns) left c.walked.walk c.step.new.walk _ c.if-branch.true w (c.in_ok-step.ensures.stepped rows w.rest w.list (indexed_in (g.R.PageReader.pages c.args.space.now) (g.R.PageReader.pages c.walked.space) c.args.place.now.root c.args.place.now.rows_root c.args.place.now.columns rows c.walked.invariant.same h) w.stands w.are))
+    (has_walked c.args.place.now.columns rows (is_wanted c.args.sought c.args.place.now.columns) left c.walked.walk c.step.new.walk _ c.if-branch.true w (c.in_ok-step.ensures.stepped rows w.rest w.list (indexed_in (g.R.PageReader.pages c.args.space.now) (g.R.PageReader.pages c.walked.space) c.args.place.now.root c.args.place.now.rows_root c.args.place.now.types c.args.place.now.columns rows c.walked.invariant.same h) w.stands w.are))
 
 pub returns-then-len-most-clause-rows : goal.returns-then-len-most-clause-rows
 returns-then-len-most-clause-rows g c = λ rows left h s.
@@ -34,5 +34,5 @@ walked-preserved g c = record {
   rising = omega (arith, c.walked.invariant.rising, c.in_ok-step.ensures.rising);
   follows = g.met.R.PageReader.follows_trans _ _ _ c.walked.invariant.follows c.in_ok-step.ensures.follows;
   walks = λ rows left h s. let w = c.walked.invariant.walks rows left h s in
-      walks_on c.args.place.now.columns rows (is_wanted c.args.sought c.args.place.now.columns) left c.walked.walk c.step.new.walk _ w (c.in_ok-step.ensures.stepped rows w.rest w.list (indexed_in (g.R.PageReader.pages c.args.space.now) (g.R.PageReader.pages c.walked.space) c.args.place.now.root c.args.place.now.rows_root c.args.place.now.columns rows c.walked.invariant.same h) w.stands w.are);
+      walks_on c.args.place.now.columns rows (is_wanted c.args.sought c.args.place.now.columns) left c.walked.walk c.step.new.walk _ w (c.in_ok-step.ensures.stepped rows w.rest w.list (indexed_in (g.R.PageReader.pages c.args.space.now) (g.R.PageReader.pages c.walked.space) c.args.place.now.root c.args.place.now.rows_root c.args.place.now.types c.args.place.now.columns rows c.walked.invariant.same h) w.stands w.are);
 }
