@@ -1,6 +1,0 @@
-use Rattle.std.proofs.Common.{◌∙◌, ap}
-use Rattle.database_trees.specs.Named.{table_named}
-use Rattle.database_trees.proofs.naming.find_table.Goals as goal
-
-pub returns-in-Ok-clause-found : goal.returns-in-Ok-clause-found
-returns-in-Ok-clause-found g c = λ owned tables h. c.taken_out.ensures ∙ ap (table_named c.args.name.now) (c.in-Ok.ensures.found owned tables h)
