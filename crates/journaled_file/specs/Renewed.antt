@@ -2,8 +2,13 @@
 use Rattle.std.specs.Prelude.{◌≡◌, ◌⊎◌, ℕ, zero, suc, ◌<◌, ◌≤◌, List, [], ◌++◌, drop}
 use Rattle.disk.specs.Crashes.{Bytes, Always}
 use Rattle.pagefile.specs.declared.header.FileHeader.{FileHeader}
-use Rattle.journal.specs.Headers.{magic_2}
+use Rattle.journal.specs.declared.found.Found.{Found}
+use Rattle.journal.specs.Headers.{IsFile, magic_2}
 use Rattle.journal.specs.Versions.{Version, OneOf, IsAmong, IsShut, StandsFor}
+
+-- the bytes are a file of either format with this header, as its journal makes it
+abbrev pub IsHeaderIn : Bytes → FileHeader → Type 0
+IsHeaderIn c h = (found : Found) × IsFile c found × (h ≡ found.header)
 
 -- what pages show once page 0 has the magic of format 2
 abbrev pub renewed_pages : (ℕ → List ℕ) → ℕ → List ℕ

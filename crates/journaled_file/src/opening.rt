@@ -7,7 +7,7 @@ ghost use Rattle.journal.specs.Parts.{place, block};
 ghost use Rattle.journal.specs.Versions.{Version, OneOf, IsShut, IsAmong, IsCommittable, StandsFor, committed};
 ghost use Rattle.journaled_file.specs.Refused.{IsCounted, IsTold, refusal_for};
 ghost use Rattle.journaled_file.specs.Shown.{IsAtRest};
-ghost use Rattle.journaled_file.specs.Renewed.{renewed, renewed_pages, first_pages, Opens, IsOpening};
+ghost use Rattle.journaled_file.specs.Renewed.{renewed, renewed_pages, first_pages, IsHeaderIn, Opens, IsOpening};
 
 use crate::steps::{finish_open, write_commit};
 use disk::{Disk, DiskError};
@@ -163,6 +163,7 @@ fn as_second<D: Disk>(alloc: Global, disk: &mut D, found: Found) -> Result<FileH
 /// Opens a file of either format, which is one of the second then with its gate shut, and tells its
 /// header. `Damaged` comes just of what is no such file, and leaves each byte.
 pub fn open_file<D: Disk>(alloc: Global, disk: &mut D) -> Result<FileHeader, OpenRefusal>
+    ensures header { IfOk result (λ h. IsTrue D.is_honest → IsHeaderIn (D.bytes disk.old) h) }
     ensures pages { IfOk result (λ h. IsTrue D.is_honest → (v : Version) → IsGood v → StandsFor v (D.bytes disk.old)
         → (n : ℕ) → n < h.page_count → place (D.bytes disk.new) n ≡ renewed_pages v.pages n) }
     ensures opened { IfOk result (λ h. IsTrue D.is_durable → IsTrue D.is_honest → (x y : Version) → IsGood x → IsGood y
@@ -175,6 +176,7 @@ pub fn open_file<D: Disk>(alloc: Global, disk: &mut D) -> Result<FileHeader, Ope
     ensures damaged { IfErr result (λ e. e ≡ OpenRefusal.Damaged → IsTrue D.is_honest → IsNoFile (D.bytes disk.old)) }
     ensures left { IfErr result (λ e. e ≡ OpenRefusal.Damaged → IsTrue D.is_honest
         → D.bytes disk.new ≡ D.bytes disk.old) }
+    ensures unwritten { IfErr result (λ e. e ≡ OpenRefusal.Damaged → D.writes disk.new ≡ D.writes disk.old) }
     ensures whole { IfErr result (λ e. IsTrue D.is_durable → IsTrue D.is_honest → (x y : Version) → IsGood x → IsGood y
         → Always (D.may_leave disk.old) (IsAmong x y) → e ≡ OpenRefusal.Damaged → ⊥) }
     ensures count { MatchResult result

@@ -6,13 +6,18 @@ use Rattle.pagefile.specs.declared.header.FileHeader.{FileHeader}
 use Rattle.journal.specs.Headers.{IsGood, IsNoFile, magic_of}
 use Rattle.journal.specs.Parts.{place}
 use Rattle.journal.specs.Versions.{Version, IsAmong, IsShut, StandsFor}
-use Rattle.journal.proofs.Finding.{if_err, stands_header}
+use Rattle.journal.proofs.Finding.{if_err, if_ok, stands_header}
 use Rattle.journaled_file.specs.declared.opening.OpenRefusal.{OpenRefusal}
 use Rattle.journaled_file.specs.declared.opening.OpenRefusal.TheVariants.{Damaged}
-use Rattle.journaled_file.specs.Renewed.{Opens, IsOpening, first_pages, renewed, renewed_pages}
+use Rattle.journaled_file.specs.Renewed.{IsHeaderIn, Opens, IsOpening, first_pages, renewed, renewed_pages}
 use Rattle.journaled_file.specs.Shown.{IsAtRest}
 use Rattle.journaled_file.proofs.Renewing.{both_ok, counts_as, few, found_at_rest, good_one, tells_as, told_damage}
 use Rattle.journaled_file.proofs.opening.open_file.Goals as goal
+
+pub returns-in-Ok-clause-header : goal.returns-in-Ok-clause-header
+returns-in-Ok-clause-header g c =
+    if_ok (λ (h : FileHeader). h ≡ c.in-Ok.found.header) (λ (h : FileHeader). IsTrue g.D.Disk.is_honest → IsHeaderIn (g.D.Disk.bytes c.args.disk.now) h)
+    c.as_second.result (λ h is honest. (c.in-Ok.found, c.in-Ok.ensures.file honest, is)) c.as_second.ensures.header
 
 pub returns-in-Ok-clause-pages : goal.returns-in-Ok-clause-pages
 returns-in-Ok-clause-pages g c =
@@ -111,3 +116,12 @@ returns-in-Err-clause-count g c = rw c.refusal_of.ensures (counts_as c.in-Err.ca
 
 pub returns-in-Err-clause-cause : goal.returns-in-Err-clause-cause
 returns-in-Err-clause-cause g c = rw c.refusal_of.ensures (tells_as _ c.in-Err.cause c.in-Err.ensures.cause)
+
+pub returns-in-Ok-clause-unwritten : goal.returns-in-Ok-clause-unwritten
+returns-in-Ok-clause-unwritten g c =
+    if_err (λ (e : OpenRefusal). e ≡ Damaged → ⊥)
+    (λ (e : OpenRefusal). e ≡ Damaged → g.D.Disk.writes c.as_second.new.disk ≡ g.D.Disk.writes c.args.disk.now) c.as_second.result
+    (λ e never is. absurd (never is)) c.as_second.ensures.never
+
+pub returns-in-Err-clause-unwritten : goal.returns-in-Err-clause-unwritten
+returns-in-Err-clause-unwritten g c = λ is. c.in-Err.ensures.unwritten (told_damage c.in-Err.cause (sym c.refusal_of.ensures ∙ is))
