@@ -53,6 +53,14 @@ deepest_subqueries > "$work/in"
 check "subqueries in subqueries" 0 "^(1 rows)$" "" run
 widest_query > "$work/in"
 check "the widest query over eight tables" 0 "^(1 rows)$" "" run
+# The stored run of sqlsh with the fewest and with the most frames: the same bytes.
+cp "$top/crates/sqlsh/stdin" "$work/in"
+for frames in 16 4096; do
+  check "the stored run with $frames frames" "$(cat "$top/crates/sqlsh/status")" "." "" run --frames "$frames"
+  if ! cmp "$work/out" "$top/crates/sqlsh/stdout"; then
+    echo "the stored run with $frames frames: printed something else"; failed=1
+  fi
+done
 # Tables in a file, by a path of the caller's folder.
 cd "$work"
 cp "$top/examples/first_run.sql" in

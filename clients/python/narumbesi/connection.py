@@ -113,8 +113,8 @@ class Connection:
             raise InterfaceError("the connection is closed")
         return self._session
 
-    def _call(self, text):
-        return self._program.call(self._open_session(), text, self.time_limit)
+    def _call(self, text, is_fetch=False):
+        return self._program.call(self._open_session(), text, self.time_limit, is_fetch)
 
     def __enter__(self):
         self._open_session()

@@ -9,9 +9,8 @@ UNTOUCHED = -1
 class Rows:
     """The rows of an answer, each read from its line when it is taken.
 
-    The program answers a query whole, since the language's cursors are not built, and nothing else
-    can be asked before its last line: so all lines are here. Rows that come by FETCH would take the
-    place of this class.
+    The program answers a query whole, and nothing else can be asked before its last line: so all
+    lines are here. A FETCH of the language has one row, or none behind the last one.
     """
 
     def __init__(self, lines):
@@ -51,19 +50,19 @@ class Cursor:
     def execute(self, operation, parameters=()):
         """Carries out a statement, with literals for its `?`."""
         statement = self._read(operation)
-        self._take(self._call(statement.written(parameters)), statement)
+        self._take(self.connection._call(statement.written(parameters), statement.is_fetch()), statement)
         return self
 
     def executemany(self, operation, seq_of_parameters):
         """Carries out a statement for each of the parameters. Rows of a plain INSERT are put into as
         few statements as their length allows. Where one is refused, those before it stand: the
-        transaction is open. A query is a ProgrammingError."""
+        transaction is open. A query or a FETCH is a ProgrammingError."""
         statement = self._read(operation)
-        if statement.is_query():
+        if statement.is_query() or statement.is_fetch():
             raise ProgrammingError("executemany carries out no query")
         touched = 0
         for text in texts_of_many(statement, seq_of_parameters):
-            touched += max(self._call(text).count, 0)
+            touched += max(self.connection._call(text).count, 0)
         self.rowcount = touched
         return self
 
@@ -113,9 +112,6 @@ class Cursor:
         self._is_open()
         self._forget()
         return Statement(operation)
-
-    def _call(self, text):
-        return self.connection._call(text)
 
     def _is_open(self):
         if self._is_closed:

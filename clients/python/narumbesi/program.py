@@ -20,6 +20,8 @@ from .values import FIELD
 
 SESSIONS = 64
 ANSWER_END = re.compile(rb"00000(?: (\d+))?|(02000) 0|\((\d+) rows\)|ERROR (\w{5})(?: (.+))?")
+# The answer to a FETCH behind the last row.
+NO_ROW = b"02000"
 ROW = re.compile(("(?:{0})?(?:[|](?:{0}))*".format(FIELD.pattern)).encode("ascii"))
 # Status 1 says that some reply was a refusal.
 GOOD_STATUSES = (0, 1)
@@ -94,10 +96,11 @@ class Program:
         """A session that no connection has. HasEnded where another program has to be started."""
         return self._wait(self._ask(self._enter, self._undo_enter), limit)
 
-    def call(self, session, text, limit=None):
+    def call(self, session, text, limit=None, is_fetch=False):
         """The answer to a statement. An error where it is refused, where the time limit passes (then
         the transaction is rolled back), or where the program has ended."""
-        return self._wait(self._ask(functools.partial(self._call, session, text), lambda _: self._call(session, "ROLLBACK")), limit)
+        work = functools.partial(self._call, session, text, is_fetch)
+        return self._wait(self._ask(work, lambda _: self._call(session, "ROLLBACK")), limit)
 
     def leave(self, session, limit=None):
         """Rolls a session back, and lets its number be used again. With the last one the program is
@@ -205,11 +208,11 @@ class Program:
         elif not self._sessions:
             self._finish()
 
-    def _call(self, session, text):
+    def _call(self, session, text, is_fetch=False):
         if not session.is_open:
             raise InterfaceError("the connection is closed")
         self._write("@%d %s\n;\n" % (session.number, text))
-        return self._read()
+        return self._read(is_fetch)
 
     def _leave(self, session):
         """An idle session keeps what its next transaction may do, so that is set again."""
@@ -249,9 +252,9 @@ class Program:
         except BrokenPipeError:
             pass  # what it printed before it ended is read
 
-    def _read(self):
-        """The answer to a statement. It ends with the first line that is not one of a row, and
-        nothing comes behind that."""
+    def _read(self, is_fetch):
+        """The answer to a statement. It ends with the first line that is not one of a row, that to a
+        FETCH with its first line, and nothing comes behind that."""
         rows, rest = [], b""
         while True:
             chunk = self._process.stdout.read(CHUNK)
@@ -259,9 +262,18 @@ class Program:
                 raise self._fail(self._unexpected_end())
             *lines, rest = (rest + chunk).split(b"\n")
             for place, line in enumerate(lines, 1):
+                if is_fetch:
+                    return self._fetched(line, b"\n".join([*lines[place:], rest]))
                 if not ROW.fullmatch(line):
                     return self._answer(rows, line, b"\n".join([*lines[place:], rest]))
                 rows.append(line)
+
+    def _fetched(self, line, behind):
+        """The answer to a FETCH: a row, none behind the last one, or a refusal."""
+        if line != NO_ROW and not ROW.fullmatch(line) or behind:
+            return self._answer([], line, behind)
+        rows = [] if line == NO_ROW else [line]
+        return Answer(rows, len(rows))
 
     def _answer(self, rows, line, behind):
         end = ANSWER_END.fullmatch(line)

@@ -73,6 +73,9 @@ class Statement:
     def is_query(self):
         return next((it.group().upper() for it in self.tokens if it.group() != "("), "") == "SELECT"
 
+    def is_fetch(self):
+        return self.tokens[0].group().upper() == "FETCH"
+
     def columns(self):
         """The names of the columns of a query, None for one without a name; or None where the text
         is no query, or its columns cannot be told from it (SELECT *)."""

@@ -122,7 +122,7 @@ class Limits(Test):
     def test_a_call_over_its_time(self):
         connection, other = self.connect(self.file), self.connect(self.file)
         cursor = connection.cursor().execute("CREATE TABLE T (A INTEGER)")
-        cursor.executemany("INSERT INTO T VALUES (?)", ((it,) for it in range(1200)))
+        cursor.executemany("INSERT INTO T VALUES (?)", ((it,) for it in range(3000)))
         connection.commit()
         cursor.execute("INSERT INTO T VALUES (-1)")
         connection.time_limit = 0.2
@@ -133,7 +133,7 @@ class Limits(Test):
         # The next calls wait for the late answer, and do not take it for theirs.
         connection.time_limit = 60
         self.assertEqual(cursor.execute("SELECT MIN(A) FROM T").fetchall(), [(0,)])
-        self.assertEqual(other.cursor().execute("SELECT MAX(A) FROM T").fetchall(), [(1199,)])
+        self.assertEqual(other.cursor().execute("SELECT MAX(A) FROM T").fetchall(), [(2999,)])
         other.rollback()
         other.cursor().execute("DELETE FROM T")
 
@@ -153,7 +153,7 @@ class Limits(Test):
     def test_an_interrupt(self):
         connection = self.connect()
         cursor = connection.cursor().execute("CREATE TABLE T (A INTEGER)")
-        cursor.executemany("INSERT INTO T VALUES (?)", ((it,) for it in range(1200)))
+        cursor.executemany("INSERT INTO T VALUES (?)", ((it,) for it in range(3000)))
         connection.commit()
         cursor.execute("INSERT INTO T VALUES (-1)")
         self.addCleanup(signal.signal, signal.SIGINT, signal.signal(signal.SIGINT, signal.default_int_handler))

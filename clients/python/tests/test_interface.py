@@ -192,6 +192,21 @@ class Cursors(Test):
         self.assertEqual(self.cursor.execute("SELECT * FROM Z HAVING 1 = 1").fetchall(), [()])
         self.assertEqual((self.cursor.rowcount, self.cursor.description), (1, ()))
 
+    def test_cursors_of_the_language(self):
+        self.cursor.execute("INSERT INTO T VALUES (1, '02000'), (2, NULL)")
+        self.cursor.execute("DECLARE C CURSOR FOR SELECT B, A FROM T ORDER BY A")
+        self.cursor.execute("OPEN C")
+        self.assertEqual(self.cursor.execute("FETCH C").fetchall(), [("02000", 1)])
+        self.assertEqual(self.cursor.execute("-- the next one\n fetch c ;").fetchall(), [(None, 2)])
+        for _ in range(2):
+            self.assertEqual(self.cursor.execute("FETCH C").fetchall(), [])
+            self.assertEqual(self.cursor.rowcount, 0)
+        self.assertEqual(self.cursor.execute("SELECT A FROM T WHERE A = 1").fetchall(), [(1,)])
+        self.cursor.execute("CLOSE C")
+        self.refused(narumbesi.InternalError, "24000", None, self.cursor.execute, "FETCH C")
+        with self.assertRaises(narumbesi.ProgrammingError):
+            self.cursor.executemany("FETCH C", [()])
+
     def test_executemany(self):
         self.assertEqual(self.cursor.executemany("INSERT INTO T VALUES (?, ?)", iter([])).rowcount, 0)
         self.cursor.executemany("INSERT INTO T (B, A) VALUES (?, ?)", (("b%d" % it, it) for it in range(10)))
@@ -207,7 +222,7 @@ class Cursors(Test):
     def test_executemany_fills_statements_to_their_limit(self):
         sent = []
         call = self.connection._call
-        self.connection._call = lambda text: sent.append(text) or call(text)
+        self.connection._call = lambda text, *rest: sent.append(text) or call(text, *rest)
         self.fill(20000)
         self.assertEqual(self.cursor.rowcount, 20000)
         self.assertTrue(all(60000 < len(it) <= 65536 for it in sent[:-1]))

@@ -103,18 +103,6 @@ is_violated reading name table (Check text) = list_any (λ row. is_false (check_
 abbrev pub violated_by : CheckReading → Name → Table → List Name
 violated_by reading name table = map (λ c. c.name) (filter (λ c. is_violated reading name table c.rule) table.constraints)
 
--- For the contract of what is built so far, and no part of any meaning: whether some of these rows
--- violate a rule that is a NOT NULL.
-abbrev pub breaks_not_null : List Row → Rule → Bool
-breaks_not_null rows (NotNull column) = has_null (column ∷ []) rows
-breaks_not_null rows (PrimaryKey columns) = false
-breaks_not_null rows (Unique columns) = false
-breaks_not_null rows (Check text) = false
-
--- the names of the NOT NULLs that some of these rows violate
-abbrev pub broken_not_nulls : List Constraint → List Row → List Name
-broken_not_nulls constraints rows = map (λ c. c.name) (filter (λ c. breaks_not_null rows c.rule) constraints)
-
 -- ---- good databases
 
 -- as many values as columns, each one that its column may hold

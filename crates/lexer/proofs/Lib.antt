@@ -1,5 +1,6 @@
 pub mod Fronts
 pub mod Lines
+pub mod Halves
 pub mod Skipping
 pub mod Steps
 pub mod WordSound

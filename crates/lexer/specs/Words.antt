@@ -1,6 +1,9 @@
 -- The reserved words: those of SQL-92, 5.2, that the language uses now or keeps for later; EXPLAIN,
 -- INDEX and SAVEPOINT are our own.
-use Rattle.std.specs.Prelude.{ℕ, Bool, false, List, [], ◌∷◌, codes, Option, Some, None, if◌then◌else◌}
+use Rattle.std.specs.Prelude.{ℕ, Bool, false, true, ◌&&◌, List, [], ◌∷◌, codes, Option, Some, None, if◌then◌else◌}
+use Rattle.std.specs.Cmp.Lexicographic.{slice_cmp}
+use Rattle.std.specs.List.{list_all}
+use Rattle.std.specs.Ordering.{is_lt, nat_cmp}
 use Rattle.std.specs.Str.{bytes_eq}
 use denote.Enum.Bare.{sameb}
 use Rattle.lexer.specs.contracts.words.Word as word_contract
@@ -35,7 +38,7 @@ vocabulary =
     ∷ (codes "CHAR", word.Char, Later)
     ∷ (codes "CHARACTER", word.Character, Now)
     ∷ (codes "CHECK", word.Check, Now)
-    ∷ (codes "CLOSE", word.Close, Later)
+    ∷ (codes "CLOSE", word.Close, Now)
     ∷ (codes "COALESCE", word.Coalesce, Later)
     ∷ (codes "COLLATE", word.Collate, Later)
     ∷ (codes "COMMIT", word.Commit, Now)
@@ -45,10 +48,10 @@ vocabulary =
     ∷ (codes "CREATE", word.Create, Now)
     ∷ (codes "CROSS", word.Cross, Now)
     ∷ (codes "CURRENT", word.Current, Later)
-    ∷ (codes "CURSOR", word.Cursor, Later)
+    ∷ (codes "CURSOR", word.Cursor, Now)
     ∷ (codes "DATE", word.Date, Later)
     ∷ (codes "DECIMAL", word.Decimal, Later)
-    ∷ (codes "DECLARE", word.Declare, Later)
+    ∷ (codes "DECLARE", word.Declare, Now)
     ∷ (codes "DEFAULT", word.Default, Later)
     ∷ (codes "DELETE", word.Delete, Now)
     ∷ (codes "DESC", word.Desc, Now)
@@ -60,9 +63,9 @@ vocabulary =
     ∷ (codes "EXISTS", word.Exists, Now)
     ∷ (codes "EXPLAIN", word.Explain, Later)
     ∷ (codes "FALSE", word.False, Now)
-    ∷ (codes "FETCH", word.Fetch, Later)
+    ∷ (codes "FETCH", word.Fetch, Now)
     ∷ (codes "FLOAT", word.Float, Later)
-    ∷ (codes "FOR", word.For, Later)
+    ∷ (codes "FOR", word.For, Now)
     ∷ (codes "FOREIGN", word.Foreign, Later)
     ∷ (codes "FROM", word.From, Now)
     ∷ (codes "FULL", word.Full, Later)
@@ -93,7 +96,7 @@ vocabulary =
     ∷ (codes "NUMERIC", word.Numeric, Later)
     ∷ (codes "ON", word.On, Now)
     ∷ (codes "ONLY", word.Only, Now)
-    ∷ (codes "OPEN", word.Open, Later)
+    ∷ (codes "OPEN", word.Open, Now)
     ∷ (codes "OR", word.Or, Now)
     ∷ (codes "ORDER", word.Order, Now)
     ∷ (codes "OUTER", word.Outer, Now)
@@ -139,6 +142,11 @@ is_word = sameb word_contract.the_type
 abbrev pub word_with : List Entry → List ℕ → Option Word
 word_with [] text = None
 word_with (entry ∷ entries) text = if bytes_eq entry.0 text then Some entry.1 else word_with entries text
+
+-- whether the text of each line stands before those of all later ones, byte by byte
+abbrev pub are_rising : List Entry → Bool
+are_rising [] = true
+are_rising (entry ∷ entries) = list_all (λ later. is_lt (slice_cmp nat_cmp entry.0 later.0)) entries && are_rising entries
 
 -- the text on the first line with this word
 abbrev pub text_with : List Entry → Word → List ℕ

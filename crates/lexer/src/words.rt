@@ -1,8 +1,9 @@
 //! The reserved words.
 
-ghost use Rattle.std.specs.Prelude.{◌≡◌, map};
-ghost use Rattle.lexer.specs.Words.{Entry as Line, is_supported, reserved, supports, text_with, vocabulary, word_text, word_with};
+ghost use Rattle.std.specs.Prelude.{◌≡◌, ◌<◌, true, length, map};
+ghost use Rattle.lexer.specs.Words.{Entry as Line, are_rising, is_supported, reserved, supports, text_with, vocabulary, word_text, word_with};
 
+use std::cmp::Ordering;
 use std::fmt;
 
 /// Whether the forms that use a reserved word are built yet.
@@ -155,7 +156,7 @@ pub const WORDS: [Entry; 111] = [
     ("CHAR", Word::Char, Support::Later),
     ("CHARACTER", Word::Character, Support::Now),
     ("CHECK", Word::Check, Support::Now),
-    ("CLOSE", Word::Close, Support::Later),
+    ("CLOSE", Word::Close, Support::Now),
     ("COALESCE", Word::Coalesce, Support::Later),
     ("COLLATE", Word::Collate, Support::Later),
     ("COMMIT", Word::Commit, Support::Now),
@@ -165,10 +166,10 @@ pub const WORDS: [Entry; 111] = [
     ("CREATE", Word::Create, Support::Now),
     ("CROSS", Word::Cross, Support::Now),
     ("CURRENT", Word::Current, Support::Later),
-    ("CURSOR", Word::Cursor, Support::Later),
+    ("CURSOR", Word::Cursor, Support::Now),
     ("DATE", Word::Date, Support::Later),
     ("DECIMAL", Word::Decimal, Support::Later),
-    ("DECLARE", Word::Declare, Support::Later),
+    ("DECLARE", Word::Declare, Support::Now),
     ("DEFAULT", Word::Default, Support::Later),
     ("DELETE", Word::Delete, Support::Now),
     ("DESC", Word::Desc, Support::Now),
@@ -180,9 +181,9 @@ pub const WORDS: [Entry; 111] = [
     ("EXISTS", Word::Exists, Support::Now),
     ("EXPLAIN", Word::Explain, Support::Later),
     ("FALSE", Word::False, Support::Now),
-    ("FETCH", Word::Fetch, Support::Later),
+    ("FETCH", Word::Fetch, Support::Now),
     ("FLOAT", Word::Float, Support::Later),
-    ("FOR", Word::For, Support::Later),
+    ("FOR", Word::For, Support::Now),
     ("FOREIGN", Word::Foreign, Support::Later),
     ("FROM", Word::From, Support::Now),
     ("FULL", Word::Full, Support::Later),
@@ -213,7 +214,7 @@ pub const WORDS: [Entry; 111] = [
     ("NUMERIC", Word::Numeric, Support::Later),
     ("ON", Word::On, Support::Now),
     ("ONLY", Word::Only, Support::Now),
-    ("OPEN", Word::Open, Support::Later),
+    ("OPEN", Word::Open, Support::Now),
     ("OR", Word::Or, Support::Now),
     ("ORDER", Word::Order, Support::Now),
     ("OUTER", Word::Outer, Support::Now),
@@ -296,16 +297,40 @@ impl fmt::Debug for Word {
     }
 }
 
+/// The word on the line of a text, by halves: the texts of the lines rise.
 fn word_with(mut table: &[Entry], text: &[u8]) -> Option<Word>
+    requires { are_rising (map (λ entry. (entry.0.now, entry.1, entry.2)) table.now) ≡ true }
     ensures { result ≡ word_with (map (λ entry. (entry.0.now, entry.1, entry.2)) table.entry.now) text.now }
 {
-    while let [entry, rest @ ..] = table {
-        if entry.0.as_bytes() == text {
-            return Some(entry.1);
-        }
-        table = rest;
+    while table.len() > 1 {
+        table = half_with(table, text);
     }
-    None
+    match table {
+        [entry] => {
+            if entry.0.as_bytes() == text {
+                Some(entry.1)
+            } else {
+                None
+            }
+        }
+        _ => None,
+    }
+}
+
+/// The half of some lines in which a text may stand.
+fn half_with<'a>(table: &'a [Entry], text: &[u8]) -> &'a [Entry]
+    requires many { 1 < length table.now }
+    requires rising { are_rising (map (λ entry. (entry.0.now, entry.1, entry.2)) table.now) ≡ true }
+    ensures rising { are_rising (map (λ entry. (entry.0.now, entry.1, entry.2)) result.now) ≡ true }
+    ensures same { word_with (map (λ entry. (entry.0.now, entry.1, entry.2)) result.now) text.now
+        ≡ word_with (map (λ entry. (entry.0.now, entry.1, entry.2)) table.now) text.now }
+    ensures fewer { length result.now < length table.now }
+{
+    let half = table.len() / 2;
+    match text.cmp(table[half].0.as_bytes()) {
+        Ordering::Less => &table[..half],
+        _ => &table[half..],
+    }
 }
 
 fn text_with(mut table: &[Entry], word: Word) -> &'static str

@@ -4,10 +4,10 @@ use Rattle.std.proofs.Common.{◌≡◌, ◌∙◌, ◌+◌, ℕ, Bool, true, fa
 use Rattle.std.specs.Prelude.{filter}
 use Rattle.std.proofs.lemmas.List.{append-nil}
 use Rattle.refusals.specs.declared.refusal.Refusal.{Refusal}
-use Rattle.lexer.specs.Token.{Bytes}
 use Rattle.denote.specs.Bag.{Permutes}
 use Rattle.denote.specs.Database.{Database}
 use Rattle.replies.specs.declared.reply.Reply.{Reply}
+use Rattle.session_definitions.specs.Asked.{Asked}
 use Rattle.session_definitions.specs.Effect.{Effect}
 use Rattle.session_definitions.specs.Rules.{Rules}
 use Rattle.session_definitions.specs.Run.{Event, Happens, Moment, Run, FlushesPages, MakesSession, history}
@@ -104,13 +104,13 @@ module _ (rules : Rules) (db : Database) where
     same new is = no_more rules db (writers earlier) (committed_from db earlier) w.last new.last lists is
 
     -- the writer's transaction began at the last commit, and is one of the series
-    commits : (s : ℕ) (text : Bytes) (reply : Reply) (t : Transaction) (new : World) → Call rules w s text reply (Effect.Commits t) new
-        → Lists (at_moment w (Event.Calls s text reply (Effect.Commits t)) ∷ earlier) new
-    commits s text reply t new call =
-        let now = at_moment w (Event.Calls s text reply (Effect.Commits t)) ∷ earlier in
+    commits : (s : ℕ) (asked : Asked) (reply : Reply) (t : Transaction) (new : World) → Call rules w s asked reply (Effect.Commits t) new
+        → Lists (at_moment w (Event.Calls s asked reply (Effect.Commits t)) ∷ earlier) new
+    commits s asked reply t new call =
+        let now = at_moment w (Event.Calls s asked reply (Effect.Commits t)) ∷ earlier in
         let all : IsSerializable rules (opened db) now = serializable rules db now new (run, call) in
         let own : call.session.transaction ≡ Some t =
-        shape rules call.session (begun w call.session) (obstacle w s call.session) reply (Effect.Commits t) (runs_in w call.session) text call.replies in
+        shape rules call.session (begun w call.session) (obstacle w s call.session) reply (Effect.Commits t) (runs_in w call.session) asked call.replies in
         let sound : IsSoundTransaction w.commits w.last (is_writer w s) t =
         subst (IsSoundSession w.commits w.last (is_writer w s)) own ((stays_sound rules db earlier w run).sessions s call.session call.stands) in
         let left : new.last ≡ cond (is_writer w s) t.working w.last = ap (λ (v : World). v.last) call.leaves ∙ committed_last w s call.session t in
@@ -122,19 +122,20 @@ module _ (rules : Rules) (db : Database) where
               (in_order (committed_by s (talk s now) t (is_writer w s)) all.all (inl refl));
         }))
 
-    called : (s : ℕ) (text : Bytes) (reply : Reply) (effect : Effect) (new : World) → Call rules w s text reply effect new
-        → Lists (at_moment w (Event.Calls s text reply effect) ∷ earlier) new
-    called s text reply Effect.Nothing new call = same new (ap (λ (v : World). v.last) call.leaves)
-    called s text reply (Effect.Becomes session) new call = same new (ap (λ (v : World). v.last) call.leaves)
-    called s text reply (Effect.Writes session) new call = same new (ap (λ (v : World). v.last) call.leaves)
-    called s text reply (Effect.Commits t) new call = commits s text reply t new call
-    called s text reply Effect.RollsBack new call = same new (ap (λ (v : World). v.last) call.leaves)
+    called : (s : ℕ) (asked : Asked) (reply : Reply) (effect : Effect) (new : World) → Call rules w s asked reply effect new
+        → Lists (at_moment w (Event.Calls s asked reply effect) ∷ earlier) new
+    called s asked reply Effect.Nothing new call = same new (ap (λ (v : World). v.last) call.leaves)
+    called s asked reply (Effect.Becomes session) new call = same new (ap (λ (v : World). v.last) call.leaves)
+    called s asked reply (Effect.Writes session) new call = same new (ap (λ (v : World). v.last) call.leaves)
+    called s asked reply (Effect.Commits t) new call = commits s asked reply t new call
+    called s asked reply Effect.RollsBack new call = same new (ap (λ (v : World). v.last) call.leaves)
 
     happened : (event : Event) (new : World) → Happens rules w event new → Lists (at_moment w event ∷ earlier) new
     happened (Event.Makes made) new h = same new (made_or_not w made new h)
-    happened (Event.Calls s text reply effect) new h = called s text reply effect new h
+    happened (Event.Calls s asked reply effect) new h = called s asked reply effect new h
     happened (Event.Drops s) new h = same new (ap (λ (v : World). v.last) h.leaves)
     happened (Event.Flushes left) new h = same new (flushed_or_not w left new h)
+    happened (Event.SetsPieces pieces) new h = same new (ap (λ (v : World). v.last) h)
     happened (Event.FailsToClose refusal) new h = same new (ap (λ (v : World). v.last) h.1)
     happened Event.Reopens new h = same new (ap (λ (v : World). v.last) h)
 

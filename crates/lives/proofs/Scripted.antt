@@ -5,6 +5,7 @@ use Rattle.lexer.specs.Token.{Bytes}
 use Rattle.refusals.specs.declared.refusal.Refusal.{Refusal}
 use Rattle.replies.specs.declared.reply.Reply.{Reply}
 use Rattle.script_pieces.specs.PieceMeaning.{Request}
+use Rattle.session_definitions.specs.Asked.{Asked}
 use Rattle.session_definitions.specs.Rules.{Rules}
 use Rattle.session_definitions.specs.Run.{Event, MakesSession, DropsSession, Moment, Run}
 use Rattle.session_definitions.specs.Script.{Scene, first_scene, choosing, Plays, Performs, ArePlayed, EndsSessions}
@@ -55,8 +56,8 @@ makes rules w v s h = record { moments = record { before = w; event = Event.Make
 makes_none : (rules : Rules) (w v : World) (refusal : Refusal) → MakesSession w (Err refusal) v → Leads rules w v (Event.Makes (Err refusal) ∷ [])
 makes_none rules w v refusal h = record { moments = record { before = w; event = Event.Makes (Err refusal) } ∷ []; run = (refl, h); told = refl }
 
-calls : (rules : Rules) (w : World) (s : ℕ) (text : Bytes) (reply : Reply) (v : World) (step : Step rules w s text reply v) → Leads rules w v (Event.Calls s text reply step.0 ∷ [])
-calls rules w s text reply v step = record { moments = record { before = w; event = Event.Calls s text reply step.0 } ∷ []; run = (refl, step.1); told = refl }
+calls : (rules : Rules) (w : World) (s : ℕ) (text : Bytes) (reply : Reply) (v : World) (step : Step rules w s text reply v) → Leads rules w v (Event.Calls s (Asked.Text text) reply step.0 ∷ [])
+calls rules w s text reply v step = record { moments = record { before = w; event = Event.Calls s (Asked.Text text) reply step.0 } ∷ []; run = (refl, step.1); told = refl }
 
 drops : (rules : Rules) (w v : World) (s : ℕ) → DropsSession w s v → Leads rules w v (Event.Drops s ∷ [])
 drops rules w v s h = record { moments = record { before = w; event = Event.Drops s } ∷ []; run = (refl, h); told = refl }
@@ -66,12 +67,12 @@ drops rules w v s h = record { moments = record { before = w; event = Event.Drop
 plays : (rules : Rules) (old : Scene) (text : Bytes) (reply : Reply) (new : Scene) → Plays rules old text reply new → By rules old.world new.world (IsAsked text reply)
 plays rules old text reply new (Plays.stands_already s w is step leaves) =
     subst (λ (scene : Scene). By rules old.world scene.world (IsAsked text reply)) (sym leaves)
-    (record { events = Event.Calls s text reply step.0 ∷ []; leads = calls rules old.world s text reply w step; meaning = IsAsked.stood s step.0 refl })
+    (record { events = Event.Calls s (Asked.Text text) reply step.0 ∷ []; leads = calls rules old.world s text reply w step; meaning = IsAsked.stood s step.0 refl })
 plays rules old text reply new (Plays.made_now s mid w is made step leaves) =
     subst (λ (scene : Scene). By rules old.world scene.world (IsAsked text reply)) (sym leaves)
     (record {
-      events = Event.Calls s text reply step.0 ∷ Event.Makes (Ok s) ∷ [];
-      leads = and_then rules old.world mid w (Event.Makes (Ok s) ∷ []) (Event.Calls s text reply step.0 ∷ []) (makes rules old.world mid s made) (calls rules mid s text reply w step);
+      events = Event.Calls s (Asked.Text text) reply step.0 ∷ Event.Makes (Ok s) ∷ [];
+      leads = and_then rules old.world mid w (Event.Makes (Ok s) ∷ []) (Event.Calls s (Asked.Text text) reply step.0 ∷ []) (makes rules old.world mid s made) (calls rules mid s text reply w step);
       meaning = IsAsked.made s step.0 refl;
     })
 plays rules old text reply new (Plays.not_made refusal w is made refused leaves) =

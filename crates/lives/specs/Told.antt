@@ -5,6 +5,7 @@ use Rattle.lexer.specs.Token.{Bytes}
 use Rattle.replies.specs.declared.reply.Reply.{Reply}
 use Rattle.replies.specs.declared.reply.Reply.TheVariants as says
 use Rattle.script_pieces.specs.PieceMeaning.{Request, Asks}
+use Rattle.session_definitions.specs.Asked.{Asked}
 use Rattle.session_definitions.specs.Effect.{Effect}
 use Rattle.session_definitions.specs.Run.{Event, Moment}
 
@@ -15,8 +16,9 @@ events_of moments = map (λ (moment : Moment). moment.event) moments
 -- A text was asked and got this reply: by a call of a session, which was made just before where it
 -- did not stand; or no session was made, and that refusal is the reply.
 pub data IsAsked (text : Bytes) (reply : Reply) (events : List Event) : Type 0 where
-  stood : (s : ℕ) (effect : Effect) → events ≡ Event.Calls s text reply effect ∷ [] → IsAsked text reply events
-  made : (s : ℕ) (effect : Effect) → events ≡ Event.Calls s text reply effect ∷ Event.Makes (Ok s) ∷ []
+  stood : (s : ℕ) (effect : Effect) → events ≡ Event.Calls s (Asked.Text text) reply effect ∷ []
+      → IsAsked text reply events
+  made : (s : ℕ) (effect : Effect) → events ≡ Event.Calls s (Asked.Text text) reply effect ∷ Event.Makes (Ok s) ∷ []
       → IsAsked text reply events
   not_made : (refusal : Refusal) → reply ≡ says.Refused refusal → events ≡ Event.Makes (Err refusal) ∷ []
       → IsAsked text reply events

@@ -5,7 +5,7 @@ use denote::Fault;
 use refusals::{Limit, Refusal};
 
 /// The refusal of a statement for a fault of its evaluation.
-pub(crate) fn refusal_of_fault(fault: Fault) -> Refusal
+pub fn refusal_of_fault(fault: Fault) -> Refusal
     ensures { result ≡ refusal_for fault }
 {
     match fault {

@@ -8,6 +8,7 @@ mod query;
 mod rows;
 mod sources;
 
+pub use fault::refusal_of_fault;
 pub use lent::{LentTable, LentTables, lent_tables};
 pub use query::{answer, query_tree, run_all};
 pub use rows::rows_to_insert;

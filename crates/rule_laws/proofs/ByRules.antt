@@ -1,6 +1,7 @@
 -- A call over good databases that is a step by some rules of names and types is one by all.
-use Rattle.std.proofs.Common.{◌≡◌, sym, ◌∙◌, subst, ℕ, Option, Some, None, refl}
+use Rattle.std.proofs.Common.{◌≡◌, sym, ◌∙◌, subst, ℕ, List, Option, Some, None, refl}
 use Rattle.std.specs.Option.{unwrap_or}
+use Rattle.sqlval.specs.Value.{Row}
 use Rattle.refusals.specs.declared.refusal.Refusal.{Refusal}
 use Rattle.lexer.specs.Token.{Bytes}
 use Rattle.ast.specs.declared.statement.OrderedQuery.{OrderedQuery}
@@ -12,10 +13,13 @@ use Rattle.typing.specs.declared.statement.Typed.TheVariants as does
 use Rattle.denote.specs.Change.{Changed, IsAccepted, IsNamed, IsRaised, changed}
 use Rattle.denote.specs.Database.{Database, IsGood, Name}
 use Rattle.replies.specs.declared.reply.Reply.{Reply}
+use Rattle.session_definitions.specs.Asked.{Asked}
+use Rattle.session_definitions.specs.Calls.{InsertsRows, OpensQuery}
 use Rattle.session_definitions.specs.Effect.{Effect}
+use Rattle.session_definitions.specs.InsertedRows.{inserting}
 use Rattle.session_definitions.specs.Rules.{AreRules, IsReason, Means, Rules}
 use Rattle.session_definitions.specs.Statements.{CarriesOut, Changes, Explains, Opens, Queries}
-use Rattle.session_definitions.specs.Step.{Call, Replies}
+use Rattle.session_definitions.specs.Step.{Call, Replies, Responds}
 use Rattle.session_definitions.specs.Transactions.{begun, obstacle, starting}
 use Rattle.session_definitions.specs.World.{Session, Transaction, World}
 use Rattle.session_laws.specs.Sound.{IsGoodWorld}
@@ -58,6 +62,14 @@ module _ (rules others : Rules) (are : AreRules rules) (also : AreRules others) 
       same : (change : Change) → changed rules.check t.working change ≡ changed others.check t.working change
       same change = sym (same_changed rules.check others.check are.checks also.checks t.working (λ name table is. (good name table is).readable) change)
 
+      inserted_means : (table : Name) (rows : List Row) (x : Statement) (change : Change) → Means (inserting rules table rows) t.working x (does.Change change)
+          → Means (inserting others table rows) t.working x (does.Change change)
+      inserted_means table rows x change h = record { schema = h.schema; of_database = h.of_database; found = h.found }
+
+      inserted_reason : (table : Name) (rows : List Row) (x : Statement) (refusal : Refusal) → IsReason (inserting rules table rows) t.working x refusal
+          → IsReason (inserting others table rows) t.working x refusal
+      inserted_reason table rows x refusal h = record { schema = h.schema; of_database = h.of_database; reasons = h.reasons; found = h.found; one = h.one }
+
       changes : (x : Statement) → Changes rules session t obstacle x reply effect → Changes others session t obstacle x reply effect
       changes x (Changes.reads_only o r) = Changes.reads_only o r
       changes x (Changes.has_cursor o r) = Changes.has_cursor o r
@@ -93,18 +105,52 @@ module _ (rules others : Rules) (are : AreRules rules) (also : AreRules others) 
       replies text (Replies.carried_out x read h) = Replies.carried_out x read (carries_out x h)
       replies text (Replies.withheld w) = Replies.withheld w
 
+      opens_query : (text : Bytes) → OpensQuery rules session t text reply effect → OpensQuery others session t text reply effect
+      opens_query text (OpensQuery.unread refusal u r) = OpensQuery.unread refusal u r
+      opens_query text (OpensQuery.other x read is r) = OpensQuery.other x read is r
+      opens_query text (OpensQuery.open_already x read is r) = OpensQuery.open_already x read is r
+      opens_query text (OpensQuery.wrong x refusal read is why r) = OpensQuery.wrong x refusal read is (reason t.working (asks.Query x) refusal why) r
+      opens_query text (OpensQuery.opens x query outcome read is m alike says e) =
+          OpensQuery.opens x query outcome read is (means t.working (asks.Query x) (does.Query query) m) alike says e
+      opens_query text (OpensQuery.withheld refusal of r) = OpensQuery.withheld refusal of r
+
+      -- what is inserted is found by no rule of texts
+      inserted : (table : Name) (rows : List Row) (x : Statement) → Changes (inserting rules table rows) session t obstacle x reply effect
+          → Changes (inserting others table rows) session t obstacle x reply effect
+      inserted table rows x (Changes.reads_only o r) = Changes.reads_only o r
+      inserted table rows x (Changes.has_cursor o r) = Changes.has_cursor o r
+      inserted table rows x (Changes.overtaken o is e) = Changes.overtaken o is e
+      inserted table rows x (Changes.wrong refusal o why r) = Changes.wrong refusal o (inserted_reason table rows x refusal why) r
+      inserted table rows x (Changes.makes change db count o m a is e) =
+          Changes.makes change db count o (inserted_means table rows x change m) (subst (λ (c : Changed). IsAccepted c db count) (same change) a) is e
+      inserted table rows x (Changes.raises change fault o m f r) =
+          Changes.raises change fault o (inserted_means table rows x change m) (subst (λ (c : Changed). IsRaised c fault) (same change) f) r
+      inserted table rows x (Changes.violates change name o m n r) =
+          Changes.violates change name o (inserted_means table rows x change m) (subst (λ (c : Changed). IsNamed c name) (same change) n) r
+
+      inserts : (table : Name) (rows : List Row) → InsertsRows rules session t obstacle table rows reply effect → InsertsRows others session t obstacle table rows reply effect
+      inserts table rows (InsertsRows.changes x h) = InsertsRows.changes x (inserted table rows x h)
+      inserts table rows (InsertsRows.withheld refusal of r) = InsertsRows.withheld refusal of r
+
+      responds : (asked : Asked) → Responds rules session t obstacle asked reply effect → Responds others session t obstacle asked reply effect
+      responds (Asked.Text text) h = replies text h
+      responds (Asked.Query text) h = opens_query text h
+      responds (Asked.Rows count) h = h
+      responds Asked.Close h = h
+      responds (Asked.Insert table rows) h = inserts table rows h
+
   -- the transaction in which a statement of a session runs works on a good database
   good_begun : (w : World) (session : Session) (u : Option Transaction) → IsGood rules.check w.last → ((t : Transaction) → u ≡ Some t → IsGood rules.check t.working)
       → IsGood rules.check (unwrap_or u (starting w session.next)).working
   good_begun w session None last own = last
   good_begun w session (Some t) last own = own t refl
 
-  pub call_by : (old : World) (s : ℕ) (text : Bytes) (reply : Reply) (effect : Effect) (new : World) → IsGoodWorld rules.check old → Call rules old s text reply effect new
-      → Call others old s text reply effect new
-  call_by old s text reply effect new good call = record {
+  pub call_by : (old : World) (s : ℕ) (asked : Asked) (reply : Reply) (effect : Effect) (new : World) → IsGoodWorld rules.check old → Call rules old s asked reply effect new
+      → Call others old s asked reply effect new
+  call_by old s asked reply effect new good call = record {
     session = call.session;
     stands = call.stands;
-    replies = replies call.session (begun old call.session) reply effect (obstacle old s call.session)
-        (good_begun old call.session call.session.transaction good.last (λ t is. (good.transactions s call.session t call.stands is).1)) text call.replies;
+    replies = responds call.session (begun old call.session) reply effect (obstacle old s call.session)
+        (good_begun old call.session call.session.transaction good.last (λ t is. (good.transactions s call.session t call.stands is).1)) asked call.replies;
     leaves = call.leaves;
   }

@@ -5,6 +5,7 @@ use Rattle.typing.specs.Check.{IsCheckReading}
 use Rattle.denote.specs.Database.{CheckReading}
 use Rattle.replies.specs.declared.reply.Reply.{Reply}
 use Rattle.script_pieces.specs.PieceMeaning.{Request}
+use Rattle.session_definitions.specs.Asked.{Asked}
 use Rattle.session_definitions.specs.Rules.{AreRules, Rules}
 use Rattle.session_definitions.specs.Run.{Event, Happens, MakesSession, Moment, Run}
 use Rattle.session_definitions.specs.Script.{ArePlayed, IsPlayed, Performs, Plays, Scene, choosing, first_scene}
@@ -31,9 +32,10 @@ module _ (rules others : Rules) (are : AreRules rules) (also : AreRules others) 
 
   happens_by : (old : World) (event : Event) (new : World) → IsGoodWorld rules.check old → Happens rules old event new → Happens others old event new
   happens_by old (Event.Makes made) new good h = h
-  happens_by old (Event.Calls s text reply effect) new good h = call_by rules others are also old s text reply effect new good h
+  happens_by old (Event.Calls s asked reply effect) new good h = call_by rules others are also old s asked reply effect new good h
   happens_by old (Event.Drops s) new good h = h
   happens_by old (Event.Flushes left) new good h = h
+  happens_by old (Event.SetsPieces pieces) new good h = h
   happens_by old (Event.FailsToClose refusal) new good h = h
   happens_by old Event.Reopens new good h = h
 
@@ -45,10 +47,10 @@ module _ (rules others : Rules) (are : AreRules rules) (also : AreRules others) 
   -- ---- steps
 
   pub step_by : (old new : World) (s : ℕ) (text : Bytes) (reply : Reply) → IsGoodWorld rules.check old → Step rules old s text reply new → Step others old s text reply new
-  step_by old new s text reply good (effect, call) = (effect, call_by rules others are also old s text reply effect new good call)
+  step_by old new s text reply good (effect, call) = (effect, call_by rules others are also old s (Asked.Text text) reply effect new good call)
 
   good_step : (old new : World) (s : ℕ) (text : Bytes) (reply : Reply) → IsGoodWorld rules.check old → Step rules old s text reply new → IsGoodWorld rules.check new
-  good_step old new s text reply good (effect, call) = keeps old new (record { before = old; event = Event.Calls s text reply effect } ∷ []) good (refl, call)
+  good_step old new s text reply good (effect, call) = keeps old new (record { before = old; event = Event.Calls s (Asked.Text text) reply effect } ∷ []) good (refl, call)
 
   good_made : (old new : World) (s : ℕ) → IsGoodWorld rules.check old → MakesSession old (Ok s) new → IsGoodWorld rules.check new
   good_made old new s good made = keeps old new (record { before = old; event = Event.Makes (Ok s) } ∷ []) good (refl, made)

@@ -1,5 +1,4 @@
--- What FETCH may answer (ISO/IEC 9075:1992, 13.3).
--- Scaffolding until cursors are built: no statement of today opens one.
+-- What a cursor may give (ISO/IEC 9075:1992, 13.3).
 use Rattle.std.specs.Prelude.{◌≡◌, List, [], ◌∷◌, ◌++◌, Contains, IsSorted}
 use Rattle.sqlval.specs.Value.{Row}
 use Rattle.denote.specs.declared.fault.Fault.{Fault}
@@ -21,9 +20,17 @@ pub record Begins (o : OrderedOutcome) (rows : List Row) : Type 0 where
   pub others : List Row
   pub all : IsWhole o (rows ++ others)
 
+-- these rows may come next, in this order
+abbrev pub MayGiveRows : Cursor → List Row → Type 0
+MayGiveRows cursor rows = Begins cursor.outcome (cursor.given ++ rows)
+
 -- the row may come next
 abbrev pub MayGive : Cursor → Row → Type 0
-MayGive cursor row = Begins cursor.outcome (cursor.given ++ row ∷ [])
+MayGive cursor row = MayGiveRows cursor (row ∷ [])
+
+-- the cursor when they have come
+abbrev pub having_given : Cursor → List Row → Cursor
+having_given cursor rows = record cursor { given = cursor.given ++ rows }
 
 -- the end comes only where the rows given are an answer, and so never where there are faults; no
 -- row may come there

@@ -5,6 +5,9 @@ pub mod Refusals
 pub mod Rules
 pub mod Cursor
 pub mod Statements
+pub mod Asked
+pub mod InsertedRows
+pub mod Calls
 pub mod Step
 pub mod Run
 pub mod Serial

@@ -1,28 +1,30 @@
 -- What happens to an engine over time: calls of sessions, the making and ending of sessions,
--- flushes, and close with a later open (sessions begin and end by 4.30 and 15 of ISO/IEC 9075:1992;
--- flushes, close and open are our own choice).
+-- flushes, the setting of how many pieces a query may be evaluated in, and close with a later open
+-- (sessions begin and end by 4.30 and 15 of ISO/IEC 9075:1992; all else is our own choice).
 use Rattle.std.specs.Prelude.{◌≡◌, ◌⊎◌, ℕ, ◌<◌, Bool, true, false, ◌||◌, List, [], ◌∷◌, ◌++◌, map, filter, Result, Ok, Err, Some, None, if◌then◌else◌}
 use Rattle.std.specs.List.{list_all}
 use Rattle.std.specs.FinMap.{get, remove, empty}
 use Rattle.refusals.specs.declared.refusal.Refusal.{Refusal}
 use Rattle.refusals.specs.declared.refusal.Refusal.TheVariants.{Memory, Disk, Exceeded}
 use Rattle.refusals.specs.declared.limit.Limit.TheVariants as limit
-use Rattle.lexer.specs.Token.{Bytes}
 use Rattle.denote.specs.Database.{Database}
 use Rattle.replies.specs.declared.reply.Reply.{Reply}
+use Rattle.session_definitions.specs.Asked.{Asked, is_text}
 use Rattle.session_definitions.specs.Effect.{Effect, writer_without}
 use Rattle.session_definitions.specs.Refusals.{StopsFlush}
 use Rattle.session_definitions.specs.Rules.{Rules}
 use Rattle.session_definitions.specs.Step.{Call}
 use Rattle.session_definitions.specs.World.{Session, World, is_live, is_writer, new_session, opened, with_session}
 
--- An event, with its reply. Of a call its effect is told too: text, reply and world do not always
--- determine it (a FETCH that is refused for want of memory may have closed its cursor or not).
+-- An event, with its reply. Of a call its effect is told too: what was asked, reply and world do not
+-- always determine it (a FETCH that is refused for want of memory may have closed its cursor or
+-- not).
 pub data Event : Type 0 where
   Makes : (made : Result ℕ Refusal) → Event
-  Calls : (session : ℕ) → (text : Bytes) → (reply : Reply) → (effect : Effect) → Event
+  Calls : (session : ℕ) → (asked : Asked) → (reply : Reply) → (effect : Effect) → Event
   Drops : (session : ℕ) → Event
   Flushes : (left : Result ℕ Refusal) → Event
+  SetsPieces : (pieces : ℕ) → Event
   FailsToClose : (refusal : Refusal) → Event
   Reopens : Event
 
@@ -69,9 +71,10 @@ FlushesPages old (Err refusal) new = StopsFlush refusal × (new ≡ old)
 -- an event happens, and leaves this world
 abbrev pub Happens : Rules → World → Event → World → Type 0
 Happens rules old (Event.Makes made) new = MakesSession old made new
-Happens rules old (Event.Calls s text reply effect) new = Call rules old s text reply effect new
+Happens rules old (Event.Calls s asked reply effect) new = Call rules old s asked reply effect new
 Happens rules old (Event.Drops s) new = DropsSession old s new
 Happens rules old (Event.Flushes left) new = FlushesPages old left new
+Happens rules old (Event.SetsPieces pieces) new = new ≡ old
 Happens rules old (Event.FailsToClose refusal) new = (refusal ≡ Disk) × (new ≡ without_sessions old)
 Happens rules old Event.Reopens new = new ≡ opened old.last
 
@@ -88,20 +91,23 @@ Run rules start [] end = end ≡ start
 Run rules start (moment ∷ earlier) end = Run rules start earlier moment.before
     × Happens rules moment.before moment.event end
 
--- what sessions do: they are made, also where that is refused, called, and ended
+-- What sessions do: they are made, also where that is refused, asked statements, and ended. Callers
+-- that share an engine ask nothing else of it yet.
 abbrev pub is_call : Event → Bool
 is_call (Event.Makes made) = true
-is_call (Event.Calls s text reply effect) = true
+is_call (Event.Calls s asked reply effect) = is_text asked
 is_call (Event.Drops s) = true
 is_call (Event.Flushes left) = false
+is_call (Event.SetsPieces pieces) = false
 is_call (Event.FailsToClose refusal) = false
 is_call Event.Reopens = false
 
 abbrev pub is_flush : Event → Bool
 is_flush (Event.Flushes left) = true
 is_flush (Event.Makes made) = false
-is_flush (Event.Calls s text reply effect) = false
+is_flush (Event.Calls s asked reply effect) = false
 is_flush (Event.Drops s) = false
+is_flush (Event.SetsPieces pieces) = false
 is_flush (Event.FailsToClose refusal) = false
 is_flush Event.Reopens = false
 
@@ -121,14 +127,15 @@ pub record IsLegal (rules : Rules) (start : World) (events : List Event) (end : 
 
 -- with what a COMMIT adds, if it is the writer's
 abbrev pub lengthened : World → Event → List Database → List Database
-lengthened w (Event.Calls s text reply (Effect.Commits t)) dbs = if is_writer w s then dbs ++ t.working ∷ [] else dbs
-lengthened w (Event.Calls s text reply Effect.Nothing) dbs = dbs
-lengthened w (Event.Calls s text reply (Effect.Becomes session)) dbs = dbs
-lengthened w (Event.Calls s text reply (Effect.Writes session)) dbs = dbs
-lengthened w (Event.Calls s text reply Effect.RollsBack) dbs = dbs
+lengthened w (Event.Calls s asked reply (Effect.Commits t)) dbs = if is_writer w s then dbs ++ t.working ∷ [] else dbs
+lengthened w (Event.Calls s asked reply Effect.Nothing) dbs = dbs
+lengthened w (Event.Calls s asked reply (Effect.Becomes session)) dbs = dbs
+lengthened w (Event.Calls s asked reply (Effect.Writes session)) dbs = dbs
+lengthened w (Event.Calls s asked reply Effect.RollsBack) dbs = dbs
 lengthened w (Event.Makes made) dbs = dbs
 lengthened w (Event.Drops s) dbs = dbs
 lengthened w (Event.Flushes left) dbs = dbs
+lengthened w (Event.SetsPieces pieces) dbs = dbs
 lengthened w (Event.FailsToClose refusal) dbs = dbs
 lengthened w Event.Reopens dbs = w.last ∷ []
 

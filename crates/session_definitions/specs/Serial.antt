@@ -2,19 +2,19 @@
 -- 4.28, serializable).
 use Rattle.std.specs.Prelude.{◌≡◌, ◌⊎◌, ℕ, ◌+◌, ◌==◌, Bool, true, false, List, [], ◌∷◌, Option, Some, None, if◌then◌else◌}
 use Rattle.std.specs.FinMap.{get, insert, empty}
-use Rattle.lexer.specs.Token.{Bytes}
 use Rattle.denote.specs.Bag.{Permutes}
 use Rattle.denote.specs.Database.{Database}
 use Rattle.replies.specs.declared.reply.Reply.{Reply}
+use Rattle.session_definitions.specs.Asked.{Asked}
 use Rattle.session_definitions.specs.Effect.{Effect}
 use Rattle.session_definitions.specs.Rules.{Rules}
 use Rattle.session_definitions.specs.Run.{Event, Moment, history}
-use Rattle.session_definitions.specs.Step.{Step}
+use Rattle.session_definitions.specs.Step.{StepOf}
 use Rattle.session_definitions.specs.World.{Transaction, Session, World, is_writer, new_session}
 
--- a text and the reply to it
+-- what was asked, and the reply to it
 pub record Saying : Type 0 where
-  pub text : Bytes
+  pub asked : Asked
   pub reply : Reply
 
 -- What a session has said since it was last idle, the latest first; and how the session stood then.
@@ -35,11 +35,12 @@ talked_by None saying earlier = earlier
 talked_by (Some session) saying earlier = talked session session.transaction saying earlier
 
 abbrev pub talk_with : ℕ → World → Event → Talk → Talk
-talk_with s w (Event.Calls k text reply effect) earlier =
-    if k == s then talked_by (get w.sessions s) (record { text = text; reply = reply }) earlier else earlier
+talk_with s w (Event.Calls k asked reply effect) earlier =
+    if k == s then talked_by (get w.sessions s) (record { asked = asked; reply = reply }) earlier else earlier
 talk_with s w (Event.Makes made) earlier = earlier
 talk_with s w (Event.Drops k) earlier = earlier
 talk_with s w (Event.Flushes left) earlier = earlier
+talk_with s w (Event.SetsPieces pieces) earlier = earlier
 talk_with s w (Event.FailsToClose refusal) earlier = earlier
 talk_with s w Event.Reopens earlier = earlier
 
@@ -66,14 +67,15 @@ committed_by s talk t wrote =
     record { session = s; before = talk.before; beginning = t.beginning; found = t.found; said = talk.said; made = t.working; wrote = wrote }
 
 abbrev pub with_ended : World → Event → (ℕ → Talk) → List Committed → List Committed
-with_ended w (Event.Calls s text reply (Effect.Commits t)) talks others = committed_by s (talks s) t (is_writer w s) ∷ others
-with_ended w (Event.Calls s text reply Effect.Nothing) talks others = others
-with_ended w (Event.Calls s text reply (Effect.Becomes session)) talks others = others
-with_ended w (Event.Calls s text reply (Effect.Writes session)) talks others = others
-with_ended w (Event.Calls s text reply Effect.RollsBack) talks others = others
+with_ended w (Event.Calls s asked reply (Effect.Commits t)) talks others = committed_by s (talks s) t (is_writer w s) ∷ others
+with_ended w (Event.Calls s asked reply Effect.Nothing) talks others = others
+with_ended w (Event.Calls s asked reply (Effect.Becomes session)) talks others = others
+with_ended w (Event.Calls s asked reply (Effect.Writes session)) talks others = others
+with_ended w (Event.Calls s asked reply Effect.RollsBack) talks others = others
 with_ended w (Event.Makes made) talks others = others
 with_ended w (Event.Drops k) talks others = others
 with_ended w (Event.Flushes left) talks others = others
+with_ended w (Event.SetsPieces pieces) talks others = others
 with_ended w (Event.FailsToClose refusal) talks others = others
 with_ended w Event.Reopens talks others = []
 
@@ -90,7 +92,7 @@ transactions (moment ∷ earlier) =
 abbrev pub Says : Rules → World → ℕ → List Saying → World → Type 0
 Says rules start s [] end = end ≡ start
 Says rules start s (saying ∷ earlier) end = (mid : World) × Says rules start s earlier mid
-    × Step rules mid s saying.text saying.reply end
+    × StepOf rules mid s saying.asked saying.reply end
 
 -- the world in which a transaction runs alone: that of the database that it found, with its session
 -- and no other

@@ -1,6 +1,6 @@
 -- What each statement answers and does. A rule speaks of the session in which the statement is made
 -- and of the transaction in which it runs, its own or one that begins now.
--- Scaffolding until these forms are built: EXPLAIN, DECLARE, OPEN, FETCH and CLOSE.
+-- Scaffolding until it is built: EXPLAIN.
 use Rattle.std.specs.Prelude.{◌≡◌, ◌⊎◌, ℕ, ◌<◌, ◌≤◌, zero, suc, true, false, List, [], ◌∷◌, ◌++◌, Option, Some, None, Ok, Err}
 use Rattle.std.specs.FinMap.{get, contains_key, len, insert}
 use Rattle.sqlval.specs.Value.{Row}

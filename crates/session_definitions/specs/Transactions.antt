@@ -1,5 +1,5 @@
 -- The transaction in which a statement runs, and what stands in the way of a change.
-use Rattle.std.specs.Prelude.{ℕ, ◌==◌, nat_lt, Bool, true, false, not, ◌||◌, ◌&&◌, if◌then◌else◌, Option, Some, None}
+use Rattle.std.specs.Prelude.{ℕ, ◌==◌, nat_lt, Bool, true, false, not, ◌||◌, ◌&&◌, if◌then◌else◌, is_some, Option, Some, None}
 use Rattle.std.specs.FinMap.{empty, contains_key, len, insert, remove}
 use Rattle.std.specs.Option.{unwrap_or}
 use Rattle.refusals.specs.declared.refusal.Refusal.{Refusal}
@@ -11,7 +11,7 @@ use Rattle.session_definitions.specs.World.{Cursor, Transaction, Session, World,
 
 -- a transaction that begins now, at the last committed database
 abbrev pub starting : World → AccessMode → Transaction
-starting w mode = record { mode = mode; beginning = w.commits; found = w.last; working = w.last; cursors = empty }
+starting w mode = record { mode = mode; beginning = w.commits; found = w.last; working = w.last; cursors = empty; unnamed = None }
 
 -- the transaction in which a session's statement runs: its own, or, in an idle session, one that
 -- begins now (4.28)
@@ -34,14 +34,19 @@ abbrev pub is_open_in : Option Transaction → Name → Bool
 is_open_in None cursor = false
 is_open_in (Some t) cursor = is_open t cursor
 
+-- some cursor is open, with a name or without one
 abbrev pub has_open : Transaction → Bool
-has_open t = nat_lt 0 (len t.cursors)
+has_open t = nat_lt 0 (len t.cursors) || is_some t.unnamed
 
 abbrev pub with_cursor : Transaction → Name → Cursor → Transaction
 with_cursor t name cursor = record t { cursors = insert t.cursors name cursor }
 
 abbrev pub without_cursor : Transaction → Name → Transaction
 without_cursor t name = record t { cursors = remove t.cursors name }
+
+-- the cursor without a name stands so, or is not open
+abbrev pub with_unnamed : Transaction → Option Cursor → Transaction
+with_unnamed t cursor = record t { unnamed = cursor }
 
 -- ---- changes
 

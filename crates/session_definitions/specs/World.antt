@@ -1,8 +1,7 @@
 -- What an engine with sessions stands for: the databases that were committed, and what its sessions
 -- are doing. SQL-92 has SQL-transactions and SQL-sessions (ISO/IEC 9075:1992, 4.28, 4.30). One
 -- writer at a time, and that each transaction reads the database that stood committed when it
--- began, are our own choice. Scaffolding until cursors are built: declared queries and open
--- cursors.
+-- began, are our own choice.
 use Rattle.std.specs.Prelude.{ℕ, Bool, false, ◌==◌, List, is_some, Option, Some, None}
 use Rattle.std.specs.Ordering.{nat_cmp}
 use Rattle.std.specs.FinMap.{FinMap, empty, get, insert}
@@ -20,13 +19,14 @@ pub record Cursor : Type 0 where
   pub given : List Row
 
 -- A transaction: what it may do, which committed database it found (its number, from 0, and
--- itself), the database that its statements see, and its open cursors.
+-- itself), the database that its statements see, its open cursors, and the open one without a name.
 pub record Transaction : Type 0 where
   pub mode : AccessMode
   pub beginning : ℕ
   pub found : Database
   pub working : Database
   pub cursors : FinMap text_order Cursor
+  pub unnamed : Option Cursor
 
 -- A session: the queries that it declared, as they were written; what its next transaction may do;
 -- and its transaction. A session with one is active, one without is idle.

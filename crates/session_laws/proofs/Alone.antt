@@ -1,18 +1,22 @@
 -- A call of a session is the same where the session stands alone.
-use Rattle.std.proofs.Common.{◌≡◌, ◌⊎◌, ℕ, Bool, true, false, not, cond, ◌&&◌, ◌||◌, Option, Some, None, refl, sym, ap, ◌∙◌, subst, inl, inr}
+use Rattle.std.proofs.Common.{◌≡◌, ◌⊎◌, ℕ, List, Bool, true, false, not, cond, ◌&&◌, ◌||◌, Option, Some, None, refl, sym, ap, ◌∙◌, subst, inl, inr}
 use Rattle.std.specs.FinMap.{insert, empty}
+use Rattle.sqlval.specs.Value.{Row}
 use Rattle.refusals.specs.declared.refusal.Refusal.{Refusal}
 use Rattle.refusals.specs.declared.refusal.Refusal.TheVariants.{CursorState, TransactionState, SerializationFailure}
 use Rattle.lexer.specs.Token.{Bytes}
 use Rattle.ast.specs.declared.statement.Statement.{Statement}
 use Rattle.ast.specs.declared.statement.Statement.TheVariants as asks
-use Rattle.denote.specs.Database.{Database}
+use Rattle.denote.specs.Database.{Name, Database}
 use Rattle.replies.specs.declared.reply.Reply.{Reply}
+use Rattle.session_definitions.specs.Asked.{Asked}
+use Rattle.session_definitions.specs.Calls.{InsertsRows}
 use Rattle.session_definitions.specs.Effect.{Effect, after}
+use Rattle.session_definitions.specs.InsertedRows.{inserting}
 use Rattle.statement_definitions.specs.Reading.{IsRead}
 use Rattle.session_definitions.specs.Rules.{Rules}
 use Rattle.session_definitions.specs.Statements.{Changes, CarriesOut}
-use Rattle.session_definitions.specs.Step.{Replies, Call}
+use Rattle.session_definitions.specs.Step.{Replies, Responds, Call}
 use Rattle.session_definitions.specs.Transactions.{begun, has_other, began_earlier, is_overtaken, obstacle, is_read_only, has_open}
 use Rattle.session_definitions.specs.World.{Transaction, Session, World, is_session}
 use Rattle.session_laws.proofs.Effects.{same_key}
@@ -117,36 +121,55 @@ module _ (rules : Rules) (session : Session) (t : Transaction) (reply : Reply) (
       carried x read (inr same) = inr (Replies.carried_out x read same)
   reply_overtaken o text (Replies.withheld h) = inr (Replies.withheld h)
 
+module _ (rules : Rules) (session : Session) (t : Transaction) (reply : Reply) (effect : Effect) where
+  inserts_overtaken : (o : Option Refusal) (table : Name) (rows : List Row) → InsertsRows rules session t (Some SerializationFailure) table rows reply effect
+      → (effect ≡ Effect.RollsBack) ⊎ InsertsRows rules session t o table rows reply effect
+  inserts_overtaken o table rows (InsertsRows.changes x h) = changed x (changes_overtaken (inserting rules table rows) session t reply effect o x h)
+    where
+      changed : (x : Statement) → (effect ≡ Effect.RollsBack) ⊎ Changes (inserting rules table rows) session t o x reply effect
+          → (effect ≡ Effect.RollsBack) ⊎ InsertsRows rules session t o table rows reply effect
+      changed x (inl back) = inl back
+      changed x (inr same) = inr (InsertsRows.changes x same)
+  inserts_overtaken o table rows (InsertsRows.withheld refusal of r) = inr (InsertsRows.withheld refusal of r)
+
+  call_overtaken : (o : Option Refusal) (asked : Asked) → Responds rules session t (Some SerializationFailure) asked reply effect
+      → (effect ≡ Effect.RollsBack) ⊎ Responds rules session t o asked reply effect
+  call_overtaken o (Asked.Text text) h = reply_overtaken rules session t reply effect o text h
+  call_overtaken o (Asked.Query text) h = inr h
+  call_overtaken o (Asked.Rows count) h = inr h
+  call_overtaken o Asked.Close h = inr h
+  call_overtaken o (Asked.Insert table rows) h = inserts_overtaken o table rows h
+
 -- the same reply and the same effect, among others and alone, unless the transaction is rolled back
-pub replies_alone : (rules : Rules) (w : World) (n : ℕ) (db : Database) (s : ℕ) (writes : Bool) (session : Session) (text : Bytes) (reply : Reply) (effect : Effect)
+pub replies_alone : (rules : Rules) (w : World) (n : ℕ) (db : Database) (s : ℕ) (writes : Bool) (session : Session) (asked : Asked) (reply : Reply) (effect : Effect)
     → BeganAt n session.transaction → begun (lonely n db s writes session) session ≡ begun w session
-    → Replies rules session (begun w session) (obstacle w s session) text reply effect
+    → Responds rules session (begun w session) (obstacle w s session) asked reply effect
     → (effect ≡ Effect.RollsBack)
-    ⊎ Replies rules session (begun (lonely n db s writes session) session) (obstacle (lonely n db s writes session) s session) text reply effect
-replies_alone rules w n db s writes session text reply effect b same h = decide (obstacles w n db s writes session b same)
+    ⊎ Responds rules session (begun (lonely n db s writes session) session) (obstacle (lonely n db s writes session) s session) asked reply effect
+replies_alone rules w n db s writes session asked reply effect b same h = decide (obstacles w n db s writes session b same)
   where
     decide : (obstacle w s session ≡ obstacle (lonely n db s writes session) s session) ⊎ (obstacle w s session ≡ Some SerializationFailure)
         → (effect ≡ Effect.RollsBack)
-        ⊎ Replies rules session (begun (lonely n db s writes session) session) (obstacle (lonely n db s writes session) s session) text reply effect
+        ⊎ Responds rules session (begun (lonely n db s writes session) session) (obstacle (lonely n db s writes session) s session) asked reply effect
     decide (inl e) =
-        inr (subst (λ t. Replies rules session t (obstacle (lonely n db s writes session) s session) text reply effect) (sym same)
-        (subst (λ o. Replies rules session (begun w session) o text reply effect) e h))
+        inr (subst (λ t. Responds rules session t (obstacle (lonely n db s writes session) s session) asked reply effect) (sym same)
+        (subst (λ o. Responds rules session (begun w session) o asked reply effect) e h))
     decide (inr e) =
-        subst (λ t. (effect ≡ Effect.RollsBack) ⊎ Replies rules session t (obstacle (lonely n db s writes session) s session) text reply effect) (sym same)
-        (reply_overtaken rules session (begun w session) reply effect (obstacle (lonely n db s writes session) s session) text
-        (subst (λ o. Replies rules session (begun w session) o text reply effect) e h))
+        subst (λ t. (effect ≡ Effect.RollsBack) ⊎ Responds rules session t (obstacle (lonely n db s writes session) s session) asked reply effect) (sym same)
+        (call_overtaken rules session (begun w session) reply effect (obstacle (lonely n db s writes session) s session) asked
+        (subst (λ o. Responds rules session (begun w session) o asked reply effect) e h))
 
-pub call_alone : (rules : Rules) (w : World) (n : ℕ) (db : Database) (s : ℕ) (writes : Bool) (session : Session) (text : Bytes) (reply : Reply) (effect : Effect)
+pub call_alone : (rules : Rules) (w : World) (n : ℕ) (db : Database) (s : ℕ) (writes : Bool) (session : Session) (asked : Asked) (reply : Reply) (effect : Effect)
     → BeganAt n session.transaction → begun (lonely n db s writes session) session ≡ begun w session
-    → Replies rules session (begun w session) (obstacle w s session) text reply effect
+    → Responds rules session (begun w session) (obstacle w s session) asked reply effect
     → (effect ≡ Effect.RollsBack)
-    ⊎ Call rules (lonely n db s writes session) s text reply effect (after (lonely n db s writes session) s session effect)
-call_alone rules w n db s writes session text reply effect b same h =
-    as_call (replies_alone rules w n db s writes session text reply effect b same h)
+    ⊎ Call rules (lonely n db s writes session) s asked reply effect (after (lonely n db s writes session) s session effect)
+call_alone rules w n db s writes session asked reply effect b same h =
+    as_call (replies_alone rules w n db s writes session asked reply effect b same h)
   where
-    as_call : (effect ≡ Effect.RollsBack) ⊎ Replies rules session (begun (lonely n db s writes session) session) (obstacle (lonely n db s writes session) s session) text reply effect
+    as_call : (effect ≡ Effect.RollsBack) ⊎ Responds rules session (begun (lonely n db s writes session) session) (obstacle (lonely n db s writes session) s session) asked reply effect
         → (effect ≡ Effect.RollsBack)
-        ⊎ Call rules (lonely n db s writes session) s text reply effect (after (lonely n db s writes session) s session effect)
+        ⊎ Call rules (lonely n db s writes session) s asked reply effect (after (lonely n db s writes session) s session effect)
     as_call (inl back) = inl back
     as_call (inr r) = inr (record { session = session; stands = get_here empty s session; replies = r; leaves = refl })
 

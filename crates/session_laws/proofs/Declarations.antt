@@ -3,6 +3,7 @@
 use Rattle.std.proofs.Common.{◌≡◌, refl, sym, ◌∙◌, subst, ℕ, true, List, length, Some, Ok, Err}
 use Rattle.std.specs.FinMap.{get}
 use Rattle.sqlval.specs.declared.schema.Schema.{Schema}
+use Rattle.sqlval.specs.Value.{Row}
 use Rattle.lexer.specs.Printing.{HasKinds}
 use Rattle.lexer.specs.Token.{Bytes}
 use Rattle.lexer.specs.Tokens.{kinds_of}
@@ -28,9 +29,10 @@ use Rattle.typing.specs.Known.{Known, known}
 use Rattle.typing.specs.Order.{ordered_found}
 use Rattle.typing.specs.Statement.{answered_found}
 use Rattle.typing.specs.Update.{update_found, delete_found}
-use Rattle.denote.specs.Database.{Database, Table, AreReadable, are_places, constraint_columns}
+use Rattle.denote.specs.Database.{Name, Database, Table, AreReadable, are_places, constraint_columns}
 use Rattle.denote.specs.SchemaOf.{IsSchemaOf}
 use Rattle.denote_laws.specs.Changed.{DeclaresRightly}
+use Rattle.session_definitions.specs.InsertedRows.{insert_of_rows, inserting}
 use Rattle.session_definitions.specs.Rules.{Rules, AreRules, Means}
 
 -- what a CREATE TABLE within the limits keeps of its CHECKs can be read
@@ -95,3 +97,8 @@ module _ (checks : CheckLaw) (columns : ColumnLaw) (indexes : IndexLaw) (schema 
 pub declare_rightly : CheckLaw → ColumnLaw → IndexLaw → (rules : Rules) → AreRules rules → DeclareRightly rules
 declare_rightly checks columns indexes rules are text x db change read m =
     found_right checks columns indexes m.schema db m.of_database text change x read (sym (are.statements m.schema x) ∙ m.found)
+
+-- an INSERT of rows that are given declares nothing
+pub inserts_rightly : (rules : Rules) (table : Name) (rows : List Row) (x : Statement) (db : Database) (change : Change)
+    → Means (inserting rules table rows) db x (does.Change change) → DeclaresRightly db change
+inserts_rightly rules table rows x db change m = of_kind db (insert_of_rows (known m.schema) table rows) change_of.Insert change (λ i f. tt) m.found

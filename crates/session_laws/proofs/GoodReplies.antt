@@ -1,6 +1,7 @@
 -- What a reply's effect leaves is good, where the session's transaction and the one in which its
 -- statement runs are.
-use Rattle.std.proofs.Common.{◌≡◌, [], ◌∷◌, ◌++◌, Option, Some, None, subst}
+use Rattle.std.proofs.Common.{◌≡◌, ℕ, List, [], ◌∷◌, ◌++◌, Option, Some, None, subst}
+use Rattle.sqlval.specs.Value.{Row}
 use Rattle.refusals.specs.declared.refusal.Refusal.{Refusal}
 use Rattle.lexer.specs.Token.{Bytes}
 use Rattle.ast.specs.declared.statement.AccessMode.{AccessMode}
@@ -14,14 +15,18 @@ use Rattle.denote.specs.Database.{Name, IsGood}
 use Rattle.denote_laws.specs.Changed.{DeclaresRightly}
 use Rattle.statement_definitions.specs.Reading.{IsRead}
 use Rattle.replies.specs.declared.reply.Reply.{Reply}
+use Rattle.session_definitions.specs.Asked.{Asked}
+use Rattle.session_definitions.specs.Calls.{OpensQuery, TakesIn, TakesRows, ClosesQueryIn, ClosesQuery, InsertsRows}
+use Rattle.session_definitions.specs.Cursor.{having_given}
 use Rattle.session_definitions.specs.Effect.{Effect}
+use Rattle.session_definitions.specs.InsertedRows.{inserting}
 use Rattle.session_definitions.specs.Rules.{Rules, Means}
 use Rattle.session_definitions.specs.Statements.{Queries, Explains, Changes, Ends, Undoes, SetsMode, Declares, Opens, FetchesIn, Fetches, ClosesIn, Closes, CarriesOut}
-use Rattle.session_definitions.specs.Step.{Withholds, Replies}
-use Rattle.session_definitions.specs.Transactions.{active, with_cursor, without_cursor}
+use Rattle.session_definitions.specs.Step.{Withholds, Replies, Responds}
+use Rattle.session_definitions.specs.Transactions.{active, with_cursor, without_cursor, with_unnamed}
 use Rattle.session_definitions.specs.World.{Transaction, Session}
 use Rattle.session_laws.proofs.GoodDatabases.{accepted_good}
-use Rattle.session_laws.proofs.Declarations.{DeclareRightly}
+use Rattle.session_laws.proofs.Declarations.{DeclareRightly, inserts_rightly}
 
 module _ (rules : Rules) where
   abbrev pub IsGoodTransaction : Transaction → Type 0
@@ -127,11 +132,53 @@ module _ (rules : Rules) where
 
     withholds_good : (text : Bytes) → Withholds session text reply effect → LeavesGood effect
     withholds_good text (Withholds.of_memory other r) = nothing r.leaves_all
-    withholds_good text (Withholds.of_store refusal of other fetch r) = nothing r.leaves_all
+    withholds_good text (Withholds.of_store refusal x of other read shut r) = nothing r.leaves_all
     withholds_good text (Withholds.closes refusal u name reserved read has is says e) =
         becomes (without_cursor u name) (subst IsGoodIfAny has own) e
 
-    pub replies_good : DeclareRightly rules → (text : Bytes) → Replies rules session t obstacle text reply effect → LeavesGood effect
+    replies_good : DeclareRightly rules → (text : Bytes) → Replies rules session t obstacle text reply effect → LeavesGood effect
     replies_good keeps text (Replies.unread refusal why r) = nothing r.leaves_all
     replies_good keeps text (Replies.carried_out x read h) = carried_out_good keeps text x read h
     replies_good keeps text (Replies.withheld h) = withholds_good text h
+
+    opens_query_good : (text : Bytes) → OpensQuery rules session t text reply effect → LeavesGood effect
+    opens_query_good text (OpensQuery.unread refusal why r) = nothing r.leaves_all
+    opens_query_good text (OpensQuery.other x read is r) = nothing r.leaves_all
+    opens_query_good text (OpensQuery.open_already x read is r) = nothing r.leaves_all
+    opens_query_good text (OpensQuery.wrong x refusal read is why r) = nothing r.leaves_all
+    opens_query_good text (OpensQuery.opens x query outcome read is m same says e) =
+        becomes (with_unnamed t (Some (record { outcome = outcome; given = [] }))) good e
+    opens_query_good text (OpensQuery.withheld refusal of r) = nothing r.leaves_all
+
+    takes_in_good : (u : Transaction) → IsGoodTransaction u → (count : ℕ) → TakesIn session u count reply effect → LeavesGood effect
+    takes_in_good u is_good count (TakesIn.not_open is r) = nothing r.leaves_all
+    takes_in_good u is_good count (TakesIn.all cursor rows is may long says e) = becomes (with_unnamed u (Some (having_given cursor rows))) is_good e
+    takes_in_good u is_good count (TakesIn.fewer cursor rows is few end says e) = becomes (with_unnamed u (Some (having_given cursor rows))) is_good e
+    takes_in_good u is_good count (TakesIn.raises cursor fault is some may says e) = becomes (with_unnamed u None) is_good e
+    takes_in_good u is_good count (TakesIn.withheld refusal cursor is of says e) = becomes (with_unnamed u None) is_good e
+
+    takes_good : (u : Option Transaction) → IsGoodIfAny u → (count : ℕ) → TakesRows session u count reply effect → LeavesGood effect
+    takes_good None is count r = nothing r.leaves_all
+    takes_good (Some u) is count h = takes_in_good u is count h
+
+    closes_query_in_good : (u : Transaction) → IsGoodTransaction u → ClosesQueryIn session u reply effect → LeavesGood effect
+    closes_query_in_good u is_good (ClosesQueryIn.not_open is r) = nothing r.leaves_all
+    closes_query_in_good u is_good (ClosesQueryIn.closes is says e) = becomes (with_unnamed u None) is_good e
+
+    closes_query_good : (u : Option Transaction) → IsGoodIfAny u → ClosesQuery session u reply effect → LeavesGood effect
+    closes_query_good None is r = nothing r.leaves_all
+    closes_query_good (Some u) is h = closes_query_in_good u is h
+
+module _ (rules : Rules) (session : Session) (t : Transaction) (obstacle : Option Refusal) (reply : Reply) (effect : Effect)
+    (own : IsGoodIfAny rules session.transaction) (good : IsGoodTransaction rules t) where
+  inserts_good : (table : Name) (rows : List Row) → InsertsRows rules session t obstacle table rows reply effect → LeavesGood rules effect
+  inserts_good table rows (InsertsRows.changes x h) =
+      changes_good (inserting rules table rows) session t obstacle reply effect own good x (λ change m. inserts_rightly rules table rows x t.working change m) h
+  inserts_good table rows (InsertsRows.withheld refusal of r) = nothing rules session t obstacle reply effect own good r.leaves_all
+
+  pub call_good : DeclareRightly rules → (asked : Asked) → Responds rules session t obstacle asked reply effect → LeavesGood rules effect
+  call_good keeps (Asked.Text text) h = replies_good rules session t obstacle reply effect own good keeps text h
+  call_good keeps (Asked.Query text) h = opens_query_good rules session t obstacle reply effect own good text h
+  call_good keeps (Asked.Rows count) h = takes_good rules session t obstacle reply effect own good session.transaction own count h
+  call_good keeps Asked.Close h = closes_query_good rules session t obstacle reply effect own good session.transaction own h
+  call_good keeps (Asked.Insert table rows) h = inserts_good table rows h

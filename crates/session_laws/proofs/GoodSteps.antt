@@ -8,9 +8,9 @@ use Rattle.std.specs.FinMap.{get, empty, get-empty}
 use Rattle.std.specs.Ordering.{nat_cmp}
 use Rattle.sqlval.specs.Comparison.{text_order}
 use Rattle.refusals.specs.declared.refusal.Refusal.{Refusal}
-use Rattle.lexer.specs.Token.{Bytes}
 use Rattle.denote.specs.Database.{Database, IsGood, CheckReading}
 use Rattle.replies.specs.declared.reply.Reply.{Reply}
+use Rattle.session_definitions.specs.Asked.{Asked}
 use Rattle.session_definitions.specs.Effect.{Effect, after}
 use Rattle.session_definitions.specs.Rules.{Rules}
 use Rattle.session_definitions.specs.Run.{Event, MakesSession, DropsSession, FlushesPages, Happens, without_session, Moment, Run, lengthened, history}
@@ -19,7 +19,7 @@ use Rattle.session_definitions.specs.Step.{Call}
 use Rattle.session_definitions.specs.Transactions.{starting, begun, obstacle}
 use Rattle.session_definitions.specs.World.{Transaction, Session, World, is_writer, new_session, new_world, with_session}
 use Rattle.session_laws.proofs.Effects.{left_as, others_stay, own_session}
-use Rattle.session_laws.proofs.GoodReplies.{IsGoodTransaction, IsGoodIfAny, LeavesGood, replies_good}
+use Rattle.session_laws.proofs.GoodReplies.{IsGoodTransaction, IsGoodIfAny, LeavesGood, call_good}
 use Rattle.session_laws.proofs.Declarations.{DeclareRightly}
 use Rattle.session_laws.proofs.Maps.{get_here, get_there, get_gone, get_left}
 use Rattle.session_laws.proofs.SoundSteps.{same_Some}
@@ -89,17 +89,17 @@ module _ (rules : Rules) where
         each k x t is u (inr ne) = good.transactions k x t (sym (others_stay w s session e k ne) ∙ is) u
 
   -- the effect of a call leaves what is good
-  call_leaves_good : DeclareRightly rules → (old : World) (s : ℕ) (text : Bytes) (reply : Reply) (effect : Effect) (new : World) → IsGoodWorld rules.check old
-      → Call rules old s text reply effect new → LeavesGood rules effect
-  call_leaves_good keeps old s text reply effect new good call =
-      replies_good rules call.session (begun old call.session) (obstacle old s call.session) reply effect
-      (own_good old s call.session good call.stands) (begun_good old s call.session good call.stands) keeps text call.replies
+  call_leaves_good : DeclareRightly rules → (old : World) (s : ℕ) (asked : Asked) (reply : Reply) (effect : Effect) (new : World) → IsGoodWorld rules.check old
+      → Call rules old s asked reply effect new → LeavesGood rules effect
+  call_leaves_good keeps old s asked reply effect new good call =
+      call_good rules call.session (begun old call.session) (obstacle old s call.session) reply effect
+      (own_good old s call.session good call.stands) (begun_good old s call.session good call.stands) keeps asked call.replies
 
-  good_call : DeclareRightly rules → (old : World) (s : ℕ) (text : Bytes) (reply : Reply) (effect : Effect) (new : World) → IsGoodWorld rules.check old
-      → Call rules old s text reply effect new → IsGoodWorld rules.check new
-  good_call keeps old s text reply effect new good call =
+  good_call : DeclareRightly rules → (old : World) (s : ℕ) (asked : Asked) (reply : Reply) (effect : Effect) (new : World) → IsGoodWorld rules.check old
+      → Call rules old s asked reply effect new → IsGoodWorld rules.check new
+  good_call keeps old s asked reply effect new good call =
       subst (IsGoodWorld rules.check) (sym call.leaves)
-      (good_after old s call.session good call.stands effect (call_leaves_good keeps old s text reply effect new good call))
+      (good_after old s call.session good call.stands effect (call_leaves_good keeps old s asked reply effect new good call))
 
   -- ---- other events
 
@@ -145,9 +145,10 @@ module _ (rules : Rules) where
 
   good_event : DeclareRightly rules → (old : World) (event : Event) (new : World) → IsGoodWorld rules.check old → Happens rules old event new → IsGoodWorld rules.check new
   good_event keeps old (Event.Makes made) new good h = good_made_or_not old made new good h
-  good_event keeps old (Event.Calls s text reply effect) new good h = good_call keeps old s text reply effect new good h
+  good_event keeps old (Event.Calls s asked reply effect) new good h = good_call keeps old s asked reply effect new good h
   good_event keeps old (Event.Drops s) new good h = good_drops old s new good h
   good_event keeps old (Event.Flushes left) new good h = good_flushed old left new good h
+  good_event keeps old (Event.SetsPieces pieces) new good h = subst (IsGoodWorld rules.check) (sym h) good
   good_event keeps old (Event.FailsToClose refusal) new good h =
       subst (IsGoodWorld rules.check) (sym h.1) (good_alone rules.check old.commits old.last good.last)
   good_event keeps old Event.Reopens new good h = subst (IsGoodWorld rules.check) (sym h) (good_alone rules.check 0 old.last good.last)
@@ -166,15 +167,16 @@ module _ (rules : Rules) where
 
   good_lengthened : DeclareRightly rules → (old : World) (event : Event) (new : World) (dbs : List Database) → IsGoodWorld rules.check old → Happens rules old event new
       → All (IsGood rules.check) dbs → All (IsGood rules.check) (lengthened old event dbs)
-  good_lengthened keeps old (Event.Calls s text reply (Effect.Commits t)) new dbs good h k =
-      one_more (is_writer old s) dbs t.working k (call_leaves_good keeps old s text reply (Effect.Commits t) new good h)
-  good_lengthened keeps old (Event.Calls s text reply Effect.Nothing) new dbs good h k = k
-  good_lengthened keeps old (Event.Calls s text reply (Effect.Becomes session)) new dbs good h k = k
-  good_lengthened keeps old (Event.Calls s text reply (Effect.Writes session)) new dbs good h k = k
-  good_lengthened keeps old (Event.Calls s text reply Effect.RollsBack) new dbs good h k = k
+  good_lengthened keeps old (Event.Calls s asked reply (Effect.Commits t)) new dbs good h k =
+      one_more (is_writer old s) dbs t.working k (call_leaves_good keeps old s asked reply (Effect.Commits t) new good h)
+  good_lengthened keeps old (Event.Calls s asked reply Effect.Nothing) new dbs good h k = k
+  good_lengthened keeps old (Event.Calls s asked reply (Effect.Becomes session)) new dbs good h k = k
+  good_lengthened keeps old (Event.Calls s asked reply (Effect.Writes session)) new dbs good h k = k
+  good_lengthened keeps old (Event.Calls s asked reply Effect.RollsBack) new dbs good h k = k
   good_lengthened keeps old (Event.Makes made) new dbs good h k = k
   good_lengthened keeps old (Event.Drops s) new dbs good h k = k
   good_lengthened keeps old (Event.Flushes left) new dbs good h k = k
+  good_lengthened keeps old (Event.SetsPieces pieces) new dbs good h k = k
   good_lengthened keeps old (Event.FailsToClose refusal) new dbs good h k = k
   good_lengthened keeps old Event.Reopens new dbs good h k = All-cons (IsGood rules.check) old.last [] good.last (All-nil (IsGood rules.check))
 

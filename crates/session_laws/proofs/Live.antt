@@ -2,12 +2,12 @@
 use Rattle.std.proofs.Common.{◌≡◌, ◌≢◌, ◌⊎◌, ℕ, true, false, Some, Ok, sym, ap, ◌∙◌, inl, inr, is_some}
 use Rattle.std.proofs.lemmas.Bool.{cases_eq}
 use Rattle.std.specs.FinMap.{get}
-use Rattle.lexer.specs.Token.{Bytes}
 use Rattle.replies.specs.declared.reply.Reply.{Reply}
+use Rattle.session_definitions.specs.Asked.{Asked}
 use Rattle.session_definitions.specs.Effect.{Effect, after}
 use Rattle.session_definitions.specs.Rules.{Rules}
 use Rattle.session_definitions.specs.Run.{MakesSession, DropsSession}
-use Rattle.session_definitions.specs.Step.{Step}
+use Rattle.session_definitions.specs.Step.{StepOf}
 use Rattle.session_definitions.specs.World.{Session, World, is_live, new_session}
 use Rattle.session_laws.proofs.Effects.{others_stay, own_session}
 use Rattle.session_laws.proofs.Maps.{get_here, get_there, get_gone, get_left}
@@ -19,9 +19,9 @@ live_after w s session e stands k (inl same) =
     ∙ sym (ap (is_live w) same ∙ ap is_some stands)
 live_after w s session e stands k (inr ne) = ap is_some (others_stay w s session e k ne)
 
-pub keeps_live : (rules : Rules) (old new : World) (s : ℕ) (text : Bytes) (reply : Reply) → Step rules old s text reply new
+pub keeps_live : (rules : Rules) (old new : World) (s : ℕ) (asked : Asked) (reply : Reply) → StepOf rules old s asked reply new
     → (k : ℕ) → is_live new k ≡ is_live old k
-keeps_live rules old new s text reply (effect, call) k =
+keeps_live rules old new s asked reply (effect, call) k =
     ap (λ (w : World). is_live w k) call.leaves ∙ live_after old s call.session effect call.stands k (cases_eq k s)
 
 pub made_live : (old new : World) (s : ℕ) → MakesSession old (Ok s) new → is_live new s ≡ true

@@ -1,6 +1,7 @@
 -- A session with a transaction has READ WRITE as the mode of its next one, whatever a statement
 -- does.
-use Rattle.std.proofs.Common.{◌≡◌, [], ◌∷◌, ◌++◌, Option, Some, None, refl, subst, sym}
+use Rattle.std.proofs.Common.{◌≡◌, ℕ, List, [], ◌∷◌, ◌++◌, Option, Some, None, refl, subst, sym}
+use Rattle.sqlval.specs.Value.{Row}
 use Rattle.refusals.specs.declared.refusal.Refusal.{Refusal}
 use Rattle.lexer.specs.Token.{Bytes}
 use Rattle.ast.specs.declared.statement.AccessMode.{AccessMode}
@@ -10,11 +11,15 @@ use Rattle.ast.specs.declared.statement.Statement.{Statement}
 use Rattle.ast.specs.declared.statement.Statement.TheVariants as asks
 use Rattle.denote.specs.Database.{Name}
 use Rattle.replies.specs.declared.reply.Reply.{Reply}
+use Rattle.session_definitions.specs.Asked.{Asked}
+use Rattle.session_definitions.specs.Calls.{OpensQuery, TakesIn, TakesRows, ClosesQueryIn, ClosesQuery, InsertsRows}
+use Rattle.session_definitions.specs.Cursor.{having_given}
 use Rattle.session_definitions.specs.Effect.{Effect}
+use Rattle.session_definitions.specs.InsertedRows.{inserting}
 use Rattle.session_definitions.specs.Rules.{Rules}
 use Rattle.session_definitions.specs.Statements.{Queries, Explains, Changes, Ends, Undoes, SetsMode, Declares, Opens, FetchesIn, Fetches, ClosesIn, Closes, CarriesOut}
-use Rattle.session_definitions.specs.Step.{Withholds, Replies}
-use Rattle.session_definitions.specs.Transactions.{active, with_cursor, without_cursor}
+use Rattle.session_definitions.specs.Step.{Withholds, Replies, Responds}
+use Rattle.session_definitions.specs.Transactions.{active, with_cursor, without_cursor, with_unnamed}
 use Rattle.session_definitions.specs.World.{Transaction, Session}
 use Rattle.session_laws.specs.Sound.{IsSoundMode}
 
@@ -114,10 +119,50 @@ module _ (rules : Rules) (session : Session) (t : Transaction) (obstacle : Optio
 
   withholds_mode : (text : Bytes) → Withholds session text reply effect → LeavesMode effect
   withholds_mode text (Withholds.of_memory other r) = nothing r.leaves_all
-  withholds_mode text (Withholds.of_store refusal of other fetch r) = nothing r.leaves_all
+  withholds_mode text (Withholds.of_store refusal x of other read shut r) = nothing r.leaves_all
   withholds_mode text (Withholds.closes refusal u name reserved read has is says e) = becomes (without_cursor u name) e
 
-  pub replies_mode : (text : Bytes) → Replies rules session t obstacle text reply effect → LeavesMode effect
+  replies_mode : (text : Bytes) → Replies rules session t obstacle text reply effect → LeavesMode effect
   replies_mode text (Replies.unread refusal why r) = nothing r.leaves_all
   replies_mode text (Replies.carried_out x read h) = carried_out_mode x h
   replies_mode text (Replies.withheld h) = withholds_mode text h
+
+  opens_query_mode : (text : Bytes) → OpensQuery rules session t text reply effect → LeavesMode effect
+  opens_query_mode text (OpensQuery.unread refusal why r) = nothing r.leaves_all
+  opens_query_mode text (OpensQuery.other x read is r) = nothing r.leaves_all
+  opens_query_mode text (OpensQuery.open_already x read is r) = nothing r.leaves_all
+  opens_query_mode text (OpensQuery.wrong x refusal read is why r) = nothing r.leaves_all
+  opens_query_mode text (OpensQuery.opens x query outcome read is m same says e) = becomes (with_unnamed t (Some (record { outcome = outcome; given = [] }))) e
+  opens_query_mode text (OpensQuery.withheld refusal of r) = nothing r.leaves_all
+
+  takes_in_mode : (u : Transaction) (count : ℕ) → TakesIn session u count reply effect → LeavesMode effect
+  takes_in_mode u count (TakesIn.not_open is r) = nothing r.leaves_all
+  takes_in_mode u count (TakesIn.all cursor rows is may long says e) = becomes (with_unnamed u (Some (having_given cursor rows))) e
+  takes_in_mode u count (TakesIn.fewer cursor rows is few end says e) = becomes (with_unnamed u (Some (having_given cursor rows))) e
+  takes_in_mode u count (TakesIn.raises cursor fault is some may says e) = becomes (with_unnamed u None) e
+  takes_in_mode u count (TakesIn.withheld refusal cursor is of says e) = becomes (with_unnamed u None) e
+
+  takes_mode : (u : Option Transaction) (count : ℕ) → TakesRows session u count reply effect → LeavesMode effect
+  takes_mode None count r = nothing r.leaves_all
+  takes_mode (Some u) count h = takes_in_mode u count h
+
+  closes_query_in_mode : (u : Transaction) → ClosesQueryIn session u reply effect → LeavesMode effect
+  closes_query_in_mode u (ClosesQueryIn.not_open is r) = nothing r.leaves_all
+  closes_query_in_mode u (ClosesQueryIn.closes is says e) = becomes (with_unnamed u None) e
+
+  closes_query_mode : (u : Option Transaction) → ClosesQuery session u reply effect → LeavesMode effect
+  closes_query_mode None r = nothing r.leaves_all
+  closes_query_mode (Some u) h = closes_query_in_mode u h
+
+module _ (rules : Rules) (session : Session) (t : Transaction) (obstacle : Option Refusal) (reply : Reply) (effect : Effect)
+    (own : IsSoundMode session.next session.transaction) where
+  inserts_mode : (table : Name) (rows : List Row) → InsertsRows rules session t obstacle table rows reply effect → LeavesMode effect
+  inserts_mode table rows (InsertsRows.changes x h) = changes_mode (inserting rules table rows) session t obstacle reply effect own x h
+  inserts_mode table rows (InsertsRows.withheld refusal of r) = nothing rules session t obstacle reply effect own r.leaves_all
+
+  pub call_mode : (asked : Asked) → Responds rules session t obstacle asked reply effect → LeavesMode effect
+  call_mode (Asked.Text text) h = replies_mode rules session t obstacle reply effect own text h
+  call_mode (Asked.Query text) h = opens_query_mode rules session t obstacle reply effect own text h
+  call_mode (Asked.Rows count) h = takes_mode rules session t obstacle reply effect own session.transaction count h
+  call_mode Asked.Close h = closes_query_mode rules session t obstacle reply effect own session.transaction h
+  call_mode (Asked.Insert table rows) h = inserts_mode table rows h

@@ -4,6 +4,7 @@ use Rattle.std.specs.FinMap.{values}
 use Rattle.lexer.specs.Token.{Bytes}
 use Rattle.replies.specs.declared.reply.Reply.{Reply}
 use Rattle.script_pieces.specs.PieceMeaning.{Request}
+use Rattle.session_definitions.specs.Asked.{Asked}
 use Rattle.session_definitions.specs.Rules.{Rules}
 use Rattle.session_definitions.specs.Run.{Event, MakesSession, DropsSession, Moment, Run}
 use Rattle.session_definitions.specs.Script.{Scene, first_scene, choosing, Plays, Performs, ArePlayed, EndsSessions, IsPlayed}
@@ -29,7 +30,7 @@ makes : (rules : Rules) (w v : World) (s : ℕ) → MakesSession w (Ok s) v → 
 makes rules w v s h = (record { before = w; event = Event.Makes (Ok s) } ∷ [], (refl, h))
 
 calls : (rules : Rules) (w : World) (s : ℕ) (text : Bytes) (reply : Reply) (v : World) → Step rules w s text reply v → Leads rules w v
-calls rules w s text reply v (effect, call) = (record { before = w; event = Event.Calls s text reply effect } ∷ [], (refl, call))
+calls rules w s text reply v (effect, call) = (record { before = w; event = Event.Calls s (Asked.Text text) reply effect } ∷ [], (refl, call))
 
 drops : (rules : Rules) (w v : World) (s : ℕ) → DropsSession w s v → Leads rules w v
 drops rules w v s h = (record { before = w; event = Event.Drops s } ∷ [], (refl, h))

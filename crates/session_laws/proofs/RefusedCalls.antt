@@ -113,7 +113,7 @@ module _ (rules : Rules) (session : Session) (t : Transaction) (obstacle : Optio
 
   withholds_slight : Withholds session text (says.Refused refusal) effect → IsSlight session t refusal text effect
   withholds_slight (Withholds.of_memory other r) = inl r.leaves_all
-  withholds_slight (Withholds.of_store other of rollback fetch r) = inl r.leaves_all
+  withholds_slight (Withholds.of_store other x of rollback read shut r) = inl r.leaves_all
   withholds_slight (Withholds.closes other u name reserved read has there is e) = inr (inr (u, name, read, has, there, e))
 
   slight : Replies rules session t obstacle text (says.Refused refusal) effect → IsSlight session t refusal text effect

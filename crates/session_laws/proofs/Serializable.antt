@@ -6,23 +6,23 @@ use Rattle.std.specs.Ordering.{nat_cmp}
 use Rattle.std.specs.FinMap.{get, get-empty}
 use Rattle.std.proofs.lemmas.Bool.{cases_eq, ne_eqb}
 use Rattle.refusals.specs.declared.refusal.Refusal.{Refusal}
-use Rattle.lexer.specs.Token.{Bytes}
 use Rattle.denote.specs.Bag.{Permutes}
 use Rattle.denote.specs.Database.{Database}
 use Rattle.replies.specs.declared.reply.Reply.{Reply}
+use Rattle.session_definitions.specs.Asked.{Asked}
 use Rattle.session_definitions.specs.Effect.{Effect, after}
 use Rattle.session_definitions.specs.Rules.{Rules}
 use Rattle.session_definitions.specs.Run.{Event, MakesSession, FlushesPages, Happens, Moment, Run, lengthened, history, without_session, without_sessions}
 use Rattle.session_definitions.specs.Serial.{Saying, Talk, talked, talked_by, talk_with, talk, Committed, committed_by, with_ended, transactions, Says, RunsAlone, IsWriter, InSeries, IsSerializable}
 use Rattle.session_laws.specs.Sound.{IsSoundTransaction, IsSoundSession, IsSound}
-use Rattle.session_definitions.specs.Step.{Call, Replies}
+use Rattle.session_definitions.specs.Step.{Call, Responds}
 use Rattle.session_definitions.specs.Transactions.{starting, begun, obstacle}
 use Rattle.session_definitions.specs.World.{Transaction, Session, World, is_writer, new_session, opened, with_session}
 use Rattle.session_laws.proofs.Alone.{lonely, BeganAt, call_alone, becomes_alone, writes_alone, commits_alone}
 use Rattle.session_laws.proofs.Effects.{left_as, writes_after, IsAllowed, others_stay, own_session, others_write, own_writes, without_other, same_key}
 use Rattle.session_laws.proofs.Maps.{get_here, get_there, get_gone, get_left}
 use Rattle.session_laws.proofs.Series.{to_the_end, with_writer, Placed, with_reader, MadeBy, made_in_series, in_permuted, contains_from_in}
-use Rattle.session_laws.proofs.Modes.{LeavesMode, replies_mode}
+use Rattle.session_laws.proofs.Modes.{LeavesMode, call_mode}
 use Rattle.session_laws.proofs.Shapes.{BeganWith, IsShaped, shape, runs_in}
 use Rattle.session_laws.proofs.SoundSteps.{same_Some, allowed, committed_commits, committed_last, sound_after, sound_event, sound_empty}
 
@@ -119,9 +119,9 @@ in_talk_along rules k s talk now writes wrote x y t p q r u h =
     (subst (λ v. InTalk rules s now wrote v t) (sym u) h)))
 
 module _ (rules : Rules) (dbs : List Database) (cs : List Committed) (talks : ℕ → Talk) (w : World) (story : Story rules dbs cs talks w)
-    (s : ℕ) (text : Bytes) (reply : Reply) (session : Session) (stands : get w.sessions s ≡ Some session) where
+    (s : ℕ) (asked : Asked) (reply : Reply) (session : Session) (stands : get w.sessions s ≡ Some session) where
   abbrev saying : Saying
-  saying = record { text = text; reply = reply }
+  saying = record { asked = asked; reply = reply }
 
   -- the talk with this call, where the session's transaction is this
   abbrev talk_at : Option Transaction → Talk
@@ -156,7 +156,7 @@ module _ (rules : Rules) (dbs : List Database) (cs : List Committed) (talks : �
 
   -- and with this call to where it leads alone
   says_now : (e : Effect) (end : World)
-      → Call rules (lonely (begun w session).beginning (begun w session).found s (is_writer w s) session) s text reply e end
+      → Call rules (lonely (begun w session).beginning (begun w session).found s (is_writer w s) session) s asked reply e end
       → Says rules (lonely (begun w session).beginning (begun w session).found s false (talk_at session.transaction).before) s
       (talk_at session.transaction).said end
   says_now e end call = joined (ready session.transaction refl)
@@ -170,18 +170,18 @@ module _ (rules : Rules) (dbs : List Database) (cs : List Committed) (talks : �
           subst (λ all. Says rules (lonely (begun w session).beginning (begun w session).found s false (talk_at session.transaction).before) s all end)
           (sym whole) (lonely (begun w session).beginning (begun w session).found s (is_writer w s) session, says, (e, call))
 
-  called_alone : (e : Effect) → Replies rules session (begun w session) (obstacle w s session) text reply e
+  called_alone : (e : Effect) → Responds rules session (begun w session) (obstacle w s session) asked reply e
       → (e ≡ Effect.RollsBack)
-      ⊎ Call rules (lonely (begun w session).beginning (begun w session).found s (is_writer w s) session) s text reply e
+      ⊎ Call rules (lonely (begun w session).beginning (begun w session).found s (is_writer w s) session) s asked reply e
       (after (lonely (begun w session).beginning (begun w session).found s (is_writer w s) session) s session e)
   called_alone e r =
-      call_alone rules w (begun w session).beginning (begun w session).found s (is_writer w s) session text reply e
+      call_alone rules w (begun w session).beginning (begun w session).found s (is_writer w s) session asked reply e
       (began_at session.transaction) (same_begun session.transaction (is_writer w s)) r
 
   -- where the transaction stays open
   in_talk : (e : Effect) → GoesOn e
       → (e ≡ Effect.RollsBack)
-      ⊎ Call rules (lonely (begun w session).beginning (begun w session).found s (is_writer w s) session) s text reply e
+      ⊎ Call rules (lonely (begun w session).beginning (begun w session).found s (is_writer w s) session) s asked reply e
       (after (lonely (begun w session).beginning (begun w session).found s (is_writer w s) session) s session e)
       → (t : Transaction) → BeganWith t (begun w session)
       → InTalk rules s (talk_at session.transaction) (writes_after (is_writer w s) e) (left_as session e) t
@@ -209,7 +209,7 @@ module _ (rules : Rules) (dbs : List Database) (cs : List Committed) (talks : �
       → BeganWith t (begun w session) × InTalk rules s (talk_at session.transaction) (writes_after (is_writer w s) e) (left_as session e) t
 
   abbrev talks_now : Effect → ℕ → Talk
-  talks_now e k = talk_with k w (Event.Calls s text reply e) (talks k)
+  talks_now e k = talk_with k w (Event.Calls s asked reply e) (talks k)
 
   this_talk : (e : Effect) → talks_now e s ≡ talk_at session.transaction
   this_talk e =
@@ -262,10 +262,10 @@ module _ (rules : Rules) (dbs : List Database) (cs : List Committed) (talks : �
     series = story.series;
   }
 
-  own_goes : (e : Effect) → GoesOn e → Replies rules session (begun w session) (obstacle w s session) text reply e → OwnIsKept e
+  own_goes : (e : Effect) → GoesOn e → Responds rules session (begun w session) (obstacle w s session) asked reply e → OwnIsKept e
   own_goes e goes r t has =
       let b : BeganWith t (begun w session) = kept_began w session (obstacle w s session) e goes
-      (shape rules session (begun w session) (obstacle w s session) reply e (runs_in w session) text r) t has in
+      (shape rules session (begun w session) (obstacle w s session) reply e (runs_in w session) asked r) t has in
       (b, in_talk e goes (called_alone e r) t b)
 
   -- ---- a COMMIT
@@ -278,7 +278,7 @@ module _ (rules : Rules) (dbs : List Database) (cs : List Committed) (talks : �
 
   runs_alone : (t : Transaction) → session.transaction ≡ Some t
       → (Effect.Commits t ≡ Effect.RollsBack)
-      ⊎ Call rules (lonely (begun w session).beginning (begun w session).found s (is_writer w s) session) s text reply (Effect.Commits t)
+      ⊎ Call rules (lonely (begun w session).beginning (begun w session).found s (is_writer w s) session) s asked reply (Effect.Commits t)
       (after (lonely (begun w session).beginning (begun w session).found s (is_writer w s) session) s session (Effect.Commits t))
       → RunsAlone rules (committed_by s (talk_at session.transaction) t (is_writer w s))
   runs_alone t is (inl back) = cc
@@ -340,7 +340,7 @@ module _ (rules : Rules) (dbs : List Database) (cs : List Committed) (talks : �
   found_still t false n db is = is
 
   story_commits : (t : Transaction) → session.transaction ≡ Some t
-      → Replies rules session (begun w session) (obstacle w s session) text reply (Effect.Commits t)
+      → Responds rules session (begun w session) (obstacle w s session) asked reply (Effect.Commits t)
       → Story rules (cond (is_writer w s) (dbs ++ t.working ∷ []) dbs)
       (committed_by s (talks_now (Effect.Commits t) s) t (is_writer w s) ∷ cs) (talks_now (Effect.Commits t)) (after w s session (Effect.Commits t))
   story_commits t is r =
@@ -363,20 +363,20 @@ module _ (rules : Rules) (dbs : List Database) (cs : List Committed) (talks : �
         series = ls.series;
       }
 
-  story_call : (e : Effect) → Replies rules session (begun w session) (obstacle w s session) text reply e
-      → Story rules (lengthened w (Event.Calls s text reply e) dbs) (with_ended w (Event.Calls s text reply e) (talks_now e) cs) (talks_now e)
+  story_call : (e : Effect) → Responds rules session (begun w session) (obstacle w s session) asked reply e
+      → Story rules (lengthened w (Event.Calls s asked reply e) dbs) (with_ended w (Event.Calls s asked reply e) (talks_now e) cs) (talks_now e)
       (after w s session e)
   story_call Effect.Nothing r = story_keeps Effect.Nothing refl refl (own_goes Effect.Nothing tt r) tt tt
   story_call (Effect.Becomes x) r =
       story_keeps (Effect.Becomes x) refl refl (own_goes (Effect.Becomes x) tt r)
-      (shape rules session (begun w session) (obstacle w s session) reply (Effect.Becomes x) (runs_in w session) text r)
-      (replies_mode rules session (begun w session) (obstacle w s session) reply (Effect.Becomes x) (story.sound.modes s session stands) text r)
+      (shape rules session (begun w session) (obstacle w s session) reply (Effect.Becomes x) (runs_in w session) asked r)
+      (call_mode rules session (begun w session) (obstacle w s session) reply (Effect.Becomes x) (story.sound.modes s session stands) asked r)
   story_call (Effect.Writes x) r =
       story_keeps (Effect.Writes x) refl refl (own_goes (Effect.Writes x) tt r)
-      (shape rules session (begun w session) (obstacle w s session) reply (Effect.Writes x) (runs_in w session) text r)
-      (replies_mode rules session (begun w session) (obstacle w s session) reply (Effect.Writes x) (story.sound.modes s session stands) text r)
+      (shape rules session (begun w session) (obstacle w s session) reply (Effect.Writes x) (runs_in w session) asked r)
+      (call_mode rules session (begun w session) (obstacle w s session) reply (Effect.Writes x) (story.sound.modes s session stands) asked r)
   story_call (Effect.Commits t) r =
-      story_commits t (shape rules session (begun w session) (obstacle w s session) reply (Effect.Commits t) (runs_in w session) text r) r
+      story_commits t (shape rules session (begun w session) (obstacle w s session) reply (Effect.Commits t) (runs_in w session) asked r) r
   story_call Effect.RollsBack r = story_keeps Effect.RollsBack refl refl (nothing_left Effect.RollsBack refl) tt tt
 
 -- ---- any event
@@ -490,13 +490,14 @@ module _ (rules : Rules) (dbs : List Database) (cs : List Committed) (talks : �
 
   story_event : (event : Event) (new : World) → Happens rules w event new → StoryAfter rules dbs cs talks w event new
   story_event (Event.Makes made) new h = story_makes made new (sound_event rules w (Event.Makes made) new story.sound h) h
-  story_event (Event.Calls s text reply e) new h =
-      subst (StoryAfter rules dbs cs talks w (Event.Calls s text reply e)) (sym h.leaves)
-      (story_call rules dbs cs talks w story s text reply h.session h.stands e h.replies)
+  story_event (Event.Calls s asked reply e) new h =
+      subst (StoryAfter rules dbs cs talks w (Event.Calls s asked reply e)) (sym h.leaves)
+      (story_call rules dbs cs talks w story s asked reply h.session h.stands e h.replies)
   story_event (Event.Drops s) new h =
       subst (Story rules dbs cs talks) (sym h.leaves)
       (story_dropped rules dbs cs talks w story s (subst IsSound h.leaves (sound_event rules w (Event.Drops s) new story.sound h)))
   story_event (Event.Flushes left) new h = story_flushes left new h
+  story_event (Event.SetsPieces pieces) new h = subst (Story rules dbs cs talks) (sym h) story
   story_event (Event.FailsToClose refusal) new h = subst (Story rules dbs cs talks) (sym h.1) (story_closed rules dbs cs talks w story)
   story_event Event.Reopens new h = subst (Story rules (w.last ∷ []) [] talks) (sym h) (story_opened rules talks w.last)
 

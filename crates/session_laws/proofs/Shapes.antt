@@ -1,5 +1,6 @@
 -- What the effect of a reply is like, whatever the statement.
-use Rattle.std.proofs.Common.{◌≡◌, ◌⊎◌, [], ◌∷◌, ◌++◌, Option, Some, None, refl, sym, ap, ◌∙◌, inl, inr}
+use Rattle.std.proofs.Common.{◌≡◌, ◌⊎◌, ℕ, List, [], ◌∷◌, ◌++◌, Option, Some, None, refl, sym, ap, ◌∙◌, inl, inr}
+use Rattle.sqlval.specs.Value.{Row}
 use Rattle.refusals.specs.declared.refusal.Refusal.{Refusal}
 use Rattle.lexer.specs.Token.{Bytes}
 use Rattle.ast.specs.declared.statement.AccessMode.{AccessMode}
@@ -9,12 +10,16 @@ use Rattle.ast.specs.declared.statement.Statement.{Statement}
 use Rattle.ast.specs.declared.statement.Statement.TheVariants as asks
 use Rattle.denote.specs.Database.{Name}
 use Rattle.replies.specs.declared.reply.Reply.{Reply}
+use Rattle.session_definitions.specs.Asked.{Asked}
+use Rattle.session_definitions.specs.Calls.{OpensQuery, TakesIn, TakesRows, ClosesQueryIn, ClosesQuery, InsertsRows}
+use Rattle.session_definitions.specs.Cursor.{having_given}
 use Rattle.session_definitions.specs.Effect.{Effect}
+use Rattle.session_definitions.specs.InsertedRows.{inserting}
 use Rattle.session_definitions.specs.Rules.{Rules}
 use Rattle.session_definitions.specs.Statements.{Queries, Explains, Changes, Ends, Undoes, SetsMode, Declares, Opens, FetchesIn, Fetches, ClosesIn, Closes, CarriesOut}
-use Rattle.session_definitions.specs.Step.{Withholds, Replies}
+use Rattle.session_definitions.specs.Step.{Withholds, Replies, Responds}
 use Rattle.std.specs.Option.{unwrap_or}
-use Rattle.session_definitions.specs.Transactions.{begun, active, with_cursor, without_cursor}
+use Rattle.session_definitions.specs.Transactions.{begun, active, with_cursor, without_cursor, with_unnamed}
 use Rattle.session_definitions.specs.World.{Transaction, Session, World}
 
 -- the same but for mode, working database and cursors
@@ -135,13 +140,55 @@ module _ (rules : Rules) (session : Session) (t : Transaction) (obstacle : Optio
 
   withholds_shape : (text : Bytes) → Withholds session text reply effect → IsShaped session t obstacle effect
   withholds_shape text (Withholds.of_memory other r) = leaves_nothing r.leaves_all
-  withholds_shape text (Withholds.of_store refusal of other fetch r) = leaves_nothing r.leaves_all
+  withholds_shape text (Withholds.of_store refusal x of other read shut r) = leaves_nothing r.leaves_all
   withholds_shape text (Withholds.closes refusal u name reserved read has is says e) = other_cursors u (without_cursor u name) has refl refl refl e
 
-  pub shape : (text : Bytes) → Replies rules session t obstacle text reply effect → IsShaped session t obstacle effect
-  shape text (Replies.unread refusal why r) = leaves_nothing r.leaves_all
-  shape text (Replies.carried_out x read h) = carried_out_shape x h
-  shape text (Replies.withheld h) = withholds_shape text h
+  replies_shape : (text : Bytes) → Replies rules session t obstacle text reply effect → IsShaped session t obstacle effect
+  replies_shape text (Replies.unread refusal why r) = leaves_nothing r.leaves_all
+  replies_shape text (Replies.carried_out x read h) = carried_out_shape x h
+  replies_shape text (Replies.withheld h) = withholds_shape text h
+
+  opens_query_shape : (text : Bytes) → OpensQuery rules session t text reply effect → IsShaped session t obstacle effect
+  opens_query_shape text (OpensQuery.unread refusal why r) = leaves_nothing r.leaves_all
+  opens_query_shape text (OpensQuery.other x read is r) = leaves_nothing r.leaves_all
+  opens_query_shape text (OpensQuery.open_already x read is r) = leaves_nothing r.leaves_all
+  opens_query_shape text (OpensQuery.wrong x refusal read is why r) = leaves_nothing r.leaves_all
+  opens_query_shape text (OpensQuery.opens x query outcome read is m same says e) =
+      becomes (with_unnamed t (Some (record { outcome = outcome; given = [] }))) refl refl refl e
+  opens_query_shape text (OpensQuery.withheld refusal of r) = leaves_nothing r.leaves_all
+
+  takes_in_shape : (u : Transaction) → session.transaction ≡ Some u → (count : ℕ) → TakesIn session u count reply effect → IsShaped session t obstacle effect
+  takes_in_shape u has count (TakesIn.not_open is r) = leaves_nothing r.leaves_all
+  takes_in_shape u has count (TakesIn.all cursor rows is may long says e) =
+      other_cursors u (with_unnamed u (Some (having_given cursor rows))) has refl refl refl e
+  takes_in_shape u has count (TakesIn.fewer cursor rows is few end says e) =
+      other_cursors u (with_unnamed u (Some (having_given cursor rows))) has refl refl refl e
+  takes_in_shape u has count (TakesIn.raises cursor fault is some may says e) = other_cursors u (with_unnamed u None) has refl refl refl e
+  takes_in_shape u has count (TakesIn.withheld refusal cursor is of says e) = other_cursors u (with_unnamed u None) has refl refl refl e
+
+  takes_shape : (u : Option Transaction) → session.transaction ≡ u → (count : ℕ) → TakesRows session u count reply effect → IsShaped session t obstacle effect
+  takes_shape None is count r = leaves_nothing r.leaves_all
+  takes_shape (Some u) is count h = takes_in_shape u is count h
+
+  closes_query_in_shape : (u : Transaction) → session.transaction ≡ Some u → ClosesQueryIn session u reply effect → IsShaped session t obstacle effect
+  closes_query_in_shape u has (ClosesQueryIn.not_open is r) = leaves_nothing r.leaves_all
+  closes_query_in_shape u has (ClosesQueryIn.closes is says e) = other_cursors u (with_unnamed u None) has refl refl refl e
+
+  closes_query_shape : (u : Option Transaction) → session.transaction ≡ u → ClosesQuery session u reply effect → IsShaped session t obstacle effect
+  closes_query_shape None is r = leaves_nothing r.leaves_all
+  closes_query_shape (Some u) is h = closes_query_in_shape u is h
+
+module _ (rules : Rules) (session : Session) (t : Transaction) (obstacle : Option Refusal) (reply : Reply) (effect : Effect) (own : RunsIn session t) where
+  inserts_shape : (table : Name) (rows : List Row) → InsertsRows rules session t obstacle table rows reply effect → IsShaped session t obstacle effect
+  inserts_shape table rows (InsertsRows.changes x h) = changes_shape (inserting rules table rows) session t obstacle reply effect own x h
+  inserts_shape table rows (InsertsRows.withheld refusal of r) = leaves_nothing rules session t obstacle reply effect own r.leaves_all
+
+  pub shape : (asked : Asked) → Responds rules session t obstacle asked reply effect → IsShaped session t obstacle effect
+  shape (Asked.Text text) h = replies_shape rules session t obstacle reply effect own text h
+  shape (Asked.Query text) h = opens_query_shape rules session t obstacle reply effect own text h
+  shape (Asked.Rows count) h = takes_shape rules session t obstacle reply effect own session.transaction refl count h
+  shape Asked.Close h = closes_query_shape rules session t obstacle reply effect own session.transaction refl h
+  shape (Asked.Insert table rows) h = inserts_shape table rows h
 
 pub runs_in : (w : World) (session : Session) → RunsIn session (begun w session)
 runs_in w session u has = sym (by session.transaction _ has)

@@ -4,9 +4,9 @@ use Rattle.std.proofs.lemmas.Bool.{cases_eq, eqb-true, ne_eqb}
 use Rattle.std.specs.FinMap.{get, empty, get-empty}
 use Rattle.std.specs.Ordering.{nat_cmp}
 use Rattle.refusals.specs.declared.refusal.Refusal.{Refusal}
-use Rattle.lexer.specs.Token.{Bytes}
 use Rattle.denote.specs.Database.{Database}
 use Rattle.replies.specs.declared.reply.Reply.{Reply}
+use Rattle.session_definitions.specs.Asked.{Asked}
 use Rattle.session_definitions.specs.Effect.{Effect, after, committed}
 use Rattle.session_definitions.specs.Rules.{Rules}
 use Rattle.session_definitions.specs.Run.{Event, MakesSession, FlushesPages, Happens, without_session}
@@ -16,7 +16,7 @@ use Rattle.session_definitions.specs.Transactions.{starting, begun, has_other, o
 use Rattle.session_definitions.specs.World.{Transaction, Session, World, is_live, is_session, is_writer, new_session, with_session}
 use Rattle.session_laws.proofs.Effects.{left_as, writes_after, IsAllowed, others_stay, own_session, others_write, own_writes, without_other, without_itself}
 use Rattle.session_laws.proofs.Maps.{get_here, get_there, get_gone, get_left}
-use Rattle.session_laws.proofs.Modes.{LeavesMode, replies_mode}
+use Rattle.session_laws.proofs.Modes.{LeavesMode, call_mode}
 use Rattle.session_laws.proofs.Shapes.{IsShaped, shape, runs_in}
 use Rattle.session_laws.proofs.SoundLemmas.{neither, not_overtaken, sound_begun, sound_kept, began_now, sound_wrote, later}
 
@@ -133,12 +133,12 @@ module _ (w : World) (s : ℕ) (session : Session) (sound : IsSound w) (stands :
           ap is_some (others_stay w s session e k ne)
           ∙ sound.writer k (sym (others_write w s session e k ne (allowed w s session e h)) ∙ holds)
 
-pub sound_call : (rules : Rules) (old : World) (s : ℕ) (text : Bytes) (reply : Reply) (effect : Effect) (new : World)
-    → IsSound old → Call rules old s text reply effect new → IsSound new
-sound_call rules old s text reply effect new sound call =
+pub sound_call : (rules : Rules) (old : World) (s : ℕ) (asked : Asked) (reply : Reply) (effect : Effect) (new : World)
+    → IsSound old → Call rules old s asked reply effect new → IsSound new
+sound_call rules old s asked reply effect new sound call =
     subst IsSound (sym call.leaves) (sound_after old s call.session sound call.stands effect
-    (shape rules call.session (begun old call.session) (obstacle old s call.session) reply effect (runs_in old call.session) text call.replies)
-    (replies_mode rules call.session (begun old call.session) (obstacle old s call.session) reply effect (sound.modes s call.session call.stands) text call.replies))
+    (shape rules call.session (begun old call.session) (obstacle old s call.session) reply effect (runs_in old call.session) asked call.replies)
+    (call_mode rules call.session (begun old call.session) (obstacle old s call.session) reply effect (sound.modes s call.session call.stands) asked call.replies))
 
 -- ---- other events
 
@@ -221,8 +221,9 @@ sound_flushed old (Err refusal) new sound h = subst IsSound (sym h.1) sound
 
 pub sound_event : (rules : Rules) (old : World) (event : Event) (new : World) → IsSound old → Happens rules old event new → IsSound new
 sound_event rules old (Event.Makes made) new sound h = sound_made_or_not old made new sound h
-sound_event rules old (Event.Calls s text reply effect) new sound h = sound_call rules old s text reply effect new sound h
+sound_event rules old (Event.Calls s asked reply effect) new sound h = sound_call rules old s asked reply effect new sound h
 sound_event rules old (Event.Drops s) new sound h = subst IsSound (sym h.leaves) (sound_dropped old s sound)
 sound_event rules old (Event.Flushes left) new sound h = sound_flushed old left new sound h
+sound_event rules old (Event.SetsPieces pieces) new sound h = subst IsSound (sym h) sound
 sound_event rules old (Event.FailsToClose refusal) new sound h = subst IsSound (sym h.1) (sound_empty old.commits old.last)
 sound_event rules old Event.Reopens new sound h = subst IsSound (sym h) (sound_empty 0 old.last)

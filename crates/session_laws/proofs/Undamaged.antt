@@ -35,7 +35,7 @@ counts (Some (suc n)) = refl
 
 withholds : (session : Session) (text : Bytes) (reply : Reply) (effect : Effect) → Withholds session text reply effect → tells_damage reply ≡ false
 withholds session text reply effect (Withholds.of_memory other r) = refuses _ reply effect refl r
-withholds session text reply effect (Withholds.of_store refusal is other shut r) = refuses refusal reply effect (of_store refusal is) r
+withholds session text reply effect (Withholds.of_store refusal x is other read shut r) = refuses refusal reply effect (of_store refusal is) r
 withholds session text reply effect (Withholds.closes refusal t name is read has opens e leaves) = ap tells_damage e ∙ reserved refusal is
 
 ends : (u : Option Transaction) (reply : Reply) (effect : Effect) → Ends u reply effect → tells_damage reply ≡ false

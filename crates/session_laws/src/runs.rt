@@ -9,12 +9,13 @@ ghost use Rattle.denote.specs.Database.{Database, CheckReading, IsGood};
 ghost use Rattle.replies.specs.declared.reply.Reply.{Reply};
 ghost use Rattle.replies.specs.declared.reply.Reply.TheVariants as says;
 ghost use Rattle.session_laws.specs.Left.{IsFetch, LeavesAlmostAll};
+ghost use Rattle.session_definitions.specs.Asked.{Asked};
 ghost use Rattle.session_definitions.specs.Rules.{Rules, AreRules};
 ghost use Rattle.session_definitions.specs.Run.{Event, Happens, MakesSession, DropsSession, Moment, Run, history};
 ghost use Rattle.session_definitions.specs.Script.{IsPlayed};
 ghost use Rattle.session_definitions.specs.Serial.{Committed, transactions, IsWriter, IsSerializable};
 ghost use Rattle.session_laws.specs.Sound.{IsSound, IsGoodWorld};
-ghost use Rattle.session_definitions.specs.Step.{Step};
+ghost use Rattle.session_definitions.specs.Step.{Step, StepOf};
 ghost use Rattle.session_definitions.specs.World.{World, is_live, new_world, opened};
 
 use check_laws::{declared_columns_are_there, kept_checks_can_be_read};
@@ -35,6 +36,9 @@ pub fn refusals_leave_the_world()
 pub fn sessions_stand_until_they_end()
     ensures calls { (rules : Rules) (old new : World) (s : ℕ) (text : Bytes) (reply : Reply)
         → Step rules old s text reply new
+        → (k : ℕ) → is_live new k ≡ is_live old k }
+    ensures asked { (rules : Rules) (old new : World) (s : ℕ) (asked : Asked) (reply : Reply)
+        → StepOf rules old s asked reply new
         → (k : ℕ) → is_live new k ≡ is_live old k }
     ensures made { (old new : World) (s : ℕ) → MakesSession old (Ok s) new → is_live new s ≡ true }
     ensures was_free { (old new : World) (s : ℕ) → MakesSession old (Ok s) new → is_live old s ≡ false }

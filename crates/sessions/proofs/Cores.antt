@@ -6,8 +6,6 @@ use Rattle.std.proofs.lemmas.Bool.{cases_eq}
 use Rattle.std.specs.Prelude.{slice_set, replicate, IsSome}
 use Rattle.std.specs.Option.{option_map, is_some}
 use Rattle.std.specs.FinMap.{FinMap, get, empty, get-empty, same_map, nat_cmp-IsAntisymmetric}
-use Rattle.ast.specs.declared.statement.AccessMode.{AccessMode}
-use Rattle.ast.specs.declared.statement.AccessMode.TheVariants.{ReadWrite}
 use Rattle.refusals.specs.declared.refusal.Refusal.{Refusal}
 use Rattle.refusals.specs.declared.refusal.Refusal.TheVariants.{Damaged, Exceeded}
 use Rattle.session_definitions.specs.Refusals.{IsReserved, StopsFlush}
@@ -24,30 +22,30 @@ use Rattle.session_definitions.specs.World.{Session, is_live, opened}
 use Rattle.store.specs.Contents.{database_of}
 use Rattle.store.specs.Stored.{Found, Stored, IsOpened, closed}
 use Rattle.transactions.specs.Orderly.{IsOrderly}
-use Rattle.transactions.specs.Shown.{Slots, slot_at, session_of, sessions_of, shown}
+use Rattle.transactions.specs.Shown.{Kept, Slots, fresh, slot_at, session_of, sessions_of, shown}
 use Rattle.transactions.proofs.SlotLemmas.{session_at, slot_set, slot_beside, slot_within, stands}
 use Rattle.transactions.proofs.Standing.{made}
-use Rattle.sessions.specs.Numbers.{no_modes}
+use Rattle.sessions.specs.Numbers.{kept_in, no_slots}
 
 -- a session stands where its slot has a mode
 pub live_is : (st : Stored) (w : Option ℕ) (slots : Slots) (s : ℕ) → is_live (shown st w slots) s ≡ is_some (slot_at slots s)
 live_is st w slots s = ap is_some (session_at st w slots s) ∙ by (slot_at slots s)
   where
-    by : (o : Option AccessMode) → is_some (option_map (session_of st w s) o) ≡ is_some o
+    by : (o : Option Kept) → is_some (option_map (session_of st w s) o) ≡ is_some o
     by None = refl
     by (Some mode) = refl
 
 pub not_live : (st : Stored) (w : Option ℕ) (slots : Slots) (s : ℕ) → slot_at slots s ≡ None → is_live (shown st w slots) s ≡ false
 not_live st w slots s e = live_is st w slots s ∙ ap is_some e
 
-pub is_live_at : (st : Stored) (w : Option ℕ) (slots : Slots) (s : ℕ) (mode : AccessMode) → slot_at slots s ≡ Some mode → is_live (shown st w slots) s ≡ true
+pub is_live_at : (st : Stored) (w : Option ℕ) (slots : Slots) (s : ℕ) (mode : Kept) → slot_at slots s ≡ Some mode → is_live (shown st w slots) s ≡ true
 is_live_at st w slots s mode e = live_is st w slots s ∙ ap is_some e
 
 pub some_live : (st : Stored) (w : Option ℕ) (slots : Slots) (s : ℕ) → IsSome (slot_at slots s) → is_live (shown st w slots) s ≡ true
 some_live st w slots s h = live_is st w slots s ∙ h
 
 -- a mode is put in the slot of a session that stands
-pub set_alike : (st new : Stored) (w v : Option ℕ) (slots : Slots) (s : ℕ) (old mode : AccessMode) → slot_at slots s ≡ Some old
+pub set_alike : (st new : Stored) (w v : Option ℕ) (slots : Slots) (s : ℕ) (old mode : Kept) → slot_at slots s ≡ Some old
     → (q : ℕ) → is_live (shown new v (slice_set slots s (Some mode))) q ≡ is_live (shown st w slots) q
 set_alike st new w v slots s old mode is q = live_is new v (slice_set slots s (Some mode)) q ∙ by (cases_eq q s) ∙ sym (live_is st w slots q)
   where
@@ -58,15 +56,15 @@ set_alike st new w v slots s old mode is q = live_is new v (slice_set slots s (S
     by (inr ne) = ap is_some (slot_beside slots s q (Some mode) ne)
 
 -- what is in a slot is no matter of the others
-pub set_beside : (st new : Stored) (w v : Option ℕ) (slots : Slots) (s : ℕ) (slot : Option AccessMode) → (q : ℕ) → q ≢ s
+pub set_beside : (st new : Stored) (w v : Option ℕ) (slots : Slots) (s : ℕ) (slot : Option Kept) → (q : ℕ) → q ≢ s
     → is_live (shown new v (slice_set slots s slot)) q ≡ is_live (shown st w slots) q
 set_beside st new w v slots s slot q ne = live_is new v (slice_set slots s slot) q ∙ ap is_some (slot_beside slots s q slot ne) ∙ sym (live_is st w slots q)
 
-pub set_there : (st : Stored) (w : Option ℕ) (slots : Slots) (s : ℕ) (slot : Option AccessMode) → s < length slots → is_live (shown st w (slice_set slots s slot)) s ≡ is_some slot
+pub set_there : (st : Stored) (w : Option ℕ) (slots : Slots) (s : ℕ) (slot : Option Kept) → s < length slots → is_live (shown st w (slice_set slots s slot)) s ≡ is_some slot
 set_there st w slots s slot within = live_is st w (slice_set slots s slot) s ∙ ap is_some (slot_set slots s slot within)
 
 -- no reader is left of a session that does not stand, after a call of one that stood or is made
-pub readers_kept : (st new : Stored) (slots : Slots) (s : ℕ) (slot : Option AccessMode) → s < length slots → ((q : ℕ) → q ≢ s → get new.readers q ≡ get st.readers q)
+pub readers_kept : (st new : Stored) (slots : Slots) (s : ℕ) (slot : Option Kept) → s < length slots → ((q : ℕ) → q ≢ s → get new.readers q ≡ get st.readers q)
     → ((q : ℕ) → slot_at slots q ≡ None → get st.readers q ≡ None) → (slot ≡ None → get new.readers s ≡ None)
     → (q : ℕ) → slot_at (slice_set slots s slot) q ≡ None → get new.readers q ≡ None
 readers_kept st new slots s slot within others before gone q none = by (cases_eq q s)
@@ -80,7 +78,7 @@ readers_kept st new slots s slot within others before gone q none = by (cases_eq
 -- ---- the making and the end of sessions
 
 pub makes : (st : Stored) (w : Option ℕ) (slots : Slots) (s : ℕ) → length slots ≡ 64 → s < 64 → slot_at slots s ≡ None → ((k : ℕ) → k < s → IsSome (slot_at slots k))
-    → get st.readers s ≡ None → MakesSession (shown st w slots) (Ok s) (shown st w (slice_set slots s (Some ReadWrite)))
+    → get st.readers s ≡ None → MakesSession (shown st w slots) (Ok s) (shown st w (slice_set slots s (Some fresh)))
 makes st w slots s sized within free least none =
     let there : s < length slots = omega arith in
     (record { free = not_live st w slots s free; least = λ k lt. some_live st w slots k (least k lt) }, within, made st w slots s there none)
@@ -89,28 +87,28 @@ pub makes_none : (st : Stored) (w : Option ℕ) (slots : Slots) → ((k : ℕ) �
     → MakesSession (shown st w slots) (Err (Exceeded limit.Sessions)) (shown st w slots)
 makes_none st w slots full = (inl (λ k lt. some_live st w slots k (full k lt), refl), refl)
 
-pub drops : (st new : Stored) (w v : Option ℕ) (slots : Slots) (s : ℕ) (mode : AccessMode) → slot_at slots s ≡ Some mode
+pub drops : (st new : Stored) (w v : Option ℕ) (slots : Slots) (s : ℕ) (mode : Kept) → slot_at slots s ≡ Some mode
     → shown new v (slice_set slots s None) ≡ without_session (shown st w slots) s → DropsSession (shown st w slots) s (shown new v (slice_set slots s None))
 drops st new w v slots s mode is leaves = record { session = session_of st w s mode; stands = stands st w slots s mode is; leaves = leaves }
 
 -- ---- without sessions
 
-none_at : (n q : ℕ) → slot_at (replicate n None) q ≡ None
+none_at : (n q : ℕ) → slot_at (kept_in (replicate n None)) q ≡ None
 none_at zero q = refl
 none_at (suc n) zero = refl
 none_at (suc n) (suc q) = none_at n q
 
-pub nobody_stands : (st : Stored) (w : Option ℕ) (q : ℕ) → is_live (shown st w no_modes) q ≡ false
-nobody_stands st w q = not_live st w no_modes q (none_at 64 q)
+pub nobody_stands : (st : Stored) (w : Option ℕ) (q : ℕ) → is_live (shown st w (kept_in no_slots)) q ≡ false
+nobody_stands st w q = not_live st w (kept_in no_slots) q (none_at 64 q)
 
-pub no_sessions : (st : Stored) (w : Option ℕ) → sessions_of st w no_modes ≡ empty
+pub no_sessions : (st : Stored) (w : Option ℕ) → sessions_of st w (kept_in no_slots) ≡ empty
 no_sessions st w = same_map nat_cmp_total nat_cmp-IsAntisymmetric _ _
-    (λ q. session_at st w no_modes q ∙ ap (option_map (session_of st w q)) (none_at 64 q) ∙ sym (get-empty {X = Session} nat_cmp q))
+    (λ q. session_at st w (kept_in no_slots) q ∙ ap (option_map (session_of st w q)) (none_at 64 q) ∙ sym (get-empty {X = Session} nat_cmp q))
 
-pub opens : (db : Database) (st : Stored) → IsOpened db st → shown st None no_modes ≡ opened db
+pub opens : (db : Database) (st : Stored) → IsOpened db st → shown st None (kept_in no_slots) ≡ opened db
 opens db st h = λ i. record { commits = h.commits i; last = h.holds i; writer = None; sessions = no_sessions st None i }
 
-pub closes : (st new : Stored) (w : Option ℕ) (slots : Slots) → new ≡ closed st → shown new None no_modes ≡ without_sessions (shown st w slots)
+pub closes : (st new : Stored) (w : Option ℕ) (slots : Slots) → new ≡ closed st → shown new None (kept_in no_slots) ≡ without_sessions (shown st w slots)
 closes st new w slots e =
     let sessions = no_sessions new None in
     λ i. record { commits = (e i).commits; last = database_of (e i).last; writer = None; sessions = sessions i }

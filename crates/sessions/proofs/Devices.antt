@@ -1,9 +1,10 @@
 -- A refusal of the device comes only where its count of refused calls rose.
-use Rattle.std.proofs.Common.{◌≡◌, ◌≢◌, ℕ, ◌+◌, ◌^◌, ◌-◌, ◌≤◌, Bool, true, false, cond, List, [], ◌∷◌, Ok, Err, Contains, refl, sym, subst, ◌∙◌, arith}
+use Rattle.std.proofs.Common.{◌≡◌, ◌≢◌, ◌⊎◌, inl, inr, ℕ, ◌+◌, ◌^◌, ◌-◌, ◌≤◌, Bool, true, false, cond, List, [], ◌∷◌, Ok, Err, Contains, refl, sym, subst, ◌∙◌, arith}
 use Rattle.std.specs.Prelude.{min}
 use Rattle.std.specs.List.{list_all}
 use Rattle.std.proofs.lemmas.List.Elements.{All-contains}
 use Rattle.std.proofs.lemmas.List.Sums.{AllPass-from_list_all}
+use Rattle.refusals.specs.declared.limit.Limit.TheVariants as which
 use Rattle.refusals.specs.declared.refusal.Refusal.{Refusal}
 use Rattle.refusals.specs.declared.refusal.Refusal.TheVariants as refused
 use Rattle.refusals.specs.declared.refusal.Refusal.TheVariants.{NotSupported}
@@ -11,6 +12,9 @@ use Rattle.sqlval.specs.declared.schema.Schema.{Schema}
 use Rattle.lexer.specs.Token.{Bytes, IsFault}
 use Rattle.ast.specs.declared.statement.Statement.{Statement}
 use Rattle.statement_definitions.specs.Reading.{IsUnread}
+use Rattle.denote.specs.declared.fault.Fault.{Fault}
+use Rattle.denote.specs.declared.fault.Fault.TheVariants as fault
+use Rattle.session_definitions.specs.Refusals.{refusal_of}
 use Rattle.typing.specs.declared.statement.Typed.{Typed}
 use Rattle.typing.specs.Built.{is_built}
 use Rattle.typing.specs.Finding.{Finding, reasons_in}
@@ -106,3 +110,22 @@ counts_state _ k m h = tt
 pub counts_none : (reply : Reply) (k m : ℕ) → IfRefused reply (λ refusal. ⊥) → Counts reply k m
 counts_none (says.Refused refusal) k m h = absurd h
 counts_none _ k m h = tt
+
+-- one that is never refused by the device
+pub never_counts : (reply : Reply) (k m : ℕ) → IfRefused reply (λ refusal. refusal ≢ refused.Disk) → Counts reply k m
+never_counts (says.Refused refusal) k m h = λ is. absurd (h is)
+never_counts _ k m h = tt
+
+-- DECLARE
+pub declaring : (A B : Type 0) (refusal : Refusal) → (refusal ≡ refused.Memory) ⊎ ((refusal ≡ refused.Exceeded which.Cursors) × A × B) → refusal ≢ refused.Disk
+declaring A B refusal (inl e) is = cc
+declaring A B refusal (inr h) is = let e : refusal ≡ refused.Exceeded which.Cursors = h.0 in cc
+
+-- a fault of a query
+pub fault_counts_not : (fault : Fault) → refusal_of fault ≢ refused.Disk
+fault_counts_not fault.ManyRows is = cc
+fault_counts_not fault.TextTooLong is = cc
+fault_counts_not fault.OutOfRange is = cc
+fault_counts_not fault.DivisionByZero is = cc
+fault_counts_not fault.Record is = cc
+fault_counts_not fault.Key is = cc

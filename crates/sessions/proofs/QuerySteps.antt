@@ -3,7 +3,6 @@ use Rattle.std.proofs.Common.{◌≡◌, ℕ, Bool, true, false, cond, List, Opt
 use Rattle.std.specs.FinMap.{get}
 use Rattle.refusals.specs.declared.refusal.Refusal.{Refusal}
 use Rattle.lexer.specs.Token.{Bytes}
-use Rattle.ast.specs.declared.statement.AccessMode.{AccessMode}
 use Rattle.ast.specs.declared.statement.OrderedQuery.{OrderedQuery}
 use Rattle.ast.specs.declared.statement.Statement.{Statement}
 use Rattle.ast.specs.declared.statement.Statement.TheVariants as asks
@@ -20,6 +19,7 @@ use Rattle.denote.specs.SchemaOf.{IsSchemaOf}
 use Rattle.replies.specs.declared.reply.Reply.TheVariants as says
 use Rattle.statement_definitions.specs.Reading.{IsRead}
 use Rattle.statement_definitions.specs.Rollback.{IsRollback}
+use Rattle.session_definitions.specs.Asked.{Asked}
 use Rattle.session_definitions.specs.Effect.{Effect}
 use Rattle.session_definitions.specs.Refusals.{IsReserved}
 use Rattle.session_definitions.specs.Rules.{Rules, AreRules}
@@ -30,13 +30,13 @@ use Rattle.store.specs.declared.view.View.{View}
 use Rattle.store.specs.Contents.{database_of}
 use Rattle.store.specs.Stored.{Found, Stored, SameButMark, begun}
 use Rattle.store.specs.View.{seen_by, found_in}
-use Rattle.transactions.specs.Moves.{Moves}
+use Rattle.transactions.specs.Moves.{IsClosedIn, Moves}
 use Rattle.transactions.specs.Orderly.{IsOrderly}
-use Rattle.transactions.specs.Shown.{view_in}
+use Rattle.transactions.specs.Shown.{Kept, read_by, settled, view_in}
 use Rattle.transactions.proofs.Maps.{get_here}
 use Rattle.transactions.proofs.Obstacles.{runs}
 use Rattle.transactions.proofs.Orders.{begun_by, not_writer}
-use Rattle.transactions.proofs.Steps.{Answered, answers, nothing_moves, withholds}
+use Rattle.transactions.proofs.Steps.{Answered, answers, found_by, nothing_moves, read_once, runs_works, withholds}
 use Rattle.query_answers.specs.Refused.{MayRefuse}
 use Rattle.sessions.specs.Answered.{GivesRows, RefusesQuery}
 use Rattle.sessions.proofs.Typings.{typed_query, means, Against, read_as}
@@ -78,39 +78,44 @@ module _ (rules : Rules) (x : OrderedQuery) (statement : Statement) (schema lent
 
 -- ---- in a session
 
--- once it has begun, a session sees the database of the transaction in which its statement runs
-pub sees : (st : Stored) (w : Option ℕ) (s : ℕ) (mode : AccessMode) → IsOrderly st w → database_of (seen_by (begun st s) (view_in w s)) ≡ (runs st w s mode).working
-sees st w s mode h = begun_by st s (λ x. database_of (seen_by x (view_in w s)) ≡ (runs st w s mode).working)
-    (λ f is. rw is (in_transaction f is (is_session s w)))
+-- once it has begun, a session sees what its transaction reads
+pub sees_contents : (st : Stored) (w : Option ℕ) (s : ℕ) → IsOrderly st w → seen_by (begun st s) (view_in w s) ≡ read_once st w s
+sees_contents st w s h = begun_by st s (λ x. seen_by x (view_in w s) ≡ read_once st w s)
+    (λ f is. in_transaction f is (is_session s w) ∙ ap (λ o. read_by st w s (found_by st o)) (sym is))
     (λ none. rw (none, not_writer st s w h.current none, get_here) refl)
   where
     in_transaction : (f : Found) → get st.readers s ≡ Some f → (b : Bool)
-        → database_of (seen_by st (cond b View.Working (View.Found s))) ≡ database_of (cond b st.working f.contents)
+        → seen_by st (cond b View.Working (View.Found s)) ≡ cond b st.working f.contents
     in_transaction f is true = refl
-    in_transaction f is false = ap (λ o. database_of (found_in st.last o)) is
+    in_transaction f is false = ap (λ o. found_in st.last o) is
 
-module _ (rules : Rules) (st : Stored) (w : Option ℕ) (s : ℕ) (mode : AccessMode) (text : Bytes) (x : OrderedQuery) (mid : Stored) (view : View)
-    (h : IsOrderly st w) (read : IsRead text (asks.Query x)) (begins : mid ≡ begun st s) (seen : view ≡ view_in w s) where
-  there : database_of (seen_by mid view) ≡ (runs st w s mode).working
-  there = ap (λ y. database_of (seen_by y view)) begins ∙ ap (λ v. database_of (seen_by (begun st s) v)) seen ∙ sees st w s mode h
+-- and so the database of the transaction in which its statement runs
+pub sees : (st : Stored) (w : Option ℕ) (s : ℕ) (kept : Kept) → IsOrderly st w → database_of (seen_by (begun st s) (view_in w s)) ≡ (runs st w s kept).working
+sees st w s kept h = ap database_of (sees_contents st w s h) ∙ sym (runs_works st w s kept h)
 
-  pub gives : (rows : List Row) (new : Stored) → GivesRows rules (database_of (seen_by mid view)) x rows → new ≡ mid → Moves rules s text (says.Rows rows) st w mode new w mode
+module _ (rules : Rules) (st : Stored) (w : Option ℕ) (s : ℕ) (kept : Kept) (text : Bytes) (x : OrderedQuery) (mid : Stored) (view : View)
+    (h : IsOrderly st w) (shut : IsClosedIn (get st.readers s) kept) (read : IsRead text (asks.Query x)) (begins : mid ≡ begun st s) (seen : view ≡ view_in w s) where
+  there : database_of (seen_by mid view) ≡ (runs st w s kept).working
+  there = ap (λ y. database_of (seen_by y view)) begins ∙ ap (λ v. database_of (seen_by (begun st s) v)) seen ∙ sees st w s kept h
+
+  pub gives : (rows : List Row) (new : Stored) → GivesRows rules (database_of (seen_by mid view)) x rows → new ≡ mid
+      → Moves rules s text (says.Rows rows) st w kept new w (settled (get new.readers s) kept)
   gives rows new found e =
-      let found : GivesRows rules (runs st w s mode).working x rows = subst (λ (db : Database). GivesRows rules db x rows) there found in
-      answers rules st w s mode text (says.Rows rows) new h
+      let found : GivesRows rules (runs st w s kept).working x rows = subst (λ (db : Database). GivesRows rules db x rows) there found in
+      answers rules st w s kept (Asked.Text text) (says.Rows rows) new h shut
       (Replies.carried_out (asks.Query x) read (Queries.gives found.query rows found.means found.answers refl refl)) (e ∙ begins)
 
-  refusing : (refusal : Refusal) → (IsRollback text → ⊥) → RefusesQuery rules (runs st w s mode).working x refusal → Answered rules st w s mode text (says.Refused refusal) Effect.Nothing
-  refusing refusal other (RefusesQuery.withheld reserved) = withholds rules st w s mode text refusal other reserved
+  refusing : (refusal : Refusal) → (IsRollback text → ⊥) → RefusesQuery rules (runs st w s kept).working x refusal → Answered rules st w s kept (Asked.Text text) (says.Refused refusal) Effect.Nothing
+  refusing refusal other (RefusesQuery.withheld reserved) = withholds rules st w s kept (asks.Query x) text refusal other read refl reserved
   refusing refusal other (RefusesQuery.wrong reason) =
       Replies.carried_out (asks.Query x) read (Queries.wrong refusal reason (record { says_so = refl; leaves_all = refl }))
   refusing refusal other (RefusesQuery.raises q fault means is raised) =
       Replies.carried_out (asks.Query x) read (Queries.raises q fault means raised (record { says_so = ap says.Refused is; leaves_all = refl }))
 
   pub refuses : (refusal : Refusal) (new : Stored) → (IsRollback text → ⊥) → RefusesQuery rules (database_of (seen_by mid view)) x refusal → SameButMark st new
-      → Moves rules s text (says.Refused refusal) st w mode new w mode
+      → Moves rules s text (says.Refused refusal) st w kept new w (settled (get new.readers s) kept)
   refuses refusal new other found k =
-      nothing_moves rules st w s mode text (says.Refused refusal) new h
+      nothing_moves rules st w s kept (Asked.Text text) (says.Refused refusal) new h
       (refusing refusal other (subst (λ (db : Database). RefusesQuery rules db x refusal) there found)) k
 
 -- ---- what a typed query is

@@ -26,26 +26,6 @@ explain_later : is_supported word.Explain ≡ false
 unfolding is_supported
 explain_later = refl
 
-declare_later : is_supported word.Declare ≡ false
-unfolding is_supported
-declare_later = refl
-
-open_later : is_supported word.Open ≡ false
-unfolding is_supported
-open_later = refl
-
-fetch_later : is_supported word.Fetch ≡ false
-unfolding is_supported
-fetch_later = refl
-
-close_later : is_supported word.Close ≡ false
-unfolding is_supported
-close_later = refl
-
 pub later_unread : (x : Statement) (text : Bytes) → is_later x ≡ true → IsRead text x → ⊥
 later_unread (asks.Explain x) text later read = not_first read.tokens word.Explain _ read.statement.statement.1 explain_later read.spelled.supported
-later_unread (asks.DeclareCursor x) text later read = not_first read.tokens word.Declare _ read.statement.statement.1.1 declare_later read.spelled.supported
-later_unread (asks.OpenCursor x) text later read = not_first read.tokens word.Open _ read.statement.statement.1 open_later read.spelled.supported
-later_unread (asks.Fetch x) text later read = not_first read.tokens word.Fetch _ read.statement.statement.1 fetch_later read.spelled.supported
-later_unread (asks.CloseCursor x) text later read = not_first read.tokens word.Close _ read.statement.statement.1 close_later read.spelled.supported
 later_unread _ text later read = absurd (cc)

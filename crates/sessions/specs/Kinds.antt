@@ -1,8 +1,11 @@
 -- Which statements are queries, changes, and forms that come later.
 use Rattle.std.specs.Prelude.{◌≡◌, Bool, true, false}
+use Rattle.lexer.specs.Token.{Bytes}
 use Rattle.ast.specs.declared.statement.OrderedQuery.{OrderedQuery}
 use Rattle.ast.specs.declared.statement.Statement.{Statement}
 use Rattle.ast.specs.declared.statement.Statement.TheVariants as asks
+use Rattle.denote.specs.Database.{Name}
+use Rattle.statement_definitions.specs.Reading.{IsRead}
 use Rattle.sessions.specs.declared.kind.Kind.{Kind}
 use Rattle.sessions.specs.declared.kind.Kind.TheVariants as kind
 
@@ -17,13 +20,31 @@ is_change (asks.Update x) = true
 is_change (asks.Delete x) = true
 is_change _ = false
 
--- whether its form comes later: EXPLAIN and cursors
+-- whether it is DECLARE, OPEN, FETCH or CLOSE
+abbrev pub is_of_cursor : Statement → Bool
+is_of_cursor (asks.DeclareCursor x) = true
+is_of_cursor (asks.OpenCursor x) = true
+is_of_cursor (asks.Fetch x) = true
+is_of_cursor (asks.CloseCursor x) = true
+is_of_cursor _ = false
+
+-- whether it is DECLARE
+abbrev pub is_declare : Statement → Bool
+is_declare (asks.DeclareCursor x) = true
+is_declare _ = false
+
+-- whether it is FETCH
+abbrev pub is_fetch : Statement → Bool
+is_fetch (asks.Fetch x) = true
+is_fetch _ = false
+
+-- the text is one
+abbrev pub IsFetchText : Bytes → Type 0
+IsFetchText text = (name : Name) × IsRead text (asks.Fetch name)
+
+-- whether its form comes later: EXPLAIN
 abbrev pub is_later : Statement → Bool
 is_later (asks.Explain x) = true
-is_later (asks.DeclareCursor x) = true
-is_later (asks.OpenCursor x) = true
-is_later (asks.Fetch x) = true
-is_later (asks.CloseCursor x) = true
 is_later _ = false
 
 abbrev pub IsOfKind : Kind → Statement → Type 0
@@ -32,4 +53,5 @@ IsOfKind kind.Change x = is_change x ≡ true
 IsOfKind kind.Commit x = (work : Bool) × (x ≡ asks.Commit work)
 IsOfKind kind.Rollback x = (work : Bool) × (x ≡ asks.Rollback work)
 IsOfKind (kind.SetTransaction mode) x = x ≡ asks.SetTransaction mode
+IsOfKind kind.Cursor x = is_of_cursor x ≡ true
 IsOfKind kind.Later x = is_later x ≡ true

@@ -3,6 +3,8 @@ pub mod Seen
 pub mod Answered
 pub mod Changed
 pub mod Numbers
+pub mod Held
+pub mod Opened
 pub mod OfCore
 pub mod Limits
 pub mod Committing

@@ -1,7 +1,9 @@
 //! From the text of a call to its reply.
-ghost use Rattle.std.specs.Prelude.{◌≡◌, ◌≢◌, ◌⊎◌, [], ◌∷◌};
+ghost use Rattle.std.specs.Prelude.{◌≡◌, ◌≢◌, ◌⊎◌, ℕ, false, [], ◌∷◌, Option};
+ghost use Rattle.std.specs.FinMap.{get};
 ghost use Rattle.lexer.specs.Token.{Bytes};
 ghost use Rattle.denote.specs.Database.{IsGood};
+ghost use Rattle.session_definitions.specs.Asked.{Asked};
 ghost use Rattle.session_definitions.specs.Rules.{Rules, AreRules};
 ghost use Rattle.statement_definitions.specs.Reading.{IsRead};
 ghost use Rattle.statement_definitions.specs.Rollback.{IsRollback};
@@ -9,24 +11,42 @@ ghost use Rattle.session_definitions.specs.World.{is_session};
 ghost use Rattle.refusals.specs.declared.refusal.Refusal.TheVariants.{SerializationFailure};
 ghost use Rattle.store.specs.Going.{Going};
 ghost use Rattle.store.specs.Stored.{SameButMark};
-ghost use Rattle.transactions.specs.Moves.{Moves};
 ghost use Rattle.transactions.specs.Orderly.{IsOrderly};
 ghost use Rattle.transactions.specs.Refused.{Counts, IfRefused, TellsReached};
+ghost use Rattle.transactions.specs.Shown.{settled};
 ghost use Rattle.sessions.specs.Committing.{CommitsAsWriter, IsCommitOfWriter};
+ghost use Rattle.sessions.specs.Held.{FitsIn, Holds, Leaves};
+ghost use Rattle.sessions.specs.Kinds.{IsFetchText, is_declare, is_fetch};
 ghost use Rattle.sessions.specs.Limits.{CallReaches, StatementReaches};
+ghost use Rattle.sessions.specs.Numbers.{kept_of};
 ghost use Rattle.sessions.specs.Seen.{seen_in};
 
 use crate::change::change;
 use crate::changes::Changes;
+use crate::cursor_calls::{cursor_call, declare, declared_in};
 use crate::kind::{Kind, kind_of};
 use crate::language::Language;
 use crate::query::query;
-use ast::{AccessMode, Statement};
+use crate::slots::Slot;
+use ast::Statement;
 use refusals::Refusal;
 use replies::Reply;
 use std::alloc::Global;
 use store::Store;
 use transactions::{commit, roll_back, set_mode};
+
+/// Closes the cursors of a session that has no transaction. Takes no memory.
+pub(crate) fn settle<S: Store>(store: &S, slot: &mut Slot, session: u64)
+    ensures kept { kept_of slot.new ≡ settled (get (S.shows store.now).readers session) (kept_of slot.old) }
+    ensures holds { (w : Option ℕ)
+        → FitsIn (S.shows store.now) w session (get (S.shows store.now).readers session) slot.old.cursors
+        → Holds (S.shows store.now) w session slot.new.cursors }
+{
+    if store.number(session).is_some() {
+        return;
+    }
+    slot.cursors.close_all();
+}
 
 /// Carries out the statement in a text. ROLLBACK takes no memory and always succeeds.
 pub(crate) fn call<S: Store, L: Language + Changes<S>>(
@@ -34,28 +54,33 @@ pub(crate) fn call<S: Store, L: Language + Changes<S>>(
     language: &L,
     store: &mut S,
     writer: &mut Option<u64>,
-    mode: &mut AccessMode,
+    slot: &mut Slot,
     session: u64,
     text: &[u8],
 ) -> Reply
-    ensures moves { (rules : Rules) → AreRules rules → S.is_sound store.old → IsOrderly (S.shows store.old) writer.old
+    ensures leaves { (rules : Rules) → AreRules rules → S.is_sound store.old → IsOrderly (S.shows store.old) writer.old
+        → Holds (S.shows store.old) writer.old session slot.old.cursors
         → IsGood rules.check (seen_in (S.shows store.old) writer.old session)
-        → Moves rules session text.now result (S.shows store.old) writer.old mode.old (S.shows store.new) writer.new mode.new }
+        → Leaves rules session (Asked.Text text.now) result (S.shows store.old) writer.old slot.old (S.shows store.new) writer.new slot.new }
     ensures device { Counts result (S.refused store.old) (S.refused store.new) }
     ensures limits { IfRefused result (TellsReached (CallReaches (S.counted store.old) (S.shows store.old).commits text.now)) }
     ensures rolled_back { IsRollback text.now → result ≡ Reply.Done }
-    ensures kept { IfRefused result (λ refusal. refusal ≢ SerializationFailure
-        → SameButMark (S.shows store.old) (S.shows store.new) × (writer.new ≡ writer.old) × (mode.new ≡ mode.old)) }
+    ensures kept { IfRefused result (λ refusal. refusal ≢ SerializationFailure → (IsFetchText text.now → ⊥)
+        → SameButMark (S.shows store.old) (S.shows store.new) × (writer.new ≡ writer.old)
+        × (kept_of slot.new ≡ kept_of slot.old)) }
     ensures idle { S.unchanged store.old → S.writes store.new ≡ S.writes store.old }
     ensures goes { S.goes_on store.old store.new (Going.writes ((S.shows store.old).working ∷ [])) }
     ensures commits { S.goes_on store.old store.new Going.changes
         ⊎ CommitsAsWriter text.now (is_session session writer.old) }
 {
     if language.is_rollback(text) {
-        return roll_back(store, writer, mode, session);
+        return roll_back(store, writer, &mut slot.mode, session);
     }
     match language.read(alloc, text) {
-        Ok(statement) => carry_out(alloc, language, store, writer, mode, session, &statement),
+        Ok(statement) => match declared_in(statement) {
+            Ok(cursor) => declare(slot, cursor),
+            Err(statement) => carry_out(alloc, language, store, writer, slot, session, &statement),
+        },
         Err(refusal) => Reply::Refused(refusal),
     }
 }
@@ -66,18 +91,22 @@ fn carry_out<S: Store, L: Language + Changes<S>>(
     language: &L,
     store: &mut S,
     writer: &mut Option<u64>,
-    mode: &mut AccessMode,
+    slot: &mut Slot,
     session: u64,
     statement: &Statement,
 ) -> Reply
-    ensures moves { (rules : Rules) (text : Bytes) → AreRules rules → IsRead text statement.now → (IsRollback text → ⊥)
+    ensures leaves { (rules : Rules) (text : Bytes) → AreRules rules → IsRead text statement.now
+        → is_declare statement.now ≡ false
+        → (IsRollback text → ⊥)
         → S.is_sound store.old → IsOrderly (S.shows store.old) writer.old
+        → Holds (S.shows store.old) writer.old session slot.old.cursors
         → IsGood rules.check (seen_in (S.shows store.old) writer.old session)
-        → Moves rules session text result (S.shows store.old) writer.old mode.old (S.shows store.new) writer.new mode.new }
+        → Leaves rules session (Asked.Text text) result (S.shows store.old) writer.old slot.old (S.shows store.new) writer.new slot.new }
     ensures device { Counts result (S.refused store.old) (S.refused store.new) }
     ensures limits { IfRefused result (TellsReached (StatementReaches (S.counted store.old) (S.shows store.old).commits statement.now)) }
-    ensures kept { IfRefused result (λ refusal. refusal ≢ SerializationFailure
-        → SameButMark (S.shows store.old) (S.shows store.new) × (writer.new ≡ writer.old) × (mode.new ≡ mode.old)) }
+    ensures kept { IfRefused result (λ refusal. refusal ≢ SerializationFailure → is_fetch statement.now ≡ false
+        → SameButMark (S.shows store.old) (S.shows store.new) × (writer.new ≡ writer.old)
+        × (kept_of slot.new ≡ kept_of slot.old)) }
     ensures idle { S.unchanged store.old → S.writes store.new ≡ S.writes store.old }
     ensures goes { S.goes_on store.old store.new (Going.writes ((S.shows store.old).working ∷ [])) }
     ensures commits { S.goes_on store.old store.new Going.changes
@@ -85,10 +114,11 @@ fn carry_out<S: Store, L: Language + Changes<S>>(
 {
     match kind_of(statement) {
         Kind::Query => query(alloc, language, store, *writer, session, statement),
-        Kind::Change => change(alloc, language, store, writer, *mode, session, statement),
-        Kind::Commit => commit(store, writer, mode, session),
-        Kind::Rollback => roll_back(store, writer, mode, session),
-        Kind::SetTransaction(set) => set_mode(store, *writer, mode, session, set),
+        Kind::Change => change(alloc, language, store, writer, slot, session, statement),
+        Kind::Commit => commit(store, writer, &mut slot.mode, session),
+        Kind::Rollback => roll_back(store, writer, &mut slot.mode, session),
+        Kind::SetTransaction(set) => set_mode(store, *writer, &mut slot.mode, session, set),
+        Kind::Cursor => cursor_call(alloc, language, store, *writer, slot, session, statement),
         Kind::Later => Reply::Refused(Refusal::NotSupported),
     }
 }

@@ -1,5 +1,5 @@
 //! A change in a session.
-ghost use Rattle.std.specs.Prelude.{◌≡◌, ◌≢◌, true, IfOk, IfErr, OnErr, MatchOption};
+ghost use Rattle.std.specs.Prelude.{◌≡◌, ◌≢◌, ◌⊎◌, true, IfOk, IfErr, OnErr, MatchOption};
 ghost use Rattle.ast.specs.declared.statement.Statement.{Statement as Tree};
 ghost use Rattle.lexer.specs.Token.{Bytes};
 ghost use Rattle.denote.specs.Database.{IsGood};
@@ -13,7 +13,11 @@ ghost use Rattle.store.specs.Contents.{database_of};
 ghost use Rattle.store.specs.Errors.{HasRisen};
 ghost use Rattle.store.specs.Going.{Going};
 ghost use Rattle.store.specs.Stored.{SameButMark};
-ghost use Rattle.transactions.specs.Moves.{Moves};
+ghost use Rattle.std.specs.FinMap.{get};
+ghost use Rattle.transactions.specs.Moves.{IsClosedIn, Moves};
+ghost use Rattle.transactions.specs.Shown.{settled};
+ghost use Rattle.cursors.specs.ByName.{IsShut};
+ghost use Rattle.sessions.specs.Numbers.{kept_of};
 ghost use Rattle.transactions.specs.Orderly.{IsOrderly};
 ghost use Rattle.transactions.specs.Refused.{Counts, IfRefused};
 ghost use Rattle.typing.specs.declared.statement.Change.{Change as Typing};
@@ -24,6 +28,7 @@ ghost use Rattle.sessions.specs.Seen.{seen_in};
 
 use crate::changes::Changes;
 use crate::language::{Language, typed_by};
+use crate::slots::Slot;
 use ast::{AccessMode, Statement};
 use refusals::Refusal;
 use replies::Reply;
@@ -32,30 +37,38 @@ use store::{Store, View};
 use transactions::{comes_too_late, refusal_of, take_back};
 use typing::{Change, Typed};
 
-/// A change. In a transaction that only reads it is refused (25000). Where it comes too late it is
-/// refused (40001), and the session's transaction is rolled back. It begins a transaction where the
-/// session has none, but not where it is refused; the session is the writer then.
+/// A change. In a transaction that only reads it is refused (25000), and beside an open cursor
+/// (24000). Where it comes too late it is refused (40001), and the session's transaction is rolled
+/// back. It begins a transaction where the session has none, but not where it is refused; the
+/// session is the writer then.
 pub(crate) fn change<S: Store, L: Language + Changes<S>>(
     alloc: Global,
     language: &L,
     store: &mut S,
     writer: &mut Option<u64>,
-    mode: AccessMode,
+    slot: &Slot,
     session: u64,
     statement: &Statement,
 ) -> Reply
     ensures moves { (rules : Rules) (text : Bytes) → AreRules rules → is_change statement.now ≡ true
         → IsRead text statement.now → (IsRollback text → ⊥)
         → S.is_sound store.old → IsOrderly (S.shows store.old) writer.old
+        → IsClosedIn (get (S.shows store.old).readers session) (kept_of slot.now)
         → IsGood rules.check (seen_in (S.shows store.old) writer.old session)
-        → Moves rules session text result (S.shows store.old) writer.old mode (S.shows store.new) writer.new mode }
+        → Moves rules session text result (S.shows store.old) writer.old (kept_of slot.now) (S.shows store.new) writer.new
+        (settled (get (S.shows store.new).readers session) (kept_of slot.now)) }
     ensures kept { IfRefused result (λ refusal. refusal ≢ SerializationFailure
         → SameButMark (S.shows store.old) (S.shows store.new) × (writer.new ≡ writer.old)) }
+    ensures left { IsShut slot.now.cursors
+        ⊎ (SameButMark (S.shows store.old) (S.shows store.new) × (writer.new ≡ writer.old)) }
     ensures device { Counts result (S.refused store.old) (S.refused store.new) }
     ensures goes { S.goes_on store.old store.new Going.changes }
 {
-    if is_read_only(mode) {
+    if is_read_only(slot.mode) {
         return Reply::Refused(Refusal::TransactionState);
+    }
+    if slot.cursors.has_open() {
+        return Reply::Refused(Refusal::CursorState);
     }
     if comes_too_late(store, *writer, session) {
         store.end(session);

@@ -1,11 +1,11 @@
 //! A core and its calls.
 ghost use Rattle.std.specs.Prelude.{◌≡◌, ◌≢◌, ℕ, ◌≤◌, ◌<◌, ◌⊎◌, [], ◌∷◌, true, false, Ok, Err, IfOk, IfErr, OnOk, MatchResult};
 
-use crate::calling::call;
+use crate::calling::{call, settle};
 use crate::changes::Changes;
 use crate::language::Language;
-use crate::slots::Slots;
-use ast::AccessMode;
+use crate::query_calls::{close_query, open_query, take_rows};
+use crate::slots::{Slots, new_slot};
 use refusals::{Limit, Reason, Refusal};
 use replies::Reply;
 use std::alloc::Global;
@@ -34,7 +34,7 @@ pub struct Core<S: Store, L: Language + Changes<S>> {
     alloc: Global,
     language: L,
     store: S,
-    /// Of each session that stands, by its number, what its transaction may do, or its next one.
+    /// Of each session that stands, by its number, what is kept of it.
     slots: Slots,
     /// The session that has written, until its transaction ends.
     writer: Option<u64>,
@@ -45,17 +45,19 @@ impl<S: Store, L: Language + Changes<S>> Core<S, L> {
     ghost use Rattle.session_definitions.specs.Rules.{Rules, AreRules};
     ghost use Rattle.session_definitions.specs.Refusals.{IsReserved, StopsFlush};
     ghost use Rattle.session_definitions.specs.Run.{MakesSession, DropsSession, FlushesPages, without_sessions};
-    ghost use Rattle.session_definitions.specs.Step.{Step};
+    ghost use Rattle.session_definitions.specs.Asked.{Asked};
+    ghost use Rattle.session_definitions.specs.Step.{Step, StepOf};
     ghost use Rattle.session_definitions.specs.World.{is_live, is_session, opened};
     ghost use Rattle.denote.specs.Database.{Database, IsGood};
     ghost use Rattle.store.specs.Errors.{HasRisen};
     ghost use Rattle.store.specs.Going.{Going};
-    ghost use Rattle.transactions.specs.Refused.{Counts, IfRefused, TellsReached};
+    ghost use Rattle.transactions.specs.Refused.{Counts, IfRefused, TellsNoLimit, TellsReached};
     ghost use Rattle.refusals.specs.declared.limit.Limit.TheVariants as limit;
     ghost use Rattle.statement_definitions.specs.Rollback.{IsRollback};
     ghost use Rattle.refusals.specs.declared.reason.Reason.TheVariants as reason;
-    ghost use Rattle.refusals.specs.declared.refusal.Refusal.TheVariants.{Damaged, Disk, Exceeded, Invalid, SerializationFailure};
+    ghost use Rattle.refusals.specs.declared.refusal.Refusal.TheVariants.{CursorState, Damaged, Disk, Exceeded, Invalid, SerializationFailure};
     ghost use Rattle.sessions.specs.Committing.{CommitsAsWriter};
+    ghost use Rattle.sessions.specs.Kinds.{IsFetchText};
     ghost use Rattle.sessions.specs.Limits.{CallReaches};
     ghost use Rattle.sessions.specs.Seen.{seen_in};
     ghost use Rattle.sessions.specs.Opening.{Stays};
@@ -64,13 +66,13 @@ impl<S: Store, L: Language + Changes<S>> Core<S, L> {
     /// Carries out a statement of this session, and answers its reply. A call of a session that has
     /// ended is refused by `session`, and nothing changes.
     ///
-    /// ROLLBACK takes no memory and always succeeds. A refusal other than 40001 leaves the world as
-    /// it was, also over a damaged store. It is that of the device only where a call of the device
-    /// was refused. A limit of what the store counts (pages, private pages, kept
-    /// page images) is told only of a change, or of a COMMIT where the store reaches it. Only a
-    /// COMMIT of the session that writes may write on the device, and it writes nothing where
-    /// nothing was changed. That the
-    /// database which the statement sees is good is a law of runs; a change relies on it.
+    /// ROLLBACK takes no memory and always succeeds. A refusal other than 40001, and of another
+    /// statement than FETCH, leaves the world as it was, also over a damaged store. It is that of
+    /// the device only where a call of the device was refused. A limit of what the store counts
+    /// (pages, private pages, kept page images) is told only of a change, or of a COMMIT where the
+    /// store reaches it. Only a COMMIT of the session that writes may write on the device, and it
+    /// writes nothing where nothing was changed. That the database which the statement sees is good
+    /// is a law of runs; a change relies on it.
     pub fn step(&mut self, session: SessionId, text: &[u8]) -> Reply
         ensures step { (rules : Rules) → AreRules rules → IsSound S.is_sound S.shows self.old
             → is_live (world_of S.shows self.old) (number_of session) ≡ true
@@ -86,7 +88,7 @@ impl<S: Store, L: Language + Changes<S>> Core<S, L> {
         ensures live { StandAlike (world_of S.shows self.old) (world_of S.shows self.new) }
         ensures device { Counts result (S.refused self.old.store) (S.refused self.new.store) }
         ensures limits { IfRefused result (TellsReached (CallReaches (S.counted self.old.store) (S.shows self.old.store).commits text.now)) }
-        ensures kept { IfRefused result (λ refusal. refusal ≢ SerializationFailure
+        ensures kept { IfRefused result (λ refusal. refusal ≢ SerializationFailure → (IsFetchText text.now → ⊥)
             → world_of S.shows self.new ≡ world_of S.shows self.old) }
         ensures idle { S.unchanged self.old.store → S.writes self.new.store ≡ S.writes self.old.store }
         ensures goes { S.goes_on self.old.store self.new.store (Going.writes ((S.shows self.old.store).working ∷ [])) }
@@ -94,19 +96,103 @@ impl<S: Store, L: Language + Changes<S>> Core<S, L> {
             ⊎ CommitsAsWriter text.now (is_session (number_of session) self.old.writer) }
         ensures counts { S.refused self.old.store ≤ S.refused self.new.store }
     {
-        let Some(mut mode) = self.slots.mode_of(session.number) else {
+        if !self.slots.stands(session.number) {
             return Reply::Refused(Refusal::Invalid(Reason::Session));
-        };
+        }
+        let mut slot = self.slots.take(self.alloc, session.number);
         let reply = call(
             self.alloc,
             &self.language,
             &mut self.store,
             &mut self.writer,
-            &mut mode,
+            &mut slot,
             session.number,
             text,
         );
-        self.slots.set(session.number, Some(mode));
+        settle(&self.store, &mut slot, session.number);
+        self.slots.set(session.number, Some(slot));
+        reply
+    }
+
+    /// Opens the query in this text as the cursor without a name: another statement is refused by
+    /// `syntax`, and 24000 where it is open. It begins a transaction. While it is open a change is
+    /// 24000.
+    pub fn open_query(&mut self, session: SessionId, text: &[u8]) -> Reply
+        ensures step { (rules : Rules) → AreRules rules → IsSound S.is_sound S.shows self.old
+            → is_live (world_of S.shows self.old) (number_of session) ≡ true
+            → StepOf rules (world_of S.shows self.old) (number_of session) (Asked.Query text.now) result (world_of S.shows self.new) }
+        ensures sound { (rules : Rules) → AreRules rules → IsSound S.is_sound S.shows self.old → IsSound S.is_sound S.shows self.new }
+        ensures ended { is_live (world_of S.shows self.old) (number_of session) ≡ false
+            → (result ≡ Reply.Refused (Invalid reason.Session)) × (self.new ≡ self.old) }
+        ensures live { StandAlike (world_of S.shows self.old) (world_of S.shows self.new) }
+        ensures device { Counts result (S.refused self.old.store) (S.refused self.new.store) }
+        ensures limits { IfRefused result TellsNoLimit }
+        ensures kept { IfRefused result (λ refusal. world_of S.shows self.new ≡ world_of S.shows self.old) }
+        ensures goes { S.goes_on self.old.store self.new.store Going.keeps }
+        ensures counts { S.refused self.old.store ≤ S.refused self.new.store }
+    {
+        if !self.slots.stands(session.number) {
+            return Reply::Refused(Refusal::Invalid(Reason::Session));
+        }
+        let mut slot = self.slots.take(self.alloc, session.number);
+        let reply = open_query(
+            self.alloc,
+            &self.language,
+            &mut self.store,
+            self.writer,
+            &mut slot,
+            session.number,
+            text,
+        );
+        settle(&self.store, &mut slot, session.number);
+        self.slots.set(session.number, Some(slot));
+        reply
+    }
+
+    /// So many of the next rows of the query that was opened, or fewer and then the end is reached;
+    /// 24000 where none is open. A refusal stands in place of its rows, and closes it.
+    pub fn take_rows(&mut self, session: SessionId, count: u64) -> Reply
+        ensures step { (rules : Rules) → IsSound S.is_sound S.shows self.old
+            → is_live (world_of S.shows self.old) (number_of session) ≡ true
+            → StepOf rules (world_of S.shows self.old) (number_of session) (Asked.Rows count) result (world_of S.shows self.new) }
+        ensures sound { IsSound S.is_sound S.shows self.old → IsSound S.is_sound S.shows self.new }
+        ensures ended { is_live (world_of S.shows self.old) (number_of session) ≡ false
+            → (result ≡ Reply.Refused (Invalid reason.Session)) × (self.new ≡ self.old) }
+        ensures live { StandAlike (world_of S.shows self.old) (world_of S.shows self.new) }
+        ensures device { IfRefused result (λ refusal. refusal ≢ Disk) }
+        ensures limits { IfRefused result TellsNoLimit }
+        ensures untouched { self.new.store ≡ self.old.store }
+    {
+        if !self.slots.stands(session.number) {
+            return Reply::Refused(Refusal::Invalid(Reason::Session));
+        }
+        let mut slot = self.slots.take(self.alloc, session.number);
+        let reply = take_rows(self.alloc, &mut slot, count);
+        settle(&self.store, &mut slot, session.number);
+        self.slots.set(session.number, Some(slot));
+        reply
+    }
+
+    /// Closes the query that was opened; 24000 where none is open. Takes no memory.
+    pub fn close_query(&mut self, session: SessionId) -> Reply
+        ensures step { (rules : Rules) → IsSound S.is_sound S.shows self.old
+            → is_live (world_of S.shows self.old) (number_of session) ≡ true
+            → StepOf rules (world_of S.shows self.old) (number_of session) Asked.Close result (world_of S.shows self.new) }
+        ensures sound { IsSound S.is_sound S.shows self.old → IsSound S.is_sound S.shows self.new }
+        ensures ended { is_live (world_of S.shows self.old) (number_of session) ≡ false
+            → (result ≡ Reply.Refused (Invalid reason.Session)) × (self.new ≡ self.old) }
+        ensures live { StandAlike (world_of S.shows self.old) (world_of S.shows self.new) }
+        ensures refused { is_live (world_of S.shows self.old) (number_of session) ≡ true
+            → IfRefused result (λ refusal. refusal ≡ CursorState) }
+        ensures untouched { self.new.store ≡ self.old.store }
+    {
+        if !self.slots.stands(session.number) {
+            return Reply::Refused(Refusal::Invalid(Reason::Session));
+        }
+        let mut slot = self.slots.take(self.alloc, session.number);
+        let reply = close_query(&mut slot);
+        settle(&self.store, &mut slot, session.number);
+        self.slots.set(session.number, Some(slot));
         reply
     }
 
@@ -127,7 +213,7 @@ impl<S: Store, L: Language + Changes<S>> Core<S, L> {
         let Some(number) = self.slots.first_free() else {
             return Err(Refusal::Exceeded(Limit::Sessions));
         };
-        self.slots.set(number, Some(AccessMode::ReadWrite));
+        self.slots.set(number, Some(new_slot(self.alloc)));
         Ok(SessionId { number })
     }
 
@@ -143,9 +229,9 @@ impl<S: Store, L: Language + Changes<S>> Core<S, L> {
         ensures goes { S.goes_on self.old.store self.new.store Going.keeps }
         ensures counts { S.refused self.old.store ≤ S.refused self.new.store }
     {
-        let Some(_mode) = self.slots.mode_of(session.number) else {
+        if !self.slots.stands(session.number) {
             return;
-        };
+        }
         drop_session(&mut self.store, &mut self.writer, session.number);
         self.slots.set(session.number, None);
     }
@@ -158,7 +244,7 @@ impl<S: Store, L: Language + Changes<S>> Core<S, L> {
         ensures left { IfOk result (λ left. left ≡ S.unwritten self.new.store) }
         ensures less { OnOk result (0 < S.unwritten self.old.store
             → S.unwritten self.new.store < S.unwritten self.old.store) }
-        ensures same { (self.new.slots.modes ≡ self.old.slots.modes) × (self.new.writer ≡ self.old.writer)
+        ensures same { (self.new.slots.all ≡ self.old.slots.all) × (self.new.writer ≡ self.old.writer)
             × (S.shows self.new.store ≡ S.shows self.old.store) }
         ensures sound { IsSound S.is_sound S.shows self.old → IsSound S.is_sound S.shows self.new }
         ensures device { IfErr result (λ refusal. refusal ≡ Disk

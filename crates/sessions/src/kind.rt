@@ -11,6 +11,8 @@ pub(crate) enum Kind {
     Commit,
     Rollback,
     SetTransaction(AccessMode),
+    /// DECLARE, OPEN, FETCH or CLOSE.
+    Cursor,
     /// A form that is not built yet. Some word of its text is not supported.
     Later,
 }
@@ -32,9 +34,9 @@ pub(crate) fn kind_of(statement: &Statement) -> Kind
         Statement::Rollback(_) => Kind::Rollback,
         Statement::SetTransaction(mode) => Kind::SetTransaction(*mode),
         Statement::Explain(_) => Kind::Later,
-        Statement::DeclareCursor(_) => Kind::Later,
-        Statement::OpenCursor(_) => Kind::Later,
-        Statement::Fetch(_) => Kind::Later,
-        Statement::CloseCursor(_) => Kind::Later,
+        Statement::DeclareCursor(_) => Kind::Cursor,
+        Statement::OpenCursor(_) => Kind::Cursor,
+        Statement::Fetch(_) => Kind::Cursor,
+        Statement::CloseCursor(_) => Kind::Cursor,
     }
 }

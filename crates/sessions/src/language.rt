@@ -5,13 +5,15 @@ ghost use Rattle.statement_definitions.specs.Reading.{IsRead, IsUnread};
 ghost use Rattle.statement_definitions.specs.Rollback.{IsRollback};
 ghost use Rattle.transactions.specs.Refused.{TellsNoLimit};
 ghost use Rattle.typing.specs.Finds.{Finds};
+ghost use Rattle.typing.specs.Known.{known};
+ghost use Rattle.typing.specs.Order.{ordered_found};
 ghost use Rattle.typing.specs.Statement.{answered_found};
 
-use ast::Statement;
+use ast::{OrderedQuery, Statement};
 use refusals::Refusal;
 use sqlval::Schema;
 use std::alloc::Global;
-use typing::Typed;
+use typing::{OrderedQuery as TypedQuery, Typed};
 use typing_laws::refusals_have_reasons;
 
 /// What reads and types statements.
@@ -30,6 +32,15 @@ pub trait Language: Drop {
     /// theirs against it; any may be refused for want of memory.
     fn typed(&self, alloc: Global, statement: &Statement, schema: &Schema) -> Result<Typed, Refusal>
         ensures finds { Finds result (answered_found statement.now schema.now) };
+
+    /// What a query stands for over a schema, likewise.
+    fn typed_query(
+        &self,
+        alloc: Global,
+        query: &OrderedQuery,
+        schema: &Schema,
+    ) -> Result<TypedQuery, Refusal>
+        ensures finds { Finds result (ordered_found (known schema.now) query.now) };
 }
 
 /// What a statement stands for, as a language finds it. No reason against a statement is a refusal
@@ -46,4 +57,19 @@ pub(crate) fn typed_by<L: Language>(
 {
     refusals_have_reasons();
     language.typed(alloc, statement, schema)
+}
+
+/// What a query stands for, as a language finds it.
+pub(crate) fn query_typed_by<L: Language>(
+    alloc: Global,
+    language: &L,
+    query: &OrderedQuery,
+    schema: &Schema,
+) -> Result<TypedQuery, Refusal>
+    ensures finds { Finds result (ordered_found (known schema.now) query.now) }
+    ensures device { IfErr result (λ refusal. refusal ≢ Disk) }
+    ensures limits { IfErr result TellsNoLimit }
+{
+    refusals_have_reasons();
+    language.typed_query(alloc, query, schema)
 }

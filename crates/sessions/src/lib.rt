@@ -6,9 +6,11 @@ mod calling;
 mod change;
 mod changes;
 mod core_of;
+mod cursor_calls;
 mod kind;
 mod language;
 mod query;
+mod query_calls;
 mod slots;
 
 pub use changes::Changes;

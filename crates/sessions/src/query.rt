@@ -1,10 +1,9 @@
 //! A query in a session.
-ghost use Rattle.std.specs.Prelude.{◌≡◌, Ok, IfOk, IfErr};
+ghost use Rattle.std.specs.Prelude.{◌≡◌, ◌⊎◌, Ok, IfOk, IfErr};
 ghost use Rattle.denote.specs.Answer.{Answers};
 ghost use Rattle.denote.specs.Query.{denotes};
 ghost use Rattle.typing.specs.declared.statement.Typed.TheVariants as does;
 ghost use Rattle.typing.specs.declared.typed.OrderedQuery.{OrderedQuery as Query};
-ghost use Rattle.ast.specs.declared.statement.AccessMode.{AccessMode as Mode};
 ghost use Rattle.ast.specs.declared.statement.OrderedQuery.{OrderedQuery};
 ghost use Rattle.ast.specs.declared.statement.Statement.TheVariants as asks;
 ghost use Rattle.lexer.specs.Token.{Bytes};
@@ -16,9 +15,11 @@ ghost use Rattle.refusals.specs.declared.refusal.Refusal.TheVariants.{Disk};
 ghost use Rattle.store.specs.Contents.{database_of};
 ghost use Rattle.store.specs.Errors.{HasRisen};
 ghost use Rattle.store.specs.Going.{Going};
-ghost use Rattle.store.specs.Stored.{SameButMark};
+ghost use Rattle.store.specs.Stored.{SameButMark, begun};
 ghost use Rattle.store.specs.View.{seen_by};
-ghost use Rattle.transactions.specs.Moves.{Moves};
+ghost use Rattle.std.specs.FinMap.{get};
+ghost use Rattle.transactions.specs.Moves.{IsClosedIn, Moves};
+ghost use Rattle.transactions.specs.Shown.{Kept, settled};
 ghost use Rattle.transactions.specs.Orderly.{IsOrderly};
 ghost use Rattle.transactions.specs.Refused.{Counts, IfRefused, TellsNoLimit};
 ghost use Rattle.sessions.specs.Answered.{GivesRows, RefusesQuery};
@@ -44,13 +45,17 @@ pub(crate) fn query<S: Store, L: Language>(
     session: u64,
     statement: &Statement,
 ) -> Reply
-    ensures moves { (rules : Rules) (text : Bytes) (x : OrderedQuery) (mode : Mode) → AreRules rules
+    ensures moves { (rules : Rules) (text : Bytes) (x : OrderedQuery) (kept : Kept) → AreRules rules
         → statement.now ≡ asks.Query x → IsRead text (asks.Query x) → (IsRollback text → ⊥)
         → S.is_sound store.old → IsOrderly (S.shows store.old) writer
-        → Moves rules session text result (S.shows store.old) writer mode (S.shows store.new) writer mode }
+        → IsClosedIn (get (S.shows store.old).readers session) kept
+        → Moves rules session text result (S.shows store.old) writer kept (S.shows store.new) writer
+        (settled (get (S.shows store.new).readers session) kept) }
     ensures device { Counts result (S.refused store.old) (S.refused store.new) }
     ensures limits { IfRefused result TellsNoLimit }
     ensures kept { IfRefused result (λ refusal. SameButMark (S.shows store.old) (S.shows store.new)) }
+    ensures left { (S.shows store.new ≡ begun (S.shows store.old) session)
+        ⊎ SameButMark (S.shows store.old) (S.shows store.new) }
     ensures goes { S.goes_on store.old store.new Going.keeps }
 {
     let idle = store.number(session).is_none();

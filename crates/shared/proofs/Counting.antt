@@ -101,6 +101,14 @@ counted_none k m less = counted_by k m [] less tt
 pub counted_after : (k m : ℕ) (log : List Event) (e : Event) → m ≤ e.refused → TellsDevice e.act m e.refused → TellsLimits e.act → IsCounted k m log → IsCounted k e.refused (log ++ e ∷ [])
 counted_after k m log e more tells limits h = counted_by k e.refused (log ++ e ∷ []) (told_more log e k m more tells h.told) (each_and TellsLimits log e h.limits limits)
 
+told_raised : (log : List Event) (k m n : ℕ) → m ≤ n → AllTellDevice log k m → AllTellDevice log k n
+told_raised [] k m n more h = le_trans h more
+told_raised (e ∷ log) k m n more h = (h.0, h.1, told_raised log e.refused m n more h.2)
+
+-- the count of refused calls rose, and nothing was called
+pub counted_raised : (k m n : ℕ) (log : List Event) → m ≤ n → IsCounted k m log → IsCounted k n log
+counted_raised k m n log more h = counted_by k n log (told_raised log k m n more h.told) h.limits
+
 pub same_count : (m n : ℕ) → n ≡ m → m ≤ n
 same_count m n is = omega (arith, is)
 

@@ -1,15 +1,18 @@
 -- What a call under the lock does to what lies there, and what it tells its caller.
-use Rattle.std.proofs.Common.{◌≡◌, ◌⊎◌, inl, inr, ℕ, ◌+◌, ◌%◌, ◌^◌, ◌==◌, Bool, true, false, not, ◌||◌, ◌&&◌, is_some, [], ◌∷◌, ◌++◌, length, Some, None, Option, refl, sym, ap, ◌∙◌, subst, arith, length-append}
+use Rattle.std.proofs.Common.{◌≡◌, ◌⊎◌, inl, inr, ℕ, ◌+◌, ◌%◌, ◌^◌, ◌==◌, Bool, true, false, not, ◌||◌, ◌&&◌, is_some, [], ◌∷◌, ◌++◌, length, Some, None, Option, Result, Ok, Err, IfErr, MatchResult, refl, sym, ap, ◌∙◌, subst, arith, length-append}
 use Rattle.std.proofs.lemmas.Bool.{cases_eq}
 use Rattle.std.proofs.lemmas.Bool.Decides.{nat_tests}
+use Rattle.refusals.specs.declared.refusal.Refusal.{Refusal}
 use Rattle.session_definitions.specs.Rules.{Rules, AreRules}
+use Rattle.session_definitions.specs.Refusals.{StopsFlush}
+use Rattle.session_definitions.specs.Run.{FlushesPages}
 use Rattle.session_definitions.specs.World.{World, is_live}
 use Rattle.session_laws.specs.Sound.{IsGoodWorld}
 use Rattle.sessions.specs.OfCore.{StandBeside}
 use Rattle.shared.specs.declared.event.Act.{Act}
 use Rattle.shared.specs.declared.event.Act.TheVariants.{Connects, Refused, Says, Ends}
 use Rattle.shared.specs.declared.rule.View.{View}
-use Rattle.shared.specs.History.{Happens, IsCounted, IsOwn, event, given, moved, holder_of, lives_after}
+use Rattle.shared.specs.History.{Happens, IsCounted, IsOwn, IsTold, event, given, moved, holder_of, lives_after}
 use Rattle.shared.specs.Views.{host, keeper_in, caller_in, one_more, extended, past, IsAt, Told, IsDesk, Extends}
 use Rattle.shared.proofs.Goods.{KeepsGood, good_told}
 use Rattle.shared.proofs.Histories.{same, differs, told_snoc, holder_snoc, all_snoc, own_snoc, all_more, none_some, calls_own}
@@ -102,6 +105,29 @@ module _ (keeps : KeepsGood) (premise : Type 0) (start : World) (callers : Optio
         let next = on rules are was.0 (good_told keeps rules are start k.log w good was.1) in
         (w', told_snoc rules start k.log (event m.who act n) w w' was.1 next.1);
   }
+
+-- nothing was called, and the world is as it was
+pub desk_flushed : (premise : Type 0) (start : World) (callers : Option ℕ) (sound sound' : Type 0) (w w' : World) (count : ℕ) (v : View) → w' ≡ w → (sound → sound')
+    → IsDesk premise start callers sound w count v → IsDesk premise start callers sound' w' count v
+desk_flushed premise start callers sound sound' w w' count v is on d = record {
+  keeps = d.keeps;
+  counted = d.counted;
+  live = λ id. ap (λ x. is_live x id) is ∙ d.live id;
+  limit = d.limit;
+  all_of = d.all_of;
+  own = d.own;
+  tells = λ p rules are good. let was = d.tells p rules are good in (on was.0, subst (λ x. IsTold rules start v.log x) (sym is) was.1);
+}
+
+-- a flush leaves the world
+pub flush_stays : (result : Result ℕ Refusal) (w w' : World) → MatchResult result (λ left. FlushesPages w (Ok left) w') (λ refusal. FlushesPages w (Err refusal) w') → w' ≡ w
+flush_stays (Ok left) w w' h = h
+flush_stays (Err refusal) w w' h = h.1
+
+-- what refuses it
+pub flush_stops : (result : Result ℕ Refusal) (w w' : World) → MatchResult result (λ left. FlushesPages w (Ok left) w') (λ refusal. FlushesPages w (Err refusal) w') → IfErr result StopsFlush
+flush_stops (Ok left) w w' h = tt
+flush_stops (Err refusal) w w' h = h.0
 
 -- one caller more
 pub desk_opened : (premise : Type 0) (start : World) (callers : Option ℕ) (sound : Type 0) (w : World) (count : ℕ) (v : View) → callers ≡ None → IsDesk premise start callers sound w count v → IsDesk premise start callers sound w count (one_more v)

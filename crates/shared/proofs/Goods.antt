@@ -2,7 +2,6 @@
 -- session sees a good one.
 use Rattle.std.proofs.Common.{◌≡◌, ℕ, true, List, Option, Some, None, Ok, Err, refl, sym, subst, ◌∙◌}
 use Rattle.std.specs.Prelude.{is_some}
-use Rattle.ast.specs.declared.statement.AccessMode.{AccessMode}
 use Rattle.denote.specs.Database.{Database, CheckReading, IsGood}
 use Rattle.lexer.specs.Token.{Bytes}
 use Rattle.refusals.specs.declared.refusal.Refusal.{Refusal}
@@ -14,12 +13,12 @@ use Rattle.session_definitions.specs.World.{Transaction, World, is_live}
 use Rattle.session_laws.specs.Sound.{IsGoodWorld}
 use Rattle.store.specs.Stored.{Stored}
 use Rattle.transactions.specs.Orderly.{IsOrderly}
-use Rattle.transactions.specs.Shown.{Slots, slot_at, session_of, shown}
+use Rattle.transactions.specs.Shown.{Kept, Slots, slot_at, session_of, shown}
 use Rattle.transactions.proofs.Obstacles.{runs}
 use Rattle.transactions.proofs.SlotLemmas.{stands}
 use Rattle.sessions.specs.declared.core_of.Core.{Core}
 use Rattle.sessions.specs.declared.core_of.SessionId.{SessionId}
-use Rattle.sessions.specs.OfCore.{IsSound, number_of, world_of}
+use Rattle.sessions.specs.OfCore.{IsSound, number_of, slots_of, world_of}
 use Rattle.sessions.specs.Seen.{seen_in}
 use Rattle.sessions.proofs.Cores.{live_is}
 use Rattle.sessions.proofs.QuerySteps.{sees}
@@ -40,14 +39,14 @@ pub good_seen : (reading : CheckReading) (st : Stored) (writer : Option ℕ) (sl
     → IsGoodWorld reading (shown st writer slots) → IsGood reading (seen_in st writer s)
 good_seen reading st writer slots s order live good = at_slot (slot_at slots s) refl (sym (live_is st writer slots s) ∙ live)
   where
-    working : (mode : AccessMode) → slot_at slots s ≡ Some mode → (o : Option Transaction) → (session_of st writer s mode).transaction ≡ o → IsGood reading (runs st writer s mode).working
-    working mode is None e = rw e good.last
-    working mode is (Some t) e = rw e (good.transactions s (session_of st writer s mode) t (stands st writer slots s mode is) e).1
+    working : (kept : Kept) → slot_at slots s ≡ Some kept → (o : Option Transaction) → (session_of st writer s kept).transaction ≡ o → IsGood reading (runs st writer s kept).working
+    working kept is None e = rw e good.last
+    working kept is (Some t) e = rw e (good.transactions s (session_of st writer s kept) t (stands st writer slots s kept is) e).1
 
-    at_slot : (slot : Option AccessMode) → slot_at slots s ≡ slot → is_some slot ≡ true → IsGood reading (seen_in st writer s)
+    at_slot : (slot : Option Kept) → slot_at slots s ≡ slot → is_some slot ≡ true → IsGood reading (seen_in st writer s)
     at_slot None is some = absurd (cc some)
-    at_slot (Some mode) is some =
-        subst (λ (db : Database). IsGood reading db) (sym (sees st writer s mode order)) (working mode is (session_of st writer s mode).transaction refl)
+    at_slot (Some kept) is some =
+        subst (λ (db : Database). IsGood reading db) (sym (sees st writer s kept order)) (working kept is (session_of st writer s kept).transaction refl)
 
 -- ---- calls of a core: each keeps it sound, and is an event of which just the call is told
 
@@ -62,7 +61,7 @@ module _ {S L D : Type 0} (is_sound : S → Type 0) (shows : S → Stored) (old 
       → ((rules : Rules) → AreRules rules → IsSound is_sound shows old → IsGood rules.check (seen_in (shows old.store) old.writer (number_of session)) → IsSound is_sound shows new)
       → GoesOn (Says (number_of session) text reply)
   says_on session text reply live step sound = λ rules are is good.
-      let seen = good_seen rules.check (shows old.store) old.writer old.slots.modes (number_of session) is.order live good in
+      let seen = good_seen rules.check (shows old.store) old.writer (slots_of old) (number_of session) is.order live good in
       (sound rules are is seen, says_happens rules (world_of shows old) (world_of shows new) (number_of session) text reply (step rules are is live seen))
 
   pub connects_on : (session : SessionId) → (IsSound is_sound shows old → MakesSession (world_of shows old) (Ok (number_of session)) (world_of shows new))

@@ -4,6 +4,7 @@ use Rattle.std.proofs.lemmas.Bool.Decides.{nat_tests}
 use mathlib.Core.List.{IsPrefix}
 use Rattle.std.specs.List.{list_all}
 use Rattle.session_definitions.specs.World.{World}
+use Rattle.session_definitions.specs.Asked.{Asked}
 use Rattle.session_definitions.specs.Rules.{Rules}
 use Rattle.session_definitions.specs.Run as runs
 use Rattle.session_definitions.specs.Step.{Step}
@@ -218,7 +219,7 @@ calls_beside v u e is may own apart c = record {
 
 -- each kind of call is an event, of which just the call is told
 pub says_happens : (rules : Rules) (w w' : World) (id : ℕ) (text : List ℕ) (reply : Reply) → Step rules w id text reply w' → Happens rules w (Says id text reply) w'
-says_happens rules w w' id text reply step = record { event = runs.Event.Calls id text reply step.0; shared = refl; told = refl; happens = step.1 }
+says_happens rules w w' id text reply step = record { event = runs.Event.Calls id (Asked.Text text) reply step.0; shared = refl; told = refl; happens = step.1 }
 
 pub connects_happens : (rules : Rules) (w w' : World) (id : ℕ) → runs.MakesSession w (Ok id) w' → Happens rules w (Connects id) w'
 connects_happens rules w w' id made = record { event = runs.Event.Makes (Ok id); shared = refl; told = refl; happens = made }

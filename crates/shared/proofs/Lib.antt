@@ -6,3 +6,4 @@ pub mod Moves
 pub mod Goods
 pub mod Desks
 pub mod Asking
+pub mod Crossing

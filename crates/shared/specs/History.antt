@@ -5,6 +5,7 @@ use Rattle.std.specs.Prelude.{Option, Some, None, Ok, Err, ◌≡◌, ℕ, ◌+�
 use Rattle.refusals.specs.declared.refusal.Refusal.{Refusal}
 use Rattle.refusals.specs.declared.refusal.Refusal.TheVariants.{Disk, Exceeded}
 use Rattle.refusals.specs.declared.limit.Limit.TheVariants as limit
+use Rattle.session_definitions.specs.Asked.{Asked}
 use Rattle.session_definitions.specs.Rules.{Rules, AreRules}
 use Rattle.session_definitions.specs.Run as runs
 use Rattle.session_definitions.specs.World.{World}
@@ -26,13 +27,18 @@ event who act refused = record { who = who; act = act; refused = refused }
 -- ---- legal histories
 
 -- What is told of an event of an engine. Of a call it is the reply, and not its effect; of a flush
--- nobody is told, and closing and opening are no calls of a caller.
+-- nobody is told, and a legal history has no other events.
 abbrev pub told_of : runs.Event → List Act
 told_of (runs.Event.Makes (Ok s)) = Connects s ∷ []
 told_of (runs.Event.Makes (Err refusal)) = Refused refusal ∷ []
-told_of (runs.Event.Calls s text reply effect) = Says s text reply ∷ []
+told_of (runs.Event.Calls s (Asked.Text text) reply effect) = Says s text reply ∷ []
+told_of (runs.Event.Calls s (Asked.Query text) reply effect) = []
+told_of (runs.Event.Calls s (Asked.Rows count) reply effect) = []
+told_of (runs.Event.Calls s Asked.Close reply effect) = []
+told_of (runs.Event.Calls s (Asked.Insert table rows) reply effect) = []
 told_of (runs.Event.Drops s) = Ends s ∷ []
 told_of (runs.Event.Flushes left) = []
+told_of (runs.Event.SetsPieces pieces) = []
 told_of (runs.Event.FailsToClose refusal) = []
 told_of runs.Event.Reopens = []
 

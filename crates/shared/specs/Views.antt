@@ -121,6 +121,16 @@ pub record IsDesk (premise : Type 0) (start : World) (callers : Option ℕ) (is_
   pub own : AreOwn v.log
   pub tells : premise → Stays start v.log is_sound world
 
+-- What is locked, as clauses see it: the history, how many calls the core's device has refused, and
+-- how many pages are committed and not on it. The core's world is always one after the history.
+pub record Locked : Type 0 where
+  pub log : List Event
+  pub refused : ℕ
+  pub unwritten : ℕ
+
+abbrev pub locked : List Event → ℕ → ℕ → Locked
+locked log refused unwritten = record { log = log; refused = refused; unwritten = unwritten }
+
 -- ---- what a call tells
 
 -- a caller: its number, its session's number, what it has seen, and the calls that it made

@@ -1,11 +1,14 @@
 //! What lies under the lock: a core, and the pass that knows the history of all that was called.
-ghost use Rattle.std.specs.Prelude.{◌≡◌, ◌≢◌, ◌≤◌, ℕ, ◌+◌, ◌%◌, ◌^◌, Some, None, List, [], true, false, is_some, length, IfOk, IfErr};
-ghost use Rattle.refusals.specs.declared.refusal.Refusal.TheVariants.{Exceeded};
+ghost use Rattle.std.specs.Prelude.{◌≡◌, ◌≢◌, ◌<◌, ◌≤◌, ℕ, ◌+◌, ◌%◌, ◌^◌, Some, None, List, [], true, false, is_some, length, IfOk, IfErr, OnOk};
+ghost use Rattle.refusals.specs.declared.refusal.Refusal.TheVariants.{Disk, Exceeded};
 ghost use Rattle.refusals.specs.declared.limit.Limit.TheVariants as limit;
 ghost use mathlib.Core.List.{IsPrefix};
 ghost use Rattle.crossbeam_utils.specs.Seq.{cell_view};
+ghost use Rattle.session_definitions.specs.Refusals.{StopsFlush};
 ghost use Rattle.session_definitions.specs.World.{is_live};
 ghost use Rattle.sessions.specs.OfCore.{IsSound, world_of};
+ghost use Rattle.store.specs.Errors.{HasRisen};
+ghost use Rattle.transactions.specs.Refused.{Counts};
 ghost use Rattle.shared.specs.History.{event, calls_by, holder_of, AllOf, AreOwn, IsCounted, Stays};
 ghost use Rattle.shared.specs.Scripts.{store_of};
 ghost use Rattle.shared.specs.Views.{keeper as keeper_of, one_more, host, keeper_in, caller_in, extended, IsNew, May, Told, Extends, Said, Joined, TurnedAway, Left};
@@ -42,17 +45,16 @@ pub struct Desk<S: Store, L: Language + Changes<S>, J: Room> {
 }
 
 impl<S: Store, L: Language + Changes<S>, J: Room> Model for Desk<S, L, J> {
-    ghost use Rattle.std.specs.Prelude.{◌≡◌, List};
+    ghost use Rattle.std.specs.Prelude.{◌≡◌};
     ghost use Rattle.crossbeam_utils.specs.Seq.{cell_view};
     ghost use Rattle.sessions.specs.OfCore.{IsSound, world_of};
-    ghost use Rattle.shared.specs.declared.event.Event.{Event};
     ghost use Rattle.shared.specs.History.{IsCounted};
     ghost use Rattle.shared.specs.Scripts.{store_of};
-    ghost use Rattle.shared.specs.Views.{IsDesk};
+    ghost use Rattle.shared.specs.Views.{IsDesk, Locked, locked};
 
-    ghost Value = { List Event };
+    ghost Value = { Locked };
 
-    ghost view = { λ d. (cell_view d.keeper).log };
+    ghost view = { λ d. locked (cell_view d.keeper).log (S.refused (store_of d.core)) (S.unwritten (store_of d.core)) };
 
     ghost invariant = { λ d. (d.keeper.table_id ≡ J.table)
         × IsDesk J.premise J.start J.callers (IsSound S.is_sound S.shows d.core) (world_of S.shows d.core) d.count (cell_view d.keeper)
@@ -68,7 +70,7 @@ impl<S: Store, L: Language + Changes<S>, J: Room> Desk<S, L, J> {
         requires device { J.refused ≤ S.refused (store_of core) }
         requires keeper { (keeper.table_id ≡ J.table) × (cell_view keeper ≡ keeper_of (cell_view keeper).names []) }
         requires limit { (n : ℕ) → J.callers ≡ Some n → (cell_view keeper).names ≡ n }
-        ensures { result ≡ [] }
+        ensures { result.log ≡ [] }
     {
         Desk {
             core,
@@ -109,7 +111,8 @@ impl<S: Store, L: Language + Changes<S>, J: Room> Desk<S, L, J> {
         newcomer(cell, &mut self.keeper)
     }
 
-    /// Carries out a statement of the session.
+    /// Carries out a statement of the session. X0002 is told only where this call was refused by
+    /// the device, and not where pages were written since the call before it.
     pub(crate) fn say<R: Wait>(
         &mut self,
         rt: &R,
@@ -118,7 +121,8 @@ impl<S: Store, L: Language + Changes<S>, J: Room> Desk<S, L, J> {
         text: &[u8],
     ) -> Reply
         requires { cell.now.table.shared.table_id ≡ J.table }
-        ensures { Said J.premise J.start J.refused me.old text.now result me.new }
+        ensures said { Said J.premise J.start J.refused me.old text.now result me.new }
+        ensures device { Counts result self.old.refused self.new.refused }
     {
         databases_stay_good();
         take_in(rt, cell, &mut self.keeper, &mut me.token);
@@ -175,6 +179,20 @@ impl<S: Store, L: Language + Changes<S>, J: Room> Desk<S, L, J> {
         let call = Called::Ends(id);
         let token = record::<S, L, Brand, R>(rt, cell, keeper, self.count, call, &self.core);
         Client { token, of }
+    }
+
+    /// Writes some of what is committed and not on the device yet, and answers how many pages are
+    /// left: less than before, or none. It is no call: the history is as it was, and the core's
+    /// world is one after it still.
+    pub(crate) fn flush(&mut self) -> Result<u32, Refusal>
+        ensures history { self.new.log ≡ self.old.log }
+        ensures left { IfOk result (λ left. left ≡ self.new.unwritten) }
+        ensures less { OnOk result (0 < self.old.unwritten → self.new.unwritten < self.old.unwritten) }
+        ensures counts { self.old.refused ≤ self.new.refused }
+        ensures stops { IfErr result StopsFlush }
+        ensures device { IfErr result (λ refusal. refusal ≡ Disk → HasRisen self.old.refused self.new.refused) }
+    {
+        self.core.flush()
     }
 }
 

@@ -2,6 +2,7 @@
 ghost use Rattle.std.specs.Prelude.{◌≡◌, []};
 
 use crate::callers::{Client, Session};
+use crate::flusher::Waker;
 use crate::rule::Room;
 use refusals::Refusal;
 use replies::Reply;
@@ -15,11 +16,13 @@ pub(crate) enum Caller<J: Room> {
 /// The answers to the texts of a script: each a reply, or why no session was made for it.
 pub type Answers = Vec<Result<Reply, Refusal>>;
 
-/// A script that is to run: its number, from 0, and a caller that has made no call.
+/// A script that is to run: its number, from 0, a caller that has made no call, and what wakes the
+/// flusher.
 #[derive(Drop)]
 pub(crate) struct Job<J: Room> {
     pub(crate) number: usize,
     pub(crate) client: Client<J>,
+    pub(crate) waker: Waker,
     pub(crate) ghost named: { client.who ≡ number },
     pub(crate) ghost fresh: { client.mine ≡ [] },
 }
@@ -32,9 +35,13 @@ pub(crate) struct Done<J: Room> {
 }
 
 /// The job of this number.
-pub(crate) fn numbered<J: Room>(number: usize, client: Client<J>) -> Job<J>
+pub(crate) fn numbered<J: Room>(number: usize, client: Client<J>, waker: Waker) -> Job<J>
     requires { (client.who ≡ number) × (client.mine ≡ []) }
     ensures { (result.number ≡ number) × (result.client ≡ client) }
 {
-    Job { number, client }
+    Job {
+        number,
+        client,
+        waker,
+    }
 }

@@ -3,6 +3,7 @@ ghost use Rattle.std.specs.Prelude.{◌≡◌, ◌≤◌, ℕ, Some, None, [], f
 ghost use Rattle.refusals.specs.declared.refusal.Refusal.TheVariants.{Exceeded};
 ghost use Rattle.refusals.specs.declared.limit.Limit.TheVariants as limit;
 ghost use Rattle.crossbeam_utils.specs.Seq.{cell_view};
+ghost use Rattle.session_definitions.specs.Refusals.{StopsFlush};
 ghost use Rattle.session_definitions.specs.World.{is_live};
 ghost use Rattle.sessions.specs.OfCore.{IsSound, world_of};
 ghost use Rattle.shared.specs.Scripts.{store_of};
@@ -105,6 +106,15 @@ impl<S: Store, L: Language + Changes<S>, J: Room> Shared<S, L, J> {
         ensures full { IfErr result (λ e. e.0 ≡ Exceeded limit.Sessions) }
     {
         self.desk.lock(rt).connect(rt, &self.cell, me)
+    }
+
+    /// Writes some of what is committed and not on the device yet, and answers how many pages are
+    /// left. It is no call of the history. Only want of memory and the device refuse it; what was
+    /// not written then is written later.
+    pub fn flush<R: Wait>(&self, rt: &R) -> Result<u32, Refusal>
+        ensures { IfErr result StopsFlush }
+    {
+        self.desk.lock(rt).flush()
     }
 }
 

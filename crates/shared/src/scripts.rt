@@ -10,6 +10,7 @@ ghost use Rattle.shared.specs.Callers.{past_of, stands_of, HasPlayed, AllPlayed}
 
 use crate::callers::Client;
 use crate::desk::{Desk, hear, newcomer};
+use crate::flusher::{Flusher, Waker};
 use crate::gate::Gate;
 use crate::jobs::{Answers, Caller, Done, Job, numbered};
 use crate::lock::{Shared, new_cell};
@@ -32,6 +33,9 @@ use store::Store;
 /// There is one history of all calls: of each script it has these calls and no others, with these
 /// answers, and it is legal where the core was sound and its databases good. An answer is X0002
 /// only where the device refused a call. Only want of memory is refused; the core is dropped then.
+///
+/// Beside them a flusher writes what is committed: each call wakes it, and it ends with the last
+/// script. It makes no call, and a refusal of it is no answer.
 pub fn run_scripts<
     S: Store + Send,
     L: Language + Changes<S> + Send,
@@ -81,20 +85,33 @@ where
     ensures { IfOk result (λ r. RunSideBySide J.premise J.start J.refused scripts.now r.1.items (IsSound S.is_sound S.shows r.0) (world_of S.shows r.0) (S.refused (store_of r.0))) }
 {
     let mut keeper = keeper;
-    let jobs = jobs_for::<J>(alloc, &cell, &mut keeper, scripts.len())?;
-    let shared = Shared {
+    let (flusher, waker) = Flusher::new(alloc)?;
+    let jobs = jobs_for::<J>(alloc, &cell, &mut keeper, waker, scripts.len())?;
+    let owned = Shared {
         cell,
         desk: Mutex::new(Desk::new(core, keeper)),
     };
-    let done = play_all(rt, alloc, &shared, gate, scripts, jobs)?;
-    settle(rt, alloc, shared, scripts, done)
+    let shared = &owned;
+    // Where no thread can be made for the flusher it works last: no waker is left then, and it ends.
+    let (_, done) = thread::join(
+        rt,
+        move || flusher.work(rt, shared),
+        move || -> Result<Vec<Option<Done<J>>>, AllocError>
+            requires { (length jobs.items ≡ length scripts.now)
+                × ((k : ℕ) (d : _) → k < length jobs.items → (slice_index_or jobs.items k d).number ≡ k) }
+            ensures { IfOk result (λ v. (length v.items ≡ length scripts.entry.now)
+                × AllPlayed scripts.entry.now v.items) }
+        { play_all(rt, alloc, shared, gate, scripts, jobs) },
+    );
+    settle(rt, alloc, owned, scripts, done?)
 }
 
-/// A caller for each script.
+/// A caller for each script, with a waker of its own: once all have run none is left.
 fn jobs_for<J: Room>(
     alloc: Global,
     cell: &Cell,
     keeper: &mut Token,
+    first: Waker,
     count: usize,
 ) -> Result<Vec<Job<J>>, AllocError>
     requires cell { (keeper.old.table_id ≡ cell.now.table.shared.table_id)
@@ -107,8 +124,9 @@ fn jobs_for<J: Room>(
 {
     let mut jobs = Vec::new(alloc);
     for number in 0..count {
+        let waker = first.another()?;
         let client = newcomer::<J>(cell, keeper);
-        jobs.push(numbered(number, client))?;
+        jobs.push(numbered(number, client, waker))?;
     }
     Ok(jobs)
 }
@@ -150,6 +168,7 @@ where
 }
 
 /// Runs one script; `None` for want of memory for its answers. Its session is ended in any case.
+/// Each call wakes the flusher.
 fn play<S: Store, L: Language + Changes<S>, J: Room, G: Gate, R: Wait>(
     rt: &R,
     alloc: Global,
@@ -161,12 +180,17 @@ fn play<S: Store, L: Language + Changes<S>, J: Room, G: Gate, R: Wait>(
     ensures { IfSome result (λ d. (d.client.who ≡ job.number)
         × Played (texts_of script.now) d.client.mine d.answers.items) }
 {
-    let Job { number, client } = job;
+    let Job {
+        number,
+        client,
+        waker,
+    } = job;
     let mut answers = Vec::new(alloc);
     let mut caller = Caller::Idle(client);
     for i in 0..script.len() {
         gate.before(number.saturating_add(1), i.saturating_add(1));
         let (next, answer) = call(rt, shared, caller, script[i].as_slice());
+        waker.wake(rt);
         caller = next;
         if answers.push(answer).is_err() {
             finish(rt, shared, caller);

@@ -1,6 +1,7 @@
 //! The language of sessions.
-use ast::Statement;
+use ast::{OrderedQuery, Statement};
 use change::make;
+use query_types::typed_query;
 use refusals::Refusal;
 use replies::Reply;
 use resolve::typed_statement;
@@ -9,7 +10,7 @@ use sqlval::Schema;
 use statement_reader::{is_rollback, read_statement};
 use std::alloc::Global;
 use store::Store;
-use typing::{Change, Typed};
+use typing::{Change, OrderedQuery as TypedQuery, Typed};
 
 /// SQL, as far as it is built.
 #[derive(Clone, Copy)]
@@ -34,6 +35,15 @@ impl Language for Sql {
         schema: &Schema,
     ) -> Result<Typed, Refusal> {
         typed_statement(alloc, statement, schema)
+    }
+
+    fn typed_query(
+        &self,
+        alloc: Global,
+        query: &OrderedQuery,
+        schema: &Schema,
+    ) -> Result<TypedQuery, Refusal> {
+        typed_query(alloc, query, schema)
     }
 }
 

@@ -1,7 +1,8 @@
 //! The null device in place of the standard streams that are not open.
 #![tactic(auto)]
 
-ghost use Rattle.std.specs.Prelude.{◌≡◌, ◌&&◌, not, is_some};
+ghost use Rattle.std.specs.Prelude.{◌≡◌, ◌&&◌, not, is_some, pos, IfSome};
+ghost use Rattle.std.specs.Fd.{file_raw_fd};
 
 use std::fs::{File, Files, OpenOptions};
 use std::io;
@@ -24,7 +25,11 @@ impl StandardStreams {
     /// Opens the null device as often as it gets the number of a standard stream. It has to be
     /// called before any file is opened. Where the null device cannot be opened, no stream is
     /// taken to be open.
-    pub fn new<R: Files<File = File>>(rt: &R) -> StandardStreams {
+    pub fn new<R: Files<File = File>>(rt: &R) -> StandardStreams
+        ensures input { IfSome result.input (λ file. file_raw_fd file ≡ pos 0) }
+        ensures output { IfSome result.output (λ file. file_raw_fd file ≡ pos 1) }
+        ensures errors { IfSome result.errors (λ file. file_raw_fd file ≡ pos 2) }
+    {
         let mut streams = StandardStreams {
             input: None,
             output: None,

@@ -1,7 +1,6 @@
 //! How transactions and sessions end.
-ghost use Rattle.std.specs.Prelude.{◌≡◌, ◌≢◌, ℕ, Bool, Some, None, slice_set};
+ghost use Rattle.std.specs.Prelude.{◌≡◌, ◌≢◌, ◌⊎◌, ℕ, Bool, Some, None, slice_set};
 ghost use Rattle.std.specs.FinMap.{get};
-ghost use Rattle.ast.specs.declared.statement.AccessMode.{AccessMode as Mode};
 ghost use Rattle.ast.specs.declared.statement.Statement.TheVariants as asks;
 ghost use Rattle.lexer.specs.Token.{Bytes};
 ghost use Rattle.statement_definitions.specs.Reading.{IsRead};
@@ -15,7 +14,8 @@ ghost use Rattle.store.specs.Going.{keeps};
 ghost use Rattle.transactions.specs.Ended.{ended_by};
 ghost use Rattle.store.specs.Errors.{CommittingReaches};
 ghost use Rattle.transactions.specs.Refused.{Counts, IfRefused, TellsReached};
-ghost use Rattle.transactions.specs.Shown.{Slots, slot_at, shown};
+ghost use Rattle.transactions.specs.Shown.{Kept, Slots, read_by, settled, slot_at, shown, with_mode};
+ghost use Rattle.store.specs.Stored.{Found};
 
 use crate::refusal::refusal_of;
 use crate::writing::is_writer;
@@ -30,13 +30,16 @@ pub fn commit<S: Store>(
     mode: &mut AccessMode,
     session: u64,
 ) -> Reply
-    ensures moves { (rules : Rules) (text : Bytes) (work : Bool) → IsRead text (asks.Commit work)
+    ensures moves { (rules : Rules) (text : Bytes) (work : Bool) (kept : Kept) → IsRead text (asks.Commit work)
         → (IsRollback text → ⊥) → S.is_sound store.old → IsOrderly (S.shows store.old) writer.old
-        → Moves rules session text result (S.shows store.old) writer.old mode.old (S.shows store.new) writer.new mode.new }
+        → Moves rules session text result (S.shows store.old) writer.old (with_mode kept mode.old) (S.shows store.new) writer.new
+        (settled (get (S.shows store.new).readers session) (with_mode kept mode.new)) }
     ensures refused { Counts result (S.refused store.old) (S.refused store.new) }
     ensures limits { IfRefused result (TellsReached (CommittingReaches (S.counted store.old) (S.shows store.old).commits)) }
     ensures kept { IfRefused result (λ refusal. (S.shows store.new ≡ S.shows store.old)
         × (writer.new ≡ writer.old) × (mode.new ≡ mode.old)) }
+    ensures left { (get (S.shows store.new).readers session ≡ None)
+        ⊎ ((S.shows store.new ≡ S.shows store.old) × (writer.new ≡ writer.old)) }
     ensures idle { S.unchanged store.old → S.writes store.new ≡ S.writes store.old }
     ensures goes { S.goes_on store.old store.new (ended_by (is_session session writer.old) (S.shows store.old)) }
 {
@@ -64,10 +67,12 @@ pub fn roll_back<S: Store>(
     mode: &mut AccessMode,
     session: u64,
 ) -> Reply
-    ensures moves { (rules : Rules) (text : Bytes) (work : Bool) → IsRead text (asks.Rollback work)
+    ensures moves { (rules : Rules) (text : Bytes) (work : Bool) (kept : Kept) → IsRead text (asks.Rollback work)
         → IsOrderly (S.shows store.old) writer.old
-        → Moves rules session text result (S.shows store.old) writer.old mode.old (S.shows store.new) writer.new mode.new }
+        → Moves rules session text result (S.shows store.old) writer.old (with_mode kept mode.old) (S.shows store.new) writer.new
+        (settled (get (S.shows store.new).readers session) (with_mode kept mode.new)) }
     ensures done { result ≡ Reply.Done }
+    ensures gone { get (S.shows store.new).readers session ≡ None }
     ensures goes { S.goes_on store.old store.new keeps }
 {
     if store.number(session).is_none() {
@@ -87,10 +92,12 @@ pub fn roll_back<S: Store>(
 
 /// The end of a session, whose transaction is rolled back. Takes no memory.
 pub fn drop_session<S: Store>(store: &mut S, writer: &mut Option<u64>, session: u64)
-    ensures drops { (slots : Slots) (mode : Mode) → slot_at slots session ≡ Some mode
+    ensures drops { (slots : Slots) (kept : Kept) → slot_at slots session ≡ Some kept
         → shown (S.shows store.new) writer.new (slice_set slots session None) ≡ without_session (shown (S.shows store.old) writer.old slots) session }
     ensures order { IsOrderly (S.shows store.old) writer.old → IsOrderly (S.shows store.new) writer.new }
     ensures others { (q : ℕ) → q ≢ session → get (S.shows store.new).readers q ≡ get (S.shows store.old).readers q }
+    ensures reads { (q : ℕ) → q ≢ session → (f : Found)
+        → read_by (S.shows store.new) writer.new q f ≡ read_by (S.shows store.old) writer.old q f }
     ensures gone { get (S.shows store.new).readers session ≡ None }
     ensures goes { S.goes_on store.old store.new keeps }
 {

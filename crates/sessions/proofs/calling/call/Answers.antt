@@ -1,43 +1,36 @@
-use Rattle.std.proofs.Common.{◌≡◌, true, false, [], ◌∷◌, refl, inl}
+use Rattle.std.proofs.Common.{◌≡◌, ◌≢◌, true, false, [], ◌∷◌, refl, sym, ap, subst, ◌∙◌, inl}
 use Rattle.session_definitions.specs.World.{is_session}
 use Rattle.store.specs.Going.{Going}
 use Rattle.sessions.specs.Limits.{CallReaches, StatementReaches}
-use Rattle.sessions.proofs.Devices.{never_read}
+use Rattle.refusals.specs.declared.refusal.Refusal.TheVariants.{SerializationFailure}
+use Rattle.statement_definitions.specs.Reading.{IsRead}
+use Rattle.store.specs.Stored.{SameButMark}
+use Rattle.sessions.specs.Kinds.{IsFetchText, is_declare}
+use Rattle.sessions.specs.Numbers.{kept_of}
+use Rattle.sessions.proofs.Devices.{never_counts, never_read}
 use Rattle.sessions.proofs.Going.{commits_as_writer}
-use Rattle.sessions.proofs.Limits.{tells_none, told_wider, unread_tells}
+use Rattle.sessions.proofs.Holding.{fits_same, gone_fits}
+use Rattle.sessions.proofs.Kept.{Keeps, no_fetch_text, refused_alike}
+use Rattle.sessions.proofs.Limits.{none_told, tells_none, told_wider, unread_tells}
 use Rattle.sessions.proofs.Unread.{refuses_text}
 use Rattle.transactions.proofs.Orders.{same}
 use Rattle.sessions.proofs.calling.call.Goals as goal
 
-pub returns-then-is_rollback-clause-moves : goal.returns-then-is_rollback-clause-moves
-returns-then-is_rollback-clause-moves g c = λ rules are sound order good.
+-- ---- ROLLBACK
+
+pub returns-then-is_rollback-clause-leaves : goal.returns-then-is_rollback-clause-leaves
+returns-then-is_rollback-clause-leaves g c = λ rules are sound order holds good.
     let is = (rw c.if-is_rollback.true at c.is_rollback.ensures).0 refl in
-    c.roll_back.ensures.moves rules c.args.text.now is.0 is.1 order
-
-pub returns-in-Ok-clause-moves : goal.returns-in-Ok-clause-moves
-returns-in-Ok-clause-moves g c = λ rules are sound order good.
-    c.carry_out.ensures.moves rules c.args.text.now are c.in-Ok.ensures.read
-    (λ is. let bad : false ≡ true = (rw c.if-is_rollback.false at c.is_rollback.ensures).1 is in cc) sound order good
-
-pub returns-in-Err-clause-moves : goal.returns-in-Err-clause-moves
-returns-in-Err-clause-moves g c = λ rules are sound order good.
-    refuses_text rules (g.S.Store.shows c.args.store.now) _ _ _ _ _
-    (λ is. let bad : false ≡ true = (rw c.if-is_rollback.false at c.is_rollback.ensures).1 is in cc) c.in-Err.ensures.unread order
+    record {
+      moves = c.roll_back.ensures.moves rules c.args.text.now is.0 (kept_of c.args.slot.now) is.1 order;
+      fits = gone_fits (g.S.Store.shows c.roll_back.new.store) c.roll_back.new.writer c.args.session c.args.slot.now.cursors c.roll_back.ensures.gone;
+    }
 
 pub returns-then-is_rollback-clause-device : goal.returns-then-is_rollback-clause-device
 returns-then-is_rollback-clause-device g c = rw c.roll_back.ensures.done tt
 
-pub returns-in-Err-clause-device : goal.returns-in-Err-clause-device
-returns-in-Err-clause-device g c = λ is. absurd (never_read c.args.text.now c.in-Err.refusal c.in-Err.ensures.unread is)
-
 pub returns-then-is_rollback-clause-limits : goal.returns-then-is_rollback-clause-limits
 returns-then-is_rollback-clause-limits g c = rw c.roll_back.ensures.done tt
-
-pub returns-in-Ok-clause-limits : goal.returns-in-Ok-clause-limits
-returns-in-Ok-clause-limits g c = told_wider (StatementReaches (g.S.Store.counted c.args.store.now) (g.S.Store.shows c.args.store.now).commits c.in-Ok.statement) (CallReaches (g.S.Store.counted c.args.store.now) (g.S.Store.shows c.args.store.now).commits c.args.text.now) (λ which reaches. (c.in-Ok.statement, c.in-Ok.ensures.read, reaches)) c.carry_out.result c.carry_out.ensures.limits
-
-pub returns-in-Err-clause-limits : goal.returns-in-Err-clause-limits
-returns-in-Err-clause-limits g c = tells_none (CallReaches (g.S.Store.counted c.args.store.now) (g.S.Store.shows c.args.store.now).commits c.args.text.now) c.in-Err.refusal (unread_tells c.args.text.now c.in-Err.refusal c.in-Err.ensures.unread)
 
 pub returns-then-is_rollback-clause-goes : goal.returns-then-is_rollback-clause-goes
 returns-then-is_rollback-clause-goes g c =
@@ -46,18 +39,76 @@ returns-then-is_rollback-clause-goes g c =
 pub returns-then-is_rollback-clause-commits : goal.returns-then-is_rollback-clause-commits
 returns-then-is_rollback-clause-commits g c = inl (g.met.S.Store.goes_on_trans _ _ _ Going.keeps Going.changes c.roll_back.ensures.goes (g.met.S.Store.goes_on_refl _ Going.changes))
 
-pub returns-in-Ok-clause-commits : goal.returns-in-Ok-clause-commits
-returns-in-Ok-clause-commits g c =
-    commits_as_writer (g.S.Store.goes_on c.args.store.now c.carry_out.new.store Going.changes) c.args.text.now c.in-Ok.statement (is_session c.args.session c.args.writer.now) c.in-Ok.ensures.read c.carry_out.ensures.commits
+pub returns-then-is_rollback-clause-kept : goal.returns-then-is_rollback-clause-kept
+returns-then-is_rollback-clause-kept g c = rw c.roll_back.ensures.done tt
+
+pub returns-then-is_rollback-clause-idle : goal.returns-then-is_rollback-clause-idle
+returns-then-is_rollback-clause-idle g c = λ unchanged. (g.met.S.Store.goes_on_goes _ _ _ c.roll_back.ensures.goes).stays.writes
+
+-- ---- DECLARE
+
+pub returns-in-Ok-declared_in-clause-leaves : goal.returns-in-Ok-declared_in-clause-leaves
+returns-in-Ok-declared_in-clause-leaves g c = λ rules are sound order holds good.
+    c.declare.ensures.leaves rules c.args.text.now (g.S.Store.shows c.args.store.now) c.args.writer.now c.args.session (subst (IsRead c.args.text.now) c.in-Ok-declared_in.ensures c.in-Ok.ensures.read)
+    (λ is. let bad : false ≡ true = (rw c.if-is_rollback.false at c.is_rollback.ensures).1 is in cc) order holds
+
+pub returns-in-Ok-declared_in-clause-device : goal.returns-in-Ok-declared_in-clause-device
+returns-in-Ok-declared_in-clause-device g c = never_counts c.declare.result _ _ c.declare.ensures.device
+
+pub returns-in-Ok-declared_in-clause-limits : goal.returns-in-Ok-declared_in-clause-limits
+returns-in-Ok-declared_in-clause-limits g c = none_told (CallReaches (g.S.Store.counted c.args.store.now) (g.S.Store.shows c.args.store.now).commits c.args.text.now) c.declare.result c.declare.ensures.limits
+
+pub returns-in-Ok-declared_in-clause-commits : goal.returns-in-Ok-declared_in-clause-commits
+returns-in-Ok-declared_in-clause-commits g c = inl (g.met.S.Store.goes_on_refl _ Going.changes)
+
+pub returns-in-Ok-declared_in-clause-kept : goal.returns-in-Ok-declared_in-clause-kept
+returns-in-Ok-declared_in-clause-kept g c =
+    refused_alike c.declare.result (λ refusal. kept_of c.declare.new.slot ≡ kept_of c.args.slot.now)
+    (λ refusal. refusal ≢ SerializationFailure → (IsFetchText c.args.text.now → ⊥) → SameButMark (g.S.Store.shows c.args.store.now) (g.S.Store.shows c.args.store.now) × (c.args.writer.now ≡ c.args.writer.now) × (kept_of c.declare.new.slot ≡ kept_of c.args.slot.now))
+    (λ refusal k other fetch. (same (g.S.Store.shows c.args.store.now) (g.S.Store.shows c.args.store.now) refl, refl, k)) c.declare.ensures.kept
+
+-- ---- another statement
+
+pub returns-in-Err-declared_in-clause-leaves : goal.returns-in-Err-declared_in-clause-leaves
+returns-in-Err-declared_in-clause-leaves g c = λ rules are sound order holds good.
+    c.carry_out.ensures.leaves rules c.args.text.now are (subst (IsRead c.args.text.now) (sym c.in-Err-declared_in.ensures.0) c.in-Ok.ensures.read) (ap is_declare c.in-Err-declared_in.ensures.0 ∙ c.in-Err-declared_in.ensures.1)
+    (λ is. let bad : false ≡ true = (rw c.if-is_rollback.false at c.is_rollback.ensures).1 is in cc) sound order holds good
+
+pub returns-in-Err-declared_in-clause-limits : goal.returns-in-Err-declared_in-clause-limits
+returns-in-Err-declared_in-clause-limits g c =
+    told_wider (StatementReaches (g.S.Store.counted c.args.store.now) (g.S.Store.shows c.args.store.now).commits c.in-Err-declared_in.statement) (CallReaches (g.S.Store.counted c.args.store.now) (g.S.Store.shows c.args.store.now).commits c.args.text.now)
+    (λ which reaches. (c.in-Err-declared_in.statement, (subst (IsRead c.args.text.now) (sym c.in-Err-declared_in.ensures.0) c.in-Ok.ensures.read), reaches)) c.carry_out.result c.carry_out.ensures.limits
+
+pub returns-in-Err-declared_in-clause-commits : goal.returns-in-Err-declared_in-clause-commits
+returns-in-Err-declared_in-clause-commits g c =
+    commits_as_writer (g.S.Store.goes_on c.args.store.now c.carry_out.new.store Going.changes) c.args.text.now c.in-Err-declared_in.statement (is_session c.args.session c.args.writer.now)
+    (subst (IsRead c.args.text.now) (sym c.in-Err-declared_in.ensures.0) c.in-Ok.ensures.read) c.carry_out.ensures.commits
+
+pub returns-in-Err-declared_in-clause-kept : goal.returns-in-Err-declared_in-clause-kept
+returns-in-Err-declared_in-clause-kept g c =
+    refused_alike c.carry_out.result
+    (Keeps c.in-Err-declared_in.statement (g.S.Store.shows c.args.store.now) c.args.writer.now (kept_of c.args.slot.now) (g.S.Store.shows c.carry_out.new.store) c.carry_out.new.writer (kept_of c.carry_out.new.slot))
+    (λ refusal. refusal ≢ SerializationFailure → (IsFetchText c.args.text.now → ⊥) → SameButMark (g.S.Store.shows c.args.store.now) (g.S.Store.shows c.carry_out.new.store) × (c.carry_out.new.writer ≡ c.args.writer.now) × (kept_of c.carry_out.new.slot ≡ kept_of c.args.slot.now))
+    (λ refusal k other fetch. k other (no_fetch_text c.in-Err-declared_in.statement c.args.text.now (subst (IsRead c.args.text.now) (sym c.in-Err-declared_in.ensures.0) c.in-Ok.ensures.read) fetch)) c.carry_out.ensures.kept
+
+-- ---- what is no statement
+
+pub returns-in-Err-clause-leaves : goal.returns-in-Err-clause-leaves
+returns-in-Err-clause-leaves g c = λ rules are sound order holds good. record {
+  moves = refuses_text rules (g.S.Store.shows c.args.store.now) _ _ (kept_of c.args.slot.now) _ _
+      (λ is. let bad : false ≡ true = (rw c.if-is_rollback.false at c.is_rollback.ensures).1 is in cc) c.in-Err.ensures.unread order;
+  fits = fits_same (g.S.Store.shows c.args.store.now) (g.S.Store.shows c.args.store.now) c.args.writer.now c.args.writer.now c.args.session c.args.slot.now.cursors
+      (same (g.S.Store.shows c.args.store.now) (g.S.Store.shows c.args.store.now) refl) refl holds;
+}
+
+pub returns-in-Err-clause-device : goal.returns-in-Err-clause-device
+returns-in-Err-clause-device g c = λ is. absurd (never_read c.args.text.now c.in-Err.refusal c.in-Err.ensures.unread is)
+
+pub returns-in-Err-clause-limits : goal.returns-in-Err-clause-limits
+returns-in-Err-clause-limits g c = tells_none (CallReaches (g.S.Store.counted c.args.store.now) (g.S.Store.shows c.args.store.now).commits c.args.text.now) c.in-Err.refusal (unread_tells c.args.text.now c.in-Err.refusal c.in-Err.ensures.unread)
 
 pub returns-in-Err-clause-commits : goal.returns-in-Err-clause-commits
 returns-in-Err-clause-commits g c = inl (g.met.S.Store.goes_on_refl _ Going.changes)
 
-pub returns-then-is_rollback-clause-kept : goal.returns-then-is_rollback-clause-kept
-returns-then-is_rollback-clause-kept g c = rw c.roll_back.ensures.done tt
-
 pub returns-in-Err-clause-kept : goal.returns-in-Err-clause-kept
-returns-in-Err-clause-kept g c = λ other. (same (g.S.Store.shows c.args.store.now) (g.S.Store.shows c.args.store.now) refl, refl, refl)
-
-pub returns-then-is_rollback-clause-idle : goal.returns-then-is_rollback-clause-idle
-returns-then-is_rollback-clause-idle g c = λ unchanged. (g.met.S.Store.goes_on_goes _ _ _ c.roll_back.ensures.goes).stays.writes
+returns-in-Err-clause-kept g c = λ other fetch. (same (g.S.Store.shows c.args.store.now) (g.S.Store.shows c.args.store.now) refl, refl, refl)

@@ -1,8 +1,7 @@
-use Rattle.std.proofs.Common.{◌≡◌, ◌≢◌, [], ◌∷◌, sym, subst, inl, refl}
+use Rattle.std.proofs.Common.{◌≡◌, ◌≢◌, false, [], ◌∷◌, sym, ap, subst, inl, refl}
 use Rattle.session_definitions.specs.World.{is_session}
 use Rattle.refusals.specs.declared.refusal.Refusal.TheVariants.{SerializationFailure}
 use Rattle.store.specs.Going.{Going}
-use Rattle.ast.specs.declared.statement.Statement.{Statement}
 use Rattle.ast.specs.declared.statement.Statement.TheVariants as asks
 use Rattle.store.specs.Errors.{CommittingReaches}
 use Rattle.transactions.specs.Refused.{IfRefused, TellsReached}
@@ -12,30 +11,61 @@ use Rattle.sessions.proofs.Devices.{counts_state}
 use Rattle.sessions.proofs.Going.{commit_goes, commit_of_writer}
 use Rattle.sessions.proofs.Limits.{none_told, state_told, told_of_change, told_wider}
 use Rattle.sessions.proofs.Words.{later_unread}
-use Rattle.sessions.proofs.Kept.{Leaves, leaves_all, refused_alike}
+use Rattle.ast.specs.declared.statement.Statement.{Statement}
+use Rattle.sessions.specs.Kinds.{is_fetch}
+use Rattle.sessions.specs.Numbers.{kept_of}
+use Rattle.sessions.proofs.Holding.{changed_fits, closed_in, ended_fits, fits_same, gone_fits, queried_fits}
+use Rattle.sessions.proofs.Kept.{Keeps, keeps_all, refused_alike}
 use Rattle.store.specs.Stored.{SameButMark}
+use Rattle.transactions.specs.Shown.{with_mode}
 use Rattle.transactions.proofs.Orders.{same}
 use Rattle.sessions.proofs.calling.carry_out.Goals as goal
 
-pub returns-in-Query-clause-moves : goal.returns-in-Query-clause-moves
-returns-in-Query-clause-moves g c = λ rules text are read other sound order good.
+pub returns-in-Query-clause-leaves : goal.returns-in-Query-clause-leaves
+returns-in-Query-clause-leaves g c = λ rules text are read declares other sound order holds good.
     let is = c.in-Query.ensures in
-    c.query.ensures.moves rules text is.0 _ are is.1 (subst (IsRead text) is.1 read) other sound order
+    record {
+      moves = c.query.ensures.moves rules text is.0 (kept_of c.args.slot.now) are is.1 (subst (IsRead text) is.1 read) other sound order
+          (closed_in (g.S.Store.shows c.args.store.now) c.args.writer.now c.args.session _ c.args.slot.now holds);
+      fits = queried_fits (g.S.Store.shows c.args.store.now) (g.S.Store.shows c.query.new.store) c.args.writer.now c.args.session c.args.slot.now.cursors c.query.ensures.left holds;
+    }
 
-pub returns-in-Change-clause-moves : goal.returns-in-Change-clause-moves
-returns-in-Change-clause-moves g c = λ rules text are read other sound order good. c.change.ensures.moves rules text are c.in-Change.ensures read other sound order good
+pub returns-in-Change-clause-leaves : goal.returns-in-Change-clause-leaves
+returns-in-Change-clause-leaves g c = λ rules text are read declares other sound order holds good. record {
+  moves = c.change.ensures.moves rules text are c.in-Change.ensures read other sound order
+      (closed_in (g.S.Store.shows c.args.store.now) c.args.writer.now c.args.session _ c.args.slot.now holds) good;
+  fits = changed_fits (g.S.Store.shows c.args.store.now) (g.S.Store.shows c.change.new.store) c.args.writer.now c.change.new.writer c.args.session c.args.slot.now.cursors c.change.ensures.left holds;
+}
 
-pub returns-in-Commit-clause-moves : goal.returns-in-Commit-clause-moves
-returns-in-Commit-clause-moves g c = λ rules text are read other sound order good.
+pub returns-in-Commit-clause-leaves : goal.returns-in-Commit-clause-leaves
+returns-in-Commit-clause-leaves g c = λ rules text are read declares other sound order holds good.
     let is = c.in-Commit.ensures in
-    c.commit.ensures.moves rules text is.0 (subst (IsRead text) is.1 read) other sound order
+    record {
+      moves = c.commit.ensures.moves rules text is.0 (kept_of c.args.slot.now) (subst (IsRead text) is.1 read) other sound order;
+      fits = ended_fits (g.S.Store.shows c.args.store.now) (g.S.Store.shows c.commit.new.store) c.args.writer.now c.commit.new.writer c.args.session c.args.slot.now.cursors c.commit.ensures.left holds;
+    }
 
-pub returns-in-SetTransaction-clause-moves : goal.returns-in-SetTransaction-clause-moves
-returns-in-SetTransaction-clause-moves g c = λ rules text are read other sound order good.
-    c.set_mode.ensures.moves rules text (subst (IsRead text) c.in-SetTransaction.ensures read) order
+pub returns-in-Rollback-clause-leaves : goal.returns-in-Rollback-clause-leaves
+returns-in-Rollback-clause-leaves g c = λ rules text are read declares other sound order holds good.
+    let is = c.in-Rollback.ensures in
+    record {
+      moves = c.roll_back.ensures.moves rules text is.0 (kept_of c.args.slot.now) (subst (IsRead text) is.1 read) order;
+      fits = gone_fits (g.S.Store.shows c.roll_back.new.store) c.roll_back.new.writer c.args.session c.args.slot.now.cursors c.roll_back.ensures.gone;
+    }
 
-pub returns-in-Later-clause-moves : goal.returns-in-Later-clause-moves
-returns-in-Later-clause-moves g c = λ rules text are read other sound order good. absurd (later_unread c.args.statement.now text c.in-Later.ensures read)
+pub returns-in-SetTransaction-clause-leaves : goal.returns-in-SetTransaction-clause-leaves
+returns-in-SetTransaction-clause-leaves g c = λ rules text are read declares other sound order holds good. record {
+  moves = c.set_mode.ensures.moves rules text (kept_of c.args.slot.now) (subst (IsRead text) c.in-SetTransaction.ensures read) order;
+  fits = fits_same (g.S.Store.shows c.args.store.now) (g.S.Store.shows c.args.store.now) c.args.writer.now c.args.writer.now c.args.session c.args.slot.now.cursors
+      (same (g.S.Store.shows c.args.store.now) (g.S.Store.shows c.args.store.now) refl) refl holds;
+}
+
+pub returns-in-Cursor-clause-leaves : goal.returns-in-Cursor-clause-leaves
+returns-in-Cursor-clause-leaves g c = λ rules text are read declares other sound order holds good.
+    c.cursor_call.ensures.leaves rules text are read c.in-Cursor.ensures declares other sound order holds
+
+pub returns-in-Later-clause-leaves : goal.returns-in-Later-clause-leaves
+returns-in-Later-clause-leaves g c = λ rules text are read declares other sound order holds good. absurd (later_unread c.args.statement.now text c.in-Later.ensures read)
 
 pub returns-in-Rollback-clause-device : goal.returns-in-Rollback-clause-device
 returns-in-Rollback-clause-device g c = rw c.roll_back.ensures.done tt
@@ -45,6 +75,9 @@ returns-in-SetTransaction-clause-device g c = counts_state c.set_mode.result _ _
 
 pub returns-in-Query-clause-limits : goal.returns-in-Query-clause-limits
 returns-in-Query-clause-limits g c = none_told (StatementReaches (g.S.Store.counted c.args.store.now) (g.S.Store.shows c.args.store.now).commits c.args.statement.now) c.query.result c.query.ensures.limits
+
+pub returns-in-Cursor-clause-limits : goal.returns-in-Cursor-clause-limits
+returns-in-Cursor-clause-limits g c = none_told (StatementReaches (g.S.Store.counted c.args.store.now) (g.S.Store.shows c.args.store.now).commits c.args.statement.now) c.cursor_call.result c.cursor_call.ensures.limits
 
 pub returns-in-Change-clause-limits : goal.returns-in-Change-clause-limits
 returns-in-Change-clause-limits g c = told_of_change (g.S.Store.counted c.args.store.now) (g.S.Store.shows c.args.store.now).commits c.args.statement.now c.in-Change.ensures c.change.result
@@ -66,6 +99,12 @@ returns-in-Query-clause-goes g c = g.met.S.Store.goes_on_trans _ _ _ Going.keeps
 
 pub returns-in-Query-clause-commits : goal.returns-in-Query-clause-commits
 returns-in-Query-clause-commits g c = inl (g.met.S.Store.goes_on_trans _ _ _ Going.keeps Going.changes c.query.ensures.goes (g.met.S.Store.goes_on_refl _ Going.changes))
+
+pub returns-in-Cursor-clause-goes : goal.returns-in-Cursor-clause-goes
+returns-in-Cursor-clause-goes g c = g.met.S.Store.goes_on_trans _ _ _ Going.keeps (Going.writes ((g.S.Store.shows c.args.store.now).working ∷ [])) c.cursor_call.ensures.goes (g.met.S.Store.goes_on_refl _ (Going.writes ((g.S.Store.shows c.args.store.now).working ∷ [])))
+
+pub returns-in-Cursor-clause-commits : goal.returns-in-Cursor-clause-commits
+returns-in-Cursor-clause-commits g c = inl (g.met.S.Store.goes_on_trans _ _ _ Going.keeps Going.changes c.cursor_call.ensures.goes (g.met.S.Store.goes_on_refl _ Going.changes))
 
 pub returns-in-Change-clause-goes : goal.returns-in-Change-clause-goes
 returns-in-Change-clause-goes g c = g.met.S.Store.goes_on_trans _ _ _ Going.changes (Going.writes ((g.S.Store.shows c.args.store.now).working ∷ [])) c.change.ensures.goes (g.met.S.Store.goes_on_refl _ (Going.writes ((g.S.Store.shows c.args.store.now).working ∷ [])))
@@ -99,32 +138,46 @@ returns-in-Later-clause-commits g c = inl (g.met.S.Store.goes_on_refl _ Going.ch
 
 pub returns-in-Query-clause-kept : goal.returns-in-Query-clause-kept
 returns-in-Query-clause-kept g c =
-    refused_alike c.query.result (λ refusal. SameButMark (g.S.Store.shows c.args.store.now) (g.S.Store.shows c.query.new.store)) (Leaves (g.S.Store.shows c.args.store.now) c.args.writer.now c.args.mode.now (g.S.Store.shows c.query.new.store) c.args.writer.now c.args.mode.now)
-    (λ refusal k other. (k, refl, refl)) c.query.ensures.kept
+    refused_alike c.query.result (λ refusal. SameButMark (g.S.Store.shows c.args.store.now) (g.S.Store.shows c.query.new.store))
+    (Keeps c.args.statement.now (g.S.Store.shows c.args.store.now) c.args.writer.now (kept_of c.args.slot.now) (g.S.Store.shows c.query.new.store) c.args.writer.now (kept_of c.args.slot.now))
+    (λ refusal k other fetch. (k, refl, refl)) c.query.ensures.kept
 
 pub returns-in-Change-clause-kept : goal.returns-in-Change-clause-kept
 returns-in-Change-clause-kept g c =
-    refused_alike c.change.result (λ refusal. refusal ≢ SerializationFailure → SameButMark (g.S.Store.shows c.args.store.now) (g.S.Store.shows c.change.new.store) × (c.change.new.writer ≡ c.args.writer.now)) (Leaves (g.S.Store.shows c.args.store.now) c.args.writer.now c.args.mode.now (g.S.Store.shows c.change.new.store) c.change.new.writer c.args.mode.now)
-    (λ refusal k other. ((k other).0, (k other).1, refl)) c.change.ensures.kept
+    refused_alike c.change.result (λ refusal. refusal ≢ SerializationFailure → SameButMark (g.S.Store.shows c.args.store.now) (g.S.Store.shows c.change.new.store) × (c.change.new.writer ≡ c.args.writer.now))
+    (Keeps c.args.statement.now (g.S.Store.shows c.args.store.now) c.args.writer.now (kept_of c.args.slot.now) (g.S.Store.shows c.change.new.store) c.change.new.writer (kept_of c.args.slot.now))
+    (λ refusal k other fetch. ((k other).0, (k other).1, refl)) c.change.ensures.kept
 
 pub returns-in-Commit-clause-kept : goal.returns-in-Commit-clause-kept
 returns-in-Commit-clause-kept g c =
-    refused_alike c.commit.result (λ refusal. ((g.S.Store.shows c.commit.new.store) ≡ (g.S.Store.shows c.args.store.now)) × (c.commit.new.writer ≡ c.args.writer.now) × (c.commit.new.mode ≡ c.args.mode.now)) (Leaves (g.S.Store.shows c.args.store.now) c.args.writer.now c.args.mode.now (g.S.Store.shows c.commit.new.store) c.commit.new.writer c.commit.new.mode)
-    (λ refusal k. leaves_all (g.S.Store.shows c.args.store.now) (g.S.Store.shows c.commit.new.store) c.args.writer.now c.commit.new.writer c.args.mode.now c.commit.new.mode refusal k.0 k.1 k.2) c.commit.ensures.kept
+    refused_alike c.commit.result (λ refusal. ((g.S.Store.shows c.commit.new.store) ≡ (g.S.Store.shows c.args.store.now)) × (c.commit.new.writer ≡ c.args.writer.now) × (c.commit.new.mode ≡ c.args.slot.now.mode))
+    (Keeps c.args.statement.now (g.S.Store.shows c.args.store.now) c.args.writer.now (kept_of c.args.slot.now) (g.S.Store.shows c.commit.new.store) c.commit.new.writer (with_mode (kept_of c.args.slot.now) c.commit.new.mode))
+    (λ refusal k. keeps_all c.args.statement.now (g.S.Store.shows c.args.store.now) (g.S.Store.shows c.commit.new.store) c.args.writer.now c.commit.new.writer (kept_of c.args.slot.now) (with_mode (kept_of c.args.slot.now) c.commit.new.mode) refusal k.0 k.1
+    (ap (with_mode (kept_of c.args.slot.now)) k.2)) c.commit.ensures.kept
 
 pub returns-in-Rollback-clause-kept : goal.returns-in-Rollback-clause-kept
 returns-in-Rollback-clause-kept g c = rw c.roll_back.ensures.done tt
 
 pub returns-in-SetTransaction-clause-kept : goal.returns-in-SetTransaction-clause-kept
 returns-in-SetTransaction-clause-kept g c =
-    refused_alike c.set_mode.result (λ refusal. c.set_mode.new.mode ≡ c.args.mode.now) (Leaves (g.S.Store.shows c.args.store.now) c.args.writer.now c.args.mode.now (g.S.Store.shows c.args.store.now) c.args.writer.now c.set_mode.new.mode)
-    (λ refusal k other. (same (g.S.Store.shows c.args.store.now) (g.S.Store.shows c.args.store.now) refl, refl, k)) c.set_mode.ensures.kept
+    refused_alike c.set_mode.result (λ refusal. c.set_mode.new.mode ≡ c.args.slot.now.mode)
+    (Keeps c.args.statement.now (g.S.Store.shows c.args.store.now) c.args.writer.now (kept_of c.args.slot.now) (g.S.Store.shows c.args.store.now) c.args.writer.now (with_mode (kept_of c.args.slot.now) c.set_mode.new.mode))
+    (λ refusal k other fetch. (same (g.S.Store.shows c.args.store.now) (g.S.Store.shows c.args.store.now) refl, refl, ap (with_mode (kept_of c.args.slot.now)) k)) c.set_mode.ensures.kept
+
+pub returns-in-Cursor-clause-kept : goal.returns-in-Cursor-clause-kept
+returns-in-Cursor-clause-kept g c =
+    refused_alike c.cursor_call.result (λ refusal. is_fetch c.args.statement.now ≡ false → SameButMark (g.S.Store.shows c.args.store.now) (g.S.Store.shows c.cursor_call.new.store) × (kept_of c.cursor_call.new.slot ≡ (kept_of c.args.slot.now)))
+    (Keeps c.args.statement.now (g.S.Store.shows c.args.store.now) c.args.writer.now (kept_of c.args.slot.now) (g.S.Store.shows c.cursor_call.new.store) c.args.writer.now (kept_of c.cursor_call.new.slot))
+    (λ refusal k other fetch. let h = k fetch in (h.0, refl, h.1)) c.cursor_call.ensures.kept
 
 pub returns-in-Later-clause-kept : goal.returns-in-Later-clause-kept
-returns-in-Later-clause-kept g c = λ other. (same (g.S.Store.shows c.args.store.now) (g.S.Store.shows c.args.store.now) refl, refl, refl)
+returns-in-Later-clause-kept g c = λ other fetch. (same (g.S.Store.shows c.args.store.now) (g.S.Store.shows c.args.store.now) refl, refl, refl)
 
 pub returns-in-Query-clause-idle : goal.returns-in-Query-clause-idle
 returns-in-Query-clause-idle g c = λ unchanged. (g.met.S.Store.goes_on_goes _ _ _ c.query.ensures.goes).stays.writes
+
+pub returns-in-Cursor-clause-idle : goal.returns-in-Cursor-clause-idle
+returns-in-Cursor-clause-idle g c = λ unchanged. (g.met.S.Store.goes_on_goes _ _ _ c.cursor_call.ensures.goes).stays.writes
 
 pub returns-in-Change-clause-idle : goal.returns-in-Change-clause-idle
 returns-in-Change-clause-idle g c = λ unchanged. (g.met.S.Store.goes_on_goes _ _ _ c.change.ensures.goes).stays.writes

@@ -1,45 +1,78 @@
-use Rattle.std.proofs.Common.{◌≡◌, refl, sym, subst, ◌∙◌}
+use Rattle.std.proofs.Common.{◌≡◌, refl, sym, subst, ◌∙◌, inl, inr}
 use Rattle.store.specs.Stored.{Stored, SameButMark, begun}
+use Rattle.session_definitions.specs.Asked.{Asked}
+use Rattle.transactions.specs.Shown.{session_of}
 use Rattle.transactions.proofs.Orders.{same}
 use Rattle.transactions.proofs.Steps.{nothing_moves, withholds}
 use Rattle.transactions.proofs.Tests.{reserved, unbegun}
-use Rattle.sessions.proofs.ChangeSteps.{only_reads, comes_late, good_begun, makes, refuses}
+use Rattle.sessions.specs.Numbers.{kept_of}
+use Rattle.sessions.proofs.ChangeSteps.{beside_cursor, comes_late, good_begun, makes, no_fetch, only_reads, refuses}
+use Rattle.sessions.proofs.Holding.{shut_kept}
 use Rattle.sessions.proofs.Devices.{risen_later, risen_still, counts_none}
 use Rattle.store.specs.Going.{Going}
 use Rattle.sessions.proofs.Kept.{none_kept}
 use Rattle.sessions.proofs.change.change.Goals as goal
 
 pub returns-then-is_read_only-clause-moves : goal.returns-then-is_read_only-clause-moves
-returns-then-is_read_only-clause-moves g c = λ rules text are is read other sound order good.
-    only_reads rules (g.S.Store.shows c.args.store.now) _ _ _ text _ order is read (sym c.is_read_only.ensures ∙ c.if-is_read_only.true) (g.S.Store.shows c.args.store.now) refl
+returns-then-is_read_only-clause-moves g c = λ rules text are is read other sound order shut good.
+    only_reads rules (g.S.Store.shows c.args.store.now) _ _ (kept_of c.args.slot.now) text _ order shut is read (sym c.is_read_only.ensures ∙ c.if-is_read_only.true) (g.S.Store.shows c.args.store.now) refl
+
+pub returns-then-has_open-clause-moves : goal.returns-then-has_open-clause-moves
+returns-then-has_open-clause-moves g c = λ rules text are is read other sound order shut good.
+    beside_cursor rules (g.S.Store.shows c.args.store.now) _ _ (kept_of c.args.slot.now) text _ order shut is read (sym c.is_read_only.ensures ∙ c.if-is_read_only.false)
+    c.has_open.result c.has_open.ensures.is c.if-has_open.true (g.S.Store.shows c.args.store.now) refl
 
 pub returns-then-comes_too_late-clause-moves : goal.returns-then-comes_too_late-clause-moves
-returns-then-comes_too_late-clause-moves g c = λ rules text are is read other sound order good.
-    comes_late rules _ _ _ _ text _ order is read (sym c.is_read_only.ensures ∙ c.if-is_read_only.false) (sym c.comes_too_late.ensures ∙ c.if-comes_too_late.true) _ c.end.ensures.shows
+returns-then-comes_too_late-clause-moves g c = λ rules text are is read other sound order shut good.
+    comes_late rules _ _ _ (kept_of c.args.slot.now) text _ order shut is read (sym c.is_read_only.ensures ∙ c.if-is_read_only.false)
+    c.has_open.result c.has_open.ensures.is c.if-has_open.false (sym c.comes_too_late.ensures ∙ c.if-comes_too_late.true) _ c.end.ensures.shows
 
 pub returns-in-Err-clause-moves : goal.returns-in-Err-clause-moves
-returns-in-Err-clause-moves g c = λ rules text are is read other sound order good.
+returns-in-Err-clause-moves g c = λ rules text are is read other sound order shut good.
     let st : Stored = g.S.Store.shows c.args.store.now in
     rw c.refusal_of.ensures
-    (nothing_moves rules st _ _ _ text _ _ order
-    (withholds rules st _ _ _ text _ other (reserved _ _ _ _ _ (rw c.in-Err.is at c.begin.ensures.refused) sound (λ bad. bad) (λ bad. bad)))
+    (nothing_moves rules st _ _ (kept_of c.args.slot.now) (Asked.Text text) _ _ order
+    (withholds rules st _ _ (kept_of c.args.slot.now) c.args.statement.now text _ other read (no_fetch (session_of (g.S.Store.shows c.args.store.now) c.args.writer.now c.args.session (kept_of c.args.slot.now)) c.args.statement.now is)
+    (reserved _ _ _ _ _ (rw c.in-Err.is at c.begin.ensures.refused) sound (λ bad. bad) (λ bad. bad)))
     (same st _ (rw c.in-Err.is at c.begin.ensures.same)))
 
 pub returns-in-Ok-clause-moves : goal.returns-in-Ok-clause-moves
-returns-in-Ok-clause-moves g c = λ rules text are is read other sound order good.
+returns-in-Ok-clause-moves g c = λ rules text are is read other sound order shut good.
     let begins : g.S.Store.shows c.begin.new.self ≡ begun (g.S.Store.shows c.args.store.now) c.args.session = rw c.in_default.is at c.begin.ensures.shows in
-    makes rules _ _ _ _ text _ order is read (sym c.is_read_only.ensures ∙ c.if-is_read_only.false) (sym c.comes_too_late.ensures ∙ c.if-comes_too_late.false) _ begins _ _
+    makes rules _ _ _ (kept_of c.args.slot.now) text _ order shut is read (sym c.is_read_only.ensures ∙ c.if-is_read_only.false)
+    c.has_open.result c.has_open.ensures.is c.if-has_open.false (sym c.comes_too_late.ensures ∙ c.if-comes_too_late.false) _ begins (shut_kept c.args.slot.now (c.has_open.ensures.shut c.if-has_open.false)) _ _
     (c.in-Ok.ensures.changes rules are is ((g.met.S.Store.goes_on_goes _ _ _ c.begin.ensures.goes).sound sound)
-    (good_begun rules _ _ _ _ text _ order is read (sym c.is_read_only.ensures ∙ c.if-is_read_only.false) (sym c.comes_too_late.ensures ∙ c.if-comes_too_late.false) _ begins good))
+    (good_begun rules _ _ _ (kept_of c.args.slot.now) text _ order shut is read (sym c.is_read_only.ensures ∙ c.if-is_read_only.false)
+    c.has_open.result c.has_open.ensures.is c.if-has_open.false (sym c.comes_too_late.ensures ∙ c.if-comes_too_late.false) _ begins good))
 
 pub returns-in-Err-make-clause-moves : goal.returns-in-Err-make-clause-moves
-returns-in-Err-make-clause-moves g c = λ rules text are is read other sound order good.
+returns-in-Err-make-clause-moves g c = λ rules text are is read other sound order shut good.
     let begins : g.S.Store.shows c.begin.new.self ≡ begun (g.S.Store.shows c.args.store.now) c.args.session = rw c.in_default.is at c.begin.ensures.shows in
-    refuses rules _ _ _ _ text _ order is read (sym c.is_read_only.ensures ∙ c.if-is_read_only.false) (sym c.comes_too_late.ensures ∙ c.if-comes_too_late.false) _ begins _ _ other
+    refuses rules _ _ _ (kept_of c.args.slot.now) text _ order shut is read (sym c.is_read_only.ensures ∙ c.if-is_read_only.false)
+    c.has_open.result c.has_open.ensures.is c.if-has_open.false (sym c.comes_too_late.ensures ∙ c.if-comes_too_late.false) _ begins _ _ other
     (c.in-Err-make.ensures.refused rules are is ((g.met.S.Store.goes_on_goes _ _ _ c.begin.ensures.goes).sound sound)
-    (good_begun rules _ _ _ _ text _ order is read (sym c.is_read_only.ensures ∙ c.if-is_read_only.false) (sym c.comes_too_late.ensures ∙ c.if-comes_too_late.false) _ begins good))
+    (good_begun rules _ _ _ (kept_of c.args.slot.now) text _ order shut is read (sym c.is_read_only.ensures ∙ c.if-is_read_only.false)
+    c.has_open.result c.has_open.ensures.is c.if-has_open.false (sym c.comes_too_late.ensures ∙ c.if-comes_too_late.false) _ begins good))
     (unbegun _ _ _ _ _ c.number.ensures c.is_none-idle.ensures _
     (subst (λ (y : Stored). SameButMark y (g.S.Store.shows c.make.new.store)) begins c.in-Err-make.ensures.same) c.take_back.ensures.shows)
+
+pub returns-then-is_read_only-clause-left : goal.returns-then-is_read_only-clause-left
+returns-then-is_read_only-clause-left g c = inr (same (g.S.Store.shows c.args.store.now) _ refl, refl)
+
+pub returns-then-has_open-clause-left : goal.returns-then-has_open-clause-left
+returns-then-has_open-clause-left g c = inr (same (g.S.Store.shows c.args.store.now) _ refl, refl)
+
+pub returns-then-comes_too_late-clause-left : goal.returns-then-comes_too_late-clause-left
+returns-then-comes_too_late-clause-left g c = inl (c.has_open.ensures.shut c.if-has_open.false)
+
+pub returns-in-Err-clause-left : goal.returns-in-Err-clause-left
+returns-in-Err-clause-left g c = inl (c.has_open.ensures.shut c.if-has_open.false)
+
+pub returns-in-Ok-clause-left : goal.returns-in-Ok-clause-left
+returns-in-Ok-clause-left g c = inl (c.has_open.ensures.shut c.if-has_open.false)
+
+pub returns-in-Err-make-clause-left : goal.returns-in-Err-make-clause-left
+returns-in-Err-make-clause-left g c = inl (c.has_open.ensures.shut c.if-has_open.false)
 
 pub returns-in-Ok-clause-device : goal.returns-in-Ok-clause-device
 returns-in-Ok-clause-device g c = counts_none c.in-Ok.reply _ _ c.in-Ok.ensures.accepted
@@ -61,6 +94,9 @@ returns-in-Err-make-clause-goes g c = g.met.S.Store.goes_on_trans _ _ _ Going.ch
 
 pub returns-then-is_read_only-clause-kept : goal.returns-then-is_read_only-clause-kept
 returns-then-is_read_only-clause-kept g c = λ other. (same (g.S.Store.shows c.args.store.now) _ refl, refl)
+
+pub returns-then-has_open-clause-kept : goal.returns-then-has_open-clause-kept
+returns-then-has_open-clause-kept g c = λ other. (same (g.S.Store.shows c.args.store.now) _ refl, refl)
 
 pub returns-then-comes_too_late-clause-kept : goal.returns-then-comes_too_late-clause-kept
 returns-then-comes_too_late-clause-kept g c = λ other. absurd (other refl)

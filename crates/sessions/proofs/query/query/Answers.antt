@@ -1,4 +1,6 @@
-use Rattle.std.proofs.Common.{◌≡◌, ◌∙◌}
+use Rattle.std.proofs.Common.{◌≡◌, refl, ◌∙◌, inl, inr}
+use Rattle.ast.specs.declared.statement.Statement.TheVariants as asks
+use Rattle.session_definitions.specs.Asked.{Asked}
 use Rattle.store.specs.Stored.{Stored, begun}
 use Rattle.transactions.proofs.Orders.{same}
 use Rattle.transactions.proofs.Steps.{nothing_moves, withholds}
@@ -9,23 +11,36 @@ use Rattle.store.specs.Going.{Going}
 use Rattle.sessions.proofs.query.query.Goals as goal
 
 pub returns-in-Err-clause-moves : goal.returns-in-Err-clause-moves
-returns-in-Err-clause-moves g c = λ rules text x mode are is read other sound order.
+returns-in-Err-clause-moves g c = λ rules text x kept are is read other sound order shut.
     let st : Stored = g.S.Store.shows c.args.store.now in
     rw c.refusal_of.ensures
-    (nothing_moves rules st _ _ _ text _ _ order
-    (withholds rules st _ _ _ text _ other (reserved _ _ _ _ _ (rw c.in-Err.is at c.begin.ensures.refused) sound (λ bad. bad) (λ bad. bad)))
+    (nothing_moves rules st _ _ kept (Asked.Text text) _ _ order
+    (withholds rules st _ _ kept (asks.Query x) text _ other read refl (reserved _ _ _ _ _ (rw c.in-Err.is at c.begin.ensures.refused) sound (λ bad. bad) (λ bad. bad)))
     (same st _ (rw c.in-Err.is at c.begin.ensures.same)))
 
 pub returns-in-Ok-clause-moves : goal.returns-in-Ok-clause-moves
-returns-in-Ok-clause-moves g c = λ rules text x mode are is read other sound order.
+returns-in-Ok-clause-moves g c = λ rules text x kept are is read other sound order shut.
     let begins : g.S.Store.shows c.begin.new.self ≡ begun (g.S.Store.shows c.args.store.now) c.args.session = rw c.in_default.is at c.begin.ensures.shows in
-    gives rules _ _ _ mode text x _ _ order read begins c.view_of.ensures _ _ (c.in-Ok.ensures.gives rules x are is ((g.met.S.Store.goes_on_goes _ _ _ c.begin.ensures.goes).sound sound)) c.rows_seen.ensures.shows
+    gives rules _ _ _ kept text x _ _ order shut read begins c.view_of.ensures _ _ (c.in-Ok.ensures.gives rules x are is ((g.met.S.Store.goes_on_goes _ _ _ c.begin.ensures.goes).sound sound)) c.rows_seen.ensures.shows
 
 pub returns-in-Err-rows_seen-clause-moves : goal.returns-in-Err-rows_seen-clause-moves
-returns-in-Err-rows_seen-clause-moves g c = λ rules text x mode are is read other sound order.
+returns-in-Err-rows_seen-clause-moves g c = λ rules text x kept are is read other sound order shut.
     let begins : g.S.Store.shows c.begin.new.self ≡ begun (g.S.Store.shows c.args.store.now) c.args.session = rw c.in_default.is at c.begin.ensures.shows in
-    refuses rules _ _ _ mode text x _ _ order read begins c.view_of.ensures _ _ other (c.in-Err-rows_seen.ensures.refused rules x are is ((g.met.S.Store.goes_on_goes _ _ _ c.begin.ensures.goes).sound sound))
+    refuses rules _ _ _ kept text x _ _ order shut read begins c.view_of.ensures _ _ other (c.in-Err-rows_seen.ensures.refused rules x are is ((g.met.S.Store.goes_on_goes _ _ _ c.begin.ensures.goes).sound sound))
     (unbegun _ _ _ _ _ c.number.ensures c.is_none-idle.ensures _ (same _ _ (c.rows_seen.ensures.shows ∙ begins)) c.take_back.ensures.shows)
+
+pub returns-in-Err-clause-left : goal.returns-in-Err-clause-left
+returns-in-Err-clause-left g c = inr (same (g.S.Store.shows c.args.store.now) _ (rw c.in-Err.is at c.begin.ensures.same))
+
+pub returns-in-Ok-clause-left : goal.returns-in-Ok-clause-left
+returns-in-Ok-clause-left g c =
+    let begins : g.S.Store.shows c.begin.new.self ≡ begun (g.S.Store.shows c.args.store.now) c.args.session = rw c.in_default.is at c.begin.ensures.shows in
+    inl (c.rows_seen.ensures.shows ∙ begins)
+
+pub returns-in-Err-rows_seen-clause-left : goal.returns-in-Err-rows_seen-clause-left
+returns-in-Err-rows_seen-clause-left g c =
+    let begins : g.S.Store.shows c.begin.new.self ≡ begun (g.S.Store.shows c.args.store.now) c.args.session = rw c.in_default.is at c.begin.ensures.shows in
+    inr (unbegun _ _ _ _ _ c.number.ensures c.is_none-idle.ensures _ (same _ _ (c.rows_seen.ensures.shows ∙ begins)) c.take_back.ensures.shows)
 
 pub returns-in-Err-rows_seen-clause-device : goal.returns-in-Err-rows_seen-clause-device
 returns-in-Err-rows_seen-clause-device g c = λ is. risen_still _ _ _ (risen_later _ _ _ ((g.met.S.Store.goes_on_goes _ _ _ c.begin.ensures.goes).refused) (c.in-Err-rows_seen.ensures.device is)) ((g.met.S.Store.goes_on_goes _ _ _ c.take_back.ensures.goes).refused)

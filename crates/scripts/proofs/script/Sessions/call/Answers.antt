@@ -1,4 +1,4 @@
-use Rattle.sessions.specs.OfCore.{world_of}
+use Rattle.sessions.specs.OfCore.{slots_of, world_of}
 use Rattle.scripts.specs.Limits.{Ever, UpTo}
 use Rattle.scripts.proofs.Keeping.{commits_grow, kept_step, good_seen}
 use Rattle.scripts.proofs.Placed.{held_same}
@@ -15,7 +15,7 @@ returns-in-Ok-clause-plays g c = λ r are h ready.
     let found = c.in-Ok.ensures.finds h.sound ready.within in
     let kept = c.session.ensures.kept r are h in
     let live = live_found r old mid new c.args.self.now c.session.new.self c.in-Ok.session found ready in
-    let good = good_seen r.check (shows c.session.new.core.store) c.session.new.core.writer c.session.new.core.slots.modes c.in-Ok.session.number kept.sound.order live kept.good in (
+    let good = good_seen r.check (shows c.session.new.core.store) c.session.new.core.writer (slots_of c.session.new.core) c.in-Ok.session.number kept.sound.order live kept.good in (
       plays_found r old mid new c.args.self.now c.session.new.self c.in-Ok.session c.args.text.now c.step.result found (c.step.ensures.step r are kept.sound live good),
       ready_alike mid new c.session.new.self c.step.ensures.live (ready_found r old mid new c.args.self.now c.session.new.self c.in-Ok.session found ready),
     )

@@ -1,72 +1,106 @@
 use Rattle.std.proofs.Common.{◌≡◌, refl, true, false, Some, None, sym, subst, ◌∙◌, inl, ap, ◌≢◌}
+use Rattle.std.specs.FinMap.{get}
+use Rattle.refusals.specs.declared.refusal.Refusal.TheVariants.{SerializationFailure}
 use Rattle.store.specs.Going.{Going}
+use Rattle.store.specs.Stored.{SameButMark}
 use Rattle.session_definitions.specs.Step.{Step}
 use Rattle.session_definitions.specs.World.{is_live}
-use Rattle.transactions.specs.Shown.{Slots, slot_at, shown}
-use Rattle.transactions.proofs.SlotLemmas.{slot_within}
-use Rattle.sessions.proofs.Cores.{not_live, is_live_at, readers_kept, set_alike}
-use Rattle.refusals.specs.declared.refusal.Refusal.TheVariants.{SerializationFailure}
-use Rattle.sessions.proofs.Kept.{Leaves, refused_alike, world_kept}
+use Rattle.transactions.specs.Shown.{Slots, settled, shown}
+use Rattle.sessions.specs.Kinds.{IsFetchText}
+use Rattle.sessions.specs.Numbers.{Held, held_at, kept_in, kept_of}
+use Rattle.sessions.proofs.Cores.{not_live, is_live_at, set_alike}
+use Rattle.sessions.proofs.Holding.{all_held, held_readers, held_within, kept_here, kept_holds, kept_none, not_held, put_as, put_back}
+use Rattle.sessions.proofs.Kept.{refused_alike, world_kept}
 use Rattle.sessions.proofs.core_of.Core.step.Goals as goal
 
-pub returns-in_default-clause-step : goal.returns-in_default-clause-step
-returns-in_default-clause-step g c = λ rules are sound live good.
-    let none : slot_at c.args.self.now.slots.modes c.args.session.number ≡ None = sym c.mode_of.ensures.is ∙ c.in_default.is in
-    let dead = not_live (g.S.Store.shows c.args.self.now.store) c.args.self.now.writer c.args.self.now.slots.modes c.args.session.number none in
+pub returns-then-not-stands-clause-step : goal.returns-then-not-stands-clause-step
+returns-then-not-stands-clause-step g c = λ rules are sound live good.
+    let none : held_at c.args.self.now.slots.all c.args.session.number ≡ None = not_held _ (sym c.stands.ensures.is ∙ c.if-not-stands.true) in
+    let dead = not_live (g.S.Store.shows c.args.self.now.store) c.args.self.now.writer (kept_in c.args.self.now.slots.all) c.args.session.number (kept_none c.args.self.now.slots.all c.args.session.number none) in
     let bad : true ≡ false = sym live ∙ dead in absurd (cc)
 
-pub returns-in_default-clause-rolled_back : goal.returns-in_default-clause-rolled_back
-returns-in_default-clause-rolled_back g c = λ is live.
-    let none : slot_at c.args.self.now.slots.modes c.args.session.number ≡ None = sym c.mode_of.ensures.is ∙ c.in_default.is in
-    let dead = not_live (g.S.Store.shows c.args.self.now.store) c.args.self.now.writer c.args.self.now.slots.modes c.args.session.number none in
+pub returns-then-not-stands-clause-rolled_back : goal.returns-then-not-stands-clause-rolled_back
+returns-then-not-stands-clause-rolled_back g c = λ is live.
+    let none : held_at c.args.self.now.slots.all c.args.session.number ≡ None = not_held _ (sym c.stands.ensures.is ∙ c.if-not-stands.true) in
+    let dead = not_live (g.S.Store.shows c.args.self.now.store) c.args.self.now.writer (kept_in c.args.self.now.slots.all) c.args.session.number (kept_none c.args.self.now.slots.all c.args.session.number none) in
     let bad : true ≡ false = sym live ∙ dead in absurd (cc)
+
+pub returns-then-not-stands-clause-commits : goal.returns-then-not-stands-clause-commits
+returns-then-not-stands-clause-commits g c = inl (g.met.S.Store.goes_on_refl _ Going.changes)
+
+pub returns-then-not-stands-clause-kept : goal.returns-then-not-stands-clause-kept
+returns-then-not-stands-clause-kept g c = λ other fetch. refl
 
 pub returns-clause-step : goal.returns-clause-step
 returns-clause-step g c = λ rules are sound live good.
-    let is : slot_at c.args.self.now.slots.modes c.args.session.number ≡ Some c.in-Some.mode = sym c.mode_of.ensures.is ∙ c.in-Some.is in
-    subst (λ (slots : Slots). Step rules (shown (g.S.Store.shows c.args.self.now.store) c.args.self.now.writer c.args.self.now.slots.modes) c.args.session.number c.args.text.now c.call-reply.result (shown (g.S.Store.shows c.call-reply.new.store) c.call-reply.new.writer slots))
-    (sym c.set.ensures) ((c.call-reply.ensures.moves rules are sound.store sound.order good).step c.args.self.now.slots.modes is)
+    let st = g.S.Store.shows c.args.self.now.store in
+    let new = g.S.Store.shows c.call-reply.new.store in
+    let all = c.args.self.now.slots.all in
+    let n = c.args.session.number in
+    let slot = c.take-slot.result in
+    let is = c.take-slot.ensures.is in
+    let leaves = c.call-reply.ensures.leaves rules are sound.store sound.order (sound.held n slot is) good in
+    let put = put_back c.set.new.self.all c.take-slot.new.self.all all n c.settle.new.slot c.take-slot.ensures.left c.set.ensures in
+    subst (λ (slots : Slots). Step rules (shown st c.args.self.now.writer (kept_in all)) n c.args.text.now c.call-reply.result (shown new c.call-reply.new.writer slots))
+    (sym (put_as c.set.new.self.all all n c.settle.new.slot (settled (get new.readers n) (kept_of c.call-reply.new.slot)) put c.settle.ensures.kept))
+    (leaves.moves.step (kept_in all) (kept_here all n slot is))
 
 pub returns-clause-sound : goal.returns-clause-sound
 returns-clause-sound g c = λ rules are sound good.
-    let is : slot_at c.args.self.now.slots.modes c.args.session.number ≡ Some c.in-Some.mode = sym c.mode_of.ensures.is ∙ c.in-Some.is in
-    let moves = c.call-reply.ensures.moves rules are sound.store sound.order good in
+    let st = g.S.Store.shows c.args.self.now.store in
+    let new = g.S.Store.shows c.call-reply.new.store in
+    let all = c.args.self.now.slots.all in
+    let n = c.args.session.number in
+    let slot = c.take-slot.result in
+    let is = c.take-slot.ensures.is in
+    let leaves = c.call-reply.ensures.leaves rules are sound.store sound.order (sound.held n slot is) good in
+    let put = put_back c.set.new.self.all c.take-slot.new.self.all all n c.settle.new.slot c.take-slot.ensures.left c.set.ensures in
+    let within = held_within all n slot is in
     record {
       store = (g.met.S.Store.goes_on_goes _ _ _ c.call-reply.ensures.goes).sound sound.store;
-      order = moves.order;
-      readers = λ q none. readers_kept (g.S.Store.shows c.args.self.now.store) (g.S.Store.shows c.call-reply.new.store) c.args.self.now.slots.modes c.args.session.number (Some c.call-reply.new.mode)
-          (slot_within c.args.self.now.slots.modes c.args.session.number c.in-Some.mode is) moves.others sound.readers (λ gone. let bad : Some c.call-reply.new.mode ≡ None = gone in absurd (cc)) q (subst (λ (slots : Slots). slot_at slots q ≡ None) c.set.ensures none);
+      order = leaves.moves.order;
+      readers = λ q none. held_readers st new all n (Some c.settle.new.slot) within leaves.moves.others sound.readers
+          (λ gone. let bad : Some c.settle.new.slot ≡ None = gone in absurd (cc)) q (subst (λ (held : Held). held_at held q ≡ None) put none);
+      held = λ q x has. all_held st new c.args.self.now.writer c.call-reply.new.writer all n (Some c.settle.new.slot) within leaves.moves.others leaves.moves.reads sound.held
+          (λ y e. kept_holds new c.call-reply.new.writer n c.settle.new.slot y (c.settle.ensures.holds c.call-reply.new.writer leaves.fits) e) q x
+          (subst (λ (held : Held). held_at held q ≡ Some x) put has);
     }
 
 pub returns-clause-ended : goal.returns-clause-ended
 returns-clause-ended g c = λ dead.
-    let is : slot_at c.args.self.now.slots.modes c.args.session.number ≡ Some c.in-Some.mode = sym c.mode_of.ensures.is ∙ c.in-Some.is in
-    let live = is_live_at (g.S.Store.shows c.args.self.now.store) c.args.self.now.writer c.args.self.now.slots.modes c.args.session.number c.in-Some.mode is in
+    let live = is_live_at (g.S.Store.shows c.args.self.now.store) c.args.self.now.writer (kept_in c.args.self.now.slots.all) c.args.session.number (kept_of c.take-slot.result)
+    (kept_here c.args.self.now.slots.all c.args.session.number c.take-slot.result c.take-slot.ensures.is) in
     let bad : true ≡ false = sym live ∙ dead in absurd (cc)
 
 pub returns-clause-live : goal.returns-clause-live
 returns-clause-live g c = λ q.
-    let is : slot_at c.args.self.now.slots.modes c.args.session.number ≡ Some c.in-Some.mode = sym c.mode_of.ensures.is ∙ c.in-Some.is in
-    subst (λ (slots : Slots). is_live (shown (g.S.Store.shows c.call-reply.new.store) c.call-reply.new.writer slots) q ≡ is_live (shown (g.S.Store.shows c.args.self.now.store) c.args.self.now.writer c.args.self.now.slots.modes) q)
-    (sym c.set.ensures)
-    (set_alike (g.S.Store.shows c.args.self.now.store) (g.S.Store.shows c.call-reply.new.store) c.args.self.now.writer c.call-reply.new.writer c.args.self.now.slots.modes c.args.session.number c.in-Some.mode c.call-reply.new.mode is q)
-
-pub returns-in_default-clause-commits : goal.returns-in_default-clause-commits
-returns-in_default-clause-commits g c = inl (g.met.S.Store.goes_on_refl _ Going.changes)
-
-pub returns-in_default-clause-kept : goal.returns-in_default-clause-kept
-returns-in_default-clause-kept g c = λ other. refl
+    let st = g.S.Store.shows c.args.self.now.store in
+    let new = g.S.Store.shows c.call-reply.new.store in
+    let all = c.args.self.now.slots.all in
+    let n = c.args.session.number in
+    let put = put_back c.set.new.self.all c.take-slot.new.self.all all n c.settle.new.slot c.take-slot.ensures.left c.set.ensures in
+    subst (λ (slots : Slots). is_live (shown new c.call-reply.new.writer slots) q ≡ is_live (shown st c.args.self.now.writer (kept_in all)) q)
+    (sym (put_as c.set.new.self.all all n c.settle.new.slot (kept_of c.settle.new.slot) put refl))
+    (set_alike st new c.args.self.now.writer c.call-reply.new.writer (kept_in all) n (kept_of c.take-slot.result) (kept_of c.settle.new.slot) (kept_here all n c.take-slot.result c.take-slot.ensures.is) q)
 
 pub returns-clause-kept : goal.returns-clause-kept
 returns-clause-kept g c =
-    let is : slot_at c.args.self.now.slots.modes c.args.session.number ≡ Some c.in-Some.mode = sym c.mode_of.ensures.is ∙ c.in-Some.is in
-    refused_alike c.call-reply.result (Leaves (g.S.Store.shows c.args.self.now.store) c.args.self.now.writer c.in-Some.mode (g.S.Store.shows c.call-reply.new.store) c.call-reply.new.writer c.call-reply.new.mode)
-    (λ refusal. refusal ≢ SerializationFailure
-    → shown (g.S.Store.shows c.call-reply.new.store) c.call-reply.new.writer c.set.new.self.modes ≡ shown (g.S.Store.shows c.args.self.now.store) c.args.self.now.writer c.args.self.now.slots.modes)
-    (λ refusal k other.
-    ap (λ (slots : Slots). shown (g.S.Store.shows c.call-reply.new.store) c.call-reply.new.writer slots) c.set.ensures
-    ∙ world_kept (g.S.Store.shows c.args.self.now.store) (g.S.Store.shows c.call-reply.new.store) c.args.self.now.writer c.call-reply.new.writer c.args.self.now.slots.modes c.args.session.number c.in-Some.mode
-    c.call-reply.new.mode is (k other).0 (k other).1 (k other).2)
+    let st = g.S.Store.shows c.args.self.now.store in
+    let new = g.S.Store.shows c.call-reply.new.store in
+    let all = c.args.self.now.slots.all in
+    let n = c.args.session.number in
+    let put = put_back c.set.new.self.all c.take-slot.new.self.all all n c.settle.new.slot c.take-slot.ensures.left c.set.ensures in
+    refused_alike c.call-reply.result
+    (λ refusal. refusal ≢ SerializationFailure → (IsFetchText c.args.text.now → ⊥)
+    → SameButMark st new × (c.call-reply.new.writer ≡ c.args.self.now.writer) × (kept_of c.call-reply.new.slot ≡ kept_of c.take-slot.result))
+    (λ refusal. refusal ≢ SerializationFailure → (IsFetchText c.args.text.now → ⊥)
+    → shown new c.call-reply.new.writer (kept_in c.set.new.self.all) ≡ shown st c.args.self.now.writer (kept_in all))
+    (λ refusal k other fetch.
+    let same = k other fetch in
+    ap (λ (slots : Slots). shown new c.call-reply.new.writer slots)
+    (put_as c.set.new.self.all all n c.settle.new.slot (settled (get new.readers n) (kept_of c.call-reply.new.slot)) put c.settle.ensures.kept)
+    ∙ world_kept st new c.args.self.now.writer c.call-reply.new.writer (kept_in all) n (kept_of c.take-slot.result) (kept_of c.call-reply.new.slot)
+    (kept_here all n c.take-slot.result c.take-slot.ensures.is) same.0 same.1 same.2)
     c.call-reply.ensures.kept
 
 pub returns-clause-counts : goal.returns-clause-counts

@@ -1,7 +1,7 @@
 use Rattle.std.proofs.Common.{ℕ, ◌<◌}
 use Rattle.std.specs.Prelude.{IsSome}
-use Rattle.transactions.specs.Shown.{slot_at}
+use Rattle.sessions.specs.Numbers.{held_at}
 use Rattle.sessions.proofs.slots.Slots.first_free.Given as goal
 
 abbrev pub invariant-loop-number : goal.invariant-loop-number
-invariant-loop-number l = (k : ℕ) → k < l.number → IsSome (slot_at l.self.modes k)
+invariant-loop-number l = (k : ℕ) → k < l.number → IsSome (held_at l.self.all k)

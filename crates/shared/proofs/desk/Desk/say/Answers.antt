@@ -28,8 +28,8 @@ invariant_of-self g c =
           (call_told (g.S.Store.counted c.self.inside.core.store) (g.S.Store.shows c.self.inside.core.store).commits c.args.text.now c.step-reply.result c.step-reply.ensures.limits) c.self.invariant.2),
     )
 
-pub returns : goal.returns
-returns g c =
+pub returns-clause-said : goal.returns-clause-said
+returns-clause-said g c =
     let t = c.take_in.ensures in
     let act = Says (number_of c.me.inside.id) c.args.text.now c.step-reply.result in
     let n = g.S.Store.refused c.step-reply.new.self.store in

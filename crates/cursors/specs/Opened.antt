@@ -1,0 +1,66 @@
+-- What an open cursor is in the world, over what its session reads.
+use Rattle.std.specs.Prelude.{◌≡◌, ◌⊎◌, ℕ, ◌<◌, ◌-◌, true, List, [], ◌∷◌, length, take, Option, None, Some, Result, Ok, Err}
+use Rattle.std.specs.FinMap.{get}
+use Rattle.sqlval.specs.Value.{Row}
+use Rattle.refusals.specs.declared.refusal.Refusal.{Refusal}
+use Rattle.refusals.specs.declared.refusal.Refusal.TheVariants.{Memory}
+use Rattle.algebra.specs.Listing.{tree_listing}
+use Rattle.algebra.specs.OrderKeys.{ordered_outcome}
+use Rattle.denote.specs.declared.fault.Fault.{Fault}
+use Rattle.denote.specs.Outcome.{Outcome}
+use Rattle.places.specs.Left.{Entries, before, left}
+use Rattle.places.specs.Views.{is_whole}
+use Rattle.query_answers.specs.Answered.{rows_found}
+use Rattle.session_definitions.specs.Cursor.{IsAtEnd, MayGive, MayGiveRows, MayRaise, having_given}
+use Rattle.session_definitions.specs.Refusals.{refusal_of}
+use Rattle.session_definitions.specs.World.{Cursor}
+use Rattle.store.specs.Contents.{Contents}
+use Rattle.store.specs.Indexes.{entries_of}
+use Rattle.cursors.specs.declared.cursor.OpenCursor.{OpenCursor}
+
+abbrev pub entries_at : Contents → Entries
+entries_at contents name = entries_of (get contents name)
+
+-- the list of its plan, and what is left of it
+abbrev pub whole_list : OpenCursor → Contents → Outcome
+whole_list cursor contents = tree_listing (rows_found contents) cursor.plan []
+
+abbrev pub rest_list : OpenCursor → Contents → Outcome
+rest_list cursor contents = left (entries_at contents) cursor.place cursor.plan
+
+-- the rows of the list that are not left were given
+abbrev pub rows_given : List Row → List Row → List Row
+rows_given whole rest = take (length whole - length rest) whole
+
+abbrev pub cursor_of : OpenCursor → Contents → Cursor
+cursor_of cursor contents = record {
+  outcome = ordered_outcome (rows_found contents) cursor.plan;
+  given = rows_given (whole_list cursor contents).rows (rest_list cursor contents).rows;
+}
+
+-- What is left of the list is all of it but the rows that were given, and is kept.
+pub record Fits (cursor : OpenCursor) (contents : Contents) : Type 0 where
+  pub whole : before (cursor_of cursor contents).given (rest_list cursor contents) ≡ whole_list cursor contents
+  pub kept : is_whole cursor.place ≡ true
+
+-- and no row was given yet
+pub record BeginsAt (cursor : OpenCursor) (contents : Contents) : Type 0 where
+  pub fits : Fits cursor contents
+  pub given : (cursor_of cursor contents).given ≡ []
+
+-- a row that may come next, the end, or a fault
+abbrev pub HasNext : Result (Option Row) Fault → Cursor → Cursor → Type 0
+HasNext (Ok (Some row)) old new = MayGive old row × (new ≡ having_given old (row ∷ []))
+HasNext (Ok None) old new = IsAtEnd old × (new ≡ old)
+HasNext (Err fault) old new = MayRaise old fault
+
+-- so many rows that may come next, or fewer and the end
+pub record IsAhead (rows : List Row) (count : ℕ) (old new : Cursor) : Type 0 where
+  pub may : MayGiveRows old rows
+  pub leaves : new ≡ having_given old rows
+  pub all : (length rows ≡ count) ⊎ ((length rows < count) × IsAtEnd new)
+
+-- want of memory, or a fault, where a row was asked for
+abbrev pub MayTake : Refusal → ℕ → Cursor → Type 0
+MayTake refusal count old = (refusal ≡ Memory)
+    ⊎ ((0 < count) × ((fault : Fault) × (refusal ≡ refusal_of fault) × MayRaise old fault))

@@ -1,0 +1,28 @@
+use Rattle.std.proofs.Common.{◌≡◌, refl, subst, sym}
+use Rattle.transactions.proofs.Orders.{same}
+use Rattle.sessions.specs.Numbers.{kept_of}
+use Rattle.sessions.proofs.Devices.{never_read}
+use Rattle.sessions.proofs.Holding.{fits_same}
+use Rattle.sessions.proofs.Limits.{unread_tells}
+use Rattle.sessions.proofs.Statements.{no_query}
+use Rattle.sessions.proofs.UnnamedOpens.{refuses_other, refuses_unread}
+use Rattle.sessions.proofs.query_calls.open_query.Goals as goal
+
+pub returns-in-Ok-clause-leaves : goal.returns-in-Ok-clause-leaves
+returns-in-Ok-clause-leaves g c = λ rules are sound order holds. c.open_statement.ensures.leaves rules c.args.text.now are c.in-Ok.ensures.read sound order holds
+
+pub returns-in-Err-clause-leaves : goal.returns-in-Err-clause-leaves
+returns-in-Err-clause-leaves g c = λ rules are sound order holds. record {
+  moves = refuses_unread rules (g.S.Store.shows c.args.store.now) c.args.writer c.args.session (kept_of c.args.slot.now) c.args.text.now order c.in-Err.refusal c.in-Err.ensures.unread;
+  fits = fits_same (g.S.Store.shows c.args.store.now) (g.S.Store.shows c.args.store.now) c.args.writer c.args.writer c.args.session c.args.slot.now.cursors
+      (same (g.S.Store.shows c.args.store.now) (g.S.Store.shows c.args.store.now) refl) refl holds;
+}
+
+pub returns-in-Err-clause-device : goal.returns-in-Err-clause-device
+returns-in-Err-clause-device g c = λ is. absurd (never_read c.args.text.now c.in-Err.refusal c.in-Err.ensures.unread is)
+
+pub returns-in-Err-clause-limits : goal.returns-in-Err-clause-limits
+returns-in-Err-clause-limits g c = unread_tells c.args.text.now c.in-Err.refusal c.in-Err.ensures.unread
+
+pub returns-in-Err-clause-kept : goal.returns-in-Err-clause-kept
+returns-in-Err-clause-kept g c = (same (g.S.Store.shows c.args.store.now) (g.S.Store.shows c.args.store.now) refl, refl)

@@ -1,0 +1,25 @@
+use Rattle.std.proofs.Common.{None}
+use Rattle.sessions.proofs.UnnamedFits.{Replaced, taking_held}
+use Rattle.sessions.proofs.query_calls.take_rows.Goals as goal
+
+pub returns-clause-leaves : goal.returns-clause-leaves
+returns-clause-leaves c = λ rules st w s order holds.
+    let first : Replaced c.args.slot.now.cursors c.exchange_unnamed-held.new.self None c.exchange_unnamed-held.result = record {
+      puts = c.exchange_unnamed-held.ensures.puts;
+      was = c.exchange_unnamed-held.ensures.was;
+      named = c.exchange_unnamed-held.ensures.named;
+    } in
+    let second : Replaced c.exchange_unnamed-held.new.self c.exchange_unnamed-was.new.self c.taken-left.result.left c.exchange_unnamed-was.result = record {
+      puts = c.exchange_unnamed-was.ensures.puts;
+      was = c.exchange_unnamed-was.ensures.was;
+      named = c.exchange_unnamed-was.ensures.named;
+    } in
+    rw c.let_go.ensures
+    (taking_held rules st w s order c.args.slot.now holds c.exchange_unnamed-held.new.self c.exchange_unnamed-held.result first c.args.count c.taken-left.result.left c.taken-left.result.reply
+    c.taken-left.ensures.gives c.exchange_unnamed-was.new.self c.exchange_unnamed-was.result second)
+
+pub returns-clause-device : goal.returns-clause-device
+returns-clause-device c = rw c.let_go.ensures c.taken-left.ensures.device
+
+pub returns-clause-limits : goal.returns-clause-limits
+returns-clause-limits c = rw c.let_go.ensures c.taken-left.ensures.limits
