@@ -37,7 +37,7 @@ use Rattle.database_versions.proofs.HeldLemmas.{root_is}
 risen_on : (top k m n : ℕ) → k ≤ m → min (m + 1) top ≤ n → min (k + 1) top ≤ n
 risen_on top k m n less more = omega (arith, less, more)
 
-pub has_risen : (k m n : ℕ) → k ≤ m → device.HasRisen m n → HasRisen k n
+pub has_risen : (k m n : ℕ) → k ≤ m → device.CountHasRisen m n → HasRisen k n
 has_risen k m n less h = risen_on (2 ^ 64 - 1) k m n less h.more
 
 pub read_fails : (sound harm : Type 0) (reached : StoreLimit → Type 0) (k m n : ℕ) (f : SpaceError) → k ≤ m → (sound → harm → ⊥) → ReadRefused harm m n f → MayFail sound k n reached (of_fault f)

@@ -3,7 +3,7 @@ use Rattle.std.specs.Prelude.{◌≡◌, ◌⊎◌, ℕ, ◌+◌, ◌-◌, min, 
 use Rattle.disk.specs.declared.error.DiskError.{DiskError}
 use Rattle.disk.specs.declared.faulty.FaultyDisk.{FaultyDisk}
 use Rattle.disk.specs.Contents.{IsTorn, overwritten}
-use Rattle.disk.specs.Refused.{CountsRefusal, HasRisen}
+use Rattle.disk.specs.Refused.{CountsRefusal, CountHasRisen}
 use Rattle.disk.specs.Causes.{IsInjected}
 
 -- the device that it passes calls on to
@@ -43,7 +43,7 @@ pub record RefusesOne {D T : Type 0} (result : Result T DiskError) (old new : Fa
   pub cause : IsErrAnd result IsInjected
   pub waiting : new.waiting ≡ 0
   pub torn : new.torn ≡ old.torn
-  pub counted : HasRisen old.refused new.refused
+  pub counted : CountHasRisen old.refused new.refused
 
 -- a call that it passes on: it refuses nothing of itself, so a refusal is the inner device's, as is
 -- the cause
@@ -60,4 +60,4 @@ pub record PassesOn {D T : Type 0} (refused : D → ℕ) (told : D → DiskError
 abbrev pub IsPartWritten : ℕ → List ℕ → ℕ → List ℕ → List ℕ → ℕ → ℕ → Type 0
 IsPartWritten at bytes torn old new before after =
     let part = take (min torn (length bytes)) bytes in
-    (new ≡ overwritten old at part) ⊎ (HasRisen before after × IsTorn at (length part) old new)
+    (new ≡ overwritten old at part) ⊎ (CountHasRisen before after × IsTorn at (length part) old new)

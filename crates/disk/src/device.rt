@@ -1,7 +1,7 @@
 ghost use Rattle.std.specs.Prelude.{◌≡◌, ◌+◌, ◌≤◌, ℕ, Bool, List, length, IsTrue, IsOk, IfOk, IfErr, OnOk, OnErr};
 ghost use Rattle.disk.specs.Contents.{Holds, IsTorn, IsEitherLength, overwritten, resized};
 ghost use Rattle.disk.specs.Crashes.{Bytes, Only, Follows, TimePasses, IsSpread, IsCut};
-ghost use Rattle.disk.specs.Refused.{CountsRefusal, CountsSync, HasRisen};
+ghost use Rattle.disk.specs.Refused.{CountsRefusal, CountsSync, CountHasRisen};
 ghost use Rattle.disk.specs.declared.error.DiskError.{DiskError as Cause};
 
 use crate::DiskError;
@@ -96,7 +96,7 @@ pub trait Disk {
         ensures count { CountsRefusal result (refused self.old) (refused self.new) }
         ensures cause { IfErr result (told self.new) }
         ensures synced { synced self.new ≡ synced self.old }
-        ensures writes { HasRisen (writes self.old) (writes self.new) }
+        ensures writes { CountHasRisen (writes self.old) (writes self.new) }
         ensures crash { IsTrue is_durable
             → Follows (IsSpread (length (bytes self.old)) at (length from.now))
             (may_leave self.old) (may_leave self.new) }
@@ -110,7 +110,7 @@ pub trait Disk {
         ensures count { CountsRefusal result (refused self.old) (refused self.new) }
         ensures cause { IfErr result (told self.new) }
         ensures synced { synced self.new ≡ synced self.old }
-        ensures writes { HasRisen (writes self.old) (writes self.new) }
+        ensures writes { CountHasRisen (writes self.old) (writes self.new) }
         ensures crash { IsTrue is_durable → Follows (IsCut len) (may_leave self.old) (may_leave self.new) }
         ensures time { IsTrue is_durable → TimePasses moment left_since may_leave self.old self.new };
 

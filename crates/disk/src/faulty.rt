@@ -3,7 +3,7 @@ ghost use Rattle.disk.specs.Causes.{IsInjected};
 ghost use Rattle.disk.specs.Contents.{Holds, IsTorn, IsEitherLength, overwritten, resized};
 ghost use Rattle.disk.specs.Crashes.{Bytes, Only, Follows, TimePasses, IsSpread, IsCut};
 ghost use Rattle.disk.specs.Keeping.{stands_still, spread_none, spread_part, cut_none};
-ghost use Rattle.disk.specs.Refused.{CountsRefusal, CountsSync, HasRisen};
+ghost use Rattle.disk.specs.Refused.{CountsRefusal, CountsSync, CountHasRisen};
 
 use crate::memory::refuse;
 use crate::{Disk, DiskError};
@@ -154,7 +154,7 @@ impl<D: Disk> Disk for FaultyDisk<D> {
         ensures count { CountsRefusal result (all_refusals D.refused self.old) (all_refusals D.refused self.new) }
         ensures cause { IfErr result (IsTold D.told self.new) }
         ensures synced { D.synced (inner_of self.new) ≡ D.synced (inner_of self.old) }
-        ensures writes { HasRisen (own_writes self.old) (own_writes self.new) }
+        ensures writes { CountHasRisen (own_writes self.old) (own_writes self.new) }
         ensures crash { IsTrue D.is_durable
             → Follows (IsSpread (length (D.bytes (inner_of self.old))) at (length from.now))
             (D.may_leave (inner_of self.old)) (D.may_leave (inner_of self.new)) }
@@ -185,7 +185,7 @@ impl<D: Disk> Disk for FaultyDisk<D> {
         ensures count { CountsRefusal result (all_refusals D.refused self.old) (all_refusals D.refused self.new) }
         ensures cause { IfErr result (IsTold D.told self.new) }
         ensures synced { D.synced (inner_of self.new) ≡ D.synced (inner_of self.old) }
-        ensures writes { HasRisen (own_writes self.old) (own_writes self.new) }
+        ensures writes { CountHasRisen (own_writes self.old) (own_writes self.new) }
         ensures crash { IsTrue D.is_durable
             → Follows (IsCut len) (D.may_leave (inner_of self.old)) (D.may_leave (inner_of self.new)) }
         ensures time { IsTrue D.is_durable

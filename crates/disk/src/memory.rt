@@ -2,7 +2,7 @@ ghost use Rattle.std.specs.Prelude.{◌≡◌, ◌+◌, ◌-◌, ◌++◌, take,
 ghost use Rattle.disk.specs.Causes.{IsOfMemory};
 ghost use Rattle.disk.specs.Contents.{Holds, overwritten, resized};
 ghost use Rattle.disk.specs.Keeping.{not_durable};
-ghost use Rattle.disk.specs.Refused.{CountsRefusal, HasRisen};
+ghost use Rattle.disk.specs.Refused.{CountsRefusal, CountHasRisen};
 
 use crate::{Disk, DiskError};
 use std::alloc::{AllocError, Global};
@@ -167,7 +167,7 @@ impl Disk for MemDisk {
         ensures unchanged { OnErr result (self.new.bytes ≡ self.old.bytes) }
         ensures count { CountsRefusal result self.old.refused self.new.refused }
         ensures synced { self.new.synced ≡ self.old.synced }
-        ensures writes { HasRisen self.old.writes self.new.writes }
+        ensures writes { CountHasRisen self.old.writes self.new.writes }
     {
         self.writes = self.writes.saturating_add(1);
         self.settled = false;
@@ -184,7 +184,7 @@ impl Disk for MemDisk {
         ensures unchanged { OnErr result (self.new.bytes ≡ self.old.bytes) }
         ensures count { CountsRefusal result self.old.refused self.new.refused }
         ensures synced { self.new.synced ≡ self.old.synced }
-        ensures writes { HasRisen self.old.writes self.new.writes }
+        ensures writes { CountHasRisen self.old.writes self.new.writes }
     {
         self.writes = self.writes.saturating_add(1);
         self.settled = false;
@@ -199,7 +199,7 @@ impl Disk for MemDisk {
         ensures value { IsOk result }
         ensures same { self.new.bytes ≡ self.old.bytes }
         ensures count { self.new.refused ≡ self.old.refused }
-        ensures synced { HasRisen self.old.synced self.new.synced }
+        ensures synced { CountHasRisen self.old.synced self.new.synced }
         ensures writes { self.new.writes ≡ self.old.writes }
         ensures settles { self.new.settled ≡ true }
     {

@@ -2,7 +2,7 @@
 -- choice.
 use Rattle.std.specs.Prelude.{◌≡◌, ℕ}
 use Rattle.disk.specs.declared.DiskError.{DiskError}
-use Rattle.disk.specs.Refused.{HasRisen}
+use Rattle.disk.specs.Refused.{CountHasRisen}
 use Rattle.pagefile.specs.declared.error.OpenError.{OpenError}
 use Rattle.pagefile.specs.declared.error.OpenError.TheVariants as cause
 use Rattle.journaled_file.specs.declared.opening.OpenRefusal.{OpenRefusal}
@@ -16,7 +16,7 @@ refusal_for (cause.Device e) = Device e
 -- the device refused a call just where the cause says so
 abbrev pub IsCounted : OpenRefusal → ℕ → ℕ → Type 0
 IsCounted Memory old new = new ≡ old
-IsCounted (Device e) old new = HasRisen old new
+IsCounted (Device e) old new = CountHasRisen old new
 IsCounted Damaged old new = new ≡ old
 
 -- a refusal for the device has a cause that the device told

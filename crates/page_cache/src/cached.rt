@@ -1,5 +1,5 @@
 ghost use Rattle.std.specs.Prelude.{◌≡◌, ◌<◌, ◌≤◌, ℕ, true, [], List, Some, IsTrue, IsOk, IsSome, IfOk, IfErr, OnOk, OnErr, length};
-ghost use Rattle.disk.specs.Refused.{CountsRefusal, CountsSync, HasRisen};
+ghost use Rattle.disk.specs.Refused.{CountsRefusal, CountsSync, CountHasRisen};
 ghost use Rattle.lru.specs.LruCache.{lru_cache};
 ghost use Rattle.pagefile.specs.File.{disk_of};
 ghost use Rattle.pagefile.specs.Pages.{page_of, IsWritten, KeepsOthers};

@@ -1,7 +1,7 @@
 ghost use Rattle.std.specs.Prelude.{◌≡◌, ◌+◌, ◌*◌, ◌≤◌, length, IsTrue, IsOk, IsSome, IfOk, IfErr, OnOk, OnErr, MatchResult, Some};
 ghost use Rattle.disk.specs.Crashes.{Bytes, Only, Follows, TimePasses, IsSpread, IsCut};
 ghost use Rattle.disk.specs.Contents.{IsTorn, IsEitherLength, overwritten, resized};
-ghost use Rattle.disk.specs.Refused.{CountsRefusal, CountsSync, HasRisen};
+ghost use Rattle.disk.specs.Refused.{CountsRefusal, CountsSync, CountHasRisen};
 ghost use Rattle.pagefile.specs.Header.{header_bytes, IsInBounds};
 ghost use Rattle.pagefile.specs.Pages.{page_of, IsWritten, KeepsOthers};
 ghost use Rattle.pagefile.specs.Whole.{IsWhole, IsDamaged, IsPartlyMade, IsCounted, IsTold};
@@ -65,7 +65,7 @@ impl<D: Disk> PageFile<D> {
         ensures left { IfErr result (λ r. IsTrue D.is_honest → IsPartlyMade (D.bytes disk) (D.bytes r.disk)) }
         ensures count { MatchResult result
             (λ file. D.refused (disk_of file) ≡ D.refused disk)
-            (λ r. HasRisen (D.refused disk) (D.refused r.disk)) }
+            (λ r. CountHasRisen (D.refused disk) (D.refused r.disk)) }
         ensures cause { IfErr result (λ r. D.told r.disk r.cause) }
         ensures synced { MatchResult result
             (λ file. D.synced (disk_of file) ≡ D.synced disk)
@@ -147,7 +147,7 @@ impl<D: Disk> PageFile<D> {
         ensures count { CountsRefusal result (D.refused (disk_of self.old)) (D.refused (disk_of self.new)) }
         ensures cause { IfErr result (D.told (disk_of self.new)) }
         ensures synced { D.synced (disk_of self.new) ≡ D.synced (disk_of self.old) }
-        ensures writes { HasRisen (D.writes (disk_of self.old)) (D.writes (disk_of self.new)) }
+        ensures writes { CountHasRisen (D.writes (disk_of self.old)) (D.writes (disk_of self.new)) }
         ensures crash { IsTrue D.is_durable
             → Follows (IsSpread (length (D.bytes (disk_of self.old))) (4096 * number) 4096)
             (D.may_leave (disk_of self.old)) (D.may_leave (disk_of self.new)) }
@@ -168,7 +168,7 @@ impl<D: Disk> PageFile<D> {
         ensures count { CountsRefusal result (D.refused (disk_of self.old)) (D.refused (disk_of self.new)) }
         ensures cause { IfErr result (D.told (disk_of self.new)) }
         ensures synced { D.synced (disk_of self.new) ≡ D.synced (disk_of self.old) }
-        ensures writes { HasRisen (D.writes (disk_of self.old)) (D.writes (disk_of self.new)) }
+        ensures writes { CountHasRisen (D.writes (disk_of self.old)) (D.writes (disk_of self.new)) }
         ensures crash { IsTrue D.is_durable
             → Follows (IsSpread (length (D.bytes (disk_of self.old))) at (length bytes.now))
             (D.may_leave (disk_of self.old)) (D.may_leave (disk_of self.new)) }
@@ -188,7 +188,7 @@ impl<D: Disk> PageFile<D> {
         ensures count { CountsRefusal result (D.refused (disk_of self.old)) (D.refused (disk_of self.new)) }
         ensures cause { IfErr result (D.told (disk_of self.new)) }
         ensures synced { D.synced (disk_of self.new) ≡ D.synced (disk_of self.old) }
-        ensures writes { HasRisen (D.writes (disk_of self.old)) (D.writes (disk_of self.new)) }
+        ensures writes { CountHasRisen (D.writes (disk_of self.old)) (D.writes (disk_of self.new)) }
         ensures crash { IsTrue D.is_durable
             → Follows (IsCut (4096 * count)) (D.may_leave (disk_of self.old)) (D.may_leave (disk_of self.new)) }
         ensures time { IsTrue D.is_durable

@@ -1,7 +1,7 @@
 -- Why a call is refused, where one call stands in another.
 use Rattle.std.proofs.Common.{◌≡◌, ℕ, ◌≤◌, ◌+◌, arith, subst}
 use Rattle.std.specs.Prelude.{min}
-use Rattle.disk.specs.Refused.{HasRisen}
+use Rattle.disk.specs.Refused.{CountHasRisen}
 use Rattle.pool.specs.declared.error.PoolError.{PoolError}
 use Rattle.pool.specs.declared.error.PoolError.TheVariants.{Memory, Device, Damaged, Pages, Kept}
 use Rattle.pool.specs.Refused.{IsRefused, ReadRefused, IsOfDevice}
@@ -23,7 +23,7 @@ of_device_is P Q a b Kept h = absurd h
 later : (k a m n : ℕ) → a ≤ m → min (m + 1) k ≤ n → min (a + 1) k ≤ n
 later k a m n le h = omega (arith, le, h)
 
-pub risen_later : (a m n : ℕ) → a ≤ m → HasRisen m n → HasRisen a n
+pub risen_later : (a m n : ℕ) → a ≤ m → CountHasRisen m n → CountHasRisen a n
 risen_later a m n le h = record { no_less = let more = h.no_less in omega (arith, le, more); more = later _ a m n le h.more }
 
 pub refused_later : (P Q : Type 0) (a m b : ℕ) (e : PoolError) → a ≤ m → IsRefused ⊥ ⊥ m b e → IsRefused P Q a b e

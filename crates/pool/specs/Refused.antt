@@ -1,14 +1,14 @@
 -- Why a pool refuses a call.
 use Rattle.std.specs.Prelude.{ℕ, ◌≤◌, ⊤}
 use Rattle.disk.specs.declared.error.DiskError.{DiskError}
-use Rattle.disk.specs.Refused.{HasRisen}
+use Rattle.disk.specs.Refused.{CountHasRisen}
 use Rattle.pool.specs.declared.error.PoolError.{PoolError}
 use Rattle.pool.specs.declared.error.PoolError.TheVariants.{Memory, Device, Damaged, Pages, Kept}
 
 -- what is known where a call was refused, with the counts of refused device calls before and after
 abbrev pub IsRefused : Type 0 → Type 0 → ℕ → ℕ → PoolError → Type 0
 IsRefused AtPages AtKept before after Memory = ⊤
-IsRefused AtPages AtKept before after (Device e) = HasRisen before after
+IsRefused AtPages AtKept before after (Device e) = CountHasRisen before after
 IsRefused AtPages AtKept before after Damaged = ⊥
 IsRefused AtPages AtKept before after Pages = AtPages
 IsRefused AtPages AtKept before after Kept = AtKept
@@ -16,7 +16,7 @@ IsRefused AtPages AtKept before after Kept = AtKept
 -- why a read is refused: for the device, or where there is no such page
 abbrev pub ReadRefused : Type 0 → ℕ → ℕ → PoolError → Type 0
 ReadRefused Absent before after Memory = ⊥
-ReadRefused Absent before after (Device e) = HasRisen before after
+ReadRefused Absent before after (Device e) = CountHasRisen before after
 ReadRefused Absent before after Damaged = Absent
 ReadRefused Absent before after Pages = ⊥
 ReadRefused Absent before after Kept = ⊥
@@ -24,7 +24,7 @@ ReadRefused Absent before after Kept = ⊥
 -- the device refused a call, with the counts of refused device calls before and after
 abbrev pub IsOfDevice : ℕ → ℕ → PoolError → Type 0
 IsOfDevice before after Memory = ⊥
-IsOfDevice before after (Device e) = HasRisen before after
+IsOfDevice before after (Device e) = CountHasRisen before after
 IsOfDevice before after Damaged = ⊥
 IsOfDevice before after Pages = ⊥
 IsOfDevice before after Kept = ⊥

@@ -1,7 +1,7 @@
 //! What a commit reads of a page, and where it stands.
 ghost use Rattle.std.specs.Prelude.{◌≡◌, ◌<◌, ◌≤◌, ℕ, List, Option, Some, None, MatchOption, OnOk, IfOk, IfErr, IsTrue, IsSome, true, false};
 ghost use Rattle.std.specs.Option.{is_some};
-ghost use Rattle.disk.specs.Refused.{HasRisen};
+ghost use Rattle.disk.specs.Refused.{CountHasRisen};
 ghost use Rattle.page_cache.specs.Cached.{device_under, room_of};
 ghost use Rattle.pagefile.specs.Pages.{page_of};
 ghost use Rattle.pool.specs.Ready.{IsFound};

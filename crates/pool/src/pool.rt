@@ -70,7 +70,7 @@ fn first_slot(alloc: Global, first: &Page) -> Result<(Items<Slot>, Vec<u32>), Al
 impl<D: Disk> Pool<D> {
     ghost use Rattle.pool.specs.Pages.{known, over, only, pages_in, numbers_of};
     ghost use Rattle.pagefile.specs.Pages.{page_of};
-    ghost use Rattle.disk.specs.Refused.{HasRisen};
+    ghost use Rattle.disk.specs.Refused.{CountHasRisen};
     ghost use Rattle.pool.specs.Ready.{Ascend};
     ghost use Rattle.pool.specs.Refused.{IsRefused, ReadRefused, IsOfDevice, IsNotOfDevice, IsTold};
     ghost use Rattle.pool.specs.Versions.{IsKept, HoldsSame, NeedsImages, versions_of, device_of, unwritten_of, unwritten_at, frames_of, images_of, needed_in};
@@ -518,7 +518,7 @@ impl<D: Disk> Pool<D> {
         ensures same { (n : ℕ) → unwritten_at self.new n ≡ unwritten_at self.old n }
         ensures refusal { IfErr result (IsOfDevice (D.refused (device_of self.old)) (D.refused (device_of self.new))) }
         ensures cause { IfErr result (IsTold (D.told (device_of self.new))) }
-        ensures synced { OnOk result (HasRisen (D.synced (device_of self.old)) (D.synced (device_of self.new))) }
+        ensures synced { OnOk result (CountHasRisen (D.synced (device_of self.old)) (D.synced (device_of self.new))) }
         ensures settles { OnOk result (D.settled (device_of self.new)) }
         ensures rising { D.refused (device_of self.old) ≤ D.refused (device_of self.new) }
     {
@@ -532,7 +532,7 @@ impl<D: Disk> Pool<D> {
         ensures written { OnOk result (unwritten_of self.new ≡ 0) }
         ensures refusal { IfErr result (IsOfDevice (D.refused (device_of self.old)) (D.refused (device_of self.new))) }
         ensures cause { IfErr result (IsTold (D.told (device_of self.new))) }
-        ensures synced { OnOk result (HasRisen (D.synced (device_of self.old)) (D.synced (device_of self.new))) }
+        ensures synced { OnOk result (CountHasRisen (D.synced (device_of self.old)) (D.synced (device_of self.new))) }
         ensures settles { OnOk result (D.settled (device_of self.new)) }
         ensures rising { D.refused (device_of self.old) ≤ D.refused (device_of self.new) }
     {
@@ -549,7 +549,7 @@ impl<D: Disk> Pool<D> {
         ensures size { IfOk result (λ disk. IsTrue D.is_honest → (m : ℕ)
             → ((n : ℕ) → m ≤ n → (versions_of self).pages (versions_of self).last n ≡ None)
             → length (D.bytes disk) ≤ 4096 * m) }
-        ensures synced { IfOk result (λ disk. HasRisen (D.synced (device_of self)) (D.synced disk)) }
+        ensures synced { IfOk result (λ disk. CountHasRisen (D.synced (device_of self)) (D.synced disk)) }
         ensures settled { IfOk result (λ disk. D.settled disk) }
         ensures rising { IfOk result (λ disk. D.refused (device_of self) ≤ D.refused disk) }
         ensures versions { IfErr result (λ r. versions_of r.pool ≡ versions_of self) }

@@ -7,7 +7,7 @@ use Rattle.refusals.specs.declared.refusal.Refusal.TheVariants.{Disk}
 use Rattle.session_definitions.specs.Rules.{Rules}
 use Rattle.session_definitions.specs.World.{World}
 use Rattle.scripts.specs.Played.{Streams, between}
-use Rattle.shell.specs.Alone.{EndsAlone, IsRefused, RunsAlone}
+use Rattle.shell.specs.Alone.{EndsAlone, IsRefused, RunsInMemory}
 use Rattle.shell.specs.Runs.{Ends, Left, Runs, ScriptEnds, database_in}
 use Rattle.shell.specs.Tells.{Tells}
 use Rattle.shell.specs.Words.{name_of}
@@ -24,7 +24,7 @@ untouched given held = EndsAlone.not_opened false Disk refl
 pub refused_alone : (streams : Streams) (status : ℕ) → IsRefused streams status → EndsAlone streams status
 refused_alone streams status r = EndsAlone.not_opened r.is_told Disk r.unread r.told r.failed
 
-pub refused_in_memory : (rules : Rules) (old : World) (streams : Streams) (status : ℕ) → IsGood rules.check old.last → IsRefused streams status → RunsAlone rules old streams status
+pub refused_in_memory : (rules : Rules) (old : World) (streams : Streams) (status : ℕ) → IsGood rules.check old.last → IsRefused streams status → RunsInMemory rules old streams status
 refused_in_memory rules old streams status good r = record { is_told = r.is_told; runs = Runs.not_opened Disk tt r.unread r.told r.failed good }
 
 -- a file that is named has a name
@@ -51,5 +51,5 @@ module _ (rules : Rules) (old : World) (streams : Streams) (status : ℕ) (is_to
   runs_so P Q so (Runs.closed end carried left) = Runs.closed end carried (so _ left)
   runs_so P Q so (Runs.not_closed before was_told mid end carried told is left) = Runs.not_closed before was_told mid end carried told is (so _ left)
 
-  pub runs_alone : (P : Left → Type 0) → Runs rules old streams status is_told P → ((left : Left) → P left → IfSome (database_in left) (IsGood rules.check)) → RunsAlone rules old streams status
+  pub runs_alone : (P : Left → Type 0) → Runs rules old streams status is_told P → ((left : Left) → P left → IfSome (database_in left) (IsGood rules.check)) → RunsInMemory rules old streams status
   runs_alone P ran good = record { is_told = is_told; runs = runs_so _ _ good ran }

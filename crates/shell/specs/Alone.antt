@@ -21,7 +21,7 @@ pub data EndsAlone (streams : Streams) (status : ℕ) : Type 0 where
       → TellsBehind was_told is_told Disk mid streams.holds → status ≡ 3 → EndsAlone streams status
 
 -- It runs in this world, and leaves a good database, if any.
-pub record RunsAlone (rules : Rules) (old : World) (streams : Streams) (status : ℕ) : Type 0 where
+pub record RunsInMemory (rules : Rules) (old : World) (streams : Streams) (status : ℕ) : Type 0 where
   pub is_told : Bool
   pub runs : Runs rules old streams status is_told (λ left. IfSome (database_in left) (IsGood rules.check))
 

@@ -7,7 +7,7 @@ ghost use Rattle.session_definitions.specs.World.{new_world, opened};
 ghost use Rattle.scripts.specs.Played.{between};
 ghost use Rattle.scripts.specs.Settled.{store_of};
 ghost use Rattle.sessions.specs.Opening.{Stays};
-ghost use Rattle.shell.specs.Alone.{EndsAlone, IsRefused, RunsAlone};
+ghost use Rattle.shell.specs.Alone.{EndsAlone, IsRefused, RunsInMemory};
 ghost use Rattle.shell.specs.Runs.{Ends, HasRefused, HasSameBytes, IsNotOpened, Leaves, Runs};
 ghost use Rattle.shell.specs.Status.{IsStatus};
 ghost use Rattle.shell.specs.Tells.{Tells};
@@ -53,7 +53,7 @@ pub fn sqlsh<P: Files<File = File> + Print + Eprint + AllocGlobal, S: AsStr, R: 
     ensures asked { (count : ℕ) (file : Option (List ℕ)) → Asks (map S.text words.now) count file
         → EndsAlone (between (R.remaining reader.old) (R.remaining reader.new) (W.contents writer.old) (W.contents writer.new)) result }
     ensures in_memory { (count : ℕ) → Asks (map S.text words.now) count None → (rules : Rules) → AreRules rules
-        → RunsAlone rules new_world (between (R.remaining reader.old) (R.remaining reader.new) (W.contents writer.old) (W.contents writer.new)) result }
+        → RunsInMemory rules new_world (between (R.remaining reader.old) (R.remaining reader.new) (W.contents writer.old) (W.contents writer.new)) result }
     ensures closed { are_open ≡ false → (count : ℕ) (file : Option (List ℕ)) → Asks (map S.text words.now) count file
         → IsRefused (between (R.remaining reader.old) (R.remaining reader.new) (W.contents writer.old) (W.contents writer.new)) result }
     ensures others { ((count : ℕ) (file : Option (List ℕ)) → Asks (map S.text words.now) count file → ⊥)
@@ -75,7 +75,7 @@ pub fn sqlsh<P: Files<File = File> + Print + Eprint + AllocGlobal, S: AsStr, R: 
 fn refuse_closed<W: Write>(writer: &mut W) -> u8
     ensures refused { (given : Option (List ℕ)) → IsRefused (between given given (W.contents writer.old) (W.contents writer.new)) result }
     ensures in_memory { (given : Option (List ℕ)) (rules : Rules)
-        → RunsAlone rules new_world (between given given (W.contents writer.old) (W.contents writer.new)) result }
+        → RunsInMemory rules new_world (between given given (W.contents writer.old) (W.contents writer.new)) result }
 {
     databases_stay_good();
     let _ = tell(Refusal::Disk, writer);
@@ -92,7 +92,7 @@ fn run_asked<P: Files<File = File> + AllocGlobal, R: Read, W: Write>(
 ) -> u8
     ensures ends { EndsAlone (between (R.remaining reader.old) (R.remaining reader.new) (W.contents writer.old) (W.contents writer.new)) result }
     ensures in_memory { name_of settings.now.file ≡ None → (rules : Rules) → AreRules rules
-        → RunsAlone rules new_world (between (R.remaining reader.old) (R.remaining reader.new) (W.contents writer.old) (W.contents writer.new)) result }
+        → RunsInMemory rules new_world (between (R.remaining reader.old) (R.remaining reader.new) (W.contents writer.old) (W.contents writer.new)) result }
 {
     match settings.file {
         Some(path) => run_file(rt, settings, path, reader, writer),
