@@ -54,23 +54,90 @@ use Rattle.cursors.specs.contracts.cursor.OpenCursor as open_cursor
 use Rattle.cursors.specs.contracts.held.Declared as declared
 use Rattle.cursors.specs.contracts.held.Cursors as cursors
 
-ruleset lists = (sendable, crosses, option.the_send, option.the_field_send, memory.the_send, box.the_send, vec.the_send, deque.the_send,
-  into_iter.the_send, global.the_send, allocator.the_frees, boxed.the_send, text.the_send, text_name.the_send, items.the_send)
+ruleset lists = (
+  sendable,
+  crosses,
+  option.the_send,
+  option.the_field_send,
+  memory.the_send,
+  box.the_send,
+  vec.the_send,
+  deque.the_send,
+  into_iter.the_send,
+  global.the_send,
+  allocator.the_frees,
+  boxed.the_send,
+  text.the_send,
+  text_name.the_send,
+  items.the_send,
+)
 
-ruleset words = (add_operator.the_send, add_operator.the_field_send, alias.the_send, alias.the_field_send, column.the_send, column.the_field_send,
-  written_comparison.the_send, written_comparison.the_field_send, direction.the_send, direction.the_field_send, literal.the_send,
-  literal.the_field_send, multiply_operator.the_send, multiply_operator.the_field_send, quantifier.the_send, quantifier.the_field_send,
-  set_function.the_send, set_function.the_field_send, written_operator.the_send, written_operator.the_field_send, sign.the_send, sign.the_field_send,
-  truth_test.the_send, truth_test.the_field_send, truth_value.the_send, truth_value.the_field_send, sort_column.the_send, sort_column.the_field_send,
-  sort_key.the_send, sort_key.the_field_send)
+ruleset words = (
+  add_operator.the_send,
+  add_operator.the_field_send,
+  alias.the_send,
+  alias.the_field_send,
+  column.the_send,
+  column.the_field_send,
+  written_comparison.the_send,
+  written_comparison.the_field_send,
+  direction.the_send,
+  direction.the_field_send,
+  literal.the_send,
+  literal.the_field_send,
+  multiply_operator.the_send,
+  multiply_operator.the_field_send,
+  quantifier.the_send,
+  quantifier.the_field_send,
+  set_function.the_send,
+  set_function.the_field_send,
+  written_operator.the_send,
+  written_operator.the_field_send,
+  sign.the_send,
+  sign.the_field_send,
+  truth_test.the_send,
+  truth_test.the_field_send,
+  truth_value.the_send,
+  truth_value.the_field_send,
+  sort_column.the_send,
+  sort_column.the_field_send,
+  sort_key.the_send,
+  sort_key.the_field_send,
+)
 
-ruleset values = (comparison.the_send, comparison.the_field_send, truth.the_send, truth.the_field_send, value.the_send, value.the_field_send,
-  arithmetic.the_send, arithmetic.the_field_send, function_type.the_send, function_type.the_field_send, set_operator.the_send,
-  set_operator.the_field_send, set_operation.the_send, set_operation.the_field_send, order_key.the_send, order_key.the_field_send, fault.the_send,
-  fault.the_field_send, position.the_send, position.the_field_send)
+ruleset values = (
+  comparison.the_send,
+  comparison.the_field_send,
+  truth.the_send,
+  truth.the_field_send,
+  value.the_send,
+  value.the_field_send,
+  arithmetic.the_send,
+  arithmetic.the_field_send,
+  function_type.the_send,
+  function_type.the_field_send,
+  set_operator.the_send,
+  set_operator.the_field_send,
+  set_operation.the_send,
+  set_operation.the_field_send,
+  order_key.the_send,
+  order_key.the_field_send,
+  fault.the_send,
+  fault.the_field_send,
+  position.the_send,
+  position.the_field_send,
+)
 
-ruleset plans = (bound.the_send, bound.the_field_send, stored_table.the_send, stored_table.the_field_send, keyed_rows.the_send,
-  keyed_rows.the_field_send, members.the_send, members.the_field_send)
+ruleset plans = (
+  bound.the_send,
+  bound.the_field_send,
+  stored_table.the_send,
+  stored_table.the_field_send,
+  keyed_rows.the_send,
+  keyed_rows.the_field_send,
+  members.the_send,
+  members.the_field_send,
+)
 
 query_send : IsSend ordered_query.the_row
 query_send = search (lists, words, query_knot.send-Query) depth 40

@@ -117,8 +117,7 @@ pub in_low : (lines : List Line) (k : ℕ) (d : Line) (text at : List ℕ) → k
 in_low lines k d text at within is less rising =
     let half : in_entries (take k lines) ≡ take k (in_entries lines) = sym (take-map (λ (entry : Line). (entry.0.now, entry.1, entry.2)) k lines) in
     let there : order text (get_or (in_entries lines) k (d.0.now, d.1, d.2)).0 ≡ Less =
-    subst (λ (t : List ℕ). order text t ≡ Less) (is ∙ sym (ap (λ (e : Entry). e.0) (entry_at k lines d))) less in
-    (
+    subst (λ (t : List ℕ). order text t ≡ Less) (is ∙ sym (ap (λ (e : Entry). e.0) (entry_at k lines d))) less in (
       ap are_rising half ∙ rising_take k (in_entries lines) rising,
       ap (λ (es : List Entry). word_with es text) half
           ∙ low_same k (in_entries lines) (d.0.now, d.1, d.2) text (omega (arith, within, entries_length lines)) there rising,
@@ -133,8 +132,7 @@ in_high lines k d text at within is not_less rising =
     let half : in_entries (take (length lines - k) (drop k lines)) ≡ drop k (in_entries lines) =
     ap in_entries (take_rest lines k) ∙ entries_drop k lines in
     let there : order text (get_or (in_entries lines) k (d.0.now, d.1, d.2)).0 ≡ Less → ⊥ =
-    subst (λ (t : List ℕ). order text t ≡ Less → ⊥) (is ∙ sym (ap (λ (e : Entry). e.0) (entry_at k lines d))) not_less in
-    (
+    subst (λ (t : List ℕ). order text t ≡ Less → ⊥) (is ∙ sym (ap (λ (e : Entry). e.0) (entry_at k lines d))) not_less in (
       ap are_rising half ∙ rising_drop k (in_entries lines) rising,
       ap (λ (es : List Entry). word_with es text) half
           ∙ high_same k (in_entries lines) (d.0.now, d.1, d.2) text (omega (arith, within, entries_length lines)) there rising,
