@@ -11,8 +11,9 @@ use Rattle.sqlrecord.specs.Page.{PageView}
 use Rattle.btree_read.specs.declared.entry.Entry.{Entry}
 use Rattle.btree_read.specs.Lists.{Has, Apart}
 use Rattle.btree_read.specs.Nodes.{Key, Node, LeafNode, InnerNode, HasNode, entry_of, branch_of}
-use Rattle.btree_read.specs.Tree.{Tree, page_of, branch_to, kids, nodes_of, pages_in, IsTree}
-use Rattle.btree_read.specs.Search.{Sees, IsUnder, HasNoTree, child_at}
+use Rattle.btree_read.specs.Leaves.{AreLinked}
+use Rattle.btree_read.specs.Tree.{Tree, page_of, branch_to, kids, nodes_of, entries_of, pages_in, IsTree}
+use Rattle.btree_read.specs.Search.{Sees, IsUnder, IsNoTree, HasNoTree, child_at}
 use Rattle.btree_read.proofs.Kids.{kid_at, low_at, high_at}
 use Rattle.btree_read.proofs.ListLemmas.{has_left, has_right, has_either, apart_parts}
 use Rattle.btree_read.proofs.NodeLemmas.{node_is_used}
@@ -20,7 +21,7 @@ use Rattle.btree_read.proofs.PageLemmas.{holds_kept, pages_append, pages_middle}
 use Rattle.btree_read.proofs.CountLemmas.{few_levels}
 use Rattle.btree_read.proofs.SearchLemmas.{sees_leaf, sees_inner, leaf_shown, inner_shown, child_found, under_root, no_node_no_tree}
 use Rattle.btree.specs.Overfull.{IsNoTreeIn}
-use Rattle.btree_remove.specs.Dropped.{AreDropped, DropsBelow, Drops, HasNoTreeIn}
+use Rattle.btree_remove.specs.Dropped.{AreDropped, DropsBelow, Drops, DropsLinked, HasNoTreeIn}
 
 -- ---- the nodes of the first children
 
@@ -210,3 +211,26 @@ pub root_not_dropped : (pages : PageMap) (root : ℕ) (W : Type 0) → ((n : ℕ
 root_not_dropped pages zero W b nz f owned entries w wh = nz refl
 root_not_dropped pages (suc r) W b nz f owned entries w wh =
     f w.depth w.tree [] None (few_levels pages w.depth w.tree b w.holds (subst Apart (sym w.owns) w.apart)) (under_root pages (suc r) owned entries w) wh
+
+-- ---- read before it is dropped
+
+pub dropped_again : (old seen new : PageMap) (root : ℕ) (result : Result ⊤ SpaceError) → seen ≡ old → (root ≡ 0 → ⊥) → DropsBelow seen new root result → Drops old new root result
+dropped_again old seen new root result same nz f =
+    dropped_root old new root result nz (subst (λ (p : PageMap). DropsBelow p new root result) same f)
+
+pub linked_first : (pages : PageMap) (root : ℕ) (entries : List Entry) (result : Result ⊤ SpaceError)
+    → ((d : ℕ) (t : Tree d) → IsUnder pages root d t [] None → (entries ≡ entries_of d t) × AreLinked d t) → DropsLinked pages root result
+linked_first pages root entries (Ok u) f d t nz w = (f d t w).1
+linked_first pages root entries (Err e) f d t nz w = tt
+
+pub whole_first : (result : Result ⊤ SpaceError) (A B C : Type 0) → (A → B) → OnOk result (B → C) → OnOk result (A → C)
+whole_first (Ok u) A B C f g = λ a. g (f a)
+whole_first (Err e) A B C f g = tt
+
+pub no_tree_seen : (old seen : PageMap) (root : ℕ) (W V : Type 0) → seen ≡ old → (W → V) → ((n : ℕ) → IsSome (old n) → (0 < n) × (n < 65536)) → (root ≡ 0 → ⊥)
+    → HasNoTreeIn seen root 15 V → IsNoTreeIn old root W
+no_tree_seen old seen root W V same f b nz none =
+    root_not_dropped old root W b nz (λ d t lo hi few under w. none d t lo hi few (subst (λ (p : PageMap). IsUnder p root d t lo hi) (sym same) under) (f w))
+
+pub no_tree_either : (pages : PageMap) (root : ℕ) (W : Type 0) → IsNoTree pages root → IsNoTreeIn pages root W
+no_tree_either pages root W none owned entries w whole = none owned entries w

@@ -3,11 +3,12 @@
 ghost use Rattle.std.specs.Prelude.{◌≡◌, ◌≤◌, IfErr, OnOk};
 ghost use Rattle.page_space.specs.Space.{ChangeRefused};
 ghost use Rattle.btree.specs.Overfull.{IsNoTreeIn};
-ghost use Rattle.btree_remove.specs.Dropped.{DropsBelow, Drops, HasNoTreeIn};
+ghost use Rattle.btree_remove.specs.Dropped.{DropsBelow, Drops, DropsLinked, HasNoTreeIn};
 
-use btree_read::{MAXIMUM_LEVELS, child_at, read_node};
+use btree_read::{MAXIMUM_LEVELS, child_at, read_node, scan};
 use page_space::{PAGE_SIZE, PageSpace, SpaceError};
 use sqlrecord::PageKind;
+use std::alloc::Global;
 
 /// Gives back all pages of the tree under a page.
 fn drop_below<S: PageSpace>(space: &mut S, page: u32, levels: u32) -> Result<(), SpaceError>
@@ -37,11 +38,14 @@ fn drop_below<S: PageSpace>(space: &mut S, page: u32, levels: u32) -> Result<(),
 }
 
 /// Gives back all pages of the tree at a root, and changes no other page; root 0 is the tree
-/// without entries, in no page. Refused for memory, where the device refuses a call, at a limit
-/// where the space is at it, and as damaged only where no tree is at the root or the list of free
-/// pages is none.
-pub fn drop_tree<S: PageSpace>(space: &mut S, root: u32) -> Result<(), SpaceError>
+/// without entries, in no page. All of the tree is read before the first page is given back, so a
+/// page that another tree owns stays its own: a leaf that the leaf before does not name is damage.
+///
+/// Refused for memory, where the device refuses a call, at a limit where the space is at it, and as
+/// damaged only where no tree is at the root or the list of free pages is none.
+pub fn drop_tree<S: PageSpace>(space: &mut S, alloc: Global, root: u32) -> Result<(), SpaceError>
     ensures dropped { Drops (S.pages space.old) (S.pages space.new) root result }
+    ensures linked { DropsLinked (S.pages space.old) root result }
     ensures whole { OnOk result (S.is_whole space.old → S.is_whole space.new) }
     ensures refusal { IfErr result (ChangeRefused (S.at_limit space.new) (IsNoTreeIn (S.pages space.old) root (S.is_whole space.old)) (S.refused space.old) (S.refused space.new)) }
     ensures rising { S.refused space.old ≤ S.refused space.new }
@@ -50,5 +54,6 @@ pub fn drop_tree<S: PageSpace>(space: &mut S, root: u32) -> Result<(), SpaceErro
     if root == 0 {
         return Ok(());
     }
+    scan(space, alloc, root)?;
     drop_below(space, root, MAXIMUM_LEVELS)
 }

@@ -19,7 +19,11 @@ use std::alloc::Global;
 use stored_tables::find_table;
 
 /// Gives back the trees of these indexes.
-fn drop_indexes<S: PageSpace>(space: &mut S, indexes: &Items<Index>) -> Result<(), SpaceError>
+fn drop_indexes<S: PageSpace>(
+    space: &mut S,
+    alloc: Global,
+    indexes: &Items<Index>,
+) -> Result<(), SpaceError>
     ensures dropped { (alone : Bool) (h : AreIndexes alone (S.pages space.old) indexes.now)
         → OnOk result (AreDropped (S.pages space.old) (S.pages space.new) (pages_of (trees_of_indexes h.rows h.its))) }
     ensures whole { OnOk result (S.is_whole space.old → S.is_whole space.new) }
@@ -29,13 +33,13 @@ fn drop_indexes<S: PageSpace>(space: &mut S, indexes: &Items<Index>) -> Result<(
     ensures follows { S.follows space.old space.new }
 {
     for index in indexes.as_slice() {
-        drop_tree(space, index.root)?;
+        drop_tree(space, alloc, index.root)?;
     }
     Ok(())
 }
 
 /// Gives back the trees of a table.
-fn drop_trees<S: PageSpace>(space: &mut S, table: &Table) -> Result<(), SpaceError>
+fn drop_trees<S: PageSpace>(space: &mut S, alloc: Global, table: &Table) -> Result<(), SpaceError>
     ensures dropped { (alone : Bool) (h : AreTreesOf alone (S.pages space.old) table.now)
         → OnOk result (AreDropped (S.pages space.old) (S.pages space.new) (pages_of (table_trees h.at))) }
     ensures whole { OnOk result (S.is_whole space.old → S.is_whole space.new) }
@@ -44,8 +48,8 @@ fn drop_trees<S: PageSpace>(space: &mut S, table: &Table) -> Result<(), SpaceErr
     ensures rising { S.refused space.old ≤ S.refused space.new }
     ensures follows { S.follows space.old space.new }
 {
-    match drop_tree(space, table.root) {
-        Ok(()) => drop_indexes(space, &table.indexes),
+    match drop_tree(space, alloc, table.root) {
+        Ok(()) => drop_indexes(space, alloc, &table.indexes),
         Err(fault) => Err(fault),
     }
 }
@@ -67,7 +71,7 @@ fn drop_found<S: PageSpace>(
     ensures follows { S.follows space.old space.new }
 {
     match catalog::drop_table(space, alloc, root, table) {
-        Ok(top) => match drop_trees(space, table) {
+        Ok(top) => match drop_trees(space, alloc, table) {
             Ok(()) => Ok(top),
             Err(fault) => Err(DatabaseError::Space(fault)),
         },

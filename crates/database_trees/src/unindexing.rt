@@ -66,7 +66,12 @@ fn table_without(alloc: Global, table: Table, name: &Text) -> Result<Table, Data
 }
 
 /// Gives back the tree of an index, where it has a name.
-fn drop_if_named<S: PageSpace>(space: &mut S, index: &Index, name: &Text) -> Result<(), SpaceError>
+fn drop_if_named<S: PageSpace>(
+    space: &mut S,
+    alloc: Global,
+    index: &Index,
+    name: &Text,
+) -> Result<(), SpaceError>
     ensures dropped { is_named name.now index.now.name ≡ true
         → Drops (S.pages space.old) (S.pages space.new) index.now.root result }
     ensures same { is_named name.now index.now.name ≡ false → S.pages space.new ≡ S.pages space.old }
@@ -76,7 +81,7 @@ fn drop_if_named<S: PageSpace>(space: &mut S, index: &Index, name: &Text) -> Res
     ensures follows { S.follows space.old space.new }
 {
     if index.is_named(name.as_slice()) {
-        drop_tree(space, index.root)
+        drop_tree(space, alloc, index.root)
     } else {
         Ok(())
     }
@@ -85,6 +90,7 @@ fn drop_if_named<S: PageSpace>(space: &mut S, index: &Index, name: &Text) -> Res
 /// Gives back the trees of those of these indexes that have a name.
 fn drop_named<S: PageSpace>(
     space: &mut S,
+    alloc: Global,
     indexes: &Items<Index>,
     name: &Text,
 ) -> Result<(), SpaceError>
@@ -97,7 +103,7 @@ fn drop_named<S: PageSpace>(
     ensures follows { S.follows space.old space.new }
 {
     for index in indexes.as_slice() {
-        drop_if_named(space, index, name)?;
+        drop_if_named(space, alloc, index, name)?;
     }
     Ok(())
 }
@@ -148,7 +154,7 @@ fn unindex_named<S: PageSpace>(
     ensures follows { S.follows space.old space.new }
 {
     match put_without(space, alloc, root, table, name) {
-        Ok(top) => match drop_named(space, &table.indexes, name) {
+        Ok(top) => match drop_named(space, alloc, &table.indexes, name) {
             Ok(()) => Ok(top),
             Err(fault) => Err(DatabaseError::Space(fault)),
         },
