@@ -110,11 +110,11 @@ NO_TABLE = [NAME, NAME, NAME, GOOD, GOOD, GOOD, GOOD, GOOD, NAME]
 NO_ROWS = [listed(), GOOD, listed("7|'n'"), GOOD, GOOD, GOOD, GOOD, GOOD, listed()]
 
 # Over "deep": an INSERT goes down to the last leaf, and looks for the greatest row number on its way, in whatever leaves; a look-up reads no link; DROP TABLE reads each page of
-# the tree, and no link. LEFT: damage that a scan meets, and the last leaf is whole. RIGHT: the way to the last leaf is damaged. LINK: a leaf's link alone. MISSED: keys that do not fit over two
+# the tree, and each link. LEFT: damage that a scan meets, and the last leaf is whole. RIGHT: the way to the last leaf is damaged. LINK: a leaf's link alone. MISSED: keys that do not fit over two
 # leaves, which a scan may miss.
 LEFT = [X, MAYBE, X, GOOD, GOOD, X, GOOD, GOOD, X]
 RIGHT = [X, X, X, GOOD, GOOD, X, GOOD, GOOD, X]
-LINK = [X, GOOD, X, GOOD, GOOD, MAYBE, (GOOD, NAME), GOOD, X]
+LINK = [X, GOOD, X, GOOD, GOOD, X, GOOD, GOOD, X]
 MISSED = [MAYBE, MAYBE, (GOOD, D_BEFORE, X), GOOD, GOOD, MAYBE, GOOD, GOOD, MAYBE]
 
 # Over "indexed": damage in the catalogue, or in one of the three indexes: INDEX_1 of the key A, INDEX_2 of B and C, INDEX_3 of C. In INDEX_2 and INDEX_3 an INSERT, an UPDATE, a DELETE
@@ -222,7 +222,7 @@ REPLIES = {
     "child_shared": LEFT,
     "child_is_its_root": RIGHT,
     "child_is_its_parent": LEFT,
-    "child_is_the_catalogue": [X, MAYBE, X, MAYBE, MAYBE, X, (GOOD, X, NAME), GOOD, X],
+    "child_is_the_catalogue": [X, MAYBE, X, MAYBE, MAYBE, X, GOOD, GOOD, X],
     "child_of_5_bytes": RIGHT,
     "leaf_at_another_depth": [X, MAYBE, X, GOOD, GOOD, MAYBE, (GOOD, NAME), GOOD, X],
     "key_before_its_leaf": MISSED,
