@@ -13,8 +13,9 @@ use Rattle.session_definitions.specs.World.{World}
 use Rattle.turn_laws.proofs.Ends.{broken, closed_so, given_all, refused}
 use Rattle.turn_laws.proofs.Latest.{Latest, latest, stands_in}
 use Rattle.turn_laws.proofs.Openings.{first_refused}
+use Rattle.turn_laws.proofs.Parts.{parted}
 use Rattle.turn_laws.proofs.Taking.{first_among, first_here, taking}
-use Rattle.turn_laws.specs.Answered.{IsAnswered, IsRefused}
+use Rattle.turn_laws.specs.Answered.{CouldBeTold, IsAnswered, IsRefused}
 
 module _ (rules : Rules) (s : ℕ) (text : Bytes) (n : ℕ) (start : World) where
   -- the calls of which rows are put together, taken one by one from the last
@@ -81,3 +82,12 @@ pub refuses : (rules : Rules) (s : ℕ) (text : Bytes) (n : ℕ) (start end : Wo
     → IsRefused rules s text moments refusal
 refuses rules s text n start end moments refusal run h =
     refusal_told rules s text n start moments end (exchanges_in s moments) refusal h.turns refl run h.stands
+
+-- wherever they stand in a run
+pub answers_in : (rules : Rules) (s : ℕ) (text : Bytes) (n : ℕ) (start end : World) (earlier turns later : List Moment) (rows : List Row)
+    → Run rules start (later ++ (turns ++ earlier)) end → TakesTurns s text n turns (says.Rows rows)
+    → CouldBeTold rules s text turns (says.Rows rows)
+answers_in rules s text n start end earlier turns later rows run h =
+    let through = parted rules start end (turns ++ earlier) later run in
+    let before = parted rules start through.0 earlier turns through.1 in
+    (answers rules s text n before.0 through.0 turns rows before.2 h).whole

@@ -83,7 +83,7 @@ module _ (rules : Rules) (s : ℕ) (text : Bytes) (n : ℕ) (start : World) wher
       closed_in _ _ (cursor_at rules s text l.earlier h.opened rows) refl l.effect closing
       (subst (λ (x : Session). ClosesQuery x x.transaction closing l.effect) same l.call.replies)
 
-  closed_behind : (others : List Exchange) (rows : List Row) (closing : Reply) (moments : List Moment) (end : World)
+  pub closed_behind : (others : List Exchange) (rows : List Row) (closing : Reply) (moments : List Moment) (end : World)
       → (l : Latest rules s Asked.Close closing others moments start end)
       → (h : IsTaking rules s text l.earlier rows l.moment.before)
       → get end.sessions s ≡ Some (slot rules s text l.earlier h.opened None)

@@ -7,3 +7,4 @@ pub mod Wholes
 pub mod Ends
 pub mod Openings
 pub mod AllTurns
+pub mod Behind

@@ -1,19 +1,20 @@
 -- The first turn, where it is refused.
-use Rattle.std.proofs.Common.{◌≡◌, ℕ, List, Some, refl, sym, subst}
+use Rattle.std.proofs.Common.{◌≡◌, ℕ, true, List, Some, is_some, refl, sym, ap, ◌∙◌, subst}
 use Rattle.std.specs.FinMap.{get}
 use Rattle.refusals.specs.declared.refusal.Refusal.{Refusal}
 use Rattle.lexer.specs.Token.{Bytes}
 use Rattle.ast.specs.declared.statement.Statement.TheVariants as asks
 use Rattle.replies.specs.declared.reply.Reply.TheVariants as says
+use Rattle.session_definitions.specs.Asked.{Asked}
 use Rattle.session_definitions.specs.Calls.{OpensQuery}
-use Rattle.session_definitions.specs.Effect.{Effect}
+use Rattle.session_definitions.specs.Effect.{Effect, after}
 use Rattle.session_definitions.specs.Refusals.{IsReserved}
 use Rattle.session_definitions.specs.Rules.{Rules}
 use Rattle.session_definitions.specs.Run.{Moment}
 use Rattle.session_definitions.specs.Statements.{Queries}
-use Rattle.session_definitions.specs.Step.{Replies}
+use Rattle.session_definitions.specs.Step.{Call, Replies}
 use Rattle.session_definitions.specs.Transactions.{begun, obstacle}
-use Rattle.session_definitions.specs.World.{Session}
+use Rattle.session_definitions.specs.World.{Session, World, is_live}
 use Rattle.turn_laws.specs.Answered.{CouldBeTold, HasFirst, IsRefused}
 
 same_refusal : (one other : Refusal) → says.Refused one ≡ says.Refused other → other ≡ one
@@ -53,3 +54,13 @@ module _ (rules : Rules) (s : ℕ) (text : Bytes) (moments : List Moment) (turn 
   first_leaves (OpensQuery.wrong x told read free why r) = r.leaves_all
   first_leaves (OpensQuery.opens x query outcome read free means same done e) = absurd (never_done refusal done)
   first_leaves (OpensQuery.withheld told of r) = r.leaves_all
+
+-- the world stays as it was, and with it the session, also behind further events of others
+pub first_left : (rules : Rules) (s : ℕ) (text : Bytes) (old behind end : World) (refusal : Refusal) (effect : Effect)
+    → Call rules old s (Asked.Query text) (says.Refused refusal) effect behind
+    → effect ≡ Effect.Nothing
+    → (is_live behind s ≡ true → get end.sessions s ≡ get behind.sessions s)
+    → get end.sessions s ≡ get old.sessions s
+first_left rules s text old behind end refusal effect call nothing kept =
+    let same : behind ≡ old = call.leaves ∙ ap (after old s call.session) nothing in
+    kept (ap (λ (w : World). is_live w s) same ∙ ap is_some call.stands) ∙ ap (λ (w : World). get w.sessions s) same

@@ -57,3 +57,8 @@ pub record HasClosed (w : World) (s : ℕ) : Type 0 where
   pub transaction : Transaction
   pub has : session.transaction ≡ Some transaction
   pub closed : transaction.unnamed ≡ None
+
+-- the session is as it was before the first of its turns
+pub record IsAsBefore (s : ℕ) (text : Bytes) (moments : List Moment) (end : World) : Type 0 where
+  pub turn : HasFirst s text moments
+  pub same : get end.sessions s ≡ get turn.first.before.sessions s

@@ -1,4 +1,3 @@
-use Rattle.turn_laws.proofs.AllTurns.{answers}
 use Rattle.turn_laws.proofs.Parts.{parted}
 use Rattle.turn_laws.proofs.laws.parts_of_runs_are_runs.Goals as goal
 
