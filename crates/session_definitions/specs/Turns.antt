@@ -28,9 +28,9 @@ pub data AreTaken (text : Bytes) (n : ℕ) : List Exchange → List Row → Type
   more : (earlier : List Exchange) (before rows : List Row) → AreTaken text n earlier before → length rows ≡ n
       → AreTaken text n (exchange (Asked.Rows n) (says.Rows rows) ∷ earlier) (before ++ rows)
 
--- The exchanges of a query in turns, the latest of which stands first, and the reply that the caller
--- puts together from them: all rows, where a turn gave fewer than n, behind which the query was
--- closed; or the first refusal, behind which nothing was asked.
+-- The exchanges of a query in turns, the latest of which stands first, and the reply that the
+-- caller puts together from them: all rows, where a turn gave fewer than n, behind which the query
+-- was closed; or the first refusal, behind which nothing was asked.
 pub data InTurns (text : Bytes) (n : ℕ) : List Exchange → Reply → Type 0 where
   not_opened : (refusal : Refusal)
       → InTurns text n (exchange (Asked.Query text) (says.Refused refusal) ∷ []) (says.Refused refusal)

@@ -14,7 +14,7 @@ use Rattle.turn_laws.proofs.Ends.{broken, closed, closed_behind, closing_so, giv
 use Rattle.turn_laws.proofs.Latest.{Latest, latest, stands_in}
 use Rattle.turn_laws.proofs.Openings.{first_leaves, first_left}
 use Rattle.turn_laws.proofs.Taking.{IsTaking, first_among, first_here, slot, taking}
-use Rattle.turn_laws.specs.Answered.{HasClosed, HasFirst, IsAsBefore}
+use Rattle.turn_laws.specs.Answered.{HasClosed, IsAsBefore}
 
 same_asked : (e f : Exchange) (es fs : List Exchange) → e ∷ es ≡ f ∷ fs → e.asked ≡ f.asked
 same_asked e f es fs h = let first : e ≡ f = cc in ap (λ (x : Exchange). x.asked) first

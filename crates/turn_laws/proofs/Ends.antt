@@ -1,32 +1,28 @@
 -- The last turns of a query.
-use Rattle.std.proofs.Common.{◌≡◌, ◌⊎◌, ◌<◌, ℕ, true, false, is_some, List, [], ◌∷◌, ◌++◌, length, Option, Some, None, refl, sym, ap, ◌∙◌, subst, inl, inr}
+use Rattle.std.proofs.Common.{◌≡◌, ◌⊎◌, ◌<◌, ℕ, true, List, [], ◌∷◌, ◌++◌, length, Some, None, refl, sym, subst, inl, inr}
 use Rattle.std.proofs.lemmas.List.Elements.{Contains-append_right}
 use Rattle.std.specs.FinMap.{get}
 use Rattle.std.specs.Prelude.{Contains}
 use Rattle.sqlval.specs.Value.{Row}
 use Rattle.refusals.specs.declared.refusal.Refusal.{Refusal}
 use Rattle.lexer.specs.Token.{Bytes}
-use Rattle.ast.specs.declared.statement.Statement.TheVariants as asks
 use Rattle.denote.specs.declared.fault.Fault.{Fault}
 use Rattle.replies.specs.declared.reply.Reply.{Reply}
 use Rattle.replies.specs.declared.reply.Reply.TheVariants as says
 use Rattle.session_definitions.specs.Asked.{Asked}
-use Rattle.session_definitions.specs.Calls.{OpensQuery, ClosesQuery, ClosesQueryIn}
-use Rattle.session_definitions.specs.Cursor.{IsAtEnd, MayRaise}
-use Rattle.session_definitions.specs.Effect.{Effect, after}
-use Rattle.session_definitions.specs.Refusals.{IsReserved, Refuses, refusal_of}
+use Rattle.session_definitions.specs.Calls.{ClosesQuery}
+use Rattle.session_definitions.specs.Cursor.{IsAtEnd}
+use Rattle.session_definitions.specs.Effect.{Effect}
+use Rattle.session_definitions.specs.Refusals.{IsReserved, refusal_of}
 use Rattle.session_definitions.specs.Rules.{Rules}
-use Rattle.session_definitions.specs.Run.{Event, Moment, Run}
-use Rattle.session_definitions.specs.Statements.{Queries}
-use Rattle.session_definitions.specs.Step.{Call, Replies}
-use Rattle.session_definitions.specs.Transactions.{begun, obstacle}
-use Rattle.session_definitions.specs.Turns.{AreTaken, Exchange, InTurns, TakesTurns, exchange, exchanges_in}
+use Rattle.session_definitions.specs.Run.{Moment}
+use Rattle.session_definitions.specs.Turns.{Exchange}
 use Rattle.session_definitions.specs.World.{Session, World, is_live}
 use Rattle.turn_laws.proofs.Latest.{Latest, still}
-use Rattle.turn_laws.proofs.Taking.{IsTaking, Opened, as_left, became, cursor_at, first_here, first_among, opened_among, slot, taken_more, taken_so, taking, taking_later}
+use Rattle.turn_laws.proofs.Taking.{IsTaking, Opened, as_left, became, cursor_at, opened_among, slot, taken_more, taken_so, taking_later}
 use Rattle.turn_laws.proofs.Turning.{closed_in, refused_in}
 use Rattle.turn_laws.proofs.Wholes.{answered, faulted}
-use Rattle.turn_laws.specs.Answered.{CouldBeTold, HasClosed, HasFirst, IsAnswered, IsRefused}
+use Rattle.turn_laws.specs.Answered.{CouldBeTold, HasClosed, IsAnswered, IsRefused}
 
 -- the query has been closed
 pub record HasTurned (rules : Rules) (s : ℕ) (text : Bytes) (moments : List Moment) (w : World) : Type 0 where
@@ -108,7 +104,7 @@ module _ (rules : Rules) (s : ℕ) (text : Bytes) (n : ℕ) (start : World) wher
       → HasBroken rules s text moments refusal end
   broken others before refusal moments end l h =
       let told = refused_in _ _ (cursor_at rules s text l.earlier h.opened before) refl l.effect n refusal
-          (taken_so rules s text l.earlier before l.moment.before h n (says.Refused refusal) l.effect l.behind l.call) in
+      (taken_so rules s text l.earlier before l.moment.before h n (says.Refused refusal) l.effect l.behind l.call) in
       record {
         turned = turned_later rules s text l.earlier moments l.behind end
             (before_it rules s (Asked.Rows n) (says.Refused refusal) others moments start end l) l.kept

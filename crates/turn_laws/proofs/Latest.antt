@@ -1,5 +1,5 @@
 -- The latest call of a session among the moments of a run.
-use Rattle.std.proofs.Common.{◌≡◌, ◌<◌, ℕ, Bool, true, false, not, ◌&&◌, is_some, Some, List, [], ◌∷◌, ◌++◌, refl, sym, ap, ◌∙◌, subst, arith}
+use Rattle.std.proofs.Common.{◌≡◌, ℕ, Bool, true, false, not, ◌&&◌, is_some, Some, List, [], ◌∷◌, ◌++◌, refl, sym, ap, ◌∙◌, subst}
 use Rattle.std.proofs.lemmas.List.Elements.{Contains-append_right}
 use Rattle.std.specs.FinMap.{get}
 use Rattle.std.specs.List.{list_all}
@@ -18,8 +18,8 @@ use Rattle.turn_laws.proofs.Slots.{IsOf, others_leave, whose}
 abbrev pub stands_in : ℕ → List Moment → Bool
 stands_in s moments = list_all (λ (moment : Moment). not (is_end_of s moment.event)) moments
 
--- Of these moments, the run to `end`: the latest call, which this exchange was; what happened before
--- it; and that what happened since left the session as it was.
+-- Of these moments, the run to `end`: the latest call, which this exchange was; what happened
+-- before it; and that what happened since left the session as it was.
 pub record Latest (rules : Rules) (s : ℕ) (asked : Asked) (reply : Reply) (others : List Exchange) (moments : List Moment) (start end : World) : Type 0 where
   pub moment : Moment
   pub earlier : List Moment
@@ -55,11 +55,11 @@ module _ (rules : Rules) (s : ℕ) (asked : Asked) (reply : Reply) (others : Lis
       → Latest rules s asked reply others (moment ∷ earlier) start end
   own_latest moment earlier end told said effect e one all run happens stood =
       let listed : exchange told said ∷ exchanges_in s earlier ≡ exchange asked reply ∷ others =
-          sym (ap (λ l. l ++ exchanges_in s earlier) one) ∙ all in
+      sym (ap (λ l. l ++ exchanges_in s earlier) one) ∙ all in
       let here : exchange told said ≡ exchange asked reply = cc in
       let there : exchanges_in s earlier ≡ others = cc in
       let is : moment.event ≡ Event.Calls s asked reply effect =
-          e ∙ ap (λ (x : Exchange). Event.Calls s x.asked x.reply effect) here in
+      e ∙ ap (λ (x : Exchange). Event.Calls s x.asked x.reply effect) here in
       record {
         moment = moment;
         earlier = earlier;

@@ -1,5 +1,5 @@
 -- Which events leave a session as it was.
-use Rattle.std.proofs.Common.{◌≡◌, ◌≢◌, ℕ, Bool, true, false, cond, List, [], ◌∷◌, Option, Some, None, Ok, Err, refl, sym, ap, ◌∙◌, is_some}
+use Rattle.std.proofs.Common.{◌≡◌, ◌≢◌, ℕ, Bool, true, false, cond, [], ◌∷◌, Some, None, Ok, Err, refl, sym, ap, ◌∙◌}
 use Rattle.std.proofs.lemmas.Bool.{eqb-true, eq-eqb, ne_eqb}
 use Rattle.std.proofs.lemmas.Cmp.{nat_cmp_total}
 use Rattle.std.specs.Cmp.{unsigned_tied}
@@ -8,11 +8,11 @@ use Rattle.std.specs.Ordering.{nat_cmp, eq_by_cmp}
 use Rattle.std.specs.Prelude.{◌==◌}
 use Rattle.replies.specs.declared.reply.Reply.{Reply}
 use Rattle.session_definitions.specs.Asked.{Asked}
-use Rattle.session_definitions.specs.Effect.{Effect, idle, committed, after}
+use Rattle.session_definitions.specs.Effect.{Effect, idle, after}
 use Rattle.session_definitions.specs.Rules.{Rules}
 use Rattle.session_definitions.specs.Run.{Event, Happens}
 use Rattle.session_definitions.specs.Turns.{exchange, exchange_in, is_end_of}
-use Rattle.session_definitions.specs.World.{Transaction, Session, World, is_live, is_writer, new_session}
+use Rattle.session_definitions.specs.World.{Session, World, is_live, is_writer, new_session}
 
 -- ---- look-ups after a change
 

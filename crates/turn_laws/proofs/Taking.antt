@@ -1,5 +1,5 @@
 -- What is known of a session while it takes a query in turns.
-use Rattle.std.proofs.Common.{◌≡◌, ◌<◌, ℕ, true, List, [], ◌∷◌, ◌++◌, length, is_some, Option, Some, None, refl, sym, ap, ◌∙◌, subst, arith}
+use Rattle.std.proofs.Common.{◌≡◌, ◌<◌, ℕ, true, List, [], ◌∷◌, ◌++◌, length, Option, Some, None, refl, sym, ap, ◌∙◌, subst, arith}
 use Rattle.std.proofs.lemmas.List.Elements.{Contains-append_right}
 use Rattle.std.specs.FinMap.{get}
 use Rattle.std.specs.Prelude.{Contains}
@@ -77,7 +77,11 @@ not_refused refusal e = cc
 abbrev pub first_among : (s : ℕ) (text : Bytes) (few all : List Moment) → ((x : Moment) → Contains few x → Contains all x) → HasFirst s text few
     → HasFirst s text all
 first_among s text few all within h = record {
-  first = h.first; among = within h.first h.among; opening = h.opening; effect = h.effect; opens = h.opens;
+  first = h.first;
+  among = within h.first h.among;
+  opening = h.opening;
+  effect = h.effect;
+  opens = h.opens;
 }
 
 abbrev pub opened_among : (rules : Rules) (s : ℕ) (text : Bytes) (few all : List Moment) → ((x : Moment) → Contains few x → Contains all x)

@@ -1,5 +1,5 @@
 -- What one turn tells and leaves, where the query is open.
-use Rattle.std.proofs.Common.{◌≡◌, ◌⊎◌, ℕ, ◌<◌, List, ◌++◌, length, Some, None, refl, sym, ap, ◌∙◌, subst, inl, inr, arith}
+use Rattle.std.proofs.Common.{◌≡◌, ◌⊎◌, ℕ, ◌<◌, List, length, Some, None, ap, ◌∙◌, subst, inl, inr, arith}
 use Rattle.sqlval.specs.Value.{Row}
 use Rattle.refusals.specs.declared.refusal.Refusal.{Refusal}
 use Rattle.denote.specs.declared.fault.Fault.{Fault}
@@ -20,18 +20,16 @@ module _ (session : Session) (t : Transaction) (cursor : Cursor) (has : t.unname
   given_in n rows (TakesIn.not_open none r) = cc
   given_in n rows (TakesIn.all other given is may long says e) =
       let same : other ≡ cursor = cc in
-      let told : given ≡ rows = cc in
-      (
+      let told : given ≡ rows = cc in (
         e ∙ ap (λ c. Effect.Becomes (active session (with_unnamed t (Some (having_given c given))))) same
-        ∙ ap (λ g. Effect.Becomes (active session (with_unnamed t (Some (having_given cursor g))))) told,
+            ∙ ap (λ g. Effect.Becomes (active session (with_unnamed t (Some (having_given cursor g))))) told,
         λ few. let l : length given ≡ length rows = ap length told in absurd (omega arith),
       )
   given_in n rows (TakesIn.fewer other given is few end says e) =
       let same : other ≡ cursor = cc in
-      let told : given ≡ rows = cc in
-      (
+      let told : given ≡ rows = cc in (
         e ∙ ap (λ c. Effect.Becomes (active session (with_unnamed t (Some (having_given c given))))) same
-        ∙ ap (λ g. Effect.Becomes (active session (with_unnamed t (Some (having_given cursor g))))) told,
+            ∙ ap (λ g. Effect.Becomes (active session (with_unnamed t (Some (having_given cursor g))))) told,
         λ less. subst (λ c. IsAtEnd (having_given c rows)) same (subst (λ g. IsAtEnd (having_given other g)) told end),
       )
   given_in n rows (TakesIn.raises other fault is some may says e) = cc

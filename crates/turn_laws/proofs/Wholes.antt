@@ -1,9 +1,8 @@
 -- What the whole text could have been told in the world of the first turn.
-use Rattle.std.proofs.Common.{◌≡◌, ◌<◌, ℕ, true, List, [], ◌∷◌, length, Option, Some, None, Ok, Err, refl, sym, ap, ◌∙◌, subst, arith}
+use Rattle.std.proofs.Common.{◌≡◌, ◌<◌, ℕ, List, [], ◌∷◌, length, Some, None, Ok, refl, sym, ap, ◌∙◌, subst, arith}
 use Rattle.std.specs.FinMap.{get}
 use Rattle.std.specs.Prelude.{Contains, IsSorted}
 use Rattle.sqlval.specs.Value.{Row}
-use Rattle.refusals.specs.declared.refusal.Refusal.{Refusal}
 use Rattle.lexer.specs.Token.{Bytes}
 use Rattle.ast.specs.declared.statement.Statement.TheVariants as asks
 use Rattle.denote.specs.Answer.{Answers, by_keys}
@@ -11,11 +10,9 @@ use Rattle.denote.specs.Bag.{Permutes, HasSame}
 use Rattle.denote.specs.Outcome.{OrderedOutcome}
 use Rattle.denote.specs.Query.{denotes}
 use Rattle.denote.specs.declared.fault.Fault.{Fault}
-use Rattle.replies.specs.declared.reply.Reply.{Reply}
 use Rattle.replies.specs.declared.reply.Reply.TheVariants as says
 use Rattle.operator_laws.proofs.Permuting.{Permutes-sym}
-use Rattle.session_definitions.specs.Asked.{Asked}
-use Rattle.session_definitions.specs.Cursor.{IsAtEnd, MayRaise}
+use Rattle.session_definitions.specs.Cursor.{IsAtEnd}
 use Rattle.session_definitions.specs.Effect.{Effect, after}
 use Rattle.session_definitions.specs.Refusals.{refusal_of}
 use Rattle.session_definitions.specs.Rules.{Rules}
@@ -53,14 +50,17 @@ module _ (rules : Rules) (s : ℕ) (text : Bytes) (moments : List Moment) (o : O
     whole = record {
       turn = o.turn;
       left = after o.turn.first.before s o.session (Effect.Becomes (active o.session (found rules s text moments o)));
-      told = (Effect.Becomes (active o.session (found rules s text moments o)), record {
-        session = o.session;
-        stands = o.stood;
-        replies = Replies.carried_out (asks.Query o.x) o.read
-            (Queries.gives o.query rows o.means
-            (answers_query o.outcome (denotes (found rules s text moments o).working o.query) rows o.same ended) refl refl);
-        leaves = refl;
-      });
+      told = (
+        Effect.Becomes (active o.session (found rules s text moments o)),
+        record {
+          session = o.session;
+          stands = o.stood;
+          replies = Replies.carried_out (asks.Query o.x) o.read
+              (Queries.gives o.query rows o.means
+              (answers_query o.outcome (denotes (found rules s text moments o).working o.query) rows o.same ended) refl refl);
+          leaves = refl;
+        },
+      );
     };
     same = stands
         ∙ ap (λ c. Some (active o.session (with_unnamed (found rules s text moments o) c))) (sym o.free)
@@ -72,11 +72,14 @@ module _ (rules : Rules) (s : ℕ) (text : Bytes) (moments : List Moment) (o : O
   faulted fault may = record {
     turn = o.turn;
     left = o.turn.first.before;
-    told = (Effect.Nothing, record {
-      session = o.session;
-      stands = o.stood;
-      replies = Replies.carried_out (asks.Query o.x) o.read
-          (Queries.raises o.query fault o.means ((o.same.unordered.faults fault).0 may) (record { says_so = refl; leaves_all = refl }));
-      leaves = refl;
-    });
+    told = (
+      Effect.Nothing,
+      record {
+        session = o.session;
+        stands = o.stood;
+        replies = Replies.carried_out (asks.Query o.x) o.read
+            (Queries.raises o.query fault o.means ((o.same.unordered.faults fault).0 may) (record { says_so = refl; leaves_all = refl }));
+        leaves = refl;
+      },
+    );
   }

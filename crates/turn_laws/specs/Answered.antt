@@ -27,7 +27,8 @@ pub record HasFirst (s : ℕ) (text : Bytes) (moments : List Moment) : Type 0 wh
   pub effect : Effect
   pub opens : first.event ≡ Event.Calls s (Asked.Query text) opening effect
 
--- In the world of the first turn the session, asked the whole text, could have been told this reply.
+-- In the world of the first turn the session, asked the whole text, could have been told this
+-- reply.
 pub record CouldBeTold (rules : Rules) (s : ℕ) (text : Bytes) (moments : List Moment) (reply : Reply) : Type 0 where
   pub turn : HasFirst s text moments
   pub left : World
@@ -39,8 +40,8 @@ pub record IsAnswered (rules : Rules) (s : ℕ) (text : Bytes) (moments : List M
   pub same : get end.sessions s ≡ get whole.left.sessions s
 
 -- Why the turns were refused: as the whole text could have been at the first turn; or by one that
--- may stand in place of nearly any reply; or since the text is another statement, or a query without
--- a name was open before.
+-- may stand in place of nearly any reply; or since the text is another statement, or a query
+-- without a name was open before.
 pub data IsRefused (rules : Rules) (s : ℕ) (text : Bytes) (moments : List Moment) (refusal : Refusal) : Type 0 where
   as_whole : CouldBeTold rules s text moments (says.Refused refusal) → IsRefused rules s text moments refusal
   withheld : IsReserved refusal → IsRefused rules s text moments refusal

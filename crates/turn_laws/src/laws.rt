@@ -30,11 +30,11 @@ pub fn parts_of_runs_are_runs()
         → (mid : World) × Run rules start earlier mid × Run rules mid later end }
 {}
 
-/// The rows of a query in turns are what the whole text could have been told at the first turn, over
-/// the tables that the session saw there; and the session is left as that would have left it. A
-/// refusal is one that the whole text could have been told, or want of memory, the device or a limit
-/// of the store; or it came at the first turn, of a text that is no query, or since another one was
-/// open. What happened between, and before and after, is no matter.
+/// The rows of a query in turns are what the whole text could have been told at the first turn,
+/// over the tables that the session saw there; and the session is left as that would have left it.
+/// A refusal is one that the whole text could have been told, or want of memory, the device or a
+/// limit of the store; or it came at the first turn, of a text that is no query, or since another
+/// one was open. What happened between, and before and after, is no matter.
 pub fn turns_answer_the_query()
     ensures rows { (rules : Rules) (s : ℕ) (text : Bytes) (n : ℕ) (start end : World) (turns : List Moment) (rows : List Row)
         → Run rules start turns end
