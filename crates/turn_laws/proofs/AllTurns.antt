@@ -15,7 +15,7 @@ use Rattle.turn_laws.proofs.Latest.{Latest, latest, stands_in}
 use Rattle.turn_laws.proofs.Openings.{first_refused}
 use Rattle.turn_laws.proofs.Parts.{parted}
 use Rattle.turn_laws.proofs.Taking.{first_among, first_here, taking}
-use Rattle.turn_laws.specs.Answered.{CouldBeTold, IsAnswered, IsRefused}
+use Rattle.turn_laws.specs.Answered.{CouldBeTold, IsAnswered, IsAtOnce, IsRefused}
 
 module _ (rules : Rules) (s : ℕ) (text : Bytes) (n : ℕ) (start : World) where
   -- the calls of which rows are put together, taken one by one from the last
@@ -49,11 +49,12 @@ module _ (rules : Rules) (s : ℕ) (text : Bytes) (n : ℕ) (start : World) wher
 
   refused_by_first : (refusal : Refusal) (moments : List Moment) (end : World)
       → (l : Latest rules s (Asked.Query text) (says.Refused refusal) [] moments start end)
+      → IsAtOnce s text moments refusal
       → IsRefused rules s text moments refusal
-  refused_by_first refusal moments end l =
+  refused_by_first refusal moments end l once =
       first_refused rules s text moments
       (first_among s text (l.moment ∷ l.earlier) moments l.within (first_here s text l.moment l.earlier (says.Refused refusal) l.effect l.is))
-      l.call.session l.call.stands refusal l.effect l.call.replies
+      l.call.session l.call.stands refusal l.effect l.call.replies once
 
   rows_told : (moments : List Moment) (end : World) (exchanges : List Exchange) (rows : List Row) → InTurns text n exchanges (says.Rows rows)
       → exchanges_in s moments ≡ exchanges → Run rules start moments end → stands_in s moments ≡ true
@@ -66,7 +67,7 @@ module _ (rules : Rules) (s : ℕ) (text : Bytes) (n : ℕ) (start : World) wher
       → exchanges_in s moments ≡ exchanges → Run rules start moments end → stands_in s moments ≡ true
       → IsRefused rules s text moments refusal
   refusal_told moments end exchanges refusal (InTurns.not_opened _) all run stands =
-      refused_by_first refusal moments end (latest rules s (Asked.Query text) (says.Refused refusal) [] start moments end all run stands)
+      refused_by_first refusal moments end (latest rules s (Asked.Query text) (says.Refused refusal) [] start moments end all run stands) all
   refusal_told moments end exchanges refusal (InTurns.refused earlier before _ taken) all run stands =
       refused_by_last earlier before refusal moments end taken
       (latest rules s (Asked.Rows n) (says.Refused refusal) earlier start moments end all run stands)

@@ -15,7 +15,7 @@ use Rattle.session_definitions.specs.Statements.{Queries}
 use Rattle.session_definitions.specs.Step.{Call, Replies}
 use Rattle.session_definitions.specs.Transactions.{begun, obstacle}
 use Rattle.session_definitions.specs.World.{Session, World, is_live}
-use Rattle.turn_laws.specs.Answered.{CouldBeTold, HasFirst, IsRefused}
+use Rattle.turn_laws.specs.Answered.{CouldBeTold, HasFirst, IsAtOnce, IsRefused}
 
 same_refusal : (one other : Refusal) → says.Refused one ≡ says.Refused other → other ≡ one
 same_refusal one other e = cc
@@ -35,17 +35,17 @@ module _ (rules : Rules) (s : ℕ) (text : Bytes) (moments : List Moment) (turn 
   }))
 
   pub first_refused : OpensQuery rules session (begun turn.first.before session) text (says.Refused refusal) effect
-      → IsRefused rules s text moments refusal
-  first_refused (OpensQuery.unread told why r) =
+      → IsAtOnce s text moments refusal → IsRefused rules s text moments refusal
+  first_refused (OpensQuery.unread told why r) once =
       as_replied told (same_refusal refusal told r.says_so) (Replies.unread told why (record { says_so = refl; leaves_all = refl }))
-  first_refused (OpensQuery.other x read differs r) = IsRefused.other x read differs (sym (same_refusal refusal _ r.says_so))
-  first_refused (OpensQuery.open_already x read has r) =
-      IsRefused.open_already turn session stood has (sym (same_refusal refusal _ r.says_so))
-  first_refused (OpensQuery.wrong x told read free why r) =
+  first_refused (OpensQuery.other x read differs r) once = IsRefused.other x read differs (sym (same_refusal refusal _ r.says_so)) once
+  first_refused (OpensQuery.open_already x read has r) once =
+      IsRefused.open_already turn session stood has (sym (same_refusal refusal _ r.says_so)) once
+  first_refused (OpensQuery.wrong x told read free why r) once =
       as_replied told (same_refusal refusal told r.says_so)
       (Replies.carried_out (asks.Query x) read (Queries.wrong told why (record { says_so = refl; leaves_all = refl })))
-  first_refused (OpensQuery.opens x query outcome read free means same done e) = absurd (never_done refusal done)
-  first_refused (OpensQuery.withheld told of r) = IsRefused.withheld (subst IsReserved (same_refusal refusal told r.says_so) of)
+  first_refused (OpensQuery.opens x query outcome read free means same done e) once = absurd (never_done refusal done)
+  first_refused (OpensQuery.withheld told of r) once = IsRefused.withheld (subst IsReserved (same_refusal refusal told r.says_so) of)
 
   pub first_leaves : OpensQuery rules session (begun turn.first.before session) text (says.Refused refusal) effect → effect ≡ Effect.Nothing
   first_leaves (OpensQuery.unread told why r) = r.leaves_all

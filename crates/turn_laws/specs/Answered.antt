@@ -1,5 +1,5 @@
 -- What the turns of a query come to, said by one call of its whole text.
-use Rattle.std.specs.Prelude.{◌≡◌, ℕ, true, false, List, is_some, Some, None, Contains}
+use Rattle.std.specs.Prelude.{◌≡◌, ℕ, true, false, List, [], ◌∷◌, is_some, Some, None, Contains}
 use Rattle.std.specs.FinMap.{get}
 use Rattle.refusals.specs.declared.reason.Reason.TheVariants as reason
 use Rattle.refusals.specs.declared.refusal.Refusal.{Refusal}
@@ -17,6 +17,7 @@ use Rattle.session_definitions.specs.Rules.{Rules}
 use Rattle.session_definitions.specs.Run.{Event, Moment}
 use Rattle.session_definitions.specs.Step.{Step}
 use Rattle.session_definitions.specs.Transactions.{begun}
+use Rattle.session_definitions.specs.Turns.{exchange, exchanges_in}
 use Rattle.session_definitions.specs.World.{Session, Transaction, World}
 
 -- One of these moments is the first turn, at which the session was asked to open the query.
@@ -39,16 +40,22 @@ pub record IsAnswered (rules : Rules) (s : ℕ) (text : Bytes) (moments : List M
   pub whole : CouldBeTold rules s text moments reply
   pub same : get end.sessions s ≡ get whole.left.sessions s
 
+-- the first turn was refused, and nothing else was asked
+abbrev pub IsAtOnce : ℕ → Bytes → List Moment → Refusal → Type 0
+IsAtOnce s text moments refusal = exchanges_in s moments ≡ exchange (Asked.Query text) (says.Refused refusal) ∷ []
+
 -- Why the turns were refused: as the whole text could have been at the first turn; or by one that
--- may stand in place of nearly any reply; or since the text is another statement, or a query
--- without a name was open before.
+-- may stand in place of nearly any reply; or at once, since the text is another statement, or a
+-- query without a name was open before.
 pub data IsRefused (rules : Rules) (s : ℕ) (text : Bytes) (moments : List Moment) (refusal : Refusal) : Type 0 where
   as_whole : CouldBeTold rules s text moments (says.Refused refusal) → IsRefused rules s text moments refusal
   withheld : IsReserved refusal → IsRefused rules s text moments refusal
   other : (x : Statement) → IsRead text x → is_query x ≡ false → refusal ≡ Invalid reason.Syntax
+      → IsAtOnce s text moments refusal
       → IsRefused rules s text moments refusal
   open_already : (turn : HasFirst s text moments) (session : Session) → get turn.first.before.sessions s ≡ Some session
       → is_some (begun turn.first.before session).unnamed ≡ true → refusal ≡ CursorState
+      → IsAtOnce s text moments refusal
       → IsRefused rules s text moments refusal
 
 -- the session has a transaction, in which no query without a name is open
