@@ -1,0 +1,10 @@
+pub mod Slots
+pub mod Parts
+pub mod Turning
+pub mod Latest
+pub mod Taking
+pub mod Wholes
+pub mod Ends
+pub mod Openings
+pub mod AllTurns
+pub mod Behind
