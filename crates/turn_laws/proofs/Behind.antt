@@ -8,7 +8,7 @@ use Rattle.replies.specs.declared.reply.Reply.TheVariants as says
 use Rattle.session_definitions.specs.Asked.{Asked}
 use Rattle.session_definitions.specs.Rules.{Rules}
 use Rattle.session_definitions.specs.Run.{Moment, Run}
-use Rattle.session_definitions.specs.Turns.{AreTaken, Exchange, InTurns, TakesTurns, exchange, exchanges_in}
+use Rattle.turn_laws.specs.Turns.{AreTaken, Exchange, InTurns, TakesTurns, exchange, exchanges_in}
 use Rattle.session_definitions.specs.World.{World}
 use Rattle.turn_laws.proofs.Ends.{broken, closed, closed_behind, closing_so, given_all}
 use Rattle.turn_laws.proofs.Latest.{Latest, latest, stands_in}

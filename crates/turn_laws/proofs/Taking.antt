@@ -24,7 +24,7 @@ use Rattle.session_definitions.specs.Run.{Event, Moment, Run}
 use Rattle.session_definitions.specs.Statements.{IsSameOutcome}
 use Rattle.session_definitions.specs.Step.{Call}
 use Rattle.session_definitions.specs.Transactions.{active, begun, with_unnamed}
-use Rattle.session_definitions.specs.Turns.{AreTaken, Exchange, exchanges_in}
+use Rattle.turn_laws.specs.Turns.{AreTaken, Exchange, exchanges_in}
 use Rattle.session_definitions.specs.World.{Cursor, Session, Transaction, World, is_live}
 use Rattle.turn_laws.proofs.Latest.{Latest, latest, stands_in, still}
 use Rattle.turn_laws.proofs.Slots.{get_here}
