@@ -1,0 +1,10 @@
+mod Attempts
+mod Bounded
+mod Chosen
+mod Filtering
+mod Joining
+mod Looking
+mod Nodes
+mod Opening
+mod Sources
+mod Stays

@@ -1,0 +1,3 @@
+pub mod Attempted
+pub mod Ends
+pub mod Found
