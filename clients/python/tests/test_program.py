@@ -1,6 +1,7 @@
 """What the program does with its standard streams and with FILE, of which no contract says anything:
 closed streams, files that are no regular files, and FILE that is one of the streams."""
 import os
+import socket
 import subprocess
 import tempfile
 import unittest
@@ -74,6 +75,11 @@ class Program(unittest.TestCase):
     def test_pipe_is_refused(self):
         os.mkfifo(self.file)
         self.assert_refused(self.file)
+
+    def test_socket_is_refused(self):
+        with socket.socket(socket.AF_UNIX) as held:
+            held.bind(self.file)
+            self.assert_refused(self.file)
 
     def test_device_is_refused(self):
         self.assert_refused("/dev/null")
