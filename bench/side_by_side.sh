@@ -103,6 +103,13 @@ widest_query > deep.sql
 } > wanted
 same "the widest query over eight tables" 0 deep.sql
 
+"$program" one.sql >&- 2> err
+found=$?
+if [ "$found" = 3 ]; then echo "closed output: as it should be"; else echo "closed output: status $found"; failed=1; fi
+"$program" one.sql > wanted
+"$program" one.sql > out 2>&- <&-
+found=$?
+if [ "$found" = 0 ] && diff out wanted; then echo "other streams closed: as it should be"; else echo "other streams closed: status $found"; failed=1; fi
 "$program" one.sql > /dev/full 2> err
 found=$?
 if [ "$found" = 3 ]; then echo "output that is refused: as it should be"; else echo "output that is refused: status $found"; failed=1; fi
