@@ -3,3 +3,5 @@ pub mod Named
 pub mod Reaching
 pub mod Given
 pub mod Listed
+pub mod Fitted
+pub mod Inserted

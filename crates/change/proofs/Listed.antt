@@ -43,17 +43,11 @@ use Rattle.query_answers.specs.Refused.{GivesFaults, MayRefuse}
 use Rattle.query_answers.specs.Sources.{AreTreesOf, tables_in_row, tables_in_rows}
 use Rattle.constraints.specs.Changed.{RefusesChange}
 use Rattle.table_changes.specs.Given.{AreGiven}
-use Rattle.change.specs.Listed.{constants, constants_of}
+use Rattle.change.specs.Listed.{constants, constants_of, typed_row, typed_rows}
 use Rattle.change.specs.Sources.{stored_of}
 use Rattle.change.proofs.Given.{raised_in, refuses_as}
 
 -- ---- rows as sources
-
-abbrev pub typed_row : Row → List typed_expression.Expression
-typed_row row = map (λ value. typed.Constant value) row
-
-abbrev pub typed_rows : List Row → List (List typed_expression.Expression)
-typed_rows rows = map typed_row rows
 
 -- what a schema knows of a table has the table's name
 pub described_named : (schema : Schema) (name : List ℕ) → (described_in schema name).name ≡ name

@@ -1,3 +1,5 @@
 pub mod Sources
 pub mod Listed
 pub mod Reached
+pub mod Fits
+pub mod Given

@@ -56,7 +56,7 @@ pub(crate) fn insert<S: Store>(
         Err(refusal) => return Err(refusal),
     };
     match rows_of(alloc, store, insert, &checks) {
-        Ok(rows) => insert_rows(alloc, store, insert, rows, &checks),
+        Ok(rows) => insert_rows(alloc, store, &insert.table, rows, &checks),
         Err(refusal) => Err(refusal),
     }
 }

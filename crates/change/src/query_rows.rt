@@ -77,7 +77,8 @@ pub(crate) fn query_rows<S: Store>(
             stored_rows(
                 alloc,
                 store.schema(),
-                insert,
+                &insert.table,
+                &insert.columns,
                 checks,
                 &nothing,
                 sources.as_slice(),
@@ -133,7 +134,7 @@ fn listed_sources(alloc: Global, listed: Listed) -> Result<Items<Items<Expressio
 }
 
 /// Rows as sources, each value a constant.
-fn constants(alloc: Global, rows: Rows) -> Result<Items<Items<Expression>>, AllocError>
+pub(crate) fn constants(alloc: Global, rows: Rows) -> Result<Items<Items<Expression>>, AllocError>
     ensures { IfOk result (λ sources. sources ≡ constants rows) }
 {
     let mut sources = Items::new(alloc);

@@ -17,7 +17,7 @@ ghost use Rattle.store.specs.Errors.{HasRisen};
 ghost use Rattle.store.specs.Going.{Going};
 ghost use Rattle.transactions.specs.Refused.{TellsNoLimit};
 ghost use Rattle.constraints.specs.Changed.{RefusesChange};
-ghost use Rattle.table_changes.specs.Given.{AreGiven};
+ghost use Rattle.table_changes.specs.Given.{AreGiven, into};
 ghost use Rattle.check_constraints.specs.Conditions.{AreOfSome};
 ghost use Rattle.change.specs.Sources.{stored_of};
 
@@ -25,7 +25,7 @@ use algebra::Expression;
 use check_constraints::TableChecks;
 use constraints::table_named;
 use denote::Rows;
-use items::Items;
+use items::{Items, Text};
 use query_answers::{LentTables, rows_to_insert, source_trees, tables_for_sources};
 use refusals::Refusal;
 use sqlval::Schema;
@@ -68,7 +68,8 @@ pub(crate) fn value_rows<S: Store>(
         Ok(lent) => stored_rows(
             alloc,
             store.schema(),
-            insert,
+            &insert.table,
+            &insert.columns,
             checks,
             &lent,
             trees.as_slice(),
@@ -104,32 +105,33 @@ fn tables_named<S: Store>(
 pub(crate) fn stored_rows(
     alloc: Global,
     schema: &Schema,
-    insert: &Insert,
+    name: &Text,
+    columns: &Items<usize>,
     checks: &TableChecks,
     lent: &LentTables,
     trees: &[Items<Expression>],
 ) -> Result<Rows, Refusal>
     ensures gives { IfOk result (λ rows. (reading : CheckReading) (db : Database) (table : Table) (values : List (List Typed))
-        → IsSchemaOf schema.now db → get db insert.now.table ≡ Some table
-        → AreChecksOf (checks_of reading insert.now.table table) checks.now.conditions → AreTreesOf values trees.now
+        → IsSchemaOf schema.now db → get db name.now ≡ Some table
+        → AreChecksOf (checks_of reading name.now table) checks.now.conditions → AreTreesOf values trees.now
         → Agree (rows_lent lent.now.tables) (rows_in db) (tables_in_rows trees.now)
-        → Stores rows (stored_of reading db insert.now table (from.Values values))) }
+        → Stores rows (stored_of reading db (into name.now columns.now (from.Values values)) table (from.Values values))) }
     ensures refused { IfErr result (λ refusal. (reading : CheckReading) (db : Database) (table : Table) (values : List (List Typed))
-        → IsSchemaOf schema.now db → get db insert.now.table ≡ Some table
-        → AreChecksOf (checks_of reading insert.now.table table) checks.now.conditions → AreTreesOf values trees.now
+        → IsSchemaOf schema.now db → get db name.now ≡ Some table
+        → AreChecksOf (checks_of reading name.now table) checks.now.conditions → AreTreesOf values trees.now
         → Agree (rows_lent lent.now.tables) (rows_in db) (tables_in_rows trees.now)
-        → RefusesRows refusal (stored_of reading db insert.now table (from.Values values))) }
+        → RefusesRows refusal (stored_of reading db (into name.now columns.now (from.Values values)) table (from.Values values))) }
     ensures limits { IfErr result TellsNoLimit }
     ensures device { IfErr result (λ refusal. (values : List (List Typed)) → AreTreesOf values trees.now
         → AreOfSome checks.now.conditions → refusal ≢ Disk) }
 {
-    match table_named(schema, &insert.table) {
+    match table_named(schema, name) {
         Some(table) => rows_to_insert(
             alloc,
             lent,
             table,
             checks.conditions.as_slice(),
-            insert.columns.as_slice(),
+            columns.as_slice(),
             trees,
         ),
         None => Err(Refusal::Memory),

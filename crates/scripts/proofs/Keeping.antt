@@ -8,7 +8,7 @@ use Rattle.replies.specs.declared.reply.Reply.{Reply}
 use Rattle.session_definitions.specs.Asked.{Asked}
 use Rattle.session_definitions.specs.Rules.{Rules}
 use Rattle.session_definitions.specs.Run.{Event, MakesSession, DropsSession, Moment, Run}
-use Rattle.session_definitions.specs.Step.{Step}
+use Rattle.session_definitions.specs.Step.{Step, StepOf}
 use Rattle.session_definitions.specs.World.{Transaction, World, is_live}
 use Rattle.session_laws.specs.Sound.{IsGoodWorld}
 use Rattle.session_laws.proofs.GoodSteps.{good_drops, good_made_or_not}
@@ -86,13 +86,13 @@ module _ {S L D : Type 0} (is_sound : S → Type 0) (shows : S → Stored) (rule
 
   -- ---- calls
 
-  pub kept_step : KeepsGood rules → (old new : Core S L D) (session : SessionId) (text : Bytes) (reply : Reply)
+  pub kept_step : KeepsGood rules → (old new : Core S L D) (session : SessionId) (asked : Asked) (reply : Reply)
       → (IsSound is_sound shows old → is_live (world_of shows old) (number_of session) ≡ true → IsGood rules.check (seen_in (shows old.store) old.writer (number_of session))
-      → Step rules (world_of shows old) (number_of session) text reply (world_of shows new))
+      → StepOf rules (world_of shows old) (number_of session) asked reply (world_of shows new))
       → (IsSound is_sound shows old → IsGood rules.check (seen_in (shows old.store) old.writer (number_of session)) → IsSound is_sound shows new)
       → (is_live (world_of shows old) (number_of session) ≡ false → new ≡ old)
       → IsKept is_sound shows rules.check old → IsKept is_sound shows rules.check new
-  kept_step keeps old new session text reply step sound ended h = by (is_live (world_of shows old) (number_of session)) refl
+  kept_step keeps old new session asked reply step sound ended h = by (is_live (world_of shows old) (number_of session)) refl
     where
       by : (b : Bool) → is_live (world_of shows old) (number_of session) ≡ b → IsKept is_sound shows rules.check new
       by true live =
@@ -100,7 +100,7 @@ module _ {S L D : Type 0} (is_sound : S → Type 0) (shows : S → Stored) (rule
           let steps = step h.sound live good in
           record {
             sound = sound h.sound good;
-            good = keeps (world_of shows old) (world_of shows new) (record { before = world_of shows old; event = Event.Calls (number_of session) (Asked.Text text) reply steps.0 } ∷ []) h.good (refl, steps.1);
+            good = keeps (world_of shows old) (world_of shows new) (record { before = world_of shows old; event = Event.Calls (number_of session) asked reply steps.0 } ∷ []) h.good (refl, steps.1);
           }
       by false dead = subst (λ (core : Core S L D). IsKept is_sound shows rules.check core) (sym (ended dead)) h
 

@@ -4,8 +4,6 @@ use Rattle.std.specs.FinMap.{get}
 use Rattle.refusals.specs.declared.refusal.Refusal.{Refusal}
 use Rattle.refusals.specs.declared.refusal.Refusal.TheVariants.{CursorState, TransactionState, SerializationFailure}
 use Rattle.lexer.specs.Token.{Bytes}
-use Rattle.ast.specs.declared.statement.AccessMode.{AccessMode}
-use Rattle.ast.specs.declared.statement.AccessMode.TheVariants.{ReadOnly, ReadWrite}
 use Rattle.ast.specs.declared.statement.Statement.{Statement}
 use Rattle.ast.specs.declared.statement.Statement.TheVariants as asks
 use Rattle.sqlval.specs.declared.schema.Schema.{Schema}
@@ -13,7 +11,6 @@ use Rattle.typing.specs.declared.statement.Change.{Change}
 use Rattle.typing.specs.declared.statement.Typed.{Typed}
 use Rattle.typing.specs.declared.statement.Typed.TheVariants as does
 use Rattle.typing.specs.Statement.{answered_found}
-use Rattle.denote.specs.Change.{changed, IsAccepted}
 use Rattle.denote.specs.Database.{Database, IsGood}
 use Rattle.denote.specs.SchemaOf.{IsSchemaOf}
 use Rattle.replies.specs.declared.reply.Reply.{Reply}
@@ -33,13 +30,12 @@ use Rattle.store.specs.Stored.{Found, Stored, SameButMark, begun, ended}
 use Rattle.transactions.specs.Moves.{IsClosedIn, Moves}
 use Rattle.transactions.specs.Orderly.{IsOrderly, is_too_late}
 use Rattle.transactions.specs.Shown.{Kept, opens_any, session_of, settled}
-use Rattle.transactions.proofs.Obstacles.{opens_in, runs, stop, stop_is}
-use Rattle.transactions.proofs.Orders.{begun_working, late_not_writer, same}
-use Rattle.transactions.proofs.Steps.{Answered, IsShut, changes, next_after, nothing_moves, rolls_back, sees_working, settled_declared, settled_mode, withholds}
+use Rattle.transactions.proofs.Obstacles.{runs, stop}
+use Rattle.transactions.proofs.Steps.{Answered, IsShut, withholds}
 use Rattle.sessions.specs.Changed.{HasChanged, MakesChange, RefusesChange, RefusesStatement}
 use Rattle.sessions.specs.Kinds.{is_change}
 use Rattle.sessions.specs.Seen.{seen_in}
-use Rattle.sessions.proofs.QuerySteps.{sees}
+use Rattle.sessions.proofs.ChangeCalls as calls
 use Rattle.sessions.proofs.Typings.{typed_change, means, Against, read_as}
 
 -- ---- over a version
@@ -95,79 +91,38 @@ pub no_fetch : (session : Session) (x : Statement) → is_change x ≡ true → 
 no_fetch session (asks.Fetch name) is = cc
 no_fetch session _ is = refl
 
-writes_on : (mode : AccessMode) (o : Option Found) → is_read_only mode ≡ false → mode ≡ next_after o mode
-writes_on ReadOnly o e = cc
-writes_on ReadWrite None e = refl
-writes_on ReadWrite (Some f) e = refl
+-- to answer as a change does is to answer the text that is read as it
+answers : (rules : Rules) (st : Stored) (w : Option ℕ) (s : ℕ) (kept : Kept) (text : Bytes) (x : Statement) → is_change x ≡ true → IsRead text x
+    → (reply : Reply) (effect : Effect) → Changes rules (session_of st w s kept) (runs st w s kept) (stop st w s kept) x reply effect
+    → Answered rules st w s kept (Asked.Text text) reply effect
+answers rules st w s kept text x is read reply effect made = Replies.carried_out x read (carried rules _ _ _ x _ _ is made)
 
 module _ (rules : Rules) (st : Stored) (w : Option ℕ) (s : ℕ) (kept : Kept) (text : Bytes) (x : Statement)
     (h : IsOrderly st w) (shut : IsClosedIn (get st.readers s) kept) (is : is_change x ≡ true) (read : IsRead text x) where
   pub only_reads : is_read_only kept.mode ≡ true → (new : Stored) → new ≡ st
       → Moves rules s text (says.Refused TransactionState) st w kept new w (settled (get new.readers s) kept)
-  only_reads reads new e =
-      let stopped : stop st w s kept ≡ Some TransactionState =
-      stop_is st w s kept ∙ ap (λ b. cond b (Some TransactionState) (cond (has_open (runs st w s kept)) (Some CursorState) (cond (is_too_late st w s) (Some SerializationFailure) None))) reads in
-      nothing_moves rules st w s kept (Asked.Text text) (says.Refused TransactionState) new h
-      (Replies.carried_out x read (carried rules _ _ _ x _ _ is (Changes.reads_only stopped (record { says_so = refl; leaves_all = refl })))) (same st new e)
+  only_reads = calls.only_reads rules rules st w s kept (Asked.Text text) x h shut (answers rules st w s kept text x is read)
 
   module _ (writes : is_read_only kept.mode ≡ false) (opened : Bool) (is_open : (contents : Contents) → opened ≡ opens_any kept contents) where
-    stop_by : (b : Bool) → opened ≡ b
-        → stop st w s kept ≡ cond b (Some CursorState) (cond (is_too_late st w s) (Some SerializationFailure) None)
-    stop_by b e =
-        stop_is st w s kept
-        ∙ ap (λ m. cond m (Some TransactionState) (cond (has_open (runs st w s kept)) (Some CursorState) (cond (is_too_late st w s) (Some SerializationFailure) None))) writes
-        ∙ ap (λ m. cond m (Some CursorState) (cond (is_too_late st w s) (Some SerializationFailure) None)) (sym (opens_in st w s kept opened is_open (get st.readers s) shut) ∙ e)
-
     pub beside_cursor : opened ≡ true → (new : Stored) → new ≡ st
         → Moves rules s text (says.Refused CursorState) st w kept new w (settled (get new.readers s) kept)
-    beside_cursor opened new e =
-        nothing_moves rules st w s kept (Asked.Text text) (says.Refused CursorState) new h
-        (Replies.carried_out x read (carried rules _ _ _ x _ _ is (Changes.has_cursor (stop_by true opened) (record { says_so = refl; leaves_all = refl })))) (same st new e)
+    beside_cursor = calls.beside_cursor rules rules st w s kept (Asked.Text text) x h shut (answers rules st w s kept text x is read) writes opened is_open
 
     pub comes_late : opened ≡ false → is_too_late st w s ≡ true → (new : Stored) → new ≡ ended st s
         → Moves rules s text (says.Refused SerializationFailure) st w kept new w (settled (get new.readers s) kept)
-    comes_late none late new e =
-        let stopped : stop st w s kept ≡ Some SerializationFailure = stop_by false none ∙ ap (λ b. cond b (Some SerializationFailure) None) late in
-        rolls_back rules st w s kept (settled (get new.readers s) kept) (Asked.Text text) (says.Refused SerializationFailure) new h (late_not_writer st w s late)
-        (record { declared = settled_declared (get new.readers s) kept; mode = settled_mode (get new.readers s) kept ∙ writes_on kept.mode (get st.readers s) writes })
-        (Replies.carried_out x read (carried rules _ _ _ x _ _ is (Changes.overtaken stopped refl refl))) e
+    comes_late = calls.comes_late rules rules st w s kept (Asked.Text text) x h shut (answers rules st w s kept text x is read) writes opened is_open
 
-    module _ (none : opened ≡ false) (free : is_too_late st w s ≡ false) where
-      free_to_change : stop st w s kept ≡ None
-      free_to_change = stop_by false none ∙ ap (λ b. cond b (Some SerializationFailure) None) free
+    module _ (none : opened ≡ false) (free : is_too_late st w s ≡ false) (mid : Stored) (begins : mid ≡ begun st s) where
+      pub good_begun : IsGood rules.check (seen_in st w s) → IsGood rules.check (database_of mid.working)
+      good_begun =
+          calls.good_begun rules rules st w s kept (Asked.Text text) x h shut (answers rules st w s kept text x is read) writes opened is_open none free mid begins rules.check
 
-      module _ (mid : Stored) (begins : mid ≡ begun st s) where
-        there : database_of mid.working ≡ (runs st w s kept).working
-        there = ap (λ (y : Stored). database_of y.working) begins ∙ ap database_of (begun_working st s) ∙ sym (sees_working st w s kept h free)
+      pub makes : IsShut kept → (reply : Reply) (new : Stored) → MakesChange rules mid x reply new
+          → Moves rules s text reply st w kept new (Some s) (settled (get new.readers s) kept)
+      makes = calls.makes rules rules st w s kept (Asked.Text text) x h shut (answers rules st w s kept text x is read) writes opened is_open none free mid begins
 
-        pub good_begun : IsGood rules.check (seen_in st w s) → IsGood rules.check (database_of mid.working)
-        good_begun good = subst (λ (db : Database). IsGood rules.check db) (sees st w s kept h ∙ sym there) good
-
-        pub makes : IsShut kept → (reply : Reply) (new : Stored) → MakesChange rules mid x reply new
-            → Moves rules s text reply st w kept new (Some s) (settled (get new.readers s) kept)
-        makes closed reply new made =
-            let m = made.made in
-            let accepted : IsAccepted (changed rules.check (runs st w s kept).working made.change) (database_of m.contents) m.count =
-            subst (λ (db : Database). IsAccepted (changed rules.check db made.change) (database_of m.contents) m.count) there m.accepted in
-            let stands_for : Means rules (runs st w s kept).working x (does.Change made.change) = subst (λ (db : Database). Means rules db x (does.Change made.change)) there made.means in
-            changes rules st w s kept (Asked.Text text) reply m.contents m.marked new h closed free
-            (Replies.carried_out x read (carried rules _ _ _ x _ _ is (Changes.makes made.change (database_of m.contents) m.count free_to_change stands_for accepted m.says_so refl)))
-            (m.leaves ∙ ap (λ (y : Stored). record y { working = m.contents; marked = m.marked }) begins)
-
-        refusing : (refusal : Refusal) → (IsRollback text → ⊥) → RefusesStatement rules (runs st w s kept).working x refusal
-            → Answered rules st w s kept (Asked.Text text) (says.Refused refusal) Effect.Nothing
-        refusing refusal other (RefusesStatement.withheld reserved) = withholds rules st w s kept x text refusal other read (no_fetch (session_of st w s kept) x is) reserved
-        refusing refusal other (RefusesStatement.wrong reason) =
-            Replies.carried_out x read (carried rules _ _ _ x _ _ is (Changes.wrong refusal free_to_change reason (record { says_so = refl; leaves_all = refl })))
-        refusing refusal other (RefusesStatement.refused c m (RefusesChange.withheld reserved)) =
-            withholds rules st w s kept x text refusal other read (no_fetch (session_of st w s kept) x is) reserved
-        refusing refusal other (RefusesStatement.refused c m (RefusesChange.raises fault says_so raised)) =
-            Replies.carried_out x read (carried rules _ _ _ x _ _ is (Changes.raises c fault free_to_change m raised (record { says_so = ap says.Refused says_so; leaves_all = refl })))
-        refusing refusal other (RefusesStatement.refused c m (RefusesChange.violates name says_so named)) =
-            Replies.carried_out x read (carried rules _ _ _ x _ _ is (Changes.violates c name free_to_change m named (record { says_so = ap says.Refused says_so; leaves_all = refl })))
-
-        pub refuses : (refusal : Refusal) (new : Stored) → (IsRollback text → ⊥) → RefusesStatement rules (database_of mid.working) x refusal → SameButMark st new
-            → Moves rules s text (says.Refused refusal) st w kept new w (settled (get new.readers s) kept)
-        refuses refusal new other found k =
-            nothing_moves rules st w s kept (Asked.Text text) (says.Refused refusal) new h
-            (refusing refusal other (subst (λ (db : Database). RefusesStatement rules db x refusal) there found)) k
+      pub refuses : (refusal : Refusal) (new : Stored) → (IsRollback text → ⊥) → RefusesStatement rules (database_of mid.working) x refusal → SameButMark st new
+          → Moves rules s text (says.Refused refusal) st w kept new w (settled (get new.readers s) kept)
+      refuses refusal new other =
+          calls.refuses rules rules st w s kept (Asked.Text text) x h shut (answers rules st w s kept text x is read) writes opened is_open none free mid begins
+          (λ r reserved. withholds rules st w s kept x text r other read (no_fetch (session_of st w s kept) x is) reserved) refusal new

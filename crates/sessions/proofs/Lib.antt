@@ -1,7 +1,9 @@
 pub mod Words
 pub mod Typings
 pub mod QuerySteps
+pub mod ChangeCalls
 pub mod ChangeSteps
+pub mod PutIn
 pub mod Unread
 pub mod Statements
 pub mod Cores

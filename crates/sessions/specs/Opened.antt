@@ -49,5 +49,6 @@ abbrev pub GivesRows : OpenCursor → ℕ → Option OpenCursor → Reply → Co
 GivesRows cursor count None reply contents =
     (refusal : Refusal) × (reply ≡ says.Refused refusal) × MayTake refusal count (cursor_of cursor contents)
 GivesRows cursor count (Some to) reply contents =
-    (rows : List Row) × (reply ≡ says.Rows rows) × IsAhead rows count (cursor_of cursor contents) (cursor_of to contents)
+    (rows : List Row) × (reply ≡ says.Rows rows)
+    × IsAhead rows count (cursor_of cursor contents) (cursor_of to contents)
     × Fits to contents

@@ -91,7 +91,7 @@ pub(crate) fn change<S: Store, L: Language + Changes<S>>(
 }
 
 /// Whether a transaction of this mode only reads.
-fn is_read_only(mode: AccessMode) -> bool
+pub(crate) fn is_read_only(mode: AccessMode) -> bool
     ensures { result ≡ transactions.is_read_only mode }
 {
     match mode {

@@ -4,6 +4,7 @@ ghost use Rattle.ast.specs.declared.statement.Statement.{Statement as Tree};
 ghost use Rattle.refusals.specs.declared.refusal.Refusal.TheVariants.{Disk};
 ghost use Rattle.denote.specs.Database.{IsGood};
 ghost use Rattle.denote.specs.SchemaOf.{IsSchemaOf};
+ghost use Rattle.session_definitions.specs.InsertedRows.{inserting};
 ghost use Rattle.session_definitions.specs.Rules.{Rules, AreRules, Means};
 ghost use Rattle.store.specs.Contents.{database_of};
 ghost use Rattle.store.specs.Errors.{HasRisen};
@@ -11,8 +12,10 @@ ghost use Rattle.store.specs.Going.{Going};
 ghost use Rattle.store.specs.Stored.{SameButMark};
 ghost use Rattle.transactions.specs.Refused.{IfRefused};
 ghost use Rattle.typing.specs.declared.statement.Typed.TheVariants as does;
-ghost use Rattle.sessions.specs.Changed.{HasChanged, RefusesChange};
+ghost use Rattle.sessions.specs.Changed.{HasChanged, MakesChange, RefusesChange, RefusesStatement};
 
+use denote::Rows;
+use items::Text;
 use refusals::Refusal;
 use replies::Reply;
 use std::alloc::Global;
@@ -35,6 +38,32 @@ pub trait Changes<S: Store>: Drop {
             → IsGood rules.check (database_of (S.shows store.old).working)
             → Means rules (database_of (S.shows store.old).working) x (does.Change change)
             → RefusesChange rules (database_of (S.shows store.old).working) change refusal) }
+        ensures accepted { IfOk result (λ reply. IfRefused reply (λ refusal. ⊥)) }
+        ensures device { IfErr result (λ refusal. refusal ≡ Disk
+            → HasRisen (S.refused store.old) (S.refused store.new)) }
+        ensures same { OnErr result (SameButMark (S.shows store.old) (S.shows store.new)) }
+        ensures goes { S.goes_on store.old store.new Going.changes };
+
+    /// Carries out the INSERT of these rows into all columns of the table of this name, over the
+    /// newest version with its changes, whose schema is the one that is ready. The rows are looked
+    /// at by the rules of names and types. What is answered is no refusal. A refusal leaves all as
+    /// it was, but for the mark; it is that of the device only where a call of the device was
+    /// refused.
+    fn insert(
+        &self,
+        alloc: Global,
+        store: &mut S,
+        table: &Text,
+        rows: Rows,
+    ) -> Result<Reply, Refusal>
+        ensures changes { IfOk result (λ reply. (rules : Rules) (x : Tree) → AreRules rules → S.is_sound store.old
+            → IsSchemaOf (S.prepared store.old) (database_of (S.shows store.old).working)
+            → IsGood rules.check (database_of (S.shows store.old).working)
+            → MakesChange (inserting rules table.now rows) (S.shows store.old) x reply (S.shows store.new)) }
+        ensures refused { IfErr result (λ refusal. (rules : Rules) (x : Tree) → AreRules rules → S.is_sound store.old
+            → IsSchemaOf (S.prepared store.old) (database_of (S.shows store.old).working)
+            → IsGood rules.check (database_of (S.shows store.old).working)
+            → RefusesStatement (inserting rules table.now rows) (database_of (S.shows store.old).working) x refusal) }
         ensures accepted { IfOk result (λ reply. IfRefused reply (λ refusal. ⊥)) }
         ensures device { IfErr result (λ refusal. refusal ≡ Disk
             → HasRisen (S.refused store.old) (S.refused store.new)) }

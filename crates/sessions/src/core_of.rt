@@ -3,9 +3,12 @@ ghost use Rattle.std.specs.Prelude.{◌≡◌, ◌≢◌, ℕ, ◌≤◌, ◌<�
 
 use crate::calling::{call, settle};
 use crate::changes::Changes;
+use crate::inserting::insert_rows;
 use crate::language::Language;
 use crate::query_calls::{close_query, open_query, take_rows};
 use crate::slots::{Slots, new_slot};
+use denote::Rows;
+use items::Text;
 use refusals::{Limit, Reason, Refusal};
 use replies::Reply;
 use std::alloc::Global;
@@ -121,7 +124,8 @@ impl<S: Store, L: Language + Changes<S>> Core<S, L> {
         ensures step { (rules : Rules) → AreRules rules → IsSound S.is_sound S.shows self.old
             → is_live (world_of S.shows self.old) (number_of session) ≡ true
             → StepOf rules (world_of S.shows self.old) (number_of session) (Asked.Query text.now) result (world_of S.shows self.new) }
-        ensures sound { (rules : Rules) → AreRules rules → IsSound S.is_sound S.shows self.old → IsSound S.is_sound S.shows self.new }
+        ensures sound { (rules : Rules) → AreRules rules → IsSound S.is_sound S.shows self.old
+            → IsSound S.is_sound S.shows self.new }
         ensures ended { is_live (world_of S.shows self.old) (number_of session) ≡ false
             → (result ≡ Reply.Refused (Invalid reason.Session)) × (self.new ≡ self.old) }
         ensures live { StandAlike (world_of S.shows self.old) (world_of S.shows self.new) }
@@ -191,6 +195,48 @@ impl<S: Store, L: Language + Changes<S>> Core<S, L> {
         }
         let mut slot = self.slots.take(self.alloc, session.number);
         let reply = close_query(&mut slot);
+        settle(&self.store, &mut slot, session.number);
+        self.slots.set(session.number, Some(slot));
+        reply
+    }
+
+    /// The INSERT of these rows into all columns of the table of this name, in order: a change, as
+    /// one that a statement asks for. Where no table has that name it is refused by `name`; where a
+    /// row has another number of values than there are columns, by `columns`; and where a value has
+    /// another type than its column, by `type`. No rows are `02000 0`. That the database which it
+    /// sees is good is a law of runs; it relies on it.
+    pub fn insert_rows(&mut self, session: SessionId, table: &Text, rows: Rows) -> Reply
+        ensures step { (rules : Rules) → AreRules rules → IsSound S.is_sound S.shows self.old
+            → is_live (world_of S.shows self.old) (number_of session) ≡ true
+            → IsGood rules.check (seen_in (S.shows self.old.store) self.old.writer (number_of session))
+            → StepOf rules (world_of S.shows self.old) (number_of session) (Asked.Insert table.now rows) result (world_of S.shows self.new) }
+        ensures sound { (rules : Rules) → AreRules rules → IsSound S.is_sound S.shows self.old
+            → IsGood rules.check (seen_in (S.shows self.old.store) self.old.writer (number_of session))
+            → IsSound S.is_sound S.shows self.new }
+        ensures ended { is_live (world_of S.shows self.old) (number_of session) ≡ false
+            → (result ≡ Reply.Refused (Invalid reason.Session)) × (self.new ≡ self.old) }
+        ensures live { StandAlike (world_of S.shows self.old) (world_of S.shows self.new) }
+        ensures device { Counts result (S.refused self.old.store) (S.refused self.new.store) }
+        ensures kept { IfRefused result (λ refusal. refusal ≢ SerializationFailure
+            → world_of S.shows self.new ≡ world_of S.shows self.old) }
+        ensures goes { S.goes_on self.old.store self.new.store Going.changes }
+        ensures counts { S.refused self.old.store ≤ S.refused self.new.store }
+    {
+        if !self.slots.stands(session.number) {
+            return Reply::Refused(Refusal::Invalid(Reason::Session));
+        }
+        let mut slot = self.slots.take(self.alloc, session.number);
+        let writer = &mut self.writer;
+        let reply = insert_rows(
+            self.alloc,
+            &self.language,
+            &mut self.store,
+            writer,
+            &slot,
+            session.number,
+            table,
+            rows,
+        );
         settle(&self.store, &mut slot, session.number);
         self.slots.set(session.number, Some(slot));
         reply

@@ -7,6 +7,7 @@ mod change;
 mod changes;
 mod core_of;
 mod cursor_calls;
+mod inserting;
 mod kind;
 mod language;
 mod query;

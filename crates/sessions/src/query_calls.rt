@@ -42,7 +42,8 @@ pub(crate) fn open_query<S: Store, L: Language>(
         → Leaves rules session (Asked.Query text.now) result (S.shows store.old) writer slot.old (S.shows store.new) writer slot.new }
     ensures device { Counts result (S.refused store.old) (S.refused store.new) }
     ensures limits { IfRefused result TellsNoLimit }
-    ensures kept { IfRefused result (λ refusal. SameButMark (S.shows store.old) (S.shows store.new) × (slot.new ≡ slot.old)) }
+    ensures kept { IfRefused result (λ refusal. SameButMark (S.shows store.old) (S.shows store.new)
+        × (slot.new ≡ slot.old)) }
     ensures goes { S.goes_on store.old store.new Going.keeps }
 {
     match language.read(alloc, text) {
@@ -69,7 +70,8 @@ fn open_statement<S: Store, L: Language>(
         → Leaves rules session (Asked.Query text) result (S.shows store.old) writer slot.old (S.shows store.new) writer slot.new }
     ensures device { Counts result (S.refused store.old) (S.refused store.new) }
     ensures limits { IfRefused result TellsNoLimit }
-    ensures kept { IfRefused result (λ refusal. SameButMark (S.shows store.old) (S.shows store.new) × (slot.new ≡ slot.old)) }
+    ensures kept { IfRefused result (λ refusal. SameButMark (S.shows store.old) (S.shows store.new)
+        × (slot.new ≡ slot.old)) }
     ensures goes { S.goes_on store.old store.new Going.keeps }
 {
     match statement {
@@ -96,7 +98,8 @@ fn open_read<S: Store, L: Language>(
         → Leaves rules session (Asked.Query text) result (S.shows store.old) writer slot.old (S.shows store.new) writer slot.new }
     ensures device { Counts result (S.refused store.old) (S.refused store.new) }
     ensures limits { IfRefused result TellsNoLimit }
-    ensures kept { IfRefused result (λ refusal. SameButMark (S.shows store.old) (S.shows store.new) × (slot.new ≡ slot.old)) }
+    ensures kept { IfRefused result (λ refusal. SameButMark (S.shows store.old) (S.shows store.new)
+        × (slot.new ≡ slot.old)) }
     ensures goes { S.goes_on store.old store.new Going.keeps }
 {
     if slot.cursors.has_unnamed() {
@@ -121,7 +124,8 @@ fn open_read<S: Store, L: Language>(
 /// The next rows of the query that was opened: so many; or fewer, and then the end is reached. A
 /// refusal stands in place of them, and closes it.
 pub(crate) fn take_rows(alloc: Global, slot: &mut Slot, count: u64) -> Reply
-    ensures leaves { (rules : Rules) (st : Stored) (w : Option ℕ) (s : ℕ) → IsOrderly st w → Holds st w s slot.old.cursors
+    ensures leaves { (rules : Rules) (st : Stored) (w : Option ℕ) (s : ℕ) → IsOrderly st w
+        → Holds st w s slot.old.cursors
         → Leaves rules s (Asked.Rows count) result st w slot.old st w slot.new }
     ensures device { IfRefused result (λ refusal. refusal ≢ Disk) }
     ensures limits { IfRefused result TellsNoLimit }
@@ -165,7 +169,8 @@ fn taken_from(alloc: Global, cursor: OpenCursor, count: u64) -> AfterFetch
 
 /// Closes the query that was opened. Takes no memory, and succeeds where it is open.
 pub(crate) fn close_query(slot: &mut Slot) -> Reply
-    ensures leaves { (rules : Rules) (st : Stored) (w : Option ℕ) (s : ℕ) → IsOrderly st w → Holds st w s slot.old.cursors
+    ensures leaves { (rules : Rules) (st : Stored) (w : Option ℕ) (s : ℕ) → IsOrderly st w
+        → Holds st w s slot.old.cursors
         → Leaves rules s Asked.Close result st w slot.old st w slot.new }
     ensures refused { IfRefused result (λ refusal. refusal ≡ CursorState) }
 {

@@ -1,2 +1,3 @@
 pub mod GoodDatabases
 pub mod ChangesMade
+pub mod RowsGiven

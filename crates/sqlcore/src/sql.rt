@@ -1,6 +1,8 @@
 //! The language of sessions.
 use ast::{OrderedQuery, Statement};
-use change::make;
+use change::{insert_given, make};
+use denote::Rows;
+use items::Text;
 use query_types::typed_query;
 use refusals::Refusal;
 use replies::Reply;
@@ -50,5 +52,15 @@ impl Language for Sql {
 impl<S: Store> Changes<S> for Sql {
     fn make(&self, alloc: Global, store: &mut S, change: Change) -> Result<Reply, Refusal> {
         make(alloc, store, change)
+    }
+
+    fn insert(
+        &self,
+        alloc: Global,
+        store: &mut S,
+        table: &Text,
+        rows: Rows,
+    ) -> Result<Reply, Refusal> {
+        insert_given(alloc, store, table, rows)
     }
 }

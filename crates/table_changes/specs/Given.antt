@@ -5,6 +5,7 @@ use Rattle.std.specs.FinMap.{get}
 use Rattle.sqlval.specs.Value.{Row}
 use Rattle.typing.specs.declared.statement.Change.{Change}
 use Rattle.typing.specs.declared.statement.Insert.{Insert}
+use Rattle.typing.specs.declared.statement.InsertSource.{InsertSource}
 use Rattle.denote.specs.Bag.{Permutes}
 use Rattle.denote.specs.Change.{changed, inserted_rows, IsAccepted}
 use Rattle.denote.specs.Database.{Name, Table, Database, CheckReading, checks_of, rows_in}
@@ -13,6 +14,10 @@ use Rattle.session_definitions.specs.Statements.{counted}
 use Rattle.store.specs.Contents.{Contents, database_of}
 use Rattle.store.specs.Stored.{Stored}
 use Rattle.constraints.specs.Foreseen.{with_more}
+
+-- an INSERT of what this source gives into these columns of a table
+abbrev pub into : Name → List ℕ → InsertSource → Insert
+into table columns source = record { table = table; columns = columns; source = source }
 
 -- its table is there, and these are the rows that it stores, in any order, none of which faults
 pub record AreGiven (reading : CheckReading) (db : Database) (i : Insert) (rows : List Row) : Type 0 where

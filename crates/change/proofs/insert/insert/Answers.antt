@@ -27,7 +27,7 @@ returns-in-Ok-rows_of-clause-changes g c = IfOk-weaker c.insert_rows.result _ _
     let given = c.in-Ok-rows_of.ensures.gives reading there.0 sound of there.1 (decided there.0 there.1) in
     let same : old ≡ g.S.Store.shows c.rows_of.new.store = sym c.rows_of.ensures.shows in
     subst (λ (s : Stored). HasAccepted reading s (does.Insert c.args.insert.now) reply (g.S.Store.shows c.insert_rows.new.store)) (sym same)
-    (h reading ((g.met.S.Store.goes_on_goes _ _ _ c.rows_of.ensures.goes).sound sound)
+    (h reading c.args.insert.now.columns c.args.insert.now.source ((g.met.S.Store.goes_on_goes _ _ _ c.rows_of.ensures.goes).sound sound)
     (subst (λ (s : Stored). AreChecksFor reading (database_of s.working) c.args.insert.now.table c.in-Ok.checks.conditions) same decided)
     (subst (λ (s : Stored). Holds reading (database_of s.working) c.args.insert.now.table) same (λ table is. (good c.args.insert.now.table table is).unviolated))
     (subst (λ (s : Stored). AreGiven reading (database_of s.working) c.args.insert.now c.in-Ok-rows_of.rows) same given)))
@@ -43,7 +43,7 @@ returns-in-Ok-rows_of-clause-refused g c = IfErr-weaker c.insert_rows.result _ _
     let given = c.in-Ok-rows_of.ensures.gives reading there.0 sound of there.1 (decided there.0 there.1) in
     let same : old ≡ g.S.Store.shows c.rows_of.new.store = sym c.rows_of.ensures.shows in
     subst (λ (s : Stored). RefusesChange reading (database_of s.working) (does.Insert c.args.insert.now) refusal) (sym same)
-    (h reading ((g.met.S.Store.goes_on_goes _ _ _ c.rows_of.ensures.goes).sound sound)
+    (h reading c.args.insert.now.columns c.args.insert.now.source ((g.met.S.Store.goes_on_goes _ _ _ c.rows_of.ensures.goes).sound sound)
     (subst (λ (s : Stored). AreChecksFor reading (database_of s.working) c.args.insert.now.table c.in-Ok.checks.conditions) same decided)
     (subst (λ (s : Stored). Holds reading (database_of s.working) c.args.insert.now.table) same (λ table is. (good c.args.insert.now.table table is).unviolated))
     (subst (λ (s : Stored). AreGiven reading (database_of s.working) c.args.insert.now c.in-Ok-rows_of.rows) same given)))

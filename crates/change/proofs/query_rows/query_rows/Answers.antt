@@ -15,7 +15,8 @@ use Rattle.query_answers.specs.Lent.{rows_lent}
 use Rattle.query_answers.specs.Sources.{AreTreesOf, tables_in_rows}
 use Rattle.store.specs.Contents.{database_of}
 use Rattle.tree_tables.specs.TablesRead.{Agree}
-use Rattle.change.proofs.Listed.{all_agree, are_trees, described_named, given_query, refuses_listing, refuses_query, typed_rows}
+use Rattle.change.proofs.Listed.{all_agree, are_trees, described_named, given_query, refuses_listing, refuses_query}
+use Rattle.change.specs.Listed.{typed_rows}
 use Rattle.change.proofs.query_rows.query_rows.Goals as goal
 
 pub returns-in-Ok-sources_of-clause-gives : goal.returns-in-Ok-sources_of-clause-gives

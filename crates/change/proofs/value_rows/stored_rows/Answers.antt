@@ -16,10 +16,10 @@ use Rattle.change.proofs.value_rows.stored_rows.Goals as goal
 pub returns-in-Some-clause-gives : goal.returns-in-Some-clause-gives
 returns-in-Some-clause-gives c = IfOk-weaker c.rows_to_insert.result _ _
     (λ rows h reading db table values of there checks are agree.
-    let conditions = checks_of reading c.args.insert.now.table table in
-    let same = same_rows c.in-Some.table.now table (declares c.args.schema.now db c.args.insert.now.table c.in-Some.table.now table of c.in-Some.ensures.there c.in-Some.ensures.named there)
-    conditions (rows_in db) c.args.insert.now.columns values in
-    let found : inserted_rows conditions (rows_in db) (table_of c.in-Some.table.now []) c.args.insert.now.columns (from.Values values) ≡ Ok rows =
+    let conditions = checks_of reading c.args.name.now table in
+    let same = same_rows c.in-Some.table.now table (declares c.args.schema.now db c.args.name.now c.in-Some.table.now table of c.in-Some.ensures.there c.in-Some.ensures.named there)
+    conditions (rows_in db) c.args.columns.now values in
+    let found : inserted_rows conditions (rows_in db) (table_of c.in-Some.table.now []) c.args.columns.now (from.Values values) ≡ Ok rows =
     subst (λ (places : List ℕ). inserted_rows conditions (rows_in db) (table_of c.in-Some.table.now []) places (from.Values values) ≡ Ok rows) c.as_slice-in-Some.ensures
     (h (rows_in db) conditions values agree are (subst (λ (trees : List Condition). AreChecksOf conditions trees) (sym c.as_slice.ensures) checks)) in
     sym same ∙ found)
@@ -28,10 +28,10 @@ returns-in-Some-clause-gives c = IfOk-weaker c.rows_to_insert.result _ _
 pub returns-in-Some-clause-refused : goal.returns-in-Some-clause-refused
 returns-in-Some-clause-refused c = IfErr-weaker c.rows_to_insert.result _ _
     (λ refusal h reading db table values of there checks are agree.
-    let conditions = checks_of reading c.args.insert.now.table table in
-    let same = same_rows c.in-Some.table.now table (declares c.args.schema.now db c.args.insert.now.table c.in-Some.table.now table of c.in-Some.ensures.there c.in-Some.ensures.named there)
-    conditions (rows_in db) c.args.insert.now.columns values in
-    let found : GivesFaults (faults_in (inserted_rows conditions (rows_in db) (table_of c.in-Some.table.now []) c.args.insert.now.columns (from.Values values))) refusal =
+    let conditions = checks_of reading c.args.name.now table in
+    let same = same_rows c.in-Some.table.now table (declares c.args.schema.now db c.args.name.now c.in-Some.table.now table of c.in-Some.ensures.there c.in-Some.ensures.named there)
+    conditions (rows_in db) c.args.columns.now values in
+    let found : GivesFaults (faults_in (inserted_rows conditions (rows_in db) (table_of c.in-Some.table.now []) c.args.columns.now (from.Values values))) refusal =
     subst (λ (places : List ℕ). GivesFaults (faults_in (inserted_rows conditions (rows_in db) (table_of c.in-Some.table.now []) places (from.Values values))) refusal) c.as_slice-in-Some.ensures
     (h (rows_in db) conditions values agree are (subst (λ (trees : List Condition). AreChecksOf conditions trees) (sym c.as_slice.ensures) checks)) in
     subst (λ (e : Evaluation (List Row)). GivesFaults (faults_in e) refusal) same found)

@@ -1,3 +1,4 @@
+use Rattle.session_definitions.specs.Asked.{Asked}
 use Rattle.sessions.specs.OfCore.{slots_of, world_of}
 use Rattle.scripts.specs.Limits.{Ever, UpTo}
 use Rattle.scripts.proofs.Keeping.{commits_grow, kept_step, good_seen}
@@ -31,7 +32,7 @@ returns-in-Err-clause-plays g c = λ r are h ready.
 
 pub returns-in-Ok-clause-kept : goal.returns-in-Ok-clause-kept
 returns-in-Ok-clause-kept g c = λ r are h.
-    kept_step g.S.Store.is_sound g.S.Store.shows r (λ start end moments. c.databases_stay_good.ensures.run r start end moments are) c.session.new.core c.step.new.self c.in-Ok.session c.args.text.now c.step.result
+    kept_step g.S.Store.is_sound g.S.Store.shows r (λ start end moments. c.databases_stay_good.ensures.run r start end moments are) c.session.new.core c.step.new.self c.in-Ok.session (Asked.Text c.args.text.now) c.step.result
     (c.step.ensures.step r are) (c.step.ensures.sound r are) (λ dead. (c.step.ensures.ended dead).1) (c.session.ensures.kept r are h)
 
 pub returns-in-Ok-clause-held : goal.returns-in-Ok-clause-held

@@ -1,0 +1,97 @@
+use Rattle.std.proofs.Common.{◌≡◌, refl, true, false, Some, None, sym, subst, ◌∙◌, ap, ◌≢◌}
+use Rattle.std.specs.FinMap.{get}
+use Rattle.refusals.specs.declared.refusal.Refusal.TheVariants.{SerializationFailure}
+use Rattle.store.specs.Stored.{SameButMark}
+use Rattle.session_definitions.specs.Asked.{Asked}
+use Rattle.session_definitions.specs.Step.{StepOf}
+use Rattle.session_definitions.specs.World.{is_live}
+use Rattle.transactions.specs.Shown.{Slots, settled, shown}
+use Rattle.sessions.specs.Numbers.{Held, held_at, kept_in, kept_of}
+use Rattle.sessions.proofs.Cores.{not_live, is_live_at, set_alike}
+use Rattle.sessions.proofs.Holding.{all_held, changed_fits, closed_in, held_readers, held_within, kept_here, kept_holds, kept_none, not_held, put_as, put_back}
+use Rattle.sessions.proofs.Kept.{refused_alike, world_kept}
+use Rattle.sessions.proofs.core_of.Core.insert_rows.Goals as goal
+
+pub returns-then-not-stands-clause-step : goal.returns-then-not-stands-clause-step
+returns-then-not-stands-clause-step g c = λ rules are sound live good.
+    let none : held_at c.args.self.now.slots.all c.args.session.number ≡ None = not_held _ (sym c.stands.ensures.is ∙ c.if-not-stands.true) in
+    let dead = not_live (g.S.Store.shows c.args.self.now.store) c.args.self.now.writer (kept_in c.args.self.now.slots.all) c.args.session.number (kept_none c.args.self.now.slots.all c.args.session.number none) in
+    let bad : true ≡ false = sym live ∙ dead in absurd (cc)
+
+pub returns-then-not-stands-clause-kept : goal.returns-then-not-stands-clause-kept
+returns-then-not-stands-clause-kept g c = λ other. refl
+
+pub returns-clause-step : goal.returns-clause-step
+returns-clause-step g c = λ rules are sound live good.
+    let st = g.S.Store.shows c.args.self.now.store in
+    let new = g.S.Store.shows c.insert_rows-reply.new.store in
+    let all = c.args.self.now.slots.all in
+    let n = c.args.session.number in
+    let slot = c.take-slot.result in
+    let is = c.take-slot.ensures.is in
+    let moves = c.insert_rows-reply.ensures.moves rules are sound.store sound.order (closed_in st c.args.self.now.writer n (get st.readers n) slot (sound.held n slot is)) good in
+    let fits = changed_fits st new c.args.self.now.writer c.insert_rows-reply.new.writer n slot.cursors c.insert_rows-reply.ensures.left (sound.held n slot is) in
+    let put = put_back c.set.new.self.all c.take-slot.new.self.all all n c.settle.new.slot c.take-slot.ensures.left c.set.ensures in
+    subst (λ (slots : Slots). StepOf rules (shown st c.args.self.now.writer (kept_in all)) n (Asked.Insert c.args.table.now c.args.rows) c.insert_rows-reply.result (shown new c.insert_rows-reply.new.writer slots))
+    (sym (put_as c.set.new.self.all all n c.settle.new.slot (settled (get new.readers n) (kept_of c.take-slot.result)) put c.settle.ensures.kept))
+    (moves.step (kept_in all) (kept_here all n slot is))
+
+pub returns-clause-sound : goal.returns-clause-sound
+returns-clause-sound g c = λ rules are sound good.
+    let st = g.S.Store.shows c.args.self.now.store in
+    let new = g.S.Store.shows c.insert_rows-reply.new.store in
+    let all = c.args.self.now.slots.all in
+    let n = c.args.session.number in
+    let slot = c.take-slot.result in
+    let is = c.take-slot.ensures.is in
+    let moves = c.insert_rows-reply.ensures.moves rules are sound.store sound.order (closed_in st c.args.self.now.writer n (get st.readers n) slot (sound.held n slot is)) good in
+    let fits = changed_fits st new c.args.self.now.writer c.insert_rows-reply.new.writer n slot.cursors c.insert_rows-reply.ensures.left (sound.held n slot is) in
+    let put = put_back c.set.new.self.all c.take-slot.new.self.all all n c.settle.new.slot c.take-slot.ensures.left c.set.ensures in
+    let within = held_within all n slot is in
+    record {
+      store = (g.met.S.Store.goes_on_goes _ _ _ c.insert_rows-reply.ensures.goes).sound sound.store;
+      order = moves.order;
+      readers = λ q none. held_readers st new all n (Some c.settle.new.slot) within moves.others sound.readers
+          (λ gone. let bad : Some c.settle.new.slot ≡ None = gone in absurd (cc)) q (subst (λ (held : Held). held_at held q ≡ None) put none);
+      held = λ q x has. all_held st new c.args.self.now.writer c.insert_rows-reply.new.writer all n (Some c.settle.new.slot) within moves.others moves.reads sound.held
+          (λ y e. kept_holds new c.insert_rows-reply.new.writer n c.settle.new.slot y (c.settle.ensures.holds c.insert_rows-reply.new.writer fits) e) q x
+          (subst (λ (held : Held). held_at held q ≡ Some x) put has);
+    }
+
+pub returns-clause-ended : goal.returns-clause-ended
+returns-clause-ended g c = λ dead.
+    let live = is_live_at (g.S.Store.shows c.args.self.now.store) c.args.self.now.writer (kept_in c.args.self.now.slots.all) c.args.session.number (kept_of c.take-slot.result)
+    (kept_here c.args.self.now.slots.all c.args.session.number c.take-slot.result c.take-slot.ensures.is) in
+    let bad : true ≡ false = sym live ∙ dead in absurd (cc)
+
+pub returns-clause-live : goal.returns-clause-live
+returns-clause-live g c = λ q.
+    let st = g.S.Store.shows c.args.self.now.store in
+    let new = g.S.Store.shows c.insert_rows-reply.new.store in
+    let all = c.args.self.now.slots.all in
+    let n = c.args.session.number in
+    let put = put_back c.set.new.self.all c.take-slot.new.self.all all n c.settle.new.slot c.take-slot.ensures.left c.set.ensures in
+    subst (λ (slots : Slots). is_live (shown new c.insert_rows-reply.new.writer slots) q ≡ is_live (shown st c.args.self.now.writer (kept_in all)) q)
+    (sym (put_as c.set.new.self.all all n c.settle.new.slot (kept_of c.settle.new.slot) put refl))
+    (set_alike st new c.args.self.now.writer c.insert_rows-reply.new.writer (kept_in all) n (kept_of c.take-slot.result) (kept_of c.settle.new.slot) (kept_here all n c.take-slot.result c.take-slot.ensures.is) q)
+
+pub returns-clause-kept : goal.returns-clause-kept
+returns-clause-kept g c =
+    let st = g.S.Store.shows c.args.self.now.store in
+    let new = g.S.Store.shows c.insert_rows-reply.new.store in
+    let all = c.args.self.now.slots.all in
+    let n = c.args.session.number in
+    let put = put_back c.set.new.self.all c.take-slot.new.self.all all n c.settle.new.slot c.take-slot.ensures.left c.set.ensures in
+    refused_alike c.insert_rows-reply.result
+    (λ refusal. refusal ≢ SerializationFailure → SameButMark st new × (c.insert_rows-reply.new.writer ≡ c.args.self.now.writer))
+    (λ refusal. refusal ≢ SerializationFailure → shown new c.insert_rows-reply.new.writer (kept_in c.set.new.self.all) ≡ shown st c.args.self.now.writer (kept_in all))
+    (λ refusal k other.
+    let same = k other in
+    ap (λ (slots : Slots). shown new c.insert_rows-reply.new.writer slots)
+    (put_as c.set.new.self.all all n c.settle.new.slot (settled (get new.readers n) (kept_of c.take-slot.result)) put c.settle.ensures.kept)
+    ∙ world_kept st new c.args.self.now.writer c.insert_rows-reply.new.writer (kept_in all) n (kept_of c.take-slot.result) (kept_of c.take-slot.result)
+    (kept_here all n c.take-slot.result c.take-slot.ensures.is) same.0 same.1 refl)
+    c.insert_rows-reply.ensures.kept
+
+pub returns-clause-counts : goal.returns-clause-counts
+returns-clause-counts g c = (g.met.S.Store.goes_on_goes _ _ _ c.insert_rows-reply.ensures.goes).refused

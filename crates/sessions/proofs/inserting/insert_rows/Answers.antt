@@ -1,0 +1,132 @@
+use Rattle.std.proofs.Common.{◌≡◌, refl, sym, subst, ◌∙◌, inl, inr}
+use Rattle.store.specs.Stored.{Stored, SameButMark, begun}
+use Rattle.session_definitions.specs.Asked.{Asked}
+use Rattle.session_definitions.specs.InsertedRows.{inserting}
+use Rattle.transactions.proofs.Orders.{same}
+use Rattle.transactions.proofs.Steps.{nothing_moves}
+use Rattle.transactions.proofs.Tests.{reserved, unbegun}
+use Rattle.sessions.specs.Numbers.{kept_of}
+use Rattle.sessions.proofs.ChangeCalls.{beside_cursor, comes_late, good_begun, makes, only_reads, refuses}
+use Rattle.sessions.proofs.Holding.{shut_kept}
+use Rattle.sessions.proofs.PutIn.{answered, any, withheld}
+use Rattle.sessions.proofs.Devices.{risen_later, risen_still, counts_none}
+use Rattle.store.specs.Going.{Going}
+use Rattle.sessions.proofs.Kept.{none_kept}
+use Rattle.sessions.proofs.inserting.insert_rows.Goals as goal
+
+pub returns-then-is_read_only-clause-moves : goal.returns-then-is_read_only-clause-moves
+returns-then-is_read_only-clause-moves g c = λ rules are sound order shut good.
+    only_reads rules (inserting rules c.args.table.now c.args.rows) (g.S.Store.shows c.args.store.now) c.args.writer.now c.args.session (kept_of c.args.slot.now) (Asked.Insert c.args.table.now c.args.rows) any order shut
+    (answered rules c.args.table.now c.args.rows (g.S.Store.shows c.args.store.now) c.args.writer.now c.args.session (kept_of c.args.slot.now))
+    (sym c.is_read_only.ensures ∙ c.if-is_read_only.true) (g.S.Store.shows c.args.store.now) refl
+
+pub returns-then-has_open-clause-moves : goal.returns-then-has_open-clause-moves
+returns-then-has_open-clause-moves g c = λ rules are sound order shut good.
+    beside_cursor rules (inserting rules c.args.table.now c.args.rows) (g.S.Store.shows c.args.store.now) c.args.writer.now c.args.session (kept_of c.args.slot.now) (Asked.Insert c.args.table.now c.args.rows) any order shut
+    (answered rules c.args.table.now c.args.rows (g.S.Store.shows c.args.store.now) c.args.writer.now c.args.session (kept_of c.args.slot.now))
+    (sym c.is_read_only.ensures ∙ c.if-is_read_only.false)
+    c.has_open.result c.has_open.ensures.is c.if-has_open.true (g.S.Store.shows c.args.store.now) refl
+
+pub returns-then-comes_too_late-clause-moves : goal.returns-then-comes_too_late-clause-moves
+returns-then-comes_too_late-clause-moves g c = λ rules are sound order shut good.
+    comes_late rules (inserting rules c.args.table.now c.args.rows) (g.S.Store.shows c.args.store.now) c.args.writer.now c.args.session (kept_of c.args.slot.now) (Asked.Insert c.args.table.now c.args.rows) any order shut
+    (answered rules c.args.table.now c.args.rows (g.S.Store.shows c.args.store.now) c.args.writer.now c.args.session (kept_of c.args.slot.now))
+    (sym c.is_read_only.ensures ∙ c.if-is_read_only.false)
+    c.has_open.result c.has_open.ensures.is c.if-has_open.false (sym c.comes_too_late.ensures ∙ c.if-comes_too_late.true) _ c.end.ensures.shows
+
+pub returns-in-Err-clause-moves : goal.returns-in-Err-clause-moves
+returns-in-Err-clause-moves g c = λ rules are sound order shut good.
+    let st : Stored = g.S.Store.shows c.args.store.now in
+    rw c.refusal_of.ensures
+    (nothing_moves rules st _ _ (kept_of c.args.slot.now) (Asked.Insert c.args.table.now c.args.rows) _ _ order
+    (withheld rules c.args.table.now c.args.rows st c.args.writer.now c.args.session (kept_of c.args.slot.now) _
+    (reserved _ _ _ _ _ (rw c.in-Err.is at c.begin.ensures.refused) sound (λ bad. bad) (λ bad. bad)))
+    (same st _ (rw c.in-Err.is at c.begin.ensures.same)))
+
+pub returns-in-Ok-clause-moves : goal.returns-in-Ok-clause-moves
+returns-in-Ok-clause-moves g c = λ rules are sound order shut good.
+    let begins : g.S.Store.shows c.begin.new.self ≡ begun (g.S.Store.shows c.args.store.now) c.args.session = rw c.in_default.is at c.begin.ensures.shows in
+    makes rules (inserting rules c.args.table.now c.args.rows) (g.S.Store.shows c.args.store.now) c.args.writer.now c.args.session (kept_of c.args.slot.now) (Asked.Insert c.args.table.now c.args.rows) any order shut
+    (answered rules c.args.table.now c.args.rows (g.S.Store.shows c.args.store.now) c.args.writer.now c.args.session (kept_of c.args.slot.now))
+    (sym c.is_read_only.ensures ∙ c.if-is_read_only.false)
+    c.has_open.result c.has_open.ensures.is c.if-has_open.false (sym c.comes_too_late.ensures ∙ c.if-comes_too_late.false) (g.S.Store.shows c.begin.new.self) begins (shut_kept c.args.slot.now (c.has_open.ensures.shut c.if-has_open.false)) _ _
+    (c.in-Ok.ensures.changes rules any are ((g.met.S.Store.goes_on_goes _ _ _ c.begin.ensures.goes).sound sound)
+    (good_begun rules (inserting rules c.args.table.now c.args.rows) (g.S.Store.shows c.args.store.now) c.args.writer.now c.args.session (kept_of c.args.slot.now) (Asked.Insert c.args.table.now c.args.rows) any order shut
+    (answered rules c.args.table.now c.args.rows (g.S.Store.shows c.args.store.now) c.args.writer.now c.args.session (kept_of c.args.slot.now))
+    (sym c.is_read_only.ensures ∙ c.if-is_read_only.false)
+    c.has_open.result c.has_open.ensures.is c.if-has_open.false (sym c.comes_too_late.ensures ∙ c.if-comes_too_late.false) (g.S.Store.shows c.begin.new.self) begins rules.check good))
+
+pub returns-in-Err-make-clause-moves : goal.returns-in-Err-make-clause-moves
+returns-in-Err-make-clause-moves g c = λ rules are sound order shut good.
+    let begins : g.S.Store.shows c.begin.new.self ≡ begun (g.S.Store.shows c.args.store.now) c.args.session = rw c.in_default.is at c.begin.ensures.shows in
+    refuses rules (inserting rules c.args.table.now c.args.rows) (g.S.Store.shows c.args.store.now) c.args.writer.now c.args.session (kept_of c.args.slot.now) (Asked.Insert c.args.table.now c.args.rows) any order shut
+    (answered rules c.args.table.now c.args.rows (g.S.Store.shows c.args.store.now) c.args.writer.now c.args.session (kept_of c.args.slot.now))
+    (sym c.is_read_only.ensures ∙ c.if-is_read_only.false)
+    c.has_open.result c.has_open.ensures.is c.if-has_open.false (sym c.comes_too_late.ensures ∙ c.if-comes_too_late.false) (g.S.Store.shows c.begin.new.self) begins
+    (withheld rules c.args.table.now c.args.rows (g.S.Store.shows c.args.store.now) c.args.writer.now c.args.session (kept_of c.args.slot.now)) _ _
+    (c.in-Err-make.ensures.refused rules any are ((g.met.S.Store.goes_on_goes _ _ _ c.begin.ensures.goes).sound sound)
+    (good_begun rules (inserting rules c.args.table.now c.args.rows) (g.S.Store.shows c.args.store.now) c.args.writer.now c.args.session (kept_of c.args.slot.now) (Asked.Insert c.args.table.now c.args.rows) any order shut
+    (answered rules c.args.table.now c.args.rows (g.S.Store.shows c.args.store.now) c.args.writer.now c.args.session (kept_of c.args.slot.now))
+    (sym c.is_read_only.ensures ∙ c.if-is_read_only.false)
+    c.has_open.result c.has_open.ensures.is c.if-has_open.false (sym c.comes_too_late.ensures ∙ c.if-comes_too_late.false) (g.S.Store.shows c.begin.new.self) begins rules.check good))
+    (unbegun _ _ _ _ _ c.number.ensures c.is_none-idle.ensures _
+    (subst (λ (y : Stored). SameButMark y (g.S.Store.shows c.make.new.store)) begins c.in-Err-make.ensures.same) c.take_back.ensures.shows)
+
+pub returns-then-is_read_only-clause-left : goal.returns-then-is_read_only-clause-left
+returns-then-is_read_only-clause-left g c = inr (same (g.S.Store.shows c.args.store.now) _ refl, refl)
+
+pub returns-then-has_open-clause-left : goal.returns-then-has_open-clause-left
+returns-then-has_open-clause-left g c = inr (same (g.S.Store.shows c.args.store.now) _ refl, refl)
+
+pub returns-then-comes_too_late-clause-left : goal.returns-then-comes_too_late-clause-left
+returns-then-comes_too_late-clause-left g c = inl (c.has_open.ensures.shut c.if-has_open.false)
+
+pub returns-in-Err-clause-left : goal.returns-in-Err-clause-left
+returns-in-Err-clause-left g c = inl (c.has_open.ensures.shut c.if-has_open.false)
+
+pub returns-in-Ok-clause-left : goal.returns-in-Ok-clause-left
+returns-in-Ok-clause-left g c = inl (c.has_open.ensures.shut c.if-has_open.false)
+
+pub returns-in-Err-make-clause-left : goal.returns-in-Err-make-clause-left
+returns-in-Err-make-clause-left g c = inl (c.has_open.ensures.shut c.if-has_open.false)
+
+pub returns-in-Ok-clause-device : goal.returns-in-Ok-clause-device
+returns-in-Ok-clause-device g c = counts_none c.in-Ok.reply _ _ c.in-Ok.ensures.accepted
+
+pub returns-in-Err-make-clause-device : goal.returns-in-Err-make-clause-device
+returns-in-Err-make-clause-device g c = λ is. risen_still _ _ _ (risen_later _ _ _ ((g.met.S.Store.goes_on_goes _ _ _ c.begin.ensures.goes).refused) (c.in-Err-make.ensures.device is)) ((g.met.S.Store.goes_on_goes _ _ _ c.take_back.ensures.goes).refused)
+
+pub returns-then-comes_too_late-clause-goes : goal.returns-then-comes_too_late-clause-goes
+returns-then-comes_too_late-clause-goes g c = g.met.S.Store.goes_on_trans _ _ _ Going.keeps Going.changes c.end.ensures.goes (g.met.S.Store.goes_on_refl _ Going.changes)
+
+pub returns-in-Err-clause-goes : goal.returns-in-Err-clause-goes
+returns-in-Err-clause-goes g c = g.met.S.Store.goes_on_trans _ _ _ Going.keeps Going.changes c.begin.ensures.goes (g.met.S.Store.goes_on_refl _ Going.changes)
+
+pub returns-in-Ok-clause-goes : goal.returns-in-Ok-clause-goes
+returns-in-Ok-clause-goes g c = g.met.S.Store.goes_on_trans _ _ _ Going.keeps Going.changes c.begin.ensures.goes c.make.ensures.goes
+
+pub returns-in-Err-make-clause-goes : goal.returns-in-Err-make-clause-goes
+returns-in-Err-make-clause-goes g c = g.met.S.Store.goes_on_trans _ _ _ Going.changes Going.keeps (g.met.S.Store.goes_on_trans _ _ _ Going.keeps Going.changes c.begin.ensures.goes c.make.ensures.goes) c.take_back.ensures.goes
+
+pub returns-then-is_read_only-clause-kept : goal.returns-then-is_read_only-clause-kept
+returns-then-is_read_only-clause-kept g c = λ other. (same (g.S.Store.shows c.args.store.now) _ refl, refl)
+
+pub returns-then-has_open-clause-kept : goal.returns-then-has_open-clause-kept
+returns-then-has_open-clause-kept g c = λ other. (same (g.S.Store.shows c.args.store.now) _ refl, refl)
+
+pub returns-then-comes_too_late-clause-kept : goal.returns-then-comes_too_late-clause-kept
+returns-then-comes_too_late-clause-kept g c = λ other. absurd (other refl)
+
+pub returns-in-Err-clause-kept : goal.returns-in-Err-clause-kept
+returns-in-Err-clause-kept g c = λ other. (same (g.S.Store.shows c.args.store.now) _ (rw c.in-Err.is at c.begin.ensures.same), refl)
+
+pub returns-in-Ok-clause-kept : goal.returns-in-Ok-clause-kept
+returns-in-Ok-clause-kept g c = none_kept c.in-Ok.reply _ c.in-Ok.ensures.accepted
+
+pub returns-in-Err-make-clause-kept : goal.returns-in-Err-make-clause-kept
+returns-in-Err-make-clause-kept g c = λ other.
+    let begins : g.S.Store.shows c.begin.new.self ≡ begun (g.S.Store.shows c.args.store.now) c.args.session = rw c.in_default.is at c.begin.ensures.shows in (
+      unbegun _ _ _ _ _ c.number.ensures c.is_none-idle.ensures _
+          (subst (λ (y : Stored). SameButMark y (g.S.Store.shows c.make.new.store)) begins c.in-Err-make.ensures.same) c.take_back.ensures.shows,
+      refl,
+    )

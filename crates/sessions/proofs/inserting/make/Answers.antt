@@ -1,0 +1,40 @@
+use Rattle.std.proofs.Common.{◌≡◌, sym, subst}
+use Rattle.std.proofs.lemmas.Result.{IfOk-weaker, IfErr-weaker}
+use Rattle.denote.specs.Database.{IsGood}
+use Rattle.denote.specs.SchemaOf.{IsSchemaOf}
+use Rattle.session_definitions.specs.InsertedRows.{inserting}
+use Rattle.store.specs.Contents.{database_of}
+use Rattle.store.specs.Going.{Going}
+use Rattle.store.specs.Stored.{Stored}
+use Rattle.sessions.specs.Changed.{MakesChange, RefusesStatement}
+use Rattle.sessions.proofs.Devices.{risen_later}
+use Rattle.sessions.proofs.inserting.make.Goals as goal
+
+pub returns-clause-changes : goal.returns-clause-changes
+returns-clause-changes g c = IfOk-weaker c.insert.result _ _
+    (λ reply h rules x are sound good.
+    let shows = c.prepare.ensures.shows in
+    subst (λ (st : Stored). MakesChange (inserting rules c.args.table.now c.args.rows) st x reply (g.S.Store.shows c.insert.new.store)) shows
+    (h rules x are ((g.met.S.Store.goes_on_goes _ _ _ c.prepare.ensures.goes).sound sound)
+    (subst (λ (st : Stored). IsSchemaOf (g.S.Store.prepared c.prepare.new.self) (database_of st.working)) (sym shows) ((rw c.in_default.is at c.prepare.ensures.prepared) sound))
+    (subst (λ (st : Stored). IsGood rules.check (database_of st.working)) (sym shows) good)))
+    c.insert.ensures.changes
+
+pub returns-clause-refused : goal.returns-clause-refused
+returns-clause-refused g c = IfErr-weaker c.insert.result _ _
+    (λ refusal h rules x are sound good.
+    let shows = c.prepare.ensures.shows in
+    subst (λ (st : Stored). RefusesStatement (inserting rules c.args.table.now c.args.rows) (database_of st.working) x refusal) shows
+    (h rules x are ((g.met.S.Store.goes_on_goes _ _ _ c.prepare.ensures.goes).sound sound)
+    (subst (λ (st : Stored). IsSchemaOf (g.S.Store.prepared c.prepare.new.self) (database_of st.working)) (sym shows) ((rw c.in_default.is at c.prepare.ensures.prepared) sound))
+    (subst (λ (st : Stored). IsGood rules.check (database_of st.working)) (sym shows) good)))
+    c.insert.ensures.refused
+
+pub returns-clause-device : goal.returns-clause-device
+returns-clause-device g c = IfErr-weaker c.insert.result _ _ (λ refusal h is. risen_later _ _ _ ((g.met.S.Store.goes_on_goes _ _ _ c.prepare.ensures.goes).refused) (h is)) c.insert.ensures.device
+
+pub returns-in-Err-clause-goes : goal.returns-in-Err-clause-goes
+returns-in-Err-clause-goes g c = g.met.S.Store.goes_on_trans _ _ _ Going.keeps Going.changes c.prepare.ensures.goes (g.met.S.Store.goes_on_refl _ Going.changes)
+
+pub returns-clause-goes : goal.returns-clause-goes
+returns-clause-goes g c = g.met.S.Store.goes_on_trans _ _ _ Going.keeps Going.changes c.prepare.ensures.goes c.insert.ensures.goes
