@@ -88,7 +88,7 @@ NUMBERED = [
     ("SELECT A FROM T;", listed("3")),
     ("ROLLBACK;", DONE),
 ]
-SCRIPTS = {"numbered": NUMBERED, "plain": PLAIN, "deep": DEEP, "indexed": INDEXED, "empty": EMPTY, "large": LARGE}
+SCRIPTS = {"numbered": NUMBERED, "plain": PLAIN, "deep": DEEP, "indexed": INDEXED, "empty": EMPTY, "large": LARGE, "first_format": PLAIN, "open": PLAIN}
 
 # A line of replies below has one for each statement of its file: the good one where it says GOOD, any of several in a tuple, and for ANSWERED any answer that is no want of memory.
 GOOD = None
@@ -146,12 +146,28 @@ REPLIES = {
     "no_magic": NOT_OPENED,
     "page_count_0": NOT_OPENED,
     "page_count_65537": NOT_OPENED,
-    "page_count_4": NOT_OPENED,
+    "page_count_6": NOT_OPENED,
     "first_free_past_the_end": NOT_OPENED,
     "catalogue_past_the_end": NOT_OPENED,
     "catalogue_of_an_empty_file": NOT_OPENED,
-    "byte_20": FIRST_FREE,
-    "byte_4095": FIRST_FREE,
+    "byte_25": SOUND,
+    "byte_4095": SOUND,
+    "first_format_a_page_short": NOT_OPENED,
+    "magic_of_format_1_cut": NOT_OPENED,
+    "gate_1_without_a_journal": NOT_OPENED,
+    "gate_1_of_format_1": NOT_OPENED,
+    "journal_past_the_end": NOT_OPENED,
+    "journal_among_the_pages": NOT_OPENED,
+    "journal_with_a_page_at_its_block": NOT_OPENED,
+    "journal_with_a_page_past_its_block": NOT_OPENED,
+    "journal_with_a_page_twice": NOT_OPENED,
+    "journal_with_pages_that_fall": NOT_OPENED,
+    "journal_with_a_number_behind_the_unused": NOT_OPENED,
+    "journal_an_image_short": NOT_OPENED,
+    "journal_with_another_magic": NOT_OPENED,
+    "journal_with_page_count_0": NOT_OPENED,
+    "journal_with_too_many_pages": NOT_OPENED,
+    "journal_with_a_root_past_the_end": NOT_OPENED,
     "no_first_free": SOUND,
     "no_catalogue": NO_TABLE,
     "catalogue_is_free": CATALOGUE,

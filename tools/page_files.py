@@ -69,8 +69,25 @@ def page_of(kind, link, cells):
 
 def header_of(count, first_free, catalogue):
     page = bytearray(PAGE)
-    page[0:20] = b"RSQLPG01" + four(count) + four(first_free) + four(catalogue)
+    page[0:20] = b"RSQLPG02" + four(count) + four(first_free) + four(catalogue)
     return page
+
+
+def first_format(data):
+    """The same file in format 1, which has no journal."""
+    return b"RSQLPG01" + data[8:]
+
+
+def journaled(old, new):
+    """A file whose places have one version, and whose open gate stands before the journal of another: its pages that
+    differ, page 0 among them."""
+    count = int.from_bytes(new[8:12], "big")
+    pages = [new[at:at + PAGE] for at in range(0, count * PAGE, PAGE)]
+    changed = [at for at, page in enumerate(pages) if at == 0 or page != old[at * PAGE:(at + 1) * PAGE]]
+    data = bytearray(old[:count * PAGE].ljust(count * PAGE, b"\0"))
+    data[20:25] = four(count) + b"\1"
+    data += b"".join(map(four, changed)).ljust(PAGE, b"\xff")
+    return bytes(data) + b"".join(pages[at] for at in changed)
 
 
 class Table:

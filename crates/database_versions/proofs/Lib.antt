@@ -1,8 +1,10 @@
 pub mod HeldLemmas
 pub mod RefusalLemmas
 pub mod ChangeLemmas
+pub mod FileLemmas
 pub mod OpenLemmas
 pub mod PlaceLemmas
 pub mod CloseLemmas
+pub mod CrashLemmas
 pub mod StepLemmas
 pub mod UndoneLemmas

@@ -18,7 +18,7 @@ use Rattle.page_space.specs.Space.{ReadRefused, ChangeRefused}
 use Rattle.page_space.specs.declared.error.SpaceError.{SpaceError}
 use Rattle.page_space.specs.declared.error.SpaceError.TheVariants as fault
 use Rattle.pool.specs.Pages.{PageMap, over}
-use Rattle.pool.specs.Refused.{IsRefused, IsOfDevice}
+use Rattle.pool.specs.Refused.{CommitRefused, IsOfDevice}
 use Rattle.pool.specs.declared.error.PoolError.{PoolError}
 use Rattle.pool.specs.declared.error.PoolError.TheVariants as pool
 use Rattle.overlay.specs.InUse.{in_use}
@@ -150,15 +150,16 @@ fail_weaker sound other k n reached more (refused.Exceeded l) f g h = g l h
 
 -- ---- the pool's
 
-pub commit_fails : (sound : Type 0) (counted : StoreLimit → Type 0) (last k n : ℕ) (error : PoolError) → IsRefused (last ≡ 2 ^ 64 - 1) (counted limit.Kept) k n error → MayFail sound k n (CommittingReaches counted last) (of_pool error)
-commit_fails sound counted last k n pool.Memory h = tt
-commit_fails sound counted last k n (pool.Device cause) h = has_risen k k n (omega arith) h
-commit_fails sound counted last k n pool.Damaged h = absurd h
-commit_fails sound counted last k n pool.Pages h = top last (2 ^ 64) (omega arith) h
+pub commit_fails : (sound harm : Type 0) (counted : StoreLimit → Type 0) (last k n : ℕ) (error : PoolError) → (sound → harm → ⊥)
+    → CommitRefused (last ≡ 2 ^ 64 - 1) (counted limit.Kept) harm k n error → MayFail sound k n (CommittingReaches counted last) (of_pool error)
+commit_fails sound harm counted last k n pool.Memory never h = tt
+commit_fails sound harm counted last k n (pool.Device cause) never h = has_risen k k n (omega arith) h
+commit_fails sound harm counted last k n pool.Damaged never h = λ s. never s h
+commit_fails sound harm counted last k n pool.Pages never h = top last (2 ^ 64) (omega arith) h
   where
     top : (last most : ℕ) → 0 < most → last ≡ most - 1 → most ≤ last + 1
     top last most some e = omega (arith, some, e)
-commit_fails sound counted last k n pool.Kept h = h
+commit_fails sound harm counted last k n pool.Kept never h = h
 
 pub device_fails : (sound : Type 0) (reached : StoreLimit → Type 0) (k n : ℕ) (error : PoolError) → IsOfDevice k n error → MayFail sound k n reached (of_pool error)
 device_fails sound reached k n pool.Memory h = absurd h

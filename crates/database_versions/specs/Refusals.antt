@@ -13,8 +13,8 @@ use Rattle.store.specs.declared.error.StoreLimit.TheVariants as limit
 use Rattle.page_space.specs.declared.error.SpaceError.{SpaceError}
 use Rattle.page_space.specs.declared.error.SpaceError.TheVariants as fault
 use Rattle.pool.specs.Pages.{PageMap, over}
-use Rattle.pagefile.specs.declared.error.OpenError.{OpenError}
-use Rattle.pagefile.specs.declared.error.OpenError.TheVariants as opening
+use Rattle.journaled_file.specs.declared.opening.OpenRefusal.{OpenRefusal}
+use Rattle.journaled_file.specs.declared.opening.OpenRefusal.TheVariants as opening
 use Rattle.pool.specs.declared.error.PoolError.{PoolError}
 use Rattle.pool.specs.declared.error.PoolError.TheVariants as pool
 use Rattle.database_trees.specs.declared.error.DatabaseError.{DatabaseError}
@@ -37,7 +37,8 @@ of_pool pool.Damaged = refused.Damaged
 of_pool pool.Pages = refused.Exceeded limit.Pages
 of_pool pool.Kept = refused.Exceeded limit.Kept
 
-abbrev pub of_open : OpenError → StoreError
+abbrev pub of_open : OpenRefusal → StoreError
+of_open opening.Memory = refused.Memory
 of_open (opening.Device cause) = refused.Device
 of_open opening.Damaged = refused.Damaged
 

@@ -1,15 +1,14 @@
 //! What callers may rely on beside the calls.
 ghost use Rattle.std.specs.Prelude.{◌≡◌, ◌⊎◌, ◌++◌, ℕ, List, Some, IsSome};
 ghost use Rattle.denote.specs.Database.{Database};
-ghost use Rattle.pagefile.specs.Pages.{page_of};
 ghost use Rattle.btree_read.specs.Lists.{Has};
 ghost use Rattle.database_trees.specs.Held.{trees_of};
 ghost use Rattle.database_trees.specs.Trees.{pages_of};
 ghost use Rattle.pool.specs.Pages.{PageMap};
 ghost use Rattle.overlay.specs.Whole.{IsIn};
-ghost use Rattle.overlay.specs.Zeros.{EndsInZeros};
+ghost use Rattle.pool.specs.Zeros.{EndsInZeros};
 ghost use Rattle.database_versions.specs.Databases.{nothing, IsOwned};
-ghost use Rattle.database_versions.specs.Saved.{HoldsDatabase};
+ghost use Rattle.database_versions.specs.Saved.{HoldsDatabase, opened_pages};
 
 /// Where no page is lost, each page is page 0, one of the trees of the database, or one of the list
 /// of free pages.
@@ -18,8 +17,8 @@ pub fn each_page_has_its_place()
         → (n ≡ 0) ⊎ (Has n (d.owned.owned ++ pages_of (trees_of d.tables)) ⊎ IsIn n d.start.1.free) }
 {}
 
-/// Page 0 of a saved file ends in zeros.
+/// Page 0 of a saved file, as it is shown once the file is opened, ends in zeros.
 pub fn saved_files_end_in_zeros()
-    ensures { (file first : List ℕ) (db : Database) → HoldsDatabase file db → page_of file 0 ≡ Some first
-        → EndsInZeros first }
+    ensures { (file first : List ℕ) (db : Database) (held : HoldsDatabase file db)
+        → opened_pages held.version held.good.header.page_count 0 ≡ Some first → EndsInZeros first }
 {}

@@ -5,6 +5,7 @@
 mod blocks;
 mod causes;
 mod closing;
+mod crashes;
 mod laws;
 mod looking;
 mod naming;
@@ -16,6 +17,7 @@ mod schema;
 pub use blocks::{some_rows_of, some_rows_sought, some_rows_within};
 pub use causes::of_pool;
 pub use closing::close_pool;
+pub use crashes::last_commit_is_left;
 pub use laws::{each_page_has_its_place, saved_files_end_in_zeros};
 pub use looking::{row_beyond, rows_sought, rows_within};
 pub use opening::pool_over;

@@ -6,7 +6,7 @@ ghost use Rattle.store.specs.Errors.{MayFail, Never};
 ghost use Rattle.store.specs.Indexes.{sought, ranged, next_entry};
 ghost use Rattle.store.specs.View.{AreEntries, IsEntry, position_of};
 ghost use Rattle.page_space.specs.Space.{ReadRefused};
-ghost use Rattle.pool.specs.Versions.{versions_of, device_of};
+ghost use Rattle.pool.specs.Versions.{versions_of, device_of, refused_of};
 ghost use Rattle.overlay.specs.WriteSet.{private_of};
 ghost use Rattle.overlay.specs.InUse.{in_use};
 ghost use Rattle.database_trees.specs.Held.{TableAt, HoldsDatabase, HoldsNoDatabase, contents_of};
@@ -39,8 +39,8 @@ fn seek_from<D: Disk>(
         → HoldsDatabase (in_use ((versions_of pool.old).pages at) (private_of changes.now)) root tables
         → IfOk result (λ found. AreEntries found (sought (get (contents_of tables) name.now) index key.now)) }
     ensures versions { versions_of pool.new ≡ versions_of pool.old }
-    ensures refusal { IfErr result (ReadRefused (HoldsNoDatabase (in_use ((versions_of pool.old).pages at) (private_of changes.now)) root) (D.refused (device_of pool.old)) (D.refused (device_of pool.new))) }
-    ensures rising { D.refused (device_of pool.old) ≤ D.refused (device_of pool.new) }
+    ensures refusal { IfErr result (ReadRefused (HoldsNoDatabase (in_use ((versions_of pool.old).pages at) (private_of changes.now)) root) (refused_of pool.old) (refused_of pool.new)) }
+    ensures rising { refused_of pool.old ≤ refused_of pool.new }
     ensures writes { D.writes (device_of pool.new) ≡ D.writes (device_of pool.old) }
 {
     let mut space = Changed { pool, changes, at };
@@ -61,8 +61,8 @@ pub fn rows_sought<D: Disk>(
     ensures rows { IsDatabase ((versions_of pool.old).pages at) (private_of changes.now)
         → IfOk result (λ found. AreEntries found (sought (get (contents_in ((versions_of pool.old).pages at) (private_of changes.now)) name.now) index key.now)) }
     ensures versions { versions_of pool.new ≡ versions_of pool.old }
-    ensures refused { IfErr result (MayFail (IsDatabase ((versions_of pool.old).pages at) (private_of changes.now)) (D.refused (device_of pool.old)) (D.refused (device_of pool.new)) Never) }
-    ensures rising { D.refused (device_of pool.old) ≤ D.refused (device_of pool.new) }
+    ensures refused { IfErr result (MayFail (IsDatabase ((versions_of pool.old).pages at) (private_of changes.now)) (refused_of pool.old) (refused_of pool.new) Never) }
+    ensures rising { refused_of pool.old ≤ refused_of pool.new }
     ensures writes { D.writes (device_of pool.new) ≡ D.writes (device_of pool.old) }
 {
     match read_header(pool, changes, at) {
@@ -100,8 +100,8 @@ fn range_from<D: Disk>(
         → HoldsDatabase (in_use ((versions_of pool.old).pages at) (private_of changes.now)) root tables
         → IfOk result (λ found. AreEntries found (ranged (get (contents_of tables) name.now) index low.now high.now)) }
     ensures versions { versions_of pool.new ≡ versions_of pool.old }
-    ensures refusal { IfErr result (ReadRefused (HoldsNoDatabase (in_use ((versions_of pool.old).pages at) (private_of changes.now)) root) (D.refused (device_of pool.old)) (D.refused (device_of pool.new))) }
-    ensures rising { D.refused (device_of pool.old) ≤ D.refused (device_of pool.new) }
+    ensures refusal { IfErr result (ReadRefused (HoldsNoDatabase (in_use ((versions_of pool.old).pages at) (private_of changes.now)) root) (refused_of pool.old) (refused_of pool.new)) }
+    ensures rising { refused_of pool.old ≤ refused_of pool.new }
     ensures writes { D.writes (device_of pool.new) ≡ D.writes (device_of pool.old) }
 {
     let mut space = Changed { pool, changes, at };
@@ -123,8 +123,8 @@ pub fn rows_within<D: Disk>(
     ensures rows { IsDatabase ((versions_of pool.old).pages at) (private_of changes.now)
         → IfOk result (λ found. AreEntries found (ranged (get (contents_in ((versions_of pool.old).pages at) (private_of changes.now)) name.now) index low.now high.now)) }
     ensures versions { versions_of pool.new ≡ versions_of pool.old }
-    ensures refused { IfErr result (MayFail (IsDatabase ((versions_of pool.old).pages at) (private_of changes.now)) (D.refused (device_of pool.old)) (D.refused (device_of pool.new)) Never) }
-    ensures rising { D.refused (device_of pool.old) ≤ D.refused (device_of pool.new) }
+    ensures refused { IfErr result (MayFail (IsDatabase ((versions_of pool.old).pages at) (private_of changes.now)) (refused_of pool.old) (refused_of pool.new) Never) }
+    ensures rising { refused_of pool.old ≤ refused_of pool.new }
     ensures writes { D.writes (device_of pool.new) ≡ D.writes (device_of pool.old) }
 {
     match read_header(pool, changes, at) {
@@ -162,8 +162,8 @@ fn next_in_from<D: Disk>(
         → HoldsDatabase (in_use ((versions_of pool.old).pages at) (private_of changes.now)) root tables
         → IfOk result (λ found. IsEntry found (next_entry (get (contents_of tables) name.now) index (option_map (λ p. position_of p.now) after.entry))) }
     ensures versions { versions_of pool.new ≡ versions_of pool.old }
-    ensures refusal { IfErr result (ReadRefused (HoldsNoDatabase (in_use ((versions_of pool.old).pages at) (private_of changes.now)) root) (D.refused (device_of pool.old)) (D.refused (device_of pool.new))) }
-    ensures rising { D.refused (device_of pool.old) ≤ D.refused (device_of pool.new) }
+    ensures refusal { IfErr result (ReadRefused (HoldsNoDatabase (in_use ((versions_of pool.old).pages at) (private_of changes.now)) root) (refused_of pool.old) (refused_of pool.new)) }
+    ensures rising { refused_of pool.old ≤ refused_of pool.new }
     ensures writes { D.writes (device_of pool.new) ≡ D.writes (device_of pool.old) }
 {
     let mut space = Changed { pool, changes, at };
@@ -184,8 +184,8 @@ pub fn row_beyond<D: Disk>(
     ensures row { IsDatabase ((versions_of pool.old).pages at) (private_of changes.now)
         → IfOk result (λ found. IsEntry found (next_entry (get (contents_in ((versions_of pool.old).pages at) (private_of changes.now)) name.now) index (option_map (λ p. position_of p.now) after.entry))) }
     ensures versions { versions_of pool.new ≡ versions_of pool.old }
-    ensures refused { IfErr result (MayFail (IsDatabase ((versions_of pool.old).pages at) (private_of changes.now)) (D.refused (device_of pool.old)) (D.refused (device_of pool.new)) Never) }
-    ensures rising { D.refused (device_of pool.old) ≤ D.refused (device_of pool.new) }
+    ensures refused { IfErr result (MayFail (IsDatabase ((versions_of pool.old).pages at) (private_of changes.now)) (refused_of pool.old) (refused_of pool.new) Never) }
+    ensures rising { refused_of pool.old ≤ refused_of pool.new }
     ensures writes { D.writes (device_of pool.new) ≡ D.writes (device_of pool.old) }
 {
     match read_header(pool, changes, at) {

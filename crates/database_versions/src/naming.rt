@@ -3,7 +3,7 @@ ghost use Rattle.std.specs.Prelude.{◌≡◌, ◌≤◌, IfErr, OnOk};
 ghost use Rattle.store.specs.Contents.{Contents};
 ghost use Rattle.page_space.specs.Space.{ChangeRefused};
 ghost use Rattle.pool.specs.Pages.{over};
-ghost use Rattle.pool.specs.Versions.{versions_of, device_of};
+ghost use Rattle.pool.specs.Versions.{versions_of, device_of, refused_of};
 ghost use Rattle.overlay.specs.WriteSet.{private_of, settled_of};
 ghost use Rattle.overlay.specs.InUse.{in_use};
 ghost use Rattle.overlay.specs.Layers.{size_of};
@@ -38,8 +38,8 @@ pub(crate) fn put_root<D: Disk>(
     ensures refusal { IfErr result (ChangeRefused (AtLimit (over (private_of changes.new) ((versions_of pool.old).pages at) 0) (size_of (private_of changes.new)))
         ((contents : Contents) → IsWholeOver ((versions_of pool.old).pages at) (private_of changes.old)
         → DatabaseWritten (in_use ((versions_of pool.old).pages at) (private_of changes.old)) contents root → ⊥)
-        (D.refused (device_of pool.old)) (D.refused (device_of pool.new))) }
-    ensures rising { D.refused (device_of pool.old) ≤ D.refused (device_of pool.new) }
+        (refused_of pool.old) (refused_of pool.new)) }
+    ensures rising { refused_of pool.old ≤ refused_of pool.new }
     ensures writes { D.writes (device_of pool.new) ≡ D.writes (device_of pool.old) }
 {
     database_stays();

@@ -1,23 +1,23 @@
 //! The first version of what lies on a device.
-ghost use Rattle.std.specs.Prelude.{◌≡◌, ◌≤◌, [], IsTrue, IfOk, IfErr};
+ghost use Rattle.std.specs.Prelude.{◌≡◌, ◌≤◌, [], length, IsTrue, IfOk, IfErr};
 ghost use Rattle.denote.specs.Database.{Database};
 ghost use Rattle.store.specs.Errors.{MayFail, Never};
-ghost use Rattle.pool.specs.Versions.{versions_of, device_of, frames_of};
-ghost use Rattle.database_versions.specs.Opened.{Begins, BeginsOwned, IsReadable};
+ghost use Rattle.pool.specs.Versions.{versions_of, frames_of, refused_of};
+ghost use Rattle.database_versions.specs.Opened.{Begins, BeginsEmpty, BeginsOwned, IsHandedBack, IsReadable};
 ghost use Rattle.database_versions.specs.Refusals.{of_open};
 ghost use Rattle.database_versions.specs.Saved.{IsSaved};
 
 use database_trees::no_database_at_first;
 use disk::Disk;
-use pagefile::{FileHeader, OpenError, PageFile};
+use journal::create;
+use journaled_file::{OpenRefusal, open_file};
 use pool::Pool;
 use std::alloc::Global;
 use store::{Returned, StoreError};
 use stored_tables::{contents_are_read, numbers_rise};
 
-/// A new database over an empty device, on which nothing is written yet. Refuses for want of memory
-/// alone.
-fn new_pool<D: Disk>(alloc: Global, device: D, frames: u32) -> Result<Pool<D>, Returned<D>>
+/// A new database over an empty device: a file of one page is made there.
+fn new_pool<D: Disk>(alloc: Global, mut device: D, frames: u32) -> Result<Pool<D>, Returned<D>>
     requires least { 16 ≤ frames }
     requires most { frames ≤ 4096 }
     requires empty { IsTrue D.is_honest → D.bytes device ≡ [] }
@@ -25,72 +25,87 @@ fn new_pool<D: Disk>(alloc: Global, device: D, frames: u32) -> Result<Pool<D>, R
     ensures owned { IfOk result (λ pool. BeginsOwned D.is_honest (D.bytes device) (versions_of pool)) }
     ensures readable { IfOk result (λ pool. IsReadable D.is_honest (D.bytes device)) }
     ensures frames { IfOk result (λ pool. frames_of pool ≡ frames) }
-    ensures counts { IfOk result (λ pool. D.refused device ≤ D.refused (device_of pool)) }
-    ensures left { IfErr result (λ back. back.value ≡ device) }
-    ensures refused { IfErr result (λ back. back.error ≡ StoreError.Memory) }
+    ensures counts { IfOk result (λ pool. D.refused device ≤ refused_of pool) }
+    ensures left { IfErr result (λ back. IsHandedBack D.is_honest (D.bytes device) (D.bytes back.value) back.error) }
+    ensures refused { IfErr result (λ back. MayFail ((db : Database)
+        × IsSaved D.is_honest (D.bytes device) db) (D.refused device) (D.refused back.value) Never back.error) }
 {
     no_database_at_first();
     contents_are_read();
     numbers_rise();
-    let file = PageFile::over(device);
-    match Pool::with_first(alloc, file, &FileHeader::NEW.encode(), frames) {
-        Ok(pool) => Ok(pool),
-        Err(file) => Err(Returned {
-            error: StoreError::Memory,
-            value: file.into_disk(),
+    match create(&mut device) {
+        Ok(()) => match Pool::new(alloc, device, 1, frames) {
+            Ok(pool) => Ok(pool),
+            Err(device) => Err(Returned {
+                error: StoreError::Memory,
+                value: device,
+            }),
+        },
+        Err(_) => Err(Returned {
+            error: StoreError::Device,
+            value: device,
         }),
     }
 }
 
-fn of_open(cause: OpenError) -> StoreError
+fn of_open(cause: OpenRefusal) -> StoreError
     ensures { result ≡ of_open cause }
 {
     match cause {
-        OpenError::Device(_) => StoreError::Device,
-        OpenError::Damaged => StoreError::Damaged,
+        OpenRefusal::Memory => StoreError::Memory,
+        OpenRefusal::Device(_) => StoreError::Device,
+        OpenRefusal::Damaged => StoreError::Damaged,
     }
 }
 
 /// The database of a file.
-fn old_pool<D: Disk>(alloc: Global, device: D, frames: u32) -> Result<Pool<D>, Returned<D>>
+fn old_pool<D: Disk>(alloc: Global, mut device: D, frames: u32) -> Result<Pool<D>, Returned<D>>
     requires least { 16 ≤ frames }
     requires most { frames ≤ 4096 }
     requires some { IsTrue D.is_honest → D.bytes device ≡ [] → ⊥ }
     ensures begins { IfOk result (λ pool. Begins D.is_honest (D.bytes device) (versions_of pool)) }
     ensures owned { IfOk result (λ pool. BeginsOwned D.is_honest (D.bytes device) (versions_of pool)) }
+    ensures empty { IfOk result (λ pool. IsTrue D.is_honest → length (D.bytes device) ≡ 4096
+        → BeginsEmpty (versions_of pool)) }
     ensures readable { IfOk result (λ pool. IsReadable D.is_honest (D.bytes device)) }
     ensures frames { IfOk result (λ pool. frames_of pool ≡ frames) }
-    ensures counts { IfOk result (λ pool. D.refused device ≤ D.refused (device_of pool)) }
-    ensures left { IfErr result (λ back. IsTrue D.is_honest → D.bytes back.value ≡ D.bytes device) }
+    ensures counts { IfOk result (λ pool. D.refused device ≤ refused_of pool) }
+    ensures left { IfErr result (λ back. IsHandedBack D.is_honest (D.bytes device) (D.bytes back.value) back.error) }
     ensures refused { IfErr result (λ back. MayFail ((db : Database)
         × IsSaved D.is_honest (D.bytes device) db) (D.refused device) (D.refused back.value) Never back.error) }
 {
-    match PageFile::open(device) {
-        Ok((file, header)) => match Pool::new(alloc, file, header.page_count, frames) {
+    no_database_at_first();
+    contents_are_read();
+    numbers_rise();
+    match open_file(alloc, &mut device) {
+        Ok(header) => match Pool::new(alloc, device, header.page_count, frames) {
             Ok(pool) => Ok(pool),
-            Err(file) => Err(Returned {
+            Err(device) => Err(Returned {
                 error: StoreError::Memory,
-                value: file.into_disk(),
+                value: device,
             }),
         },
-        Err(refused) => Err(Returned {
-            error: of_open(refused.cause),
-            value: refused.disk,
+        Err(cause) => Err(Returned {
+            error: of_open(cause),
+            value: device,
         }),
     }
 }
 
-/// A pool over what lies on a device: nothing, which is a database without tables, or a whole file;
-/// no other device is opened.
+/// A pool over what lies on a device: nothing, which is a database without tables and of which a
+/// file is made, or a file of either format, as its journal makes it; no other device is opened. A
+/// file of 4,096 bytes that is opened is the database without tables.
 pub fn pool_over<D: Disk>(alloc: Global, mut device: D, frames: u32) -> Result<Pool<D>, Returned<D>>
     requires least { 16 ≤ frames }
     requires most { frames ≤ 4096 }
     ensures begins { IfOk result (λ pool. Begins D.is_honest (D.bytes device) (versions_of pool)) }
     ensures owned { IfOk result (λ pool. BeginsOwned D.is_honest (D.bytes device) (versions_of pool)) }
+    ensures empty { IfOk result (λ pool. IsTrue D.is_honest → length (D.bytes device) ≡ 4096
+        → BeginsEmpty (versions_of pool)) }
     ensures readable { IfOk result (λ pool. IsReadable D.is_honest (D.bytes device)) }
     ensures frames { IfOk result (λ pool. frames_of pool ≡ frames) }
-    ensures counts { IfOk result (λ pool. D.refused device ≤ D.refused (device_of pool)) }
-    ensures left { IfErr result (λ back. IsTrue D.is_honest → D.bytes back.value ≡ D.bytes device) }
+    ensures counts { IfOk result (λ pool. D.refused device ≤ refused_of pool) }
+    ensures left { IfErr result (λ back. IsHandedBack D.is_honest (D.bytes device) (D.bytes back.value) back.error) }
     ensures refused { IfErr result (λ back. MayFail ((db : Database)
         × IsSaved D.is_honest (D.bytes device) db) (D.refused device) (D.refused back.value) Never back.error) }
 {

@@ -7,7 +7,7 @@ ghost use Rattle.store.specs.Errors.{MayFail, Never};
 ghost use Rattle.store.specs.Indexes.{entries_of, entry_after};
 ghost use Rattle.store.specs.View.{AreEntries, IsEntry};
 ghost use Rattle.page_space.specs.Space.{ReadRefused};
-ghost use Rattle.pool.specs.Versions.{versions_of, device_of};
+ghost use Rattle.pool.specs.Versions.{versions_of, device_of, refused_of};
 ghost use Rattle.overlay.specs.WriteSet.{private_of};
 ghost use Rattle.overlay.specs.InUse.{in_use};
 ghost use Rattle.stored_tables.specs.Held.{TableAt, HoldsTables, HoldsNoTables, contents_of};
@@ -35,8 +35,8 @@ fn schema_from<D: Disk>(
         → HoldsTables (in_use ((versions_of pool.old).pages at) (private_of changes.now)) root tables
         → IfOk result (λ schema. IsSchemaOf schema (database_of (contents_of tables))) }
     ensures versions { versions_of pool.new ≡ versions_of pool.old }
-    ensures refusal { IfErr result (ReadRefused (HoldsNoTables (in_use ((versions_of pool.old).pages at) (private_of changes.now)) root) (D.refused (device_of pool.old)) (D.refused (device_of pool.new))) }
-    ensures rising { D.refused (device_of pool.old) ≤ D.refused (device_of pool.new) }
+    ensures refusal { IfErr result (ReadRefused (HoldsNoTables (in_use ((versions_of pool.old).pages at) (private_of changes.now)) root) (refused_of pool.old) (refused_of pool.new)) }
+    ensures rising { refused_of pool.old ≤ refused_of pool.new }
     ensures writes { D.writes (device_of pool.new) ≡ D.writes (device_of pool.old) }
 {
     let mut space = Changed { pool, changes, at };
@@ -53,8 +53,8 @@ pub fn schema_of<D: Disk>(
     ensures found { IsDatabase ((versions_of pool.old).pages at) (private_of changes.now)
         → IfOk result (λ schema. IsSchemaOf schema (database_of (contents_in ((versions_of pool.old).pages at) (private_of changes.now)))) }
     ensures versions { versions_of pool.new ≡ versions_of pool.old }
-    ensures refused { IfErr result (MayFail (IsDatabase ((versions_of pool.old).pages at) (private_of changes.now)) (D.refused (device_of pool.old)) (D.refused (device_of pool.new)) Never) }
-    ensures rising { D.refused (device_of pool.old) ≤ D.refused (device_of pool.new) }
+    ensures refused { IfErr result (MayFail (IsDatabase ((versions_of pool.old).pages at) (private_of changes.now)) (refused_of pool.old) (refused_of pool.new) Never) }
+    ensures rising { refused_of pool.old ≤ refused_of pool.new }
     ensures writes { D.writes (device_of pool.new) ≡ D.writes (device_of pool.old) }
 {
     match read_header(pool, changes, at) {
@@ -79,8 +79,8 @@ fn scan_from<D: Disk>(
         → HoldsTables (in_use ((versions_of pool.old).pages at) (private_of changes.now)) root tables
         → IfOk result (λ found. AreEntries found (entries_of (get (contents_of tables) name.now))) }
     ensures versions { versions_of pool.new ≡ versions_of pool.old }
-    ensures refusal { IfErr result (ReadRefused (HoldsNoTables (in_use ((versions_of pool.old).pages at) (private_of changes.now)) root) (D.refused (device_of pool.old)) (D.refused (device_of pool.new))) }
-    ensures rising { D.refused (device_of pool.old) ≤ D.refused (device_of pool.new) }
+    ensures refusal { IfErr result (ReadRefused (HoldsNoTables (in_use ((versions_of pool.old).pages at) (private_of changes.now)) root) (refused_of pool.old) (refused_of pool.new)) }
+    ensures rising { refused_of pool.old ≤ refused_of pool.new }
     ensures writes { D.writes (device_of pool.new) ≡ D.writes (device_of pool.old) }
 {
     let mut space = Changed { pool, changes, at };
@@ -98,8 +98,8 @@ pub fn rows_of<D: Disk>(
     ensures rows { IsDatabase ((versions_of pool.old).pages at) (private_of changes.now)
         → IfOk result (λ found. AreEntries found (entries_of (get (contents_in ((versions_of pool.old).pages at) (private_of changes.now)) name.now))) }
     ensures versions { versions_of pool.new ≡ versions_of pool.old }
-    ensures refused { IfErr result (MayFail (IsDatabase ((versions_of pool.old).pages at) (private_of changes.now)) (D.refused (device_of pool.old)) (D.refused (device_of pool.new)) Never) }
-    ensures rising { D.refused (device_of pool.old) ≤ D.refused (device_of pool.new) }
+    ensures refused { IfErr result (MayFail (IsDatabase ((versions_of pool.old).pages at) (private_of changes.now)) (refused_of pool.old) (refused_of pool.new) Never) }
+    ensures rising { refused_of pool.old ≤ refused_of pool.new }
     ensures writes { D.writes (device_of pool.new) ≡ D.writes (device_of pool.old) }
 {
     match read_header(pool, changes, at) {
@@ -125,8 +125,8 @@ fn next_from<D: Disk>(
         → HoldsTables (in_use ((versions_of pool.old).pages at) (private_of changes.now)) root tables
         → IfOk result (λ found. IsEntry found (entry_after after (entries_of (get (contents_of tables) name.now)))) }
     ensures versions { versions_of pool.new ≡ versions_of pool.old }
-    ensures refusal { IfErr result (ReadRefused (HoldsNoTables (in_use ((versions_of pool.old).pages at) (private_of changes.now)) root) (D.refused (device_of pool.old)) (D.refused (device_of pool.new))) }
-    ensures rising { D.refused (device_of pool.old) ≤ D.refused (device_of pool.new) }
+    ensures refusal { IfErr result (ReadRefused (HoldsNoTables (in_use ((versions_of pool.old).pages at) (private_of changes.now)) root) (refused_of pool.old) (refused_of pool.new)) }
+    ensures rising { refused_of pool.old ≤ refused_of pool.new }
     ensures writes { D.writes (device_of pool.new) ≡ D.writes (device_of pool.old) }
 {
     let mut space = Changed { pool, changes, at };
@@ -145,8 +145,8 @@ pub fn row_after<D: Disk>(
     ensures row { IsDatabase ((versions_of pool.old).pages at) (private_of changes.now)
         → IfOk result (λ found. IsEntry found (entry_after after (entries_of (get (contents_in ((versions_of pool.old).pages at) (private_of changes.now)) name.now)))) }
     ensures versions { versions_of pool.new ≡ versions_of pool.old }
-    ensures refused { IfErr result (MayFail (IsDatabase ((versions_of pool.old).pages at) (private_of changes.now)) (D.refused (device_of pool.old)) (D.refused (device_of pool.new)) Never) }
-    ensures rising { D.refused (device_of pool.old) ≤ D.refused (device_of pool.new) }
+    ensures refused { IfErr result (MayFail (IsDatabase ((versions_of pool.old).pages at) (private_of changes.now)) (refused_of pool.old) (refused_of pool.new) Never) }
+    ensures rising { refused_of pool.old ≤ refused_of pool.new }
     ensures writes { D.writes (device_of pool.new) ≡ D.writes (device_of pool.old) }
 {
     match read_header(pool, changes, at) {

@@ -4,7 +4,7 @@ ghost use Rattle.std.specs.FinMap.{get};
 ghost use Rattle.store.specs.Contents.{appended, replaced, deleted};
 ghost use Rattle.store.specs.Errors.{MayFail, ChangingReaches};
 ghost use Rattle.pool.specs.Pages.{over};
-ghost use Rattle.pool.specs.Versions.{versions_of, device_of};
+ghost use Rattle.pool.specs.Versions.{versions_of, device_of, refused_of};
 ghost use Rattle.overlay.specs.WriteSet.{private_of, settled_of};
 ghost use Rattle.overlay.specs.InUse.{in_use};
 ghost use Rattle.overlay.specs.Layers.{size_of};
@@ -47,8 +47,8 @@ fn append_from<D: Disk>(
         → IsWholeOver ((versions_of pool.old).pages at) (private_of changes.new)) }
     ensures settled { settled_of changes.new ≡ settled_of changes.old }
     ensures versions { versions_of pool.new ≡ versions_of pool.old }
-    ensures refusal { IfErr result (SpaceRefused (AtLimit (over (private_of changes.new) ((versions_of pool.old).pages at) 0) (size_of (private_of changes.new))) (HoldsNoDatabaseIn (in_use ((versions_of pool.old).pages at) (private_of changes.old)) root (IsWholeOver ((versions_of pool.old).pages at) (private_of changes.old))) (D.refused (device_of pool.old)) (D.refused (device_of pool.new))) }
-    ensures rising { D.refused (device_of pool.old) ≤ D.refused (device_of pool.new) }
+    ensures refusal { IfErr result (SpaceRefused (AtLimit (over (private_of changes.new) ((versions_of pool.old).pages at) 0) (size_of (private_of changes.new))) (HoldsNoDatabaseIn (in_use ((versions_of pool.old).pages at) (private_of changes.old)) root (IsWholeOver ((versions_of pool.old).pages at) (private_of changes.old))) (refused_of pool.old) (refused_of pool.new)) }
+    ensures rising { refused_of pool.old ≤ refused_of pool.new }
     ensures writes { D.writes (device_of pool.new) ≡ D.writes (device_of pool.old) }
 {
     let mut space = Overlay { pool, changes, at };
@@ -72,8 +72,8 @@ pub fn append_rows<D: Disk>(
         → OnOk result (IsOwned ((versions_of pool.old).pages at) (private_of changes.new)) }
     ensures settled { settled_of changes.new ≡ settled_of changes.old }
     ensures versions { versions_of pool.new ≡ versions_of pool.old }
-    ensures refused { IfErr result (MayFail (IsDatabase ((versions_of pool.old).pages at) (private_of changes.old)) (D.refused (device_of pool.old)) (D.refused (device_of pool.new)) (NewRowsReach (IsCounted ((versions_of pool.old).pages at) (private_of changes.new)) (NumbersEnd ((versions_of pool.old).pages at) (private_of changes.old) name.now rows) rows)) }
-    ensures rising { D.refused (device_of pool.old) ≤ D.refused (device_of pool.new) }
+    ensures refused { IfErr result (MayFail (IsDatabase ((versions_of pool.old).pages at) (private_of changes.old)) (refused_of pool.old) (refused_of pool.new) (NewRowsReach (IsCounted ((versions_of pool.old).pages at) (private_of changes.new)) (NumbersEnd ((versions_of pool.old).pages at) (private_of changes.old) name.now rows) rows)) }
+    ensures rising { refused_of pool.old ≤ refused_of pool.new }
     ensures writes { D.writes (device_of pool.new) ≡ D.writes (device_of pool.old) }
 {
     match read_header(pool, changes, at) {
@@ -110,8 +110,8 @@ fn replace_from<D: Disk>(
         → IsWholeOver ((versions_of pool.old).pages at) (private_of changes.new)) }
     ensures settled { settled_of changes.new ≡ settled_of changes.old }
     ensures versions { versions_of pool.new ≡ versions_of pool.old }
-    ensures refusal { IfErr result (SpaceRefused (AtLimit (over (private_of changes.new) ((versions_of pool.old).pages at) 0) (size_of (private_of changes.new))) (HoldsNoDatabaseIn (in_use ((versions_of pool.old).pages at) (private_of changes.old)) root (IsWholeOver ((versions_of pool.old).pages at) (private_of changes.old))) (D.refused (device_of pool.old)) (D.refused (device_of pool.new))) }
-    ensures rising { D.refused (device_of pool.old) ≤ D.refused (device_of pool.new) }
+    ensures refusal { IfErr result (SpaceRefused (AtLimit (over (private_of changes.new) ((versions_of pool.old).pages at) 0) (size_of (private_of changes.new))) (HoldsNoDatabaseIn (in_use ((versions_of pool.old).pages at) (private_of changes.old)) root (IsWholeOver ((versions_of pool.old).pages at) (private_of changes.old))) (refused_of pool.old) (refused_of pool.new)) }
+    ensures rising { refused_of pool.old ≤ refused_of pool.new }
     ensures writes { D.writes (device_of pool.new) ≡ D.writes (device_of pool.old) }
 {
     let mut space = Overlay { pool, changes, at };
@@ -136,8 +136,8 @@ pub fn replace_row<D: Disk>(
         → OnOk result (IsOwned ((versions_of pool.old).pages at) (private_of changes.new)) }
     ensures settled { settled_of changes.new ≡ settled_of changes.old }
     ensures versions { versions_of pool.new ≡ versions_of pool.old }
-    ensures refused { IfErr result (MayFail (IsDatabase ((versions_of pool.old).pages at) (private_of changes.old)) (D.refused (device_of pool.old)) (D.refused (device_of pool.new)) (RowsReach (IsCounted ((versions_of pool.old).pages at) (private_of changes.new)) (row ∷ []))) }
-    ensures rising { D.refused (device_of pool.old) ≤ D.refused (device_of pool.new) }
+    ensures refused { IfErr result (MayFail (IsDatabase ((versions_of pool.old).pages at) (private_of changes.old)) (refused_of pool.old) (refused_of pool.new) (RowsReach (IsCounted ((versions_of pool.old).pages at) (private_of changes.new)) (row ∷ []))) }
+    ensures rising { refused_of pool.old ≤ refused_of pool.new }
     ensures writes { D.writes (device_of pool.new) ≡ D.writes (device_of pool.old) }
 {
     match read_header(pool, changes, at) {
@@ -181,8 +181,8 @@ fn delete_from<D: Disk>(
         → IsWholeOver ((versions_of pool.old).pages at) (private_of changes.new)) }
     ensures settled { settled_of changes.new ≡ settled_of changes.old }
     ensures versions { versions_of pool.new ≡ versions_of pool.old }
-    ensures refusal { IfErr result (SpaceRefused (AtLimit (over (private_of changes.new) ((versions_of pool.old).pages at) 0) (size_of (private_of changes.new))) (HoldsNoDatabaseIn (in_use ((versions_of pool.old).pages at) (private_of changes.old)) root (IsWholeOver ((versions_of pool.old).pages at) (private_of changes.old))) (D.refused (device_of pool.old)) (D.refused (device_of pool.new))) }
-    ensures rising { D.refused (device_of pool.old) ≤ D.refused (device_of pool.new) }
+    ensures refusal { IfErr result (SpaceRefused (AtLimit (over (private_of changes.new) ((versions_of pool.old).pages at) 0) (size_of (private_of changes.new))) (HoldsNoDatabaseIn (in_use ((versions_of pool.old).pages at) (private_of changes.old)) root (IsWholeOver ((versions_of pool.old).pages at) (private_of changes.old))) (refused_of pool.old) (refused_of pool.new)) }
+    ensures rising { refused_of pool.old ≤ refused_of pool.new }
     ensures writes { D.writes (device_of pool.new) ≡ D.writes (device_of pool.old) }
 {
     let mut space = Overlay { pool, changes, at };
@@ -206,8 +206,8 @@ pub fn delete_row<D: Disk>(
         → OnOk result (IsOwned ((versions_of pool.old).pages at) (private_of changes.new)) }
     ensures settled { settled_of changes.new ≡ settled_of changes.old }
     ensures versions { versions_of pool.new ≡ versions_of pool.old }
-    ensures refused { IfErr result (MayFail (IsDatabase ((versions_of pool.old).pages at) (private_of changes.old)) (D.refused (device_of pool.old)) (D.refused (device_of pool.new)) (ChangingReaches (IsCounted ((versions_of pool.old).pages at) (private_of changes.new)))) }
-    ensures rising { D.refused (device_of pool.old) ≤ D.refused (device_of pool.new) }
+    ensures refused { IfErr result (MayFail (IsDatabase ((versions_of pool.old).pages at) (private_of changes.old)) (refused_of pool.old) (refused_of pool.new) (ChangingReaches (IsCounted ((versions_of pool.old).pages at) (private_of changes.new)))) }
+    ensures rising { refused_of pool.old ≤ refused_of pool.new }
     ensures writes { D.writes (device_of pool.new) ≡ D.writes (device_of pool.old) }
 {
     match read_header(pool, changes, at) {

@@ -16,12 +16,16 @@ use Rattle.journal.specs.Lists.{listed, IsList, HasNumbers}
 use Rattle.journal.specs.Parts.{place, block}
 use Rattle.journal.specs.Versions.{Version, OneOf, StandsFor, IsShut}
 
+-- the text RSQLPG01
+abbrev pub magic_1 : List ℕ
+magic_1 = 82 ∷ 83 ∷ 81 ∷ 76 ∷ 80 ∷ 71 ∷ 48 ∷ 49 ∷ []
+
 -- the text RSQLPG02
 abbrev pub magic_2 : List ℕ
-magic_2 = 82 ∷ 83 ∷ 81 ∷ 76 ∷ 80 ∷ 71 ∷ 48 ∷ 50 ∷ []
+magic_2 = magic
 
 abbrev pub magic_of : Format → List ℕ
-magic_of One = magic
+magic_of One = magic_1
 magic_of Two = magic_2
 
 -- A journal that is whole, from a block on: its list, and that all its blocks lie within the file.
@@ -102,3 +106,5 @@ pub record IsFinished (found told : Found) (honest durable : Bool) (old new : By
   pub same : told ≡ found
   pub shut : IsTrue honest → (v : Version) → StandsFor v old → IsShut v new
   pub only : IsTrue durable → IsTrue honest → Only old left_old → Only new left_new
+  pub closed : IsTrue honest → gate_part new ≡ 0 ∷ []
+  pub size : IsTrue honest → 4096 ≤ length old → length new ≡ length old

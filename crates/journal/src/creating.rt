@@ -17,9 +17,7 @@ pub fn first_page(header: FileHeader) -> Page
     ensures header { (len : ℕ) → IsInBounds header → 4096 * header.page_count ≤ len
         → IsHeaderOf len result Two header }
 {
-    let mut page = header.encode();
-    page[7] = b'2';
-    page
+    header.encode()
 }
 
 /// Makes a new file of format 2, of one page, in the place of what the device held, and waits until

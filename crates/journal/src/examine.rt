@@ -1,6 +1,7 @@
 //! What is found in a file: all that a recovery tests, before it writes.
 ghost use Rattle.std.specs.Prelude.{◌≡◌, ◌≢◌, ℕ, ◌+◌, ◌*◌, ◌%◌, ◌≤◌, ◌<◌, ◌^◌, ◌∷◌, [], ◌↔◌, length, IfOk, IfErr, IsTrue, MatchResult};
 ghost use Rattle.disk.specs.Crashes.{Bytes};
+ghost use Rattle.pagefile.specs.Header.{IsInBounds};
 ghost use Rattle.pagefile.specs.Whole.{IsCounted, IsTold};
 ghost use Rattle.pagefile.specs.Parts.{gate_part, start_part};
 ghost use Rattle.byteorder.specs.Endian.{big_number};
@@ -27,6 +28,7 @@ const GATE: usize = 24;
 fn find(len: u64, page: &Page, gate: Gate) -> Result<Found, OpenError>
     ensures gate { IfOk result (λ found. found.gate ≡ gate) }
     ensures header { IfOk result (λ found. IsHeaderOf len page.now found.format found.header) }
+    ensures bounds { IfOk result (λ found. IsInBounds found.header) }
     ensures cause { IfErr result (λ e. e ≡ OpenError.Damaged) }
     ensures none { IfErr result (λ e. (format : _) (h : _) → IsHeaderOf len page.now format h → ⊥) }
 {
@@ -107,6 +109,7 @@ fn find_open<D: Disk>(
     requires journal { IsTrue D.is_honest → IsJournal (D.bytes disk.old) start size }
     requires list { IsTrue D.is_honest → list.now ≡ block (D.bytes disk.old) start }
     ensures file { IfOk result (λ found. IsTrue D.is_honest → IsFile (D.bytes disk.old) found) }
+    ensures bounds { IfOk result (λ found. IsInBounds found.header) }
     ensures gate { IfOk result (λ found. found.gate ≡ Gate.Open start size) }
     ensures damaged { IfErr result (λ e. e ≡ OpenError.Damaged → IsTrue D.is_honest → IsNoFile (D.bytes disk.old)) }
     ensures only_damaged { IfErr result (λ e. IsTrue D.is_honest → IsTrue D.always_reads → e ≡ OpenError.Damaged) }
@@ -139,6 +142,7 @@ fn examine_open<D: Disk>(
     requires some { 4096 ≤ len }
     requires even { len % 4096 ≡ 0 }
     ensures file { IfOk result (λ found. IsTrue D.is_honest → IsFile (D.bytes disk.old) found) }
+    ensures bounds { IfOk result (λ found. IsInBounds found.header) }
     ensures list { IfOk result (λ found. IsTrue D.is_honest → HasList (D.bytes disk.old) list.new found.gate) }
     ensures small { IfOk result (λ found. IsSmall found.gate) }
     ensures damaged { IfErr result (λ e. e ≡ OpenError.Damaged → IsTrue D.is_honest → IsNoFile (D.bytes disk.old)) }
@@ -161,6 +165,7 @@ fn examine_open<D: Disk>(
 /// Nothing is written. `Damaged` just where nothing of the kind is in the file.
 pub(crate) fn examine<D: Disk>(disk: &mut D, list: &mut Page) -> Result<Found, OpenError>
     ensures file { IfOk result (λ found. IsTrue D.is_honest → IsFile (D.bytes disk.old) found) }
+    ensures bounds { IfOk result (λ found. IsInBounds found.header) }
     ensures list { IfOk result (λ found. IsTrue D.is_honest → HasList (D.bytes disk.old) list.new found.gate) }
     ensures small { IfOk result (λ found. IsSmall found.gate) }
     ensures damaged { IfErr result (λ e. e ≡ OpenError.Damaged → IsTrue D.is_honest → IsNoFile (D.bytes disk.old)) }

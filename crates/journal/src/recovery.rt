@@ -1,9 +1,12 @@
 //! The recovery of a file that a crash may have left.
-ghost use Rattle.std.specs.Prelude.{◌≡◌, ℕ, ◌+◌, ◌*◌, ◌≤◌, ◌<◌, ◌^◌, length, IfOk, IfErr, OnOk, IsTrue, MatchResult};
+ghost use Rattle.std.specs.Prelude.{◌≡◌, ℕ, ◌+◌, ◌*◌, ◌≤◌, ◌<◌, ◌^◌, [], ◌∷◌, length, IfOk, IfErr, OnOk, IsTrue, MatchResult};
 ghost use Rattle.disk.specs.Crashes.{Bytes, Always, Keeps, Only, LeavesOnly};
 ghost use Rattle.disk.specs.Refused.{CountsRefusal};
+ghost use Rattle.pagefile.specs.Header.{IsInBounds};
+ghost use Rattle.pagefile.specs.Parts.{gate_part};
 ghost use Rattle.pagefile.specs.Whole.{IsCounted, IsTold};
 ghost use Rattle.journal.specs.Headers.{IsFile, IsNoFile, IsGate, IsSmall, IsGood, HasList, NamesPages, Finds, IsFinished};
+ghost use Rattle.journal.specs.Lists.{IsList};
 ghost use Rattle.journal.specs.Parts.{kept_size, place, block, ChangesOnly};
 ghost use Rattle.journal.specs.Versions.{Version, put, laid, HasPage, IsReady, IsOpen, IsShut, OneOf, IsAmong, StandsFor};
 
@@ -42,6 +45,9 @@ fn copy_images<D: Disk>(disk: &mut D, start: u32, size: u32, list: &Page) -> Res
         → OnOk result ((n : ℕ) → n < v.count → place (D.bytes disk.new) n ≡ laid v.set (place (D.bytes disk.old)) n) }
     ensures ready { IsTrue D.is_honest → (v : Version) → NamesPages v start size list.now → IsReady v (D.bytes disk.old)
         → IsReady v (D.bytes disk.new) }
+    ensures size { IsTrue D.is_honest → IsList list.now start size
+        → 4096 * (start + 1 + size) ≤ length (D.bytes disk.old)
+        → length (D.bytes disk.new) ≡ length (D.bytes disk.old) }
     ensures keeps { IsTrue D.is_durable → (v : Version) → NamesPages v start size list.now
         → Keeps D.moment D.left_since D.may_leave disk.old disk.new (IsOpen v) }
     ensures count { CountsRefusal result (D.refused disk.old) (D.refused disk.new) }
@@ -63,6 +69,10 @@ fn copy_back<D: Disk>(disk: &mut D, start: u32, size: u32, list: &Page) -> Resul
     requires { size ≤ 1024 }
     ensures shut { IsTrue D.is_honest → (v : Version) → NamesPages v start size list.now → IsReady v (D.bytes disk.old)
         → OnOk result (IsShut v (D.bytes disk.new)) }
+    ensures closed { OnOk result (IsTrue D.is_honest → gate_part (D.bytes disk.new) ≡ 0 ∷ []) }
+    ensures size { IsTrue D.is_honest → IsList list.now start size
+        → 4096 * (start + 1 + size) ≤ length (D.bytes disk.old)
+        → length (D.bytes disk.new) ≡ length (D.bytes disk.old) }
     ensures only { IsTrue D.is_durable → IsTrue D.is_honest
         → OnOk result (Only (D.bytes disk.new) (D.may_leave disk.new)) }
     ensures keeps { IsTrue D.is_durable → IsTrue D.is_honest → (x y v : Version) → OneOf x y v
@@ -86,6 +96,10 @@ fn settle<D: Disk>(disk: &mut D, gate: Gate, list: &Page) -> Result<(), DiskErro
         → OnOk result (IsShut v (D.bytes disk.new)) }
     ensures only { IsTrue D.is_durable → IsTrue D.is_honest → Only (D.bytes disk.old) (D.may_leave disk.old)
         → OnOk result (Only (D.bytes disk.new) (D.may_leave disk.new)) }
+    ensures closed { OnOk result (IsTrue D.is_honest → gate_part (D.bytes disk.new) ≡ 0 ∷ []) }
+    ensures size { IsTrue D.is_honest → 4096 ≤ length (D.bytes disk.old)
+        → length (D.bytes disk.new) ≡ length (D.bytes disk.old) }
+    ensures still { IsTrue D.is_honest → gate_part (D.bytes disk.old) ≡ 0 ∷ [] → D.bytes disk.new ≡ D.bytes disk.old }
     ensures keeps { IsTrue D.is_durable → IsTrue D.is_honest → Only (D.bytes disk.old) (D.may_leave disk.old)
         → (x y : Version) → Keeps D.moment D.left_since D.may_leave disk.old disk.new (IsAmong x y) }
     ensures count { CountsRefusal result (D.refused disk.old) (D.refused disk.new) }
@@ -107,6 +121,7 @@ fn finish<D: Disk>(disk: &mut D, found: Found, list: &Page) -> Result<Found, Ope
         (D.bytes disk.new) (D.may_leave disk.old) (D.may_leave disk.new)) }
     ensures keeps { IsTrue D.is_durable → IsTrue D.is_honest → Only (D.bytes disk.old) (D.may_leave disk.old)
         → (x y : Version) → Keeps D.moment D.left_since D.may_leave disk.old disk.new (IsAmong x y) }
+    ensures still { IsTrue D.is_honest → gate_part (D.bytes disk.old) ≡ 0 ∷ [] → D.bytes disk.new ≡ D.bytes disk.old }
     ensures never { IfErr result (λ e. e ≡ OpenError.Damaged → ⊥) }
     ensures count { MatchResult result
         (λ _. D.refused disk.new ≡ D.refused disk.old)
@@ -125,9 +140,11 @@ fn finish<D: Disk>(disk: &mut D, found: Found, list: &Page) -> Result<Found, Ope
 /// It waits first until the file is on the medium as it reads. All its tests come before its first
 /// write: `Damaged`, just where nothing of the kind is in the file (`IsFile`), leaves each byte.
 /// Then an open gate is shut behind the images of its journal, and a torn one is shut. A crash at
-/// any moment of it, and a refusal, leave a file that stands for one of the same versions.
+/// any moment of it, and a refusal, leave a file that stands for one of the same versions. A file
+/// whose gate is shut keeps each byte, and no other gets another length.
 pub fn recover<D: Disk>(disk: &mut D) -> Result<Found, OpenError>
     ensures file { IfOk result (λ found. IsTrue D.is_honest → IsFile (D.bytes disk.old) found) }
+    ensures bounds { IfOk result (λ found. IsInBounds found.header) }
     ensures shut { IfOk result (λ found. IsTrue D.is_honest → (v : Version) → StandsFor v (D.bytes disk.old)
         → IsShut v (D.bytes disk.new)) }
     ensures found { IfOk result (λ found. IsTrue D.is_durable → IsTrue D.is_honest → (x y : Version)
@@ -135,6 +152,9 @@ pub fn recover<D: Disk>(disk: &mut D) -> Result<Found, OpenError>
         → Finds x y found (D.bytes disk.old) (D.may_leave disk.new)) }
     ensures only { IfOk result (λ _. IsTrue D.is_durable → IsTrue D.is_honest
         → Only (D.bytes disk.new) (D.may_leave disk.new)) }
+    ensures closed { IfOk result (λ _. IsTrue D.is_honest → gate_part (D.bytes disk.new) ≡ 0 ∷ []) }
+    ensures size { IfOk result (λ _. IsTrue D.is_honest → length (D.bytes disk.new) ≡ length (D.bytes disk.old)) }
+    ensures still { IsTrue D.is_honest → gate_part (D.bytes disk.old) ≡ 0 ∷ [] → D.bytes disk.new ≡ D.bytes disk.old }
     ensures keeps { IsTrue D.is_durable → IsTrue D.is_honest → (x y : Version)
         → Keeps D.moment D.left_since D.may_leave disk.old disk.new (IsAmong x y) }
     ensures damaged { IfErr result (λ e. e ≡ OpenError.Damaged → IsTrue D.is_honest → IsNoFile (D.bytes disk.old)) }

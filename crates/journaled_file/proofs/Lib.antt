@@ -1,3 +1,4 @@
 pub mod Laying
 pub mod Showing
 pub mod Renewing
+pub mod Shutting

@@ -1,5 +1,5 @@
 -- A file of format 1 made one of format 2.
-use Rattle.std.proofs.Common.{◌≡◌, ◌∙◌, ℕ, zero, suc, ◌<◌, ◌≤◌, List, [], ◌∷◌, ◌++◌, take, drop, refl, sym, ap, subst, inl, inr, arith}
+use Rattle.std.proofs.Common.{◌≡◌, ◌∙◌, ℕ, zero, suc, ◌%◌, ◌<◌, ◌≤◌, List, [], ◌∷◌, ◌++◌, length, get_or, take, drop, refl, sym, ap, subst, inl, inr, arith}
 use Rattle.std.specs.Prelude.{◌⊎◌, Bool, IsTrue, Result, Ok, Err, IfOk}
 use Rattle.std.proofs.lemmas.Bool.Decides.{nat_tests}
 use Rattle.std.proofs.lemmas.List.{take-append-drop, drop-take}
@@ -11,13 +11,19 @@ use Rattle.pagefile.specs.Whole as whole
 use Rattle.journaled_file.specs.declared.opening.OpenRefusal.TheVariants.{Damaged}
 use Rattle.journaled_file.specs.Refused.{IsCounted, IsTold, refusal_for}
 use Rattle.pagefile.specs.declared.header.FileHeader.{FileHeader}
+use Rattle.pagefile.specs.Parts.{gate_part}
 use Rattle.journal.specs.declared.found.Format.{Format}
-use Rattle.journal.specs.Headers.{IsGood, IsHeaderOf, magic_2}
+use Rattle.journal.specs.declared.found.Format.TheVariants.{One, Two}
+use Rattle.journal.specs.declared.found.Found.{Found}
+use Rattle.journal.specs.declared.found.Gate.{Gate}
+use Rattle.journal.specs.declared.found.Gate.TheVariants.{Shut, Torn, Open}
+use Rattle.journal.specs.Headers.{IsFile, IsGate, IsGood, IsHeaderOf, header_part, magic_2, magic_of}
 use Rattle.journal.specs.Parts.{place, block}
 use Rattle.journal.specs.Versions.{Version, OneOf, IsAmong, IsShut, IsCommittable, committed}
 use Rattle.journal.proofs.Finding.{first_place}
+use Rattle.journal.proofs.States.{gate_one}
 use Rattle.journaled_file.specs.Renewed.{renewed, renewed_pages, first_pages, IsRenewing}
-use Rattle.journaled_file.specs.Shown.{IsAtRest}
+use Rattle.journaled_file.specs.Shown.{IsAtRest, placed}
 
 -- a good version has the pages that its header counts
 pub few : (v : Version) (len : ℕ) (format : Format) (h : FileHeader) → IsGood v → IsHeaderOf len (v.pages 0) format h → h.page_count ≤ v.count
@@ -66,6 +72,7 @@ rest_renewed honest durable v count page old file outcomes is first r = record {
   some = r.some;
   room = r.room;
   pages = λ h n less. r.pages h n less ∙ shows_renewed v count page old is first n;
+  gate = r.gate;
   shut = λ d h c left.
       let s = r.shut d h c left in
       record {
@@ -113,6 +120,7 @@ found_at_rest honest durable v count file outcomes some fewer s only = record {
   some = some;
   room = λ h. omega (arith, s.places.size.long, fewer);
   pages = λ h n less. s.places.pages n (omega (arith, less, fewer));
+  gate = λ h. s.gate;
   shut = λ d h c left. first_shut v count c fewer some (subst (IsShut v) (sym (only d h c left)) s);
 }
 
@@ -124,6 +132,7 @@ rest_second honest durable v count file outcomes begins r = record {
   some = r.some;
   room = r.room;
   pages = λ h n less. r.pages h n less ∙ stays_renewed v.pages begins n;
+  gate = r.gate;
   shut = λ d h c left.
       let s = r.shut d h c left in
       record {
@@ -148,3 +157,62 @@ counts_as (cause.Device d) old new counted = counted
 pub tells_as : (told : DiskError → Type 0) (e : OpenError) → whole.IsTold told e → IsTold told (refusal_for e)
 tells_as told cause.Damaged is = tt
 tells_as told (cause.Device d) is = is
+
+-- ---- the version that a file has in its places
+
+-- a file at rest is at rest for what its places have
+pub own_rest : (honest durable : Bool) (count : ℕ) (file : Bytes) (outcomes : Bytes → Type 0) (v : Version) → IsAtRest honest durable count file outcomes v
+    → IsAtRest honest durable count file outcomes (placed count file)
+own_rest honest durable count file outcomes v r = record {
+  many = refl;
+  some = r.some;
+  room = r.room;
+  pages = λ h n less. refl;
+  gate = r.gate;
+  shut = λ d h c left.
+      let s = r.shut d h c left in
+      record {
+        gate = s.gate;
+        places = record {
+          size = record { some = s.places.size.some; long = omega (arith, s.places.size.long, r.many); even = s.places.size.even };
+          some = r.some;
+          pages = λ n less. s.places.pages n (omega (arith, less, r.many)) ∙ sym (r.pages h n less);
+        };
+      };
+}
+
+-- so is a file of which the gate was shut, and that has the length of one that is opened
+pub found_rest : (honest durable : Bool) (old new : Bytes) (outcomes : Bytes → Type 0) (found : Found) → IsFile old found → gate_part new ≡ 0 ∷ []
+    → length new ≡ length old → (IsTrue durable → IsTrue honest → (c : Bytes) → outcomes c → c ≡ new)
+    → IsAtRest honest durable found.header.page_count new outcomes (placed found.header.page_count new)
+found_rest honest durable old new outcomes found f gate size only = record {
+  many = refl;
+  some = f.header.bounds.some;
+  room = λ h. omega (arith, f.header.long, size);
+  pages = λ h n less. refl;
+  gate = λ h. gate;
+  shut = λ d h c left. subst (IsShut (placed found.header.page_count new)) (sym (only d h c left)) here;
+}
+  where
+    here : IsShut (placed found.header.page_count new) new
+    here = record {
+      gate = gate;
+      places = record {
+        size = record { some = omega (arith, f.some, size); long = omega (arith, f.header.long, size); even = ap (λ (k : ℕ). k % 4096) size ∙ f.even };
+        some = f.header.bounds.some;
+        pages = λ n less. refl;
+      };
+    }
+
+-- a shut file that begins with the magic of format 2 is one of that format
+pub format_two : (c : Bytes) (found : Found) → IsFile c found → gate_part c ≡ 0 ∷ [] → take 8 (place c 0) ≡ magic_2 → found.format ≡ Two
+format_two c found f shut begins = by found.gate f.gate f.header
+  where
+    of_magic : (format : Format) → magic_of format ≡ magic_2 → format ≡ Two
+    of_magic Two e = refl
+    of_magic One e = let bad : 49 ≡ 50 = ap (λ (l : List ℕ). get_or l 7 0) e in absurd (omega (arith, bad))
+
+    by : (gate : Gate) → IsGate c gate → IsHeaderOf (length c) (header_part c gate) found.format found.header → found.format ≡ Two
+    by Shut said h = of_magic found.format (sym h.begins ∙ begins)
+    by Torn said h = absurd (said.1 (gate_one c said.0 0 said.3 shut))
+    by (Open start size) said h = let differs = gate_one c 1 0 said.0 shut in absurd (omega (arith, differs))

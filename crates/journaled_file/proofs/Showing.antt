@@ -6,6 +6,7 @@ use Rattle.std.proofs.lemmas.Bool.{cases_lt}
 use Rattle.disk.specs.Contents.{resized}
 use Rattle.disk.specs.Crashes.{Bytes, Always, IsCut}
 use Rattle.disk.proofs.ContentsLemmas.{length_resized}
+use Rattle.pagefile.specs.Parts.{gate_part}
 use Rattle.journal.specs.Parts.{place, block, shown, kept_size, ChangesOnly}
 use Rattle.journal.specs.Steps.{IsPut, KeepsOtherPlaces, KeepsPlaces, LiesWithin, AreAmong}
 use Rattle.journal.specs.Versions.{Version, HasPage, IsOpen, IsShut, InPlaces, IsCommittable, committed}
@@ -65,32 +66,6 @@ left_journaled honest durable images from end count old new left left_new v j ke
       opened = opened;
     }
 
--- where all images stand in their places, the version does
-pub all_there : (durable : Bool) (images : List (ℕ × List ℕ)) (honest : Bool) (count : ℕ) (file : Bytes) (outcomes : Bytes → Type 0) (v : Version)
-    → IsJournaled honest durable images (length images) count file outcomes v → IsTrue honest → IsOpen v file → InPlaces v file
-all_there durable images honest count file outcomes v j h o = record {
-  size = record { some = o.ready.size.some; long = omega (arith, o.ready.size.long); even = o.ready.size.even };
-  some = o.ready.some;
-  pages = λ n less. sym (laid_none images (place file) n) ∙ j.pages h n (omega (arith, less, j.many));
-}
-
--- the gate shut behind them
-pub at_rest : {E : Type 0} (honest durable : Bool) (images : List (ℕ × List ℕ)) (result : Result (Unit {0}) E) (old new : Bytes)
-    (left left_new : Bytes → Type 0) → (IsTrue honest → 4096 ≤ length old → ChangesOnly 24 1 old new)
-    → (IsTrue durable → IsTrue honest → (v : Version) → Always left (IsOpen v) → InPlaces v old → OnOk result (Always left_new (IsShut v)))
-    → (IsTrue durable → left old) → OnOk result ((count : ℕ) (v : Version) → IsJournaled honest durable images (length images) count old left v
-    → IsAtRest honest durable count new left_new v)
-at_rest honest durable images (Ok done) old new left left_new change shut now = λ count v j. record {
-  many = j.many;
-  some = j.some;
-  room = λ h. let room = j.room h in let size = (change h (omega (arith, room, j.some))).size in omega (arith, room, size);
-  pages = λ h n less.
-      let room = j.room h in
-      place_gate n old new (change h (omega (arith, room, j.some))) (omega (arith, room, less)) ∙ sym (laid_none images (place old) n) ∙ j.pages h n less;
-  shut = λ d h. shut d h v (j.opened d h) (all_there durable images honest count old left v j h (j.opened d h old (now d)));
-}
-at_rest honest durable images (Err e) old new left left_new change shut now = tt
-
 -- a commit over a version that stands in its places
 pub now_journaled : {E : Type 0} (honest durable : Bool) (set : List (ℕ × List ℕ)) (count : ℕ) (result : Result (Unit {0}) E) (old mid new : Bytes)
     (left left_new : Bytes → Type 0)
@@ -143,6 +118,10 @@ cut_at_rest honest durable count old new left left_new v r cut shut = record {
       let small = kept_small n in
       let front = cut_front (4096 * count) (4096 * count) old (resized old (4096 * count)) (omega arith) room (cut_resized old (4096 * count) room) in
       ap (λ (l : Bytes). place l n) (cut h) ∙ front.front (4096 * n) (4096 * n + kept_size n) (omega arith) (omega (arith, small, less)) ∙ r.pages h n less;
+  gate = λ h.
+      let room = r.room h in
+      let front = cut_front (4096 * count) (4096 * count) old (resized old (4096 * count)) (omega arith) room (cut_resized old (4096 * count) room) in
+      ap (λ (l : Bytes). gate_part l) (cut h) ∙ front.front 24 25 (omega arith) (omega (arith, r.some)) ∙ r.gate h;
   shut = shut;
 }
 
@@ -163,5 +142,6 @@ rest_read honest durable count old new left left_new v r same fewer = record {
   some = r.some;
   room = λ h. let room = r.room h in let size = ap (λ (l : Bytes). length l) (same h) in omega (arith, room, size);
   pages = λ h n less. ap (λ (l : Bytes). place l n) (same h) ∙ r.pages h n less;
+  gate = λ h. ap (λ (l : Bytes). gate_part l) (same h) ∙ r.gate h;
   shut = λ d h c left. r.shut d h c (fewer d c left);
 }

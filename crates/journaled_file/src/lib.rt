@@ -8,4 +8,4 @@ mod steps;
 
 pub use opening::{OpenRefusal, open_file};
 pub use reading::read_page;
-pub use steps::{close_file, commit_over, finish, finish_open, put_some, shut_off, write_commit};
+pub use steps::{cut_to, finish_open, put_some, shut_off, write_commit};

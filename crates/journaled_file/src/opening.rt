@@ -2,11 +2,14 @@
 ghost use Rattle.std.specs.Prelude.{◌≡◌, ℕ, ◌<◌, ◌≤◌, [], ◌∷◌, ◌++◌, take, drop, length, IfOk, IfErr, MatchResult, OnOk, OnErr, IsTrue};
 ghost use Rattle.disk.specs.Crashes.{Always, LeavesOnly};
 ghost use Rattle.disk.specs.Refused.{CountsRefusal};
+ghost use Rattle.pagefile.specs.Header.{IsInBounds};
+ghost use Rattle.pagefile.specs.Parts.{gate_part};
+ghost use Rattle.journal.specs.declared.found.Format.TheVariants.{Two};
 ghost use Rattle.journal.specs.Headers.{IsGood, IsNoFile, magic_2, magic_of};
 ghost use Rattle.journal.specs.Parts.{place, block};
 ghost use Rattle.journal.specs.Versions.{Version, OneOf, IsShut, IsAmong, IsCommittable, StandsFor, committed};
 ghost use Rattle.journaled_file.specs.Refused.{IsCounted, IsTold, refusal_for};
-ghost use Rattle.journaled_file.specs.Shown.{IsAtRest};
+ghost use Rattle.journaled_file.specs.Shown.{IsAtRest, placed};
 ghost use Rattle.journaled_file.specs.Renewed.{renewed, renewed_pages, first_pages, IsHeaderIn, Opens, IsOpening};
 
 use crate::steps::{finish_open, write_commit};
@@ -54,10 +57,12 @@ fn set_of_first(alloc: Global, page: &Page) -> Result<Items<Image>, AllocError>
 fn commit_at_rest<D: Disk>(disk: &mut D, set: &[Image], count: u32) -> Result<(), DiskError>
     requires { length set.now ≤ 1024 }
     ensures rest { OnOk result ((was : ℕ) (v : Version)
-        → IsAtRest D.is_honest D.is_durable was (D.bytes disk.old) (D.may_leave disk.old) v → IsCommittable v set.now count
+        → IsAtRest D.is_honest D.is_durable was (D.bytes disk.old) (D.may_leave disk.old) v
+        → IsCommittable v set.now count
         → IsAtRest D.is_honest D.is_durable count (D.bytes disk.new) (D.may_leave disk.new) (committed v set.now count)) }
     ensures keeps { IsTrue D.is_durable → IsTrue D.is_honest → (was : ℕ) (v : Version)
-        → IsAtRest D.is_honest D.is_durable was (D.bytes disk.old) (D.may_leave disk.old) v → IsCommittable v set.now count
+        → IsAtRest D.is_honest D.is_durable was (D.bytes disk.old) (D.may_leave disk.old) v
+        → IsCommittable v set.now count
         → Always (D.may_leave disk.new) (IsAmong v (committed v set.now count))
         × LeavesOnly D.moment D.left_since disk.old disk.new (IsAmong v (committed v set.now count)) }
     ensures count { CountsRefusal result (D.refused disk.old) (D.refused disk.new) }
@@ -140,7 +145,12 @@ fn as_second<D: Disk>(alloc: Global, disk: &mut D, found: Found) -> Result<FileH
     ensures rest { IfOk result (λ h. IsTrue D.is_honest → (v : Version) → take 8 (v.pages 0) ≡ magic_of found.format
         → IsAtRest D.is_honest D.is_durable found.header.page_count (D.bytes disk.old) (D.may_leave disk.old) (first_pages v found.header.page_count)
         → IsAtRest D.is_honest D.is_durable found.header.page_count (D.bytes disk.new) (D.may_leave disk.new) (renewed v found.header.page_count)) }
-    ensures any_moment { IsTrue D.is_durable → IsTrue D.is_honest → (x y v : Version) → OneOf x y v → found.header.page_count ≤ v.count
+    ensures own { IfOk result (λ h. IsTrue D.is_honest → (v : Version)
+        → IsAtRest D.is_honest D.is_durable found.header.page_count (D.bytes disk.old) (D.may_leave disk.old) (first_pages v found.header.page_count)
+        → IsAtRest D.is_honest D.is_durable found.header.page_count (D.bytes disk.new) (D.may_leave disk.new) (placed found.header.page_count (D.bytes disk.new))) }
+    ensures still { IsTrue D.is_honest → found.format ≡ Two → D.bytes disk.new ≡ D.bytes disk.old }
+    ensures any_moment { IsTrue D.is_durable → IsTrue D.is_honest → (x y v : Version) → OneOf x y v
+        → found.header.page_count ≤ v.count
         → Always (D.may_leave disk.old) (IsShut v)
         → IsAtRest D.is_honest D.is_durable found.header.page_count (D.bytes disk.old) (D.may_leave disk.old) (first_pages v found.header.page_count)
         → Always (D.may_leave disk.new) (IsOpening x y)
@@ -161,11 +171,18 @@ fn as_second<D: Disk>(alloc: Global, disk: &mut D, found: Found) -> Result<FileH
 }
 
 /// Opens a file of either format, which is one of the second then with its gate shut, and tells its
-/// header. `Damaged` comes just of what is no such file, and leaves each byte.
+/// header. `Damaged` comes just of what is no such file, and leaves each byte; so does any answer
+/// of a file of the second format whose gate is shut.
 pub fn open_file<D: Disk>(alloc: Global, disk: &mut D) -> Result<FileHeader, OpenRefusal>
     ensures header { IfOk result (λ h. IsTrue D.is_honest → IsHeaderIn (D.bytes disk.old) h) }
+    ensures bounds { IfOk result IsInBounds }
     ensures pages { IfOk result (λ h. IsTrue D.is_honest → (v : Version) → IsGood v → StandsFor v (D.bytes disk.old)
         → (n : ℕ) → n < h.page_count → place (D.bytes disk.new) n ≡ renewed_pages v.pages n) }
+    ensures rest { IfOk result (λ h. IsTrue D.is_honest
+        → IsAtRest D.is_honest D.is_durable h.page_count (D.bytes disk.new) (D.may_leave disk.new) (placed h.page_count (D.bytes disk.new))) }
+    ensures still { IsTrue D.is_honest → gate_part (D.bytes disk.old) ≡ 0 ∷ []
+        → take 8 (place (D.bytes disk.old) 0) ≡ magic_2
+        → D.bytes disk.new ≡ D.bytes disk.old }
     ensures opened { IfOk result (λ h. IsTrue D.is_durable → IsTrue D.is_honest → (x y : Version) → IsGood x → IsGood y
         → Always (D.may_leave disk.old) (IsAmong x y)
         → Opens x y h (D.bytes disk.old) (D.may_leave disk.new)) }

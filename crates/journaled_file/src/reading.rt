@@ -1,5 +1,5 @@
 //! Pages as a file with a journal shows them.
-ghost use Rattle.std.specs.Prelude.{◌≡◌, ℕ, List, IfErr, OnOk, IsTrue, true, false};
+ghost use Rattle.std.specs.Prelude.{◌≡◌, ℕ, ◌+◌, ◌*◌, ◌≤◌, List, length, IfErr, IsOk, OnOk, IsTrue, true, false};
 ghost use Rattle.disk.specs.Refused.{CountsRefusal};
 ghost use Rattle.journal.specs.Lists.{IsRising};
 ghost use Rattle.journal.specs.Parts.{place, shown};
@@ -24,7 +24,8 @@ fn pad(number: u32, page: &mut Page)
 
 /// Copies the page of this number, where it is one of these; tells whether it is.
 fn copy_image(images: &[Image], number: u32, into: &mut Page) -> bool
-    ensures found { result ≡ true → IsRising images.now → (base : _) → laid images.now base number ≡ shown number into.new }
+    ensures found { result ≡ true → IsRising images.now → (base : _)
+        → laid images.now base number ≡ shown number into.new }
     ensures none { result ≡ false → HasPage number images.now → ⊥ }
 {
     for (at, page) in images {
@@ -46,6 +47,8 @@ pub fn read_page<D: Disk>(
 ) -> Result<(), DiskError>
     ensures value { OnOk result (IsTrue D.is_honest → (pages : ℕ → List ℕ) → IsRising left.now
         → laid left.now (place (D.bytes disk.old)) number ≡ pages number → into.new ≡ padded number (pages number)) }
+    ensures read_always { IsTrue D.is_honest → IsTrue D.always_reads
+        → 4096 * number + 4096 ≤ length (D.bytes disk.old) → IsOk result }
     ensures reads { OnlyReads D.is_honest D.is_durable D.bytes D.synced D.writes D.settled D.moment D.left_since
         D.may_leave disk.old disk.new }
     ensures count { CountsRefusal result (D.refused disk.old) (D.refused disk.new) }

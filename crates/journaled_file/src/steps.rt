@@ -1,16 +1,18 @@
 //! The steps of a file between two commits.
-ghost use Rattle.std.specs.Prelude.{◌≡◌, ℕ, ◌*◌, ◌≤◌, length, IfErr, OnOk, OnErr, IsTrue};
+ghost use Rattle.std.specs.Prelude.{◌≡◌, ℕ, ◌*◌, ◌<◌, ◌≤◌, length, IfErr, OnOk, OnErr, IsTrue};
 ghost use Rattle.disk.specs.Crashes.{Always, Keeps, LeavesOnly};
 ghost use Rattle.disk.specs.Refused.{CountsRefusal};
+ghost use Rattle.journal.specs.Parts.{place};
 ghost use Rattle.journal.specs.Versions.{Version, IsOpen, IsShut, OneOf, IsAmong, IsCommittable, committed};
-ghost use Rattle.journaled_file.specs.Shown.{IsAtRest, IsJournaled, Shows};
+ghost use Rattle.journaled_file.specs.Shown.{IsAtRest, IsJournaled, IsShutting};
 
 use disk::{Disk, DiskError};
-use journal::{Image, open_gate, put_all, shut_behind, stage};
+use journal::{Image, open_gate, put_all, shut_gate, stage};
 use pagefile::PAGE_SIZE;
 
 /// Writes some images of the last commit in their places: from one on, up to another. Refused where
-/// the device refuses; the file still shows the same version, and the same images are to be written.
+/// the device refuses; the file still shows the same version, and the same images are to be
+/// written.
 pub fn put_some<D: Disk>(
     disk: &mut D,
     images: &[Image],
@@ -35,20 +37,24 @@ pub fn put_some<D: Disk>(
 }
 
 /// Shuts the gate, where all images stand in their places. Refused where the device refuses, and
-/// then the file still stands for that version.
-pub fn shut_off<D: Disk>(disk: &mut D, images: &[Image]) -> Result<(), DiskError>
+/// then the gate is still to be shut.
+pub fn shut_off<D: Disk>(disk: &mut D) -> Result<(), DiskError>
     ensures rest { OnOk result ((count : ℕ) (v : Version)
-        → IsJournaled D.is_honest D.is_durable images.now (length images.now) count (D.bytes disk.old) (D.may_leave disk.old) v
+        → IsShutting D.is_honest D.is_durable count (D.bytes disk.old) (D.may_leave disk.old) v
         → IsAtRest D.is_honest D.is_durable count (D.bytes disk.new) (D.may_leave disk.new) v) }
+    ensures left { OnErr result ((count : ℕ) (v : Version)
+        → IsShutting D.is_honest D.is_durable count (D.bytes disk.old) (D.may_leave disk.old) v
+        → IsShutting D.is_honest D.is_durable count (D.bytes disk.new) (D.may_leave disk.new) v) }
     ensures keeps { IsTrue D.is_durable → IsTrue D.is_honest → (count : ℕ) (x y v : Version) → OneOf x y v
-        → IsJournaled D.is_honest D.is_durable images.now (length images.now) count (D.bytes disk.old) (D.may_leave disk.old) v
+        → IsShutting D.is_honest D.is_durable count (D.bytes disk.old) (D.may_leave disk.old) v
         → Always (D.may_leave disk.new) (IsAmong x y)
         × LeavesOnly D.moment D.left_since disk.old disk.new (IsAmong x y) }
     ensures count { CountsRefusal result (D.refused disk.old) (D.refused disk.new) }
     ensures cause { IfErr result (D.told disk.new) }
     ensures settled { OnOk result (D.settled disk.new) }
 {
-    shut_behind(disk)
+    disk.sync()?;
+    shut_gate(disk)
 }
 
 /// Brings the images that are left to their places, and shuts the gate behind them. Refused where
@@ -67,45 +73,27 @@ pub fn finish_open<D: Disk>(disk: &mut D, images: &[Image], written: usize) -> R
     ensures settled { OnOk result (D.settled disk.new) }
 {
     put_some(disk, images, written, images.len())?;
-    shut_off(disk, images)
-}
-
-/// The same where the gate is open, and nothing where it is shut.
-pub fn finish<D: Disk>(
-    disk: &mut D,
-    images: &[Image],
-    written: usize,
-    is_open: bool,
-) -> Result<(), DiskError>
-    requires { written ≤ length images.now }
-    ensures rest { OnOk result ((count : ℕ) (v : Version)
-        → Shows D.is_honest D.is_durable is_open images.now written count (D.bytes disk.old) (D.may_leave disk.old) v
-        → IsAtRest D.is_honest D.is_durable count (D.bytes disk.new) (D.may_leave disk.new) v) }
-    ensures keeps { IsTrue D.is_durable → IsTrue D.is_honest → (count : ℕ) (x y v : Version) → OneOf x y v
-        → Shows D.is_honest D.is_durable is_open images.now written count (D.bytes disk.old) (D.may_leave disk.old) v
-        → Always (D.may_leave disk.new) (IsAmong x y)
-        × LeavesOnly D.moment D.left_since disk.old disk.new (IsAmong x y) }
-    ensures count { CountsRefusal result (D.refused disk.old) (D.refused disk.new) }
-    ensures cause { IfErr result (D.told disk.new) }
-{
-    if is_open {
-        finish_open(disk, images, written)
-    } else {
-        Ok(())
-    }
+    shut_off(disk)
 }
 
 /// Writes the journal of a commit, and opens the gate, where the pages stand in their places.
-/// Refused where the device refuses, and then the file stands for the old version or the new one.
+/// Refused where the device refuses, and then the file stands for the old version or the new one;
+/// the pages of the old one stand in their places either way.
 pub fn write_commit<D: Disk>(disk: &mut D, set: &[Image], count: u32) -> Result<(), DiskError>
     requires { length set.now ≤ 1024 }
     ensures journaled { OnOk result ((was : ℕ) (v : Version)
-        → IsAtRest D.is_honest D.is_durable was (D.bytes disk.old) (D.may_leave disk.old) v → IsCommittable v set.now count
+        → IsAtRest D.is_honest D.is_durable was (D.bytes disk.old) (D.may_leave disk.old) v
+        → IsCommittable v set.now count
         → IsJournaled D.is_honest D.is_durable set.now 0 count (D.bytes disk.new) (D.may_leave disk.new) (committed v set.now count)) }
     ensures keeps { IsTrue D.is_durable → IsTrue D.is_honest → (was : ℕ) (v : Version)
-        → IsAtRest D.is_honest D.is_durable was (D.bytes disk.old) (D.may_leave disk.old) v → IsCommittable v set.now count
+        → IsAtRest D.is_honest D.is_durable was (D.bytes disk.old) (D.may_leave disk.old) v
+        → IsCommittable v set.now count
         → Always (D.may_leave disk.new) (IsAmong v (committed v set.now count))
         × LeavesOnly D.moment D.left_since disk.old disk.new (IsAmong v (committed v set.now count)) }
+    ensures places { IsTrue D.is_honest → (was : ℕ) (v : Version)
+        → IsAtRest D.is_honest D.is_durable was (D.bytes disk.old) (D.may_leave disk.old) v
+        → IsCommittable v set.now count
+        → (n : ℕ) → n < was → place (D.bytes disk.new) n ≡ v.pages n }
     ensures count { CountsRefusal result (D.refused disk.old) (D.refused disk.new) }
     ensures cause { IfErr result (D.told disk.new) }
     ensures settled { OnOk result (D.settled disk.new) }
@@ -114,65 +102,13 @@ pub fn write_commit<D: Disk>(disk: &mut D, set: &[Image], count: u32) -> Result<
     open_gate(disk)
 }
 
-/// A whole commit. Refused where the device refuses, and then the file stands for the old version or
-/// the new one.
-pub fn commit_over<D: Disk>(
-    disk: &mut D,
-    images: &[Image],
-    written: usize,
-    is_open: bool,
-    set: &[Image],
-    count: u32,
-) -> Result<(), DiskError>
-    requires written { written ≤ length images.now }
-    requires few { length set.now ≤ 1024 }
-    ensures journaled { OnOk result ((was : ℕ) (v : Version)
-        → Shows D.is_honest D.is_durable is_open images.now written was (D.bytes disk.old) (D.may_leave disk.old) v
-        → IsCommittable v set.now count
-        → IsJournaled D.is_honest D.is_durable set.now 0 count (D.bytes disk.new) (D.may_leave disk.new) (committed v set.now count)) }
-    ensures any_moment { IsTrue D.is_durable → IsTrue D.is_honest → (was : ℕ) (v : Version)
-        → Shows D.is_honest D.is_durable is_open images.now written was (D.bytes disk.old) (D.may_leave disk.old) v
-        → IsCommittable v set.now count
-        → Always (D.may_leave disk.new) (IsAmong v (committed v set.now count))
-        × LeavesOnly D.moment D.left_since disk.old disk.new (IsAmong v (committed v set.now count)) }
-    ensures count { CountsRefusal result (D.refused disk.old) (D.refused disk.new) }
-    ensures cause { IfErr result (D.told disk.new) }
-    ensures settled { OnOk result (D.settled disk.new) }
-{
-    finish(disk, images, written, is_open)?;
-    write_commit(disk, set, count)
-}
-
-/// Brings a file to its pages alone: the images that are left go to their places, and what lies
-/// behind the pages is cut off and waited for. Refused where the device refuses; the file then still
-/// stands for that version.
-pub fn close_file<D: Disk>(
-    disk: &mut D,
-    images: &[Image],
-    written: usize,
-    is_open: bool,
-    count: u32,
-) -> Result<(), DiskError>
-    requires { written ≤ length images.now }
+/// Cuts a file to its pages, where these stand in their places, and waits for it. Refused where the
+/// device refuses, and then what lies behind them may be there or not.
+pub fn cut_to<D: Disk>(disk: &mut D, count: u32) -> Result<(), DiskError>
     ensures rest { OnOk result ((v : Version)
-        → Shows D.is_honest D.is_durable is_open images.now written count (D.bytes disk.old) (D.may_leave disk.old) v
+        → IsAtRest D.is_honest D.is_durable count (D.bytes disk.old) (D.may_leave disk.old) v
         → IsAtRest D.is_honest D.is_durable count (D.bytes disk.new) (D.may_leave disk.new) v) }
-    ensures size { OnOk result (IsTrue D.is_honest → length (D.bytes disk.new) ≡ 4096 * count) }
-    ensures keeps { IsTrue D.is_durable → IsTrue D.is_honest → (x y v : Version) → OneOf x y v
-        → Shows D.is_honest D.is_durable is_open images.now written count (D.bytes disk.old) (D.may_leave disk.old) v
-        → Always (D.may_leave disk.new) (IsAmong x y)
-        × LeavesOnly D.moment D.left_since disk.old disk.new (IsAmong x y) }
-    ensures count { CountsRefusal result (D.refused disk.old) (D.refused disk.new) }
-    ensures cause { IfErr result (D.told disk.new) }
-    ensures settled { OnOk result (D.settled disk.new) }
-{
-    finish(disk, images, written, is_open)?;
-    cut_to(disk, count)
-}
-
-/// Cuts a file to so many pages, where these stand in their places, and waits for it.
-fn cut_to<D: Disk>(disk: &mut D, count: u32) -> Result<(), DiskError>
-    ensures rest { OnOk result ((v : Version)
+    ensures left { OnErr result ((v : Version)
         → IsAtRest D.is_honest D.is_durable count (D.bytes disk.old) (D.may_leave disk.old) v
         → IsAtRest D.is_honest D.is_durable count (D.bytes disk.new) (D.may_leave disk.new) v) }
     ensures size { OnOk result (IsTrue D.is_honest → length (D.bytes disk.new) ≡ 4096 * count) }

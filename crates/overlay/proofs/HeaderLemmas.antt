@@ -4,7 +4,7 @@ use Rattle.pagefile.specs.declared.header.FileHeader.{FileHeader}
 use Rattle.pagefile.specs.Header.{header_bytes, IsHeader, IsInBounds}
 use Rattle.std.specs.Prelude.{zero, suc, replicate}
 use Rattle.std.specs.List.{list_all}
-use Rattle.overlay.specs.Zeros.{is_zero, has_zeros, EndsInZeros}
+use Rattle.pool.specs.Zeros.{is_zero, has_zeros, EndsInZeros}
 use Rattle.overlay.specs.Whole.{IsSaid, IsTakable, HasZeros, TakesZeros}
 use Rattle.pool.specs.Pages.{PageMap, over, pick}
 

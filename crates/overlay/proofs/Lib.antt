@@ -11,3 +11,4 @@ pub mod TakeLemmas
 pub mod RootLemmas
 pub mod ZeroLemmas
 pub mod UndoneLemmas
+pub mod FollowLemmas

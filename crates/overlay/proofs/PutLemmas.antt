@@ -4,7 +4,7 @@ use Rattle.std.specs.Prelude.{slice_index, nat_lt}
 use Rattle.std.specs.Option.{is_some}
 use Rattle.pagefile.specs.declared.header.FileHeader.{FileHeader}
 use Rattle.pagefile.specs.Header.{IsHeader, IsInBounds}
-use Rattle.overlay.specs.Zeros.{EndsInZeros}
+use Rattle.pool.specs.Zeros.{EndsInZeros}
 use Rattle.pagefile.specs.Free.{IsFree}
 use Rattle.pagefile.specs.Number.{number_at}
 use Rattle.pool.specs.Pages.{PageMap, over, only, pick}

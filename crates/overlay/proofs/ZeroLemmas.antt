@@ -1,6 +1,6 @@
 -- What the zeros behind the header of page 0 become.
 use Rattle.std.proofs.Common.{◌≡◌, ◌∙◌, ℕ, ◌<◌, arith, Result, Ok, Err, OnOk, OnErr, IfOk, Option, None, List, sym, ap, subst, ◌⊎◌, inl, inr}
-use Rattle.overlay.specs.Zeros.{EndsInZeros}
+use Rattle.pool.specs.Zeros.{EndsInZeros}
 use Rattle.pool.specs.Pages.{PageMap, over, only}
 use Rattle.overlay.specs.InUse.{in_use}
 use Rattle.overlay.specs.Whole.{HasZeros, TakesZeros, KeepsZeros}

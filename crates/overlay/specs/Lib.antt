@@ -3,7 +3,6 @@ pub mod Undone
 pub mod WriteSet
 pub mod InUse
 pub mod Bounded
-pub mod Zeros
 pub mod Whole
 pub mod Follows
 pub mod Puts

@@ -2,7 +2,7 @@
 use Rattle.std.specs.Prelude.{◌≡◌, ◌≢◌, ◌⊎◌, ℕ, ◌<◌, ◌+◌, List, Some, None, slice_index}
 use Rattle.pagefile.specs.declared.header.FileHeader.{FileHeader}
 use Rattle.pagefile.specs.Header.{IsHeader, IsInBounds}
-use Rattle.overlay.specs.Zeros.{EndsInZeros}
+use Rattle.pool.specs.Zeros.{EndsInZeros}
 use Rattle.pagefile.specs.Free.{IsFree}
 use Rattle.pool.specs.Pages.{PageMap, over, only}
 use Rattle.overlay.specs.InUse.{in_use}

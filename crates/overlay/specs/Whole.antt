@@ -5,7 +5,7 @@ use Rattle.page_space.specs.declared.error.SpaceError.TheVariants.{Memory, Disk,
 use Rattle.pagefile.specs.Number.{number_at}
 use Rattle.pagefile.specs.declared.header.FileHeader.{FileHeader}
 use Rattle.pagefile.specs.Header.{IsHeader, IsInBounds}
-use Rattle.overlay.specs.Zeros.{EndsInZeros}
+use Rattle.pool.specs.Zeros.{EndsInZeros}
 use Rattle.pagefile.specs.Free.{IsFree}
 use Rattle.pool.specs.Pages.{PageMap, over}
 
@@ -37,8 +37,8 @@ ListsAll pages count free = (n : ℕ) (bytes : List ℕ) → 0 < n → n < count
     → slice_index bytes 0 ≡ 3 → IsIn n free
 
 -- Page 0 is this header with zeros behind it, and the free pages are a list in which none stands
--- twice. Each page below the page count is there, and none behind it. If the list is full, each page
--- of the kind free stands in it.
+-- twice. Each page below the page count is there, and none behind it. If the list is full, each
+-- page of the kind free stands in it.
 pub record HasFreeList (full : Bool) (pages : PageMap) (header : FileHeader) : Type 0 where
   pub first : List ℕ
   pub there : pages 0 ≡ Some first
@@ -98,8 +98,8 @@ abbrev pub HasZeros : Option (List ℕ) → Type 0
 HasZeros None = ⊤
 HasZeros (Some first) = EndsInZeros first
 
--- A transaction that had not written page 0 took it with this version: the page that lies there ends
--- in zeros.
+-- A transaction that had not written page 0 took it with this version: the page that lies there
+-- ends in zeros.
 abbrev pub TakesZeros : PageMap → PageMap → Type 0
 TakesZeros version written = written 0 ≡ None → HasZeros (version 0)
 
@@ -121,8 +121,8 @@ pub record IsFirstFree (old new : PageMap) (page : ℕ) : Type 0 where
   pub next : (before : List ℕ) → old 0 ≡ Some before → link.next ≡ number_at before 12
 
 -- A page was taken: page 0, where it was known, names as the first free page the one that the taken
--- page named, where that was the first, and none where it named none. Where a page was free the page
--- count is as it was, and otherwise one more.
+-- page named, where that was the first, and none where it named none. Where a page was free the
+-- page count is as it was, and otherwise one more.
 pub record NamesRest (old new : PageMap) (page : ℕ) : Type 0 where
   pub first : List ℕ
   pub there : new 0 ≡ Some first
@@ -130,7 +130,8 @@ pub record NamesRest (old new : PageMap) (page : ℕ) : Type 0 where
       → IsFree bytes (number_at first 12)
   pub none : (before : List ℕ) → old 0 ≡ Some before → number_at before 12 ≡ 0 → number_at first 12 ≡ 0
   pub same : (before : List ℕ) → old 0 ≡ Some before → number_at before 12 ≢ 0 → number_at first 8 ≡ number_at before 8
-  pub more : (before : List ℕ) → old 0 ≡ Some before → number_at before 12 ≡ 0 → number_at first 8 ≡ number_at before 8 + 1
+  pub more : (before : List ℕ) → old 0 ≡ Some before → number_at before 12 ≡ 0
+      → number_at first 8 ≡ number_at before 8 + 1
 
 -- page 0, where it is known, names this root of the catalogue
 abbrev pub HasRoot : Option (List ℕ) → ℕ → Type 0

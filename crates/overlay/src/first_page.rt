@@ -4,18 +4,17 @@ ghost use Rattle.page_space.specs.Space.{ReadRefused};
 ghost use Rattle.pagefile.specs.declared.header.FileHeader.{FileHeader};
 ghost use Rattle.pagefile.specs.Header.{IsHeader, IsInBounds};
 ghost use Rattle.pool.specs.Pages.{over};
-ghost use Rattle.pool.specs.Versions.{versions_of, device_of};
+ghost use Rattle.pool.specs.Versions.{versions_of, device_of, refused_of};
 ghost use Rattle.overlay.specs.WriteSet.{private_of};
-ghost use Rattle.overlay.specs.Zeros.{has_zeros, EndsInZeros};
+ghost use Rattle.pool.specs.Zeros.{has_zeros, EndsInZeros};
 ghost use Rattle.overlay.specs.Whole.{IsSaid, IsTakable, TakesZeros};
 
 use crate::version::read_changed;
 use crate::write_set::WriteSet;
-use crate::zeros::ends_in_zeros;
 use disk::Disk;
 use page_space::SpaceError;
 use pagefile::{FileHeader, PAGE_SIZE, Page};
-use pool::Pool;
+use pool::{Pool, ends_in_zeros};
 
 /// The header that a page is; none where it is no header within its bounds.
 fn header_of(first: &Page) -> Option<FileHeader>
@@ -44,8 +43,8 @@ pub fn read_header<D: Disk>(
     ensures versions { versions_of pool.new ≡ versions_of pool.old }
     ensures refusal { IfErr result (ReadRefused ((header : FileHeader)
         → IsSaid (over (private_of changes.now) ((versions_of pool.old).pages at) 0) header → ⊥)
-        (D.refused (device_of pool.old)) (D.refused (device_of pool.new))) }
-    ensures rising { D.refused (device_of pool.old) ≤ D.refused (device_of pool.new) }
+        (refused_of pool.old) (refused_of pool.new)) }
+    ensures rising { refused_of pool.old ≤ refused_of pool.new }
     ensures writes { D.writes (device_of pool.new) ≡ D.writes (device_of pool.old) }
 {
     let mut first = [0; PAGE_SIZE];
@@ -67,8 +66,8 @@ fn is_takable(changes: &WriteSet, first: &Page) -> bool
     ends_in_zeros(first)
 }
 
-/// The fields of page 0, to be written again with others. Refused as damaged too where page 0, which
-/// the transaction has not written, does not end in zeros.
+/// The fields of page 0, to be written again with others. Refused as damaged too where page 0,
+/// which the transaction has not written, does not end in zeros.
 pub(crate) fn header_to_change<D: Disk>(
     pool: &mut Pool<D>,
     changes: &WriteSet,
@@ -81,8 +80,8 @@ pub(crate) fn header_to_change<D: Disk>(
     ensures versions { versions_of pool.new ≡ versions_of pool.old }
     ensures refusal { IfErr result (ReadRefused ((header : FileHeader)
         → IsTakable (over (private_of changes.now) ((versions_of pool.old).pages at) 0) header → ⊥)
-        (D.refused (device_of pool.old)) (D.refused (device_of pool.new))) }
-    ensures rising { D.refused (device_of pool.old) ≤ D.refused (device_of pool.new) }
+        (refused_of pool.old) (refused_of pool.new)) }
+    ensures rising { refused_of pool.old ≤ refused_of pool.new }
     ensures writes { D.writes (device_of pool.new) ≡ D.writes (device_of pool.old) }
 {
     let mut page = [0; PAGE_SIZE];

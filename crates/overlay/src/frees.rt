@@ -3,7 +3,7 @@ ghost use Rattle.std.specs.Prelude.{◌≡◌, ◌≢◌, ◌<◌, ◌≤◌, �
 ghost use Rattle.page_space.specs.Space.{ChangeRefused};
 ghost use Rattle.pagefile.specs.declared.header.FileHeader.{FileHeader};
 ghost use Rattle.pool.specs.Pages.{over};
-ghost use Rattle.pool.specs.Versions.{versions_of, device_of};
+ghost use Rattle.pool.specs.Versions.{versions_of, device_of, refused_of};
 ghost use Rattle.overlay.specs.WriteSet.{settled_of, private_of, undone_of};
 ghost use Rattle.overlay.specs.Layers.{size_of, IsNotKept};
 ghost use Rattle.overlay.specs.InUse.{in_use};
@@ -71,8 +71,8 @@ fn free_used<D: Disk>(
     ensures refusal { IfErr result (ChangeRefused (AtLimit (over (private_of changes.new) ((versions_of pool.new).pages at) 0) (size_of (private_of changes.new)))
         (IsWhole (over (private_of changes.old) ((versions_of pool.old).pages at))
         → IsSome (in_use ((versions_of pool.old).pages at) (private_of changes.old) page) → ⊥)
-        (D.refused (device_of pool.old)) (D.refused (device_of pool.new))) }
-    ensures rising { D.refused (device_of pool.old) ≤ D.refused (device_of pool.new) }
+        (refused_of pool.old) (refused_of pool.new)) }
+    ensures rising { refused_of pool.old ≤ refused_of pool.new }
     ensures writes { D.writes (device_of pool.new) ≡ D.writes (device_of pool.old) }
 {
     let used = is_in_use(pool, changes, at, page)?;
@@ -88,8 +88,8 @@ fn free_used<D: Disk>(
 /// Takes a page out of use, at a commit with a transaction's pages over it: it is the first free
 /// page then. Refused for memory, where the device refuses a call, at the limit of private pages,
 /// and as damaged only where the page is not in use, or the list of free pages is none. After a
-/// refusal of this page nothing is said; each other page is as it was. Page 0 is taken where it ends
-/// in zeros alone, and is written so.
+/// refusal of this page nothing is said; each other page is as it was. Page 0 is taken where it
+/// ends in zeros alone, and is written so.
 pub fn free_page<D: Disk>(
     pool: &mut Pool<D>,
     changes: &mut WriteSet,
@@ -112,8 +112,8 @@ pub fn free_page<D: Disk>(
     ensures refusal { IfErr result (ChangeRefused (AtLimit (over (private_of changes.new) ((versions_of pool.new).pages at) 0) (size_of (private_of changes.new)))
         (IsWhole (over (private_of changes.old) ((versions_of pool.old).pages at))
         → IsSome (in_use ((versions_of pool.old).pages at) (private_of changes.old) page) → ⊥)
-        (D.refused (device_of pool.old)) (D.refused (device_of pool.new))) }
-    ensures rising { D.refused (device_of pool.old) ≤ D.refused (device_of pool.new) }
+        (refused_of pool.old) (refused_of pool.new)) }
+    ensures rising { refused_of pool.old ≤ refused_of pool.new }
     ensures writes { D.writes (device_of pool.new) ≡ D.writes (device_of pool.old) }
 {
     free_used(pool, changes, at, page)

@@ -14,7 +14,6 @@ mod uses;
 mod version;
 mod write_set;
 mod writes;
-mod zeros;
 
 pub use changed::Changed;
 pub use commits::commit;

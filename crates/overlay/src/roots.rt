@@ -3,7 +3,7 @@ ghost use Rattle.std.specs.Prelude.{◌≡◌, ◌≤◌, ◌<◌, ◌⊎◌, �
 ghost use Rattle.page_space.specs.Space.{ChangeRefused};
 ghost use Rattle.pagefile.specs.declared.header.FileHeader.{FileHeader};
 ghost use Rattle.pool.specs.Pages.{over};
-ghost use Rattle.pool.specs.Versions.{versions_of, device_of};
+ghost use Rattle.pool.specs.Versions.{versions_of, device_of, refused_of};
 ghost use Rattle.overlay.specs.WriteSet.{settled_of, private_of, undone_of};
 ghost use Rattle.overlay.specs.InUse.{in_use};
 ghost use Rattle.overlay.specs.Layers.{size_of, IsNotKept};
@@ -49,8 +49,8 @@ fn write_root<D: Disk>(
     ensures refusal { IfErr result (ChangeRefused (AtLimit (over (private_of changes.new) ((versions_of pool.new).pages at) 0) (size_of (private_of changes.new)))
         (IsWhole (over (private_of changes.old) ((versions_of pool.old).pages at))
         → (root ≡ 0) ⊎ IsSome (in_use ((versions_of pool.old).pages at) (private_of changes.old) root) → ⊥)
-        (D.refused (device_of pool.old)) (D.refused (device_of pool.new))) }
-    ensures rising { D.refused (device_of pool.old) ≤ D.refused (device_of pool.new) }
+        (refused_of pool.old) (refused_of pool.new)) }
+    ensures rising { refused_of pool.old ≤ refused_of pool.new }
     ensures writes { D.writes (device_of pool.new) ≡ D.writes (device_of pool.old) }
 {
     match header_to_change(pool, changes, at) {
@@ -84,8 +84,8 @@ fn set_root<D: Disk>(
     ensures refusal { IfErr result (ChangeRefused (AtLimit (over (private_of changes.new) ((versions_of pool.new).pages at) 0) (size_of (private_of changes.new)))
         (IsWhole (over (private_of changes.old) ((versions_of pool.old).pages at))
         → (root ≡ 0) ⊎ IsSome (in_use ((versions_of pool.old).pages at) (private_of changes.old) root) → ⊥)
-        (D.refused (device_of pool.old)) (D.refused (device_of pool.new))) }
-    ensures rising { D.refused (device_of pool.old) ≤ D.refused (device_of pool.new) }
+        (refused_of pool.old) (refused_of pool.new)) }
+    ensures rising { refused_of pool.old ≤ refused_of pool.new }
     ensures writes { D.writes (device_of pool.new) ≡ D.writes (device_of pool.old) }
 {
     match read_header(pool, changes, at) {
@@ -130,8 +130,8 @@ pub fn set_catalog_root<D: Disk>(
     ensures refusal { IfErr result (ChangeRefused (AtLimit (over (private_of changes.new) ((versions_of pool.new).pages at) 0) (size_of (private_of changes.new)))
         (IsWhole (over (private_of changes.old) ((versions_of pool.old).pages at))
         → (root ≡ 0) ⊎ IsSome (in_use ((versions_of pool.old).pages at) (private_of changes.old) root) → ⊥)
-        (D.refused (device_of pool.old)) (D.refused (device_of pool.new))) }
-    ensures rising { D.refused (device_of pool.old) ≤ D.refused (device_of pool.new) }
+        (refused_of pool.old) (refused_of pool.new)) }
+    ensures rising { refused_of pool.old ≤ refused_of pool.new }
     ensures writes { D.writes (device_of pool.new) ≡ D.writes (device_of pool.old) }
 {
     set_root(pool, changes, at, root)

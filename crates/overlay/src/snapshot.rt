@@ -15,7 +15,7 @@ pub struct Snapshot<'a, D: Disk> {
 impl<'a, D: Disk> PageReader for Snapshot<'a, D> {
     ghost use Rattle.std.specs.Prelude.{None};
     ghost use Rattle.std.proofs.Common.{refl, ◌∙◌};
-    ghost use Rattle.pool.specs.Versions.{versions_of, device_of};
+    ghost use Rattle.pool.specs.Versions.{versions_of, device_of, refused_of};
     ghost use Rattle.overlay.specs.InUse.{in_use};
     ghost use Rattle.overlay.specs.Bounded.{in_use-bounded};
     ghost use Rattle.overlay.specs.Whole.{IsWhole};
@@ -23,9 +23,9 @@ impl<'a, D: Disk> PageReader for Snapshot<'a, D> {
 
     ghost pages = { λ s. in_use ((versions_of s.pool.now).pages s.at) (λ n. None) };
 
-    ghost refused = { λ s. D.refused (device_of s.pool.now) };
+    ghost refused = { λ s. refused_of s.pool.now };
 
-    ghost follows = { λ a b. IsRead (versions_of a.pool.now) (versions_of b.pool.now) (D.refused (device_of a.pool.now)) (D.refused (device_of b.pool.now)) (D.writes (device_of a.pool.now)) (D.writes (device_of b.pool.now))
+    ghost follows = { λ a b. IsRead (versions_of a.pool.now) (versions_of b.pool.now) (refused_of a.pool.now) (refused_of b.pool.now) (D.writes (device_of a.pool.now)) (D.writes (device_of b.pool.now))
         × (b.pool.ghost_name ≡ a.pool.ghost_name) × (b.at ≡ a.at) };
 
     ghost is_whole = { λ s. IsWhole ((versions_of s.pool.now).pages s.at) };

@@ -20,7 +20,7 @@ pub struct Overlay<'a, D: Disk> {
 
 impl<'a, D: Disk> PageReader for Overlay<'a, D> {
     ghost use Rattle.std.proofs.Common.{refl, ◌∙◌};
-    ghost use Rattle.pool.specs.Versions.{versions_of, device_of};
+    ghost use Rattle.pool.specs.Versions.{versions_of, device_of, refused_of};
     ghost use Rattle.overlay.specs.WriteSet.{private_of};
     ghost use Rattle.overlay.specs.InUse.{in_use};
     ghost use Rattle.overlay.specs.Bounded.{in_use-bounded};
@@ -29,9 +29,9 @@ impl<'a, D: Disk> PageReader for Overlay<'a, D> {
 
     ghost pages = { λ s. in_use ((versions_of s.pool.now).pages s.at) (private_of s.changes.now) };
 
-    ghost refused = { λ s. D.refused (device_of s.pool.now) };
+    ghost refused = { λ s. refused_of s.pool.now };
 
-    ghost follows = { λ a b. IsRead (versions_of a.pool.now) (versions_of b.pool.now) (D.refused (device_of a.pool.now)) (D.refused (device_of b.pool.now)) (D.writes (device_of a.pool.now)) (D.writes (device_of b.pool.now))
+    ghost follows = { λ a b. IsRead (versions_of a.pool.now) (versions_of b.pool.now) (refused_of a.pool.now) (refused_of b.pool.now) (D.writes (device_of a.pool.now)) (D.writes (device_of b.pool.now))
         × IsAfterMark a.changes.now b.changes.now × (b.pool.ghost_name ≡ a.pool.ghost_name)
         × (b.changes.ghost_name ≡ a.changes.ghost_name) × (b.at ≡ a.at) };
 

@@ -4,7 +4,7 @@ ghost use Rattle.page_space.specs.Space.{IsFresh, ReadRefused, ChangeRefused};
 ghost use Rattle.pagefile.specs.Free.{IsFree};
 ghost use Rattle.pagefile.specs.Header.{IsHeader, IsInBounds};
 ghost use Rattle.pool.specs.Pages.{over};
-ghost use Rattle.pool.specs.Versions.{versions_of, device_of};
+ghost use Rattle.pool.specs.Versions.{versions_of, device_of, refused_of};
 ghost use Rattle.overlay.specs.WriteSet.{settled_of, private_of, undone_of};
 ghost use Rattle.overlay.specs.Layers.{size_of, IsNotKept};
 ghost use Rattle.overlay.specs.InUse.{in_use};
@@ -61,8 +61,8 @@ fn take_first<D: Disk>(
     ensures taken { IfOk result (λ new. Takes ((versions_of pool.old).pages at) (private_of changes.now) header header.first_free new) }
     ensures versions { versions_of pool.new ≡ versions_of pool.old }
     ensures refusal { IfErr result (ReadRefused (IsWhole (over (private_of changes.now) ((versions_of pool.old).pages at)) → ⊥)
-        (D.refused (device_of pool.old)) (D.refused (device_of pool.new))) }
-    ensures rising { D.refused (device_of pool.old) ≤ D.refused (device_of pool.new) }
+        (refused_of pool.old) (refused_of pool.new)) }
+    ensures rising { refused_of pool.old ≤ refused_of pool.new }
     ensures writes { D.writes (device_of pool.new) ≡ D.writes (device_of pool.old) }
 {
     let mut bytes = [0; PAGE_SIZE];
@@ -92,8 +92,8 @@ fn page_to_take<D: Disk>(
     ensures versions { versions_of pool.new ≡ versions_of pool.old }
     ensures refusal { IfErr result (ChangeRefused (AtLimit (over (private_of changes.now) ((versions_of pool.new).pages at) 0) (size_of (private_of changes.now)))
         (IsWhole (over (private_of changes.now) ((versions_of pool.old).pages at))
-        → ⊥) (D.refused (device_of pool.old)) (D.refused (device_of pool.new))) }
-    ensures rising { D.refused (device_of pool.old) ≤ D.refused (device_of pool.new) }
+        → ⊥) (refused_of pool.old) (refused_of pool.new)) }
+    ensures rising { refused_of pool.old ≤ refused_of pool.new }
     ensures writes { D.writes (device_of pool.new) ≡ D.writes (device_of pool.old) }
 {
     let first = header.first_free;
@@ -150,8 +150,8 @@ fn take_by<D: Disk>(
     ensures versions { versions_of pool.new ≡ versions_of pool.old }
     ensures refusal { IfErr result (ChangeRefused (AtLimit (over (private_of changes.new) ((versions_of pool.new).pages at) 0) (size_of (private_of changes.new)))
         (IsWhole (over (private_of changes.old) ((versions_of pool.old).pages at))
-        → ⊥) (D.refused (device_of pool.old)) (D.refused (device_of pool.new))) }
-    ensures rising { D.refused (device_of pool.old) ≤ D.refused (device_of pool.new) }
+        → ⊥) (refused_of pool.old) (refused_of pool.new)) }
+    ensures rising { refused_of pool.old ≤ refused_of pool.new }
     ensures writes { D.writes (device_of pool.new) ≡ D.writes (device_of pool.old) }
 {
     match page_to_take(pool, changes, at, header) {
@@ -174,8 +174,8 @@ fn take_page<D: Disk>(
     ensures versions { versions_of pool.new ≡ versions_of pool.old }
     ensures refusal { IfErr result (ChangeRefused (AtLimit (over (private_of changes.new) ((versions_of pool.new).pages at) 0) (size_of (private_of changes.new)))
         (IsWhole (over (private_of changes.old) ((versions_of pool.old).pages at))
-        → ⊥) (D.refused (device_of pool.old)) (D.refused (device_of pool.new))) }
-    ensures rising { D.refused (device_of pool.old) ≤ D.refused (device_of pool.new) }
+        → ⊥) (refused_of pool.old) (refused_of pool.new)) }
+    ensures rising { refused_of pool.old ≤ refused_of pool.new }
     ensures writes { D.writes (device_of pool.new) ≡ D.writes (device_of pool.old) }
 {
     match header_to_change(pool, changes, at) {
@@ -213,8 +213,8 @@ pub fn allocate_page<D: Disk>(
     ensures versions { versions_of pool.new ≡ versions_of pool.old }
     ensures refusal { IfErr result (ChangeRefused (AtLimit (over (private_of changes.new) ((versions_of pool.new).pages at) 0) (size_of (private_of changes.new)))
         (IsWhole (over (private_of changes.old) ((versions_of pool.old).pages at))
-        → ⊥) (D.refused (device_of pool.old)) (D.refused (device_of pool.new))) }
-    ensures rising { D.refused (device_of pool.old) ≤ D.refused (device_of pool.new) }
+        → ⊥) (refused_of pool.old) (refused_of pool.new)) }
+    ensures rising { refused_of pool.old ≤ refused_of pool.new }
     ensures writes { D.writes (device_of pool.new) ≡ D.writes (device_of pool.old) }
 {
     take_page(pool, changes, at)

@@ -3,7 +3,7 @@ ghost use Rattle.std.specs.Prelude.{◌≡◌, ◌+◌, length, ◌≢◌, ◌<�
 ghost use Rattle.page_space.specs.Space.{ReadRefused, ChangeRefused};
 ghost use Rattle.pagefile.specs.Number.{number_at};
 ghost use Rattle.pool.specs.Pages.{over, only};
-ghost use Rattle.pool.specs.Versions.{versions_of, device_of};
+ghost use Rattle.pool.specs.Versions.{versions_of, device_of, refused_of};
 ghost use Rattle.overlay.specs.WriteSet.{settled_of, private_of, undone_of};
 ghost use Rattle.overlay.specs.InUse.{in_use};
 ghost use Rattle.overlay.specs.Layers.{size_of};
@@ -36,8 +36,8 @@ fn page_count<D: Disk>(pool: &mut Pool<D>, changes: &WriteSet, at: u64) -> Resul
     ensures count { IfOk result (λ count. (first : List ℕ)
         → over (private_of changes.now) ((versions_of pool.old).pages at) 0 ≡ Some first → number_at first 8 ≡ count) }
     ensures versions { versions_of pool.new ≡ versions_of pool.old }
-    ensures refusal { IfErr result (ReadRefused (over (private_of changes.now) ((versions_of pool.old).pages at) 0 ≡ None) (D.refused (device_of pool.old)) (D.refused (device_of pool.new))) }
-    ensures rising { D.refused (device_of pool.old) ≤ D.refused (device_of pool.new) }
+    ensures refusal { IfErr result (ReadRefused (over (private_of changes.now) ((versions_of pool.old).pages at) 0 ≡ None) (refused_of pool.old) (refused_of pool.new)) }
+    ensures rising { refused_of pool.old ≤ refused_of pool.new }
     ensures writes { D.writes (device_of pool.new) ≡ D.writes (device_of pool.old) }
 {
     let mut first = [0; PAGE_SIZE];
@@ -61,8 +61,8 @@ fn is_stored<D: Disk>(
         → IsWritable (over (private_of changes.now) ((versions_of pool.old).pages at)) page) }
     ensures versions { versions_of pool.new ≡ versions_of pool.old }
     ensures refusal { IfErr result (ReadRefused (in_use ((versions_of pool.old).pages at) (private_of changes.now) page ≡ None)
-        (D.refused (device_of pool.old)) (D.refused (device_of pool.new))) }
-    ensures rising { D.refused (device_of pool.old) ≤ D.refused (device_of pool.new) }
+        (refused_of pool.old) (refused_of pool.new)) }
+    ensures rising { refused_of pool.old ≤ refused_of pool.new }
     ensures writes { D.writes (device_of pool.new) ≡ D.writes (device_of pool.old) }
 {
     let count = page_count(pool, changes, at)?;
@@ -91,8 +91,8 @@ pub(crate) fn is_in_use<D: Disk>(
     ensures within { IfOk result (λ used. used ≡ true → 0 < page) }
     ensures versions { versions_of pool.new ≡ versions_of pool.old }
     ensures refusal { IfErr result (ReadRefused (in_use ((versions_of pool.old).pages at) (private_of changes.now) page ≡ None)
-        (D.refused (device_of pool.old)) (D.refused (device_of pool.new))) }
-    ensures rising { D.refused (device_of pool.old) ≤ D.refused (device_of pool.new) }
+        (refused_of pool.old) (refused_of pool.new)) }
+    ensures rising { refused_of pool.old ≤ refused_of pool.new }
     ensures writes { D.writes (device_of pool.new) ≡ D.writes (device_of pool.old) }
 {
     if page == 0 {
@@ -129,8 +129,8 @@ pub(crate) fn write_page<D: Disk>(
     ensures undone { undone_of changes.new ≡ undone_of changes.old }
     ensures versions { versions_of pool.new ≡ versions_of pool.old }
     ensures refusal { IfErr result (ChangeRefused (AtLimit (over (private_of changes.new) ((versions_of pool.new).pages at) 0) (size_of (private_of changes.new)))
-        (in_use ((versions_of pool.old).pages at) (private_of changes.old) page ≡ None) (D.refused (device_of pool.old)) (D.refused (device_of pool.new))) }
-    ensures rising { D.refused (device_of pool.old) ≤ D.refused (device_of pool.new) }
+        (in_use ((versions_of pool.old).pages at) (private_of changes.old) page ≡ None) (refused_of pool.old) (refused_of pool.new)) }
+    ensures rising { refused_of pool.old ≤ refused_of pool.new }
     ensures writes { D.writes (device_of pool.new) ≡ D.writes (device_of pool.old) }
 {
     let used = is_in_use(pool, changes, at, page)?;

@@ -3,7 +3,7 @@ ghost use Rattle.std.specs.Prelude.{◌≡◌, ◌≤◌, ℕ, List, Some, None,
 ghost use Rattle.page_space.specs.Space.{ReadRefused};
 ghost use Rattle.pagefile.specs.Number.{number_at};
 ghost use Rattle.pool.specs.Pages.{over};
-ghost use Rattle.pool.specs.Versions.{versions_of, device_of};
+ghost use Rattle.pool.specs.Versions.{versions_of, device_of, refused_of};
 ghost use Rattle.overlay.specs.WriteSet.{private_of};
 
 use crate::write_set::WriteSet;
@@ -24,8 +24,8 @@ pub(crate) fn read_version<D: Disk>(
         → into.new ≡ bytes) }
     ensures there { OnOk result (IsTrue D.is_honest → IsSome ((versions_of pool.old).pages at page)) }
     ensures versions { versions_of pool.new ≡ versions_of pool.old }
-    ensures refusal { IfErr result (ReadRefused ((versions_of pool.old).pages at page ≡ None) (D.refused (device_of pool.old)) (D.refused (device_of pool.new))) }
-    ensures rising { D.refused (device_of pool.old) ≤ D.refused (device_of pool.new) }
+    ensures refusal { IfErr result (ReadRefused ((versions_of pool.old).pages at page ≡ None) (refused_of pool.old) (refused_of pool.new)) }
+    ensures rising { refused_of pool.old ≤ refused_of pool.new }
     ensures writes { D.writes (device_of pool.new) ≡ D.writes (device_of pool.old) }
 {
     match pool.read(at, page, into) {
@@ -51,8 +51,8 @@ pub(crate) fn read_changed<D: Disk>(
     ensures there { OnOk result (IsTrue D.is_honest
         → IsSome (over (private_of changes.now) ((versions_of pool.old).pages at) page)) }
     ensures versions { versions_of pool.new ≡ versions_of pool.old }
-    ensures refusal { IfErr result (ReadRefused (over (private_of changes.now) ((versions_of pool.old).pages at) page ≡ None) (D.refused (device_of pool.old)) (D.refused (device_of pool.new))) }
-    ensures rising { D.refused (device_of pool.old) ≤ D.refused (device_of pool.new) }
+    ensures refusal { IfErr result (ReadRefused (over (private_of changes.now) ((versions_of pool.old).pages at) page ≡ None) (refused_of pool.old) (refused_of pool.new)) }
+    ensures rising { refused_of pool.old ≤ refused_of pool.new }
     ensures writes { D.writes (device_of pool.new) ≡ D.writes (device_of pool.old) }
 {
     match changes.get(page) {

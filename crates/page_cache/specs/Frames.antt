@@ -1,7 +1,7 @@
--- Pages of a file that stand in memory.
-use Rattle.std.specs.Prelude.{◌≡◌, ℕ, List, Contains, Some}
-use Rattle.pagefile.specs.Pages.{page_of}
+-- Pages that stand in memory.
+use Rattle.std.specs.Prelude.{◌≡◌, ℕ, List, Option, Contains, Some}
 
--- each page in memory is the file's; a page that the file does not have is never among them
-abbrev pub AreClean : List ℕ → List (ℕ × List ℕ) → Type 0
-AreClean file frames = (n : ℕ) (page : List ℕ) → Contains frames (n, page) → page_of file n ≡ Some page
+-- each of these pages is what is shown under its number; a number under which there is no page is
+-- never among them
+abbrev pub AreClean : (ℕ → Option (List ℕ)) → List (ℕ × List ℕ) → Type 0
+AreClean shows frames = (n : ℕ) (page : List ℕ) → Contains frames (n, page) → shows n ≡ Some page

@@ -1,2 +1,2 @@
-pub mod Cached
 pub mod Frames
+pub mod Cached

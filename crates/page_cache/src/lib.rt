@@ -1,8 +1,8 @@
-//! A file of pages with some of its pages in memory.
+//! Some pages in memory, at most so many.
 #![tactic(auto)]
 
-mod cached;
+mod cache;
 mod frame;
 
-pub use cached::CachedFile;
+pub use cache::PageCache;
 pub use frame::Frame;

@@ -8,7 +8,6 @@ use Rattle.store.specs.Errors.{HasRisen}
 use Rattle.store.specs.Stored.{closed}
 use Rattle.store.specs.declared.error.StoreError.{StoreError}
 use Rattle.store.specs.declared.error.StoreError.TheVariants as refused
-use Rattle.pagefile.specs.Pages.{page_of}
 use Rattle.pool.specs.Pages.{PageMap, over}
 use Rattle.pool.specs.Refused.{IsOfDevice}
 use Rattle.pool.specs.Versions.{Versions}
@@ -16,7 +15,7 @@ use Rattle.pool.specs.declared.error.PoolError.{PoolError}
 use Rattle.snapshot_pins.specs.Pinned.{KeepsFound}
 use Rattle.database_versions.specs.Databases.{nothing, contents_in, known_contents, IsDatabase, IsOwned}
 use Rattle.database_versions.specs.Refusals.{of_pool}
-use Rattle.database_versions.specs.Saved.{HoldsDatabase}
+use Rattle.database_versions.specs.Saved.{HoldsDatabase, HoldsOwned, IsClosed}
 use Rattle.database_versions.proofs.RefusalLemmas.{of_device}
 use Rattle.paged_store.specs.Saved.{IsSavedAlone}
 use Rattle.paged_store.specs.SeenLemmas.{known_is}
@@ -28,9 +27,9 @@ use Rattle.paged_store.proofs.SoundLemmas.{sound_alone, sound_moved}
 
 pub closed_saved : (honest : Bool) (file : List ℕ) (v w : Versions) (numbers now : FinMap nat_cmp ℕ) (written settled : PageMap)
     → (IsTrue honest → IsDatabase (w.pages w.last) nothing → HoldsDatabase file (database_of (contents_in (w.pages w.last) nothing)))
-    → (IsTrue honest → IsOwned (w.pages w.last) nothing → IsOwned (page_of file) nothing) → KeepsFound now v w
+    → (IsTrue honest → IsOwned (w.pages w.last) nothing → HoldsOwned file) → (IsTrue honest → IsDatabase (w.pages w.last) nothing → IsClosed file) → KeepsFound now v w
     → IsSound honest v numbers written settled → IsSavedAlone honest file (database_of (known_contents honest (v.pages v.last) nothing))
-closed_saved honest file v w numbers now written settled held owned kept sound =
+closed_saved honest file v w numbers now written settled held owned shut kept sound =
     let newest : w.pages w.last ≡ v.pages v.last = newest_kept v w kept.last kept.newest in
     let last : IsOwned (w.pages w.last) nothing = subst (λ (p : PageMap). IsOwned p nothing) (sym newest) sound.last in (
       sound.device,
@@ -38,6 +37,7 @@ closed_saved honest file v w numbers now written settled held owned kept sound =
         holds = subst (λ (db : Database). HoldsDatabase file db)
             (ap database_of (ap (λ (p : PageMap). contents_in p nothing) newest ∙ sym (known_is honest (v.pages v.last) nothing sound.device))) (held sound.device last.is);
         owned = owned sound.device last;
+        closed = shut sound.device last.is;
       }),
     )
 
@@ -52,8 +52,8 @@ module _ (honest : Bool) (v w x : Versions) (numbers now : FinMap nat_cmp ℕ) (
       (sound_alone honest v w numbers now written settled none kept sound)
 
 -- a refusal is that of the device
-pub closed_refused : {D : Type 0} (count : D → ℕ) (old mid new : D) (error : PoolError) (told : StoreError) → told ≡ of_pool error → mid ≡ old → IsOfDevice (count mid) (count new) error
-    → (told ≡ refused.Device) × HasRisen (count old) (count new)
-closed_refused {D} count old mid new error told is same h =
-    let k = of_device (count mid) (count new) error h in
-    (is ∙ k.0, subst (λ (d : D). HasRisen (count d) (count new)) same k.1)
+pub closed_refused : (k m n : ℕ) (error : PoolError) (told : StoreError) → told ≡ of_pool error → m ≡ k → IsOfDevice m n error
+    → (told ≡ refused.Device) × HasRisen k n
+closed_refused k m n error told is same h =
+    let risen = of_device m n error h in
+    (is ∙ risen.0, subst (λ (c : ℕ). HasRisen c n) same risen.1)

@@ -9,7 +9,7 @@ use Rattle.store.specs.declared.error.StoreError.{StoreError}
 use Rattle.pool.specs.Pages.{PageMap, pick, over}
 use Rattle.pool.specs.Versions.{Versions}
 use Rattle.pool.specs.declared.error.PoolError.{PoolError}
-use Rattle.pool.specs.Refused.{IsRefused, IsOfDevice}
+use Rattle.pool.specs.Refused.{IsOfDevice}
 use Rattle.pool.specs.declared.error.PoolError.TheVariants as pool
 use Rattle.database_versions.specs.Databases.{nothing, known_contents}
 use Rattle.database_versions.specs.Refusals.{of_pool}
@@ -62,9 +62,6 @@ pool_tells error cause n is sound = subst (λ (e : StoreError). Tells e n n) (sy
 
 pub of_memory : (c : PoolError) → c ≡ pool.Memory → c ≡ pool.Damaged → ⊥
 of_memory c memory damaged = let bad : pool.Memory ≡ pool.Damaged = sym memory ∙ damaged in cc
-
-pub of_commit : (P Q : Type 0) (k n : ℕ) (c : PoolError) → IsRefused P Q k n c → c ≡ pool.Damaged → ⊥
-of_commit P Q k n c h damaged = subst (IsRefused P Q k n) damaged h
 
 pub of_device : (k n : ℕ) (c : PoolError) → IsOfDevice k n c → c ≡ pool.Damaged → ⊥
 of_device k n c h damaged = subst (IsOfDevice k n) damaged h

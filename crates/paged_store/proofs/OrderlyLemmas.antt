@@ -32,5 +32,5 @@ orderly_committed honest v w readers commits number written is pins newest o = r
 pub no_more : (n : ℕ) → n ≤ n
 no_more n = omega arith
 
-pub no_less : {D : Type 0} (count : D → ℕ) (old new : D) → new ≡ old → count old ≤ count new
-no_less {D} count old new same = subst (λ (d : D). count old ≤ count d) (sym same) (no_more (count old))
+pub no_fall : (k n : ℕ) → n ≡ k → k ≤ n
+no_fall k n same = omega (arith, same)

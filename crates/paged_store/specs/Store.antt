@@ -3,7 +3,7 @@ use Rattle.std.specs.Prelude.{◌≡◌}
 use Rattle.disk.specs.declared.device.Disk.{Ghosts}
 use Rattle.store.specs.Going.{Going, Goes, Noted, noted}
 use Rattle.store.specs.Stored.{Stored}
-use Rattle.pool.specs.Versions.{versions_of, device_of}
+use Rattle.pool.specs.Versions.{versions_of, device_of, refused_of}
 use Rattle.overlay.specs.WriteSet.{private_of, settled_of}
 use Rattle.snapshot_pins.specs.Pinned.{numbers_of}
 use Rattle.database_versions.specs.Databases.{nothing}
@@ -24,7 +24,7 @@ unchanged_of {D} {device} s = private_of s.changes ≡ nothing
 
 -- what it tells of itself
 abbrev pub noted_of : {D : Type 0} {device : Ghosts D} → Paged D device → Noted
-noted_of {D} {device} s = noted (shown_of s) s.prepared (device.refused (device_of s.pool)) s.damaged s.read (device.writes (device_of s.pool))
+noted_of {D} {device} s = noted (shown_of s) s.prepared (refused_of s.pool) s.damaged s.read (device.writes (device_of s.pool))
 
 -- what every call keeps
 abbrev pub PagedGoes : {D : Type 0} {device : Ghosts D} → Going → Paged D device → Paged D device → Type 0

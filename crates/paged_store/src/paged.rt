@@ -1,6 +1,6 @@
 //! A store over one file.
 ghost use Rattle.std.specs.Prelude.{◌≡◌};
-ghost use Rattle.pool.specs.Versions.{versions_of};
+ghost use Rattle.pool.specs.Versions.{versions_of, refused_of};
 ghost use Rattle.overlay.specs.WriteSet.{private_of, settled_of};
 ghost use Rattle.paged_store.specs.Orderly.{IsOrderly, IsSteady};
 
@@ -74,13 +74,12 @@ impl<D: Disk + Drop> Paged<D> {
 
 impl<D: Disk + Drop> Store for Paged<D> {
     ghost use Rattle.std.specs.Prelude.{◌≡◌, [], IsTrue};
-    ghost use Rattle.std.specs.FinMap.{empty};
     ghost use Rattle.store.specs.Going.{goes_itself, goes_on_and_on};
     ghost use Rattle.pool.specs.Versions.{NeedsImages, versions_of, device_of, unwritten_of, frames_of};
     ghost use Rattle.overlay.specs.WriteSet.{private_of, settled_of, undone_of};
     ghost use Rattle.database_versions.specs.Opened.{IsReadable};
     ghost use Rattle.paged_store.specs.Counted.{IsCounted};
-    ghost use Rattle.paged_store.specs.Saved.{IsSavedAlone};
+    ghost use Rattle.paged_store.specs.Saved.{IsBegun, IsSavedAlone};
     ghost use Rattle.paged_store.specs.Store.{shown_of, sound_of, unchanged_of, noted_of, PagedGoes};
     ghost use Rattle.paged_store.specs.SeenLemmas.{rises_seen};
 
@@ -90,7 +89,7 @@ impl<D: Disk + Drop> Store for Paged<D> {
 
     ghost shows = { λ s. shown_of s };
 
-    ghost refused = { λ s. D.refused (device_of s.pool) };
+    ghost refused = { λ s. refused_of s.pool };
 
     ghost calls_refused = { λ device. D.refused device };
 
@@ -124,7 +123,7 @@ impl<D: Disk + Drop> Store for Paged<D> {
 
     ghost is_new = { λ device. D.bytes device ≡ [] };
 
-    ghost is_begun = { λ device. IsSavedAlone D.is_honest (D.bytes device) empty };
+    ghost is_begun = { λ device. IsBegun D.is_honest (D.bytes device) };
 
     ghost numbers_rise = { λ s view name table sound found. rises_seen _ _ _ _ _ view name table sound found };
 
@@ -195,6 +194,9 @@ impl<D: Disk + Drop> Store for Paged<D> {
     }
 
     fn begin(&mut self, reader: u64) -> Result<(), StoreError> {
+        if self.pool.is_broken() {
+            return Err(of_pool(self.pool.refuse()));
+        }
         match self.readers.begin(&mut self.pool, reader) {
             Ok(()) => Ok(()),
             Err(error) => Err(of_pool(error)),
@@ -224,7 +226,7 @@ impl<D: Disk + Drop> Store for Paged<D> {
                 self.changes = WriteSet::new(self.alloc);
                 Ok(())
             }
-            Err(error) => Err(of_pool(error)),
+            Err(error) => Err(told(&mut self.damaged, of_pool(error))),
         }
     }
 

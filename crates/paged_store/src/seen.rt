@@ -9,7 +9,7 @@ ghost use Rattle.store.specs.Errors.{MayFail, Never};
 ghost use Rattle.store.specs.Indexes.{entries_of, entry_after, sought, ranged, next_entry, some_after, some_sought, some_ranged};
 ghost use Rattle.store.specs.View.{AreEntries, IsEntry, seen_by, position_of};
 ghost use Rattle.pool.specs.Pages.{PageMap};
-ghost use Rattle.pool.specs.Versions.{versions_of, device_of};
+ghost use Rattle.pool.specs.Versions.{versions_of, device_of, refused_of};
 ghost use Rattle.overlay.specs.WriteSet.{private_of};
 ghost use Rattle.snapshot_pins.specs.Pinned.{numbers_of};
 ghost use Rattle.paged_store.specs.Shown.{stored};
@@ -54,8 +54,8 @@ pub(crate) fn schema_seen<D: Disk>(
         → IfOk result (λ schema. IsSchemaOf schema (database_of (seen_by (stored D.is_honest (versions_of pool.old) (numbers_of readers.now) (private_of changes.now) settled) view))) }
     ensures versions { versions_of pool.new ≡ versions_of pool.old }
     ensures refused { (settled : PageMap)
-        → IfErr result (MayFail (IsSound D.is_honest (versions_of pool.old) (numbers_of readers.now) (private_of changes.now) settled) (D.refused (device_of pool.old)) (D.refused (device_of pool.new)) Never) }
-    ensures rising { D.refused (device_of pool.old) ≤ D.refused (device_of pool.new) }
+        → IfErr result (MayFail (IsSound D.is_honest (versions_of pool.old) (numbers_of readers.now) (private_of changes.now) settled) (refused_of pool.old) (refused_of pool.new) Never) }
+    ensures rising { refused_of pool.old ≤ refused_of pool.new }
     ensures writes { D.writes (device_of pool.new) ≡ D.writes (device_of pool.old) }
 {
     match view {
@@ -84,8 +84,8 @@ pub(crate) fn rows_seen<D: Disk>(
         → IfOk result (λ found. AreEntries found (entries_of (get (seen_by (stored D.is_honest (versions_of pool.old) (numbers_of readers.now) (private_of changes.now) settled) view) name.now))) }
     ensures versions { versions_of pool.new ≡ versions_of pool.old }
     ensures refused { (settled : PageMap)
-        → IfErr result (MayFail (IsSound D.is_honest (versions_of pool.old) (numbers_of readers.now) (private_of changes.now) settled) (D.refused (device_of pool.old)) (D.refused (device_of pool.new)) Never) }
-    ensures rising { D.refused (device_of pool.old) ≤ D.refused (device_of pool.new) }
+        → IfErr result (MayFail (IsSound D.is_honest (versions_of pool.old) (numbers_of readers.now) (private_of changes.now) settled) (refused_of pool.old) (refused_of pool.new) Never) }
+    ensures rising { refused_of pool.old ≤ refused_of pool.new }
     ensures writes { D.writes (device_of pool.new) ≡ D.writes (device_of pool.old) }
 {
     match view {
@@ -115,8 +115,8 @@ pub(crate) fn next_seen<D: Disk>(
         → IfOk result (λ found. IsEntry found (entry_after after (entries_of (get (seen_by (stored D.is_honest (versions_of pool.old) (numbers_of readers.now) (private_of changes.now) settled) view) name.now)))) }
     ensures versions { versions_of pool.new ≡ versions_of pool.old }
     ensures refused { (settled : PageMap)
-        → IfErr result (MayFail (IsSound D.is_honest (versions_of pool.old) (numbers_of readers.now) (private_of changes.now) settled) (D.refused (device_of pool.old)) (D.refused (device_of pool.new)) Never) }
-    ensures rising { D.refused (device_of pool.old) ≤ D.refused (device_of pool.new) }
+        → IfErr result (MayFail (IsSound D.is_honest (versions_of pool.old) (numbers_of readers.now) (private_of changes.now) settled) (refused_of pool.old) (refused_of pool.new) Never) }
+    ensures rising { refused_of pool.old ≤ refused_of pool.new }
     ensures writes { D.writes (device_of pool.new) ≡ D.writes (device_of pool.old) }
 {
     match view {
@@ -147,8 +147,8 @@ pub(crate) fn sought_seen<D: Disk>(
         → IfOk result (λ found. AreEntries found (sought (get (seen_by (stored D.is_honest (versions_of pool.old) (numbers_of readers.now) (private_of changes.now) settled) view) name.now) index key.now)) }
     ensures versions { versions_of pool.new ≡ versions_of pool.old }
     ensures refused { (settled : PageMap)
-        → IfErr result (MayFail (IsSound D.is_honest (versions_of pool.old) (numbers_of readers.now) (private_of changes.now) settled) (D.refused (device_of pool.old)) (D.refused (device_of pool.new)) Never) }
-    ensures rising { D.refused (device_of pool.old) ≤ D.refused (device_of pool.new) }
+        → IfErr result (MayFail (IsSound D.is_honest (versions_of pool.old) (numbers_of readers.now) (private_of changes.now) settled) (refused_of pool.old) (refused_of pool.new) Never) }
+    ensures rising { refused_of pool.old ≤ refused_of pool.new }
     ensures writes { D.writes (device_of pool.new) ≡ D.writes (device_of pool.old) }
 {
     match view {
@@ -181,8 +181,8 @@ pub(crate) fn ranged_seen<D: Disk>(
         → IfOk result (λ found. AreEntries found (ranged (get (seen_by (stored D.is_honest (versions_of pool.old) (numbers_of readers.now) (private_of changes.now) settled) view) name.now) index low.now high.now)) }
     ensures versions { versions_of pool.new ≡ versions_of pool.old }
     ensures refused { (settled : PageMap)
-        → IfErr result (MayFail (IsSound D.is_honest (versions_of pool.old) (numbers_of readers.now) (private_of changes.now) settled) (D.refused (device_of pool.old)) (D.refused (device_of pool.new)) Never) }
-    ensures rising { D.refused (device_of pool.old) ≤ D.refused (device_of pool.new) }
+        → IfErr result (MayFail (IsSound D.is_honest (versions_of pool.old) (numbers_of readers.now) (private_of changes.now) settled) (refused_of pool.old) (refused_of pool.new) Never) }
+    ensures rising { refused_of pool.old ≤ refused_of pool.new }
     ensures writes { D.writes (device_of pool.new) ≡ D.writes (device_of pool.old) }
 {
     match view {
@@ -213,8 +213,8 @@ pub(crate) fn beyond_seen<D: Disk>(
         → IfOk result (λ found. IsEntry found (next_entry (get (seen_by (stored D.is_honest (versions_of pool.old) (numbers_of readers.now) (private_of changes.now) settled) view) name.now) index (option_map (λ p. position_of p.now) after.entry))) }
     ensures versions { versions_of pool.new ≡ versions_of pool.old }
     ensures refused { (settled : PageMap)
-        → IfErr result (MayFail (IsSound D.is_honest (versions_of pool.old) (numbers_of readers.now) (private_of changes.now) settled) (D.refused (device_of pool.old)) (D.refused (device_of pool.new)) Never) }
-    ensures rising { D.refused (device_of pool.old) ≤ D.refused (device_of pool.new) }
+        → IfErr result (MayFail (IsSound D.is_honest (versions_of pool.old) (numbers_of readers.now) (private_of changes.now) settled) (refused_of pool.old) (refused_of pool.new) Never) }
+    ensures rising { refused_of pool.old ≤ refused_of pool.new }
     ensures writes { D.writes (device_of pool.new) ≡ D.writes (device_of pool.old) }
 {
     match view {
@@ -245,8 +245,8 @@ pub(crate) fn some_rows_seen<D: Disk>(
         → IfOk result (λ found. AreEntries found (some_after after most (entries_of (get (seen_by (stored D.is_honest (versions_of pool.old) (numbers_of readers.now) (private_of changes.now) settled) view) name.now)))) }
     ensures versions { versions_of pool.new ≡ versions_of pool.old }
     ensures refused { (settled : PageMap)
-        → IfErr result (MayFail (IsSound D.is_honest (versions_of pool.old) (numbers_of readers.now) (private_of changes.now) settled) (D.refused (device_of pool.old)) (D.refused (device_of pool.new)) Never) }
-    ensures rising { D.refused (device_of pool.old) ≤ D.refused (device_of pool.new) }
+        → IfErr result (MayFail (IsSound D.is_honest (versions_of pool.old) (numbers_of readers.now) (private_of changes.now) settled) (refused_of pool.old) (refused_of pool.new) Never) }
+    ensures rising { refused_of pool.old ≤ refused_of pool.new }
     ensures writes { D.writes (device_of pool.new) ≡ D.writes (device_of pool.old) }
 {
     match view {
@@ -279,8 +279,8 @@ pub(crate) fn some_sought_seen<D: Disk>(
         → IfOk result (λ found. AreEntries found (some_sought (get (seen_by (stored D.is_honest (versions_of pool.old) (numbers_of readers.now) (private_of changes.now) settled) view) name.now) index key.now after most)) }
     ensures versions { versions_of pool.new ≡ versions_of pool.old }
     ensures refused { (settled : PageMap)
-        → IfErr result (MayFail (IsSound D.is_honest (versions_of pool.old) (numbers_of readers.now) (private_of changes.now) settled) (D.refused (device_of pool.old)) (D.refused (device_of pool.new)) Never) }
-    ensures rising { D.refused (device_of pool.old) ≤ D.refused (device_of pool.new) }
+        → IfErr result (MayFail (IsSound D.is_honest (versions_of pool.old) (numbers_of readers.now) (private_of changes.now) settled) (refused_of pool.old) (refused_of pool.new) Never) }
+    ensures rising { refused_of pool.old ≤ refused_of pool.new }
     ensures writes { D.writes (device_of pool.new) ≡ D.writes (device_of pool.old) }
 {
     match view {
@@ -316,8 +316,8 @@ pub(crate) fn some_ranged_seen<D: Disk>(
         → IfOk result (λ found. AreEntries found (some_ranged (get (seen_by (stored D.is_honest (versions_of pool.old) (numbers_of readers.now) (private_of changes.now) settled) view) name.now) index low.now high.now (option_map (λ p. position_of p.now) after.entry) most)) }
     ensures versions { versions_of pool.new ≡ versions_of pool.old }
     ensures refused { (settled : PageMap)
-        → IfErr result (MayFail (IsSound D.is_honest (versions_of pool.old) (numbers_of readers.now) (private_of changes.now) settled) (D.refused (device_of pool.old)) (D.refused (device_of pool.new)) Never) }
-    ensures rising { D.refused (device_of pool.old) ≤ D.refused (device_of pool.new) }
+        → IfErr result (MayFail (IsSound D.is_honest (versions_of pool.old) (numbers_of readers.now) (private_of changes.now) settled) (refused_of pool.old) (refused_of pool.new) Never) }
+    ensures rising { refused_of pool.old ≤ refused_of pool.new }
     ensures writes { D.writes (device_of pool.new) ≡ D.writes (device_of pool.old) }
 {
     match view {

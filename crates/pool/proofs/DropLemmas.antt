@@ -11,8 +11,7 @@ use Rattle.pool.specs.declared.slot.Slot.{Slot}
 use Rattle.pool.specs.Images.{covers, reads, no_image, AreNeeded, pinned_in}
 use Rattle.pool.specs.Ready.{KeepsSeen}
 use Rattle.pool.specs.Slots.{seen, slot_at}
-use Rattle.pool.proofs.SlotLemmas.{by_place}
-use Rattle.pool.proofs.CountedLemmas.{not_same}
+use Rattle.pool.proofs.SlotLemmas.{by_place, not_same}
 use Rattle.pool.proofs.ImageLemmas.{any_push, or_false, or_first, or_second, any_same, none_removed, reads_before}
 
 skip : (t : Bool) (x y : Option (List ℕ)) → t ≡ false → y ≡ (if t then x else y)

@@ -9,7 +9,7 @@ use Rattle.pool.specs.declared.pins.Pin.{Pin}
 use Rattle.pool.specs.declared.slot.OldImage.{OldImage}
 use Rattle.pool.specs.declared.slot.Slot.{Slot}
 use Rattle.pool.specs.Images.{reads_newest, with_bytes, images_in, needs, pinned_in}
-use Rattle.pool.specs.Slots.{slot_at, is_there, empty_slot}
+use Rattle.pool.specs.Slots.{slot_at, empty_slot}
 use Rattle.pool.proofs.SlotLemmas.{lt-true}
 use Rattle.std.proofs.lemmas.Option.{slice_get_within}
 use Rattle.std.specs.Prelude.{slice_get}
@@ -69,11 +69,11 @@ one_more false true true total was old new e r h g = cc
 one_more false true false total was old new e r h g = omega (arith, h, g)
 one_more there false page total was old new e r h g = cc
 
-pub count_kept : (began : ℕ) (pinned : List ℕ) (slots new : List Slot) (n : ℕ) (o : OldImage) → length new ≡ length slots → ((m : ℕ) → m ≢ n → (slot_at new m).images ≡ (slot_at slots m).images)
-    → (slot_at new n).images ≡ (slot_at slots n).images ++ o ∷ [] → is_some o.page ≡ is_there began n (slot_at slots n).newest → reads_newest pinned (slot_at slots n).images ≡ true
-    → images_in new ≡ images_in slots + needs began pinned slots n
-count_kept began pinned slots new n o long others here there wanted =
-    one_more (is_there began n (slot_at slots n).newest) (reads_newest pinned (slot_at slots n).images) (is_some o.page) (images_in new) (images_in slots) (with_bytes (slot_at slots n).images) (with_bytes (slot_at new n).images)
+pub count_kept : (count : ℕ) (pinned : List ℕ) (slots new : List Slot) (n : ℕ) (o : OldImage) → length new ≡ length slots → ((m : ℕ) → m ≢ n → (slot_at new m).images ≡ (slot_at slots m).images)
+    → (slot_at new n).images ≡ (slot_at slots n).images ++ o ∷ [] → is_some o.page ≡ nat_lt n count → reads_newest pinned (slot_at slots n).images ≡ true
+    → images_in new ≡ images_in slots + needs count pinned slots n
+count_kept count pinned slots new n o long others here there wanted =
+    one_more (nat_lt n count) (reads_newest pinned (slot_at slots n).images) (is_some o.page) (images_in new) (images_in slots) (with_bytes (slot_at slots n).images) (with_bytes (slot_at new n).images)
     there wanted (counted_at slots new n long others) (ap with_bytes here ∙ bytes_push (slot_at slots n).images o)
 
 none_more : (there read : Bool) (n : ℕ) → n ≡ (if there && read then 1 else 0) → read ≡ false → n ≡ 0
@@ -82,20 +82,21 @@ none_more true false n is e = is
 none_more false read n is e = is
 
 -- no pinned commit reads the newest version
-pub count_none : (began : ℕ) (pinned : List ℕ) (slots : List Slot) (n : ℕ) → reads_newest pinned (slot_at slots n).images ≡ false → images_in slots ≡ images_in slots + needs began pinned slots n
-count_none began pinned slots n none = let zero_is = none_more (is_there began n (slot_at slots n).newest) (reads_newest pinned (slot_at slots n).images) (needs began pinned slots n) refl none in
-    plus_none (images_in slots) (needs began pinned slots n) zero_is
+pub count_none : (count : ℕ) (pinned : List ℕ) (slots : List Slot) (n : ℕ) → reads_newest pinned (slot_at slots n).images ≡ false → images_in slots ≡ images_in slots + needs count pinned slots n
+count_none count pinned slots n none = let zero_is = none_more (nat_lt n count) (reads_newest pinned (slot_at slots n).images) (needs count pinned slots n) refl none in
+    plus_none (images_in slots) (needs count pinned slots n) zero_is
   where
     plus_none : (a b : ℕ) → b ≡ 0 → a ≡ a + b
     plus_none a b e = omega (arith, e)
 
-pub needs_same : (began : ℕ) (pinned : List ℕ) (slots new : List Slot) (n : ℕ) → is_there began n (slot_at new n).newest ≡ is_there began n (slot_at slots n).newest
-    → (slot_at new n).images ≡ (slot_at slots n).images → needs began pinned new n ≡ needs began pinned slots n
-needs_same began pinned slots new n there images = λ i. if (there i) && reads_newest pinned (images i) then 1 else 0
+pub needs_same : (count : ℕ) (pinned : List ℕ) (slots new : List Slot) (n : ℕ) → (slot_at new n).images ≡ (slot_at slots n).images
+    → needs count pinned new n ≡ needs count pinned slots n
+needs_same count pinned slots new n images = λ i. if nat_lt n count && reads_newest pinned (images i) then 1 else 0
 
-pub needed_same : (began : ℕ) (pinned : List ℕ) (slots new : List Slot) → ((n : ℕ) → is_there began n (slot_at new n).newest ≡ is_there began n (slot_at slots n).newest)
-    → ((n : ℕ) → (slot_at new n).images ≡ (slot_at slots n).images) → (numbers : List ℕ) → sum_by (needs began pinned new) numbers ≡ sum_by (needs began pinned slots) numbers
-needed_same began pinned slots new there images numbers = λ i. sum_by (λ n. needs_same began pinned slots new n (there n) (images n) i) numbers
+pub needed_same : (count new_count : ℕ) (pinned : List ℕ) (slots new : List Slot) → new_count ≡ count → ((n : ℕ) → (slot_at new n).images ≡ (slot_at slots n).images)
+    → (numbers : List ℕ) → sum_by (needs new_count pinned new) numbers ≡ sum_by (needs count pinned slots) numbers
+needed_same count new_count pinned slots new same images numbers =
+    ap (λ (k : ℕ). sum_by (needs k pinned new) numbers) same ∙ (λ i. sum_by (λ n. needs_same count pinned slots new n (images n) i) numbers)
 
 -- a sum along a list, one step on and at its end
 pub count_more : (f g : ℕ → ℕ) (xs : List ℕ) (i a b c : ℕ) → i < length xs → c ≡ b + g (get_or xs i 0) → g (get_or xs i 0) ≡ f (get_or xs i 0) → b ≡ a + sum_by f (take i xs)
@@ -132,10 +133,10 @@ pub bytes_taken : (os : List OldImage) (i : ℕ) (o : OldImage) → slice_get os
 bytes_taken os i o e = bytes_removed os i o (slice_get_within os i o e) (sym (got os i o o e))
 
 -- a page that was not committed yet, and a pin
-pub needs_past : (began : ℕ) (pinned : List ℕ) (slots : List Slot) (n : ℕ) (r : Bool) → length slots ≤ n → n < began → r ≡ reads_newest pinned [] → cond r 1 0 ≡ needs began pinned slots n
-needs_past began pinned slots n r none less is =
-    ap {B = ℕ} (λ b. cond b 1 0) is ∙ ap {B = ℕ} (λ b. if b && reads_newest pinned [] then 1 else 0) (sym (lt-true n began less))
-    ∙ sym (ap {B = ℕ} (λ (s : Slot). if is_there began n s.newest && reads_newest pinned s.images then 1 else 0) (get_or_past slots n empty_slot none))
+pub needs_past : (count : ℕ) (pinned : List ℕ) (slots : List Slot) (n : ℕ) (r : Bool) → length slots ≤ n → n < count → r ≡ reads_newest pinned [] → cond r 1 0 ≡ needs count pinned slots n
+needs_past count pinned slots n r none less is =
+    ap {B = ℕ} (λ b. cond b 1 0) is ∙ ap {B = ℕ} (λ b. if b && reads_newest pinned [] then 1 else 0) (sym (lt-true n count less))
+    ∙ sym (ap {B = ℕ} (λ (s : Slot). if nat_lt n count && reads_newest pinned s.images then 1 else 0) (get_or_past slots n empty_slot none))
 
 pub any_pinned : (pins : List Pin) → nat_lt 0 (length pins) ≡ reads_newest (pinned_in pins) []
 any_pinned [] = refl

@@ -4,10 +4,10 @@ pub mod ImageLemmas
 pub mod ImageCounts
 pub mod ReadyLemmas
 pub mod CommitLemmas
+pub mod ListLemmas
 pub mod SetLemmas
+pub mod LaidLemmas
 pub mod PoolLemmas
 pub mod DropLemmas
-pub mod FirstLemmas
-pub mod CountedLemmas
 pub mod RefusalLemmas
 pub mod NoteLemmas

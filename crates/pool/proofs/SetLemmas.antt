@@ -2,11 +2,7 @@
 use Rattle.std.proofs.Common.{◌≡◌, ◌≢◌, ℕ, ◌<◌, ◌==◌, Bool, true, false, List, [], ◌∷◌, Option, Some, None, refl, sym, ap, subst, ◌∙◌, cond, arith, length, get_or, suc, IsSome, ◌⊎◌, inl, inr, ◌||◌}
 use Rattle.std.specs.Cmp.{unsigned_tied}
 use Rattle.std.proofs.lemmas.Bool.{eq-eqb, eqb-true}
-use Rattle.pool.specs.declared.slot.Newest.TheVariants.{Dirty}
-use Rattle.pool.specs.declared.slot.Slot.{Slot}
 use Rattle.pool.specs.Pages.{pages_in, numbers_of}
-use Rattle.pool.specs.Slots.{slot_at, placed}
-use Rattle.pool.proofs.SlotLemmas.{by_place}
 use Rattle.std.specs.List.{list_any}
 use Rattle.std.specs.Option.{is_some}
 
@@ -23,7 +19,7 @@ pages_apart n k page rest differs = pages_cons n k page rest ∙ by (n == k) ref
     by true e = absurd (differs (eqb-true n k e))
     by false e = refl
 
-not_some : IsSome {T = List ℕ} None → ⊥
+pub not_some : IsSome {T = List ℕ} None → ⊥
 not_some h = let bad : false ≡ true = h in cc
 
 -- what holds of each number, holds of each page
@@ -57,26 +53,6 @@ all_listed (e ∷ rest) n there = by (n == e.0) refl (subst (λ (o : Option (Lis
         → ((e.0 == n) || list_any (λ k. k == n) (numbers_of rest)) ≡ true
     by true same h again = ap (λ b. b || list_any (λ k. k == n) (numbers_of rest)) (eq-eqb e.0 n (sym (eqb-true n e.0 same)))
     by false same h again = or_true (e.0 == n) (list_any (λ k. k == n) (numbers_of rest)) (again h)
-
--- one page less in the set, and in its place
-module _ (set rest : List (ℕ × List ℕ)) (slots new_slots : List Slot) (k : ℕ) (page : List ℕ)
-    (is : set ≡ (k, page) ∷ rest) (gone : pages_in rest k ≡ None)
-    (here : slot_at new_slots k ≡ record { newest = Dirty page; images = (slot_at slots k).images })
-    (others : (n : ℕ) → n ≢ k → slot_at new_slots n ≡ slot_at slots n) where
-  pub newest_placed : (n : ℕ) → placed (pages_in rest n) (slot_at new_slots n).newest ≡ placed (pages_in set n) (slot_at slots n).newest
-  newest_placed = by_place (λ n. placed (pages_in rest n) (slot_at new_slots n).newest ≡ placed (pages_in set n) (slot_at slots n).newest) k
-      (ap (λ o. placed o (slot_at new_slots k).newest) gone ∙ ap (λ (s : Slot). s.newest) here
-      ∙ sym (ap (λ o. placed o (slot_at slots k).newest) (ap (λ es. pages_in es k) is ∙ pages_here k page rest)))
-      (λ n differs. ap (λ o. placed o (slot_at new_slots n).newest) (sym (ap (λ es. pages_in es n) is ∙ pages_apart n k page rest differs))
-      ∙ ap (λ (s : Slot). placed (pages_in set n) s.newest) (others n differs))
-
-  pub images_placed : (n : ℕ) → (slot_at new_slots n).images ≡ (slot_at slots n).images
-  images_placed = by_place (λ n. (slot_at new_slots n).images ≡ (slot_at slots n).images) k (ap (λ (s : Slot). s.images) here) (λ n differs. ap (λ (s : Slot). s.images) (others n differs))
-
-  pub still_in_set : (n : ℕ) → IsSome (pages_in rest n) → IsSome (pages_in set n)
-  still_in_set n there = by_place (λ m. IsSome (pages_in rest m) → IsSome (pages_in set m)) k
-      (λ h. absurd (not_some (subst (λ (o : Option (List ℕ)). IsSome o) gone h)))
-      (λ m differs h. subst (λ (o : Option (List ℕ)). IsSome o) (sym (ap (λ es. pages_in es m) is ∙ pages_apart m k page rest differs)) h) n there
 
 -- and no other number is
 pub listed_is : (set : List (ℕ × List ℕ)) (n : ℕ) → list_any (λ k. k == n) (numbers_of set) ≡ is_some (pages_in set n)

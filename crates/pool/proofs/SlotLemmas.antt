@@ -6,7 +6,8 @@ use borrow.Author.Tests.{ltb-true, ltb-false}
 use Rattle.pool.specs.declared.slot.OldImage.{OldImage}
 use Rattle.pool.specs.declared.slot.Slot.{Slot}
 use Rattle.pool.specs.Images.{covers}
-use Rattle.pool.specs.Slots.{newest_page, seen, slot_at, newest_at, pages_at}
+use Rattle.pool.specs.Pages.{PageMap}
+use Rattle.pool.specs.Slots.{seen, slot_at, pages_at}
 
 pub lt-true : (a b : ℕ) → a < b → nat_lt a b ≡ true
 lt-true a b h = by (nat_lt a b) refl
@@ -20,6 +21,13 @@ lt-false a b h = by (nat_lt a b) refl
   where
     by : (t : Bool) → nat_lt a b ≡ t → nat_lt a b ≡ false
     by true e = let less : a < b = ltb-true a b e in absurd (omega arith)
+    by false e = e
+
+pub not_same : (k n : ℕ) → (k ≡ n → ⊥) → (k == n) ≡ false
+not_same k n differs = by (k == n) refl
+  where
+    by : (b : Bool) → (k == n) ≡ b → (k == n) ≡ false
+    by true e = absurd (differs (eqb-true k n e))
     by false e = e
 
 -- a fact at n and at all other places
@@ -53,29 +61,26 @@ reads_now c (o ∷ os) h d = go (nat_lt c o.until) (covers c os) o.page (seen c 
     go false rest x y f h = f h
 
 -- where images and newest versions are the same, all versions are
-pub same_newest : (file new_file : List ℕ) (began : ℕ) (slots new_slots : List Slot)
-    → ((n : ℕ) → (slot_at new_slots n).images ≡ (slot_at slots n).images) → ((n : ℕ) → newest_at new_file began new_slots n ≡ newest_at file began slots n)
-    → (c n : ℕ) → pages_at new_file began new_slots c n ≡ pages_at file began slots c n
-same_newest file new_file began slots new_slots images newest c n =
-    ap (λ os. seen c os (newest_at new_file began new_slots n)) (images n) ∙ ap (seen c (slot_at slots n).images) (newest n)
+pub same_newest : (newest now : PageMap) (slots new_slots : List Slot) → ((n : ℕ) → (slot_at new_slots n).images ≡ (slot_at slots n).images)
+    → ((n : ℕ) → now n ≡ newest n) → (c n : ℕ) → pages_at now new_slots c n ≡ pages_at newest slots c n
+same_newest newest now slots new_slots images same c n =
+    ap (λ os. seen c os (now n)) (images n) ∙ ap (seen c (slot_at slots n).images) (same n)
 
-pub same_shown : (file : List ℕ) (began : ℕ) (slots new_slots : List Slot) → ((n : ℕ) → (slot_at new_slots n).images ≡ (slot_at slots n).images)
-    → ((n : ℕ) → (slot_at new_slots n).newest ≡ (slot_at slots n).newest) → (c n : ℕ) → pages_at file began new_slots c n ≡ pages_at file began slots c n
-same_shown file began slots new_slots images newest = same_newest file file began slots new_slots images (λ n. ap (newest_page file began n) (newest n))
+pub same_shown : (newest : PageMap) (slots new_slots : List Slot) → ((n : ℕ) → (slot_at new_slots n).images ≡ (slot_at slots n).images)
+    → (c n : ℕ) → pages_at newest new_slots c n ≡ pages_at newest slots c n
+same_shown newest slots new_slots images = same_newest newest newest slots new_slots images (λ n. refl)
 
 -- an image of the newest version is kept
-module _ (file : List ℕ) (began : ℕ) (slots new_slots : List Slot) (n : ℕ) (image : OldImage)
-    (newest : (m : ℕ) → (slot_at new_slots m).newest ≡ (slot_at slots m).newest)
+module _ (newest : PageMap) (slots new_slots : List Slot) (n : ℕ) (image : OldImage)
     (here : (slot_at new_slots n).images ≡ (slot_at slots n).images ++ image ∷ [])
     (others : (m : ℕ) → m ≢ n → (slot_at new_slots m).images ≡ (slot_at slots m).images)
-    (value : newest_at file began slots n ≡ image.page) where
+    (value : newest n ≡ image.page) where
   choice : (b : Bool) (x y : Option (List ℕ)) → y ≡ x → (if b then x else y) ≡ y
   choice true x y e = sym e
   choice false x y e = refl
 
-  pub shown_with_image : (c m : ℕ) → pages_at file began new_slots c m ≡ pages_at file began slots c m
-  shown_with_image c = by_place (λ m. pages_at file began new_slots c m ≡ pages_at file began slots c m) n
-      (ap (λ w. seen c (slot_at new_slots n).images (newest_page file began n w)) (newest n) ∙ ap (λ os. seen c os (newest_at file began slots n)) here
-      ∙ pushed c (slot_at slots n).images image (newest_at file began slots n)
-      ∙ ap (seen c (slot_at slots n).images) (choice (nat_lt c image.until) image.page (newest_at file began slots n) value))
-      (λ m differs. ap (λ w. seen c (slot_at new_slots m).images (newest_page file began m w)) (newest m) ∙ ap (λ os. seen c os (newest_at file began slots m)) (others m differs))
+  pub shown_with_image : (c m : ℕ) → pages_at newest new_slots c m ≡ pages_at newest slots c m
+  shown_with_image c = by_place (λ m. pages_at newest new_slots c m ≡ pages_at newest slots c m) n
+      (ap (λ os. seen c os (newest n)) here ∙ pushed c (slot_at slots n).images image (newest n)
+      ∙ ap (seen c (slot_at slots n).images) (choice (nat_lt c image.until) image.page (newest n) value))
+      (λ m differs. ap (λ os. seen c os (newest m)) (others m differs))

@@ -5,7 +5,7 @@ use Rattle.std.specs.Option.{is_some}
 use Rattle.pool.specs.declared.pins.Pin.{Pin}
 use Rattle.pool.specs.declared.slot.OldImage.{OldImage}
 use Rattle.pool.specs.declared.slot.Slot.{Slot}
-use Rattle.pool.specs.Slots.{slot_at, is_there}
+use Rattle.pool.specs.Slots.{slot_at}
 
 -- the commit c reads one of these images: one of them is from before a later commit
 abbrev pub covers : ℕ → List OldImage → Bool
@@ -33,10 +33,10 @@ with_bytes images = count_by (λ o. is_some o.page) images
 abbrev pub images_in : List Slot → ℕ
 images_in slots = sum_by (λ s. with_bytes s.images) slots
 
--- 1 where a page is replaced by a commit and one of the pinned commits reads its newest version, so
--- that an image has to be kept; 0 where none does, or there is no page
+-- 1 where one of so many pages is replaced by a commit and one of the pinned commits reads its
+-- newest version, so that an image has to be kept; 0 where none does, or there is no page
 abbrev pub needs : ℕ → List ℕ → List Slot → ℕ → ℕ
-needs began pinned slots n = if is_there began n (slot_at slots n).newest && reads_newest pinned (slot_at slots n).images then 1 else 0
+needs count pinned slots n = if nat_lt n count && reads_newest pinned (slot_at slots n).images then 1 else 0
 
 -- the numbers of the pinned commits
 abbrev pub pinned_in : List Pin → List ℕ

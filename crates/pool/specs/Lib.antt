@@ -1,7 +1,7 @@
 pub mod Pages
+pub mod Zeros
+pub mod Follows
 pub mod Slots
-pub mod Stands
-pub mod Unwritten
 pub mod Refused
 pub mod Pins
 pub mod Images

@@ -1,21 +1,20 @@
 -- What a page has before a commit replaces it, and what was found of a page.
 use Rattle.std.specs.Prelude.{◌≡◌, ◌⊎◌, ℕ, ◌+◌, ◌<◌, ◌==◌, true, false, List, [], ◌∷◌, ◌++◌, Option, Some, None, length, slice_index_or}
 use Rattle.std.specs.List.{list_any}
-use Rattle.pagefile.specs.Pages.{page_of}
 use Rattle.pool.specs.declared.pins.Pin.{Pin}
 use Rattle.pool.specs.declared.found.Found.{Found}
-use Rattle.pool.specs.declared.found.Found.TheVariants.{Copied, InFile, Absent}
+use Rattle.pool.specs.declared.found.Found.TheVariants.{Copied, Newest, Absent}
 use Rattle.pool.specs.declared.slot.OldImage.{OldImage}
 use Rattle.pool.specs.Pins.{pins_at}
 use Rattle.pool.specs.Images.{covers, reads_newest}
 use Rattle.pool.specs.Slots.{seen}
 
--- what was found of a page, whatever the file: its bytes, that the file has it, or that there is
--- none
-abbrev pub IsFound : (List ℕ → Option (List ℕ)) → ℕ → Type 0 → List ℕ → Found → Type 0
-IsFound shown n Stored bytes Copied = (file : List ℕ) → shown file ≡ Some bytes
-IsFound shown n Stored bytes InFile = ((file : List ℕ) → shown file ≡ page_of file n) × Stored
-IsFound shown n Stored bytes Absent = (file : List ℕ) → shown file ≡ None
+-- what was found of a page, whatever its newest version is: the bytes of an old image, that the
+-- newest version is read, or that there was no page
+abbrev pub IsFound : (Option (List ℕ) → Option (List ℕ)) → List ℕ → Found → Type 0
+IsFound shown bytes Copied = (newest : Option (List ℕ)) → shown newest ≡ Some bytes
+IsFound shown bytes Newest = (newest : Option (List ℕ)) → shown newest ≡ newest
+IsFound shown bytes Absent = (newest : Option (List ℕ)) → shown newest ≡ None
 
 -- one image more, until the next commit, of a page that a pinned commit reads; each that reads it
 -- has the page in its list

@@ -13,6 +13,14 @@ IsRefused AtPages AtKept before after Damaged = ⊥
 IsRefused AtPages AtKept before after Pages = AtPages
 IsRefused AtPages AtKept before after Kept = AtKept
 
+-- why a commit is refused: as damaged for what harms the pages
+abbrev pub CommitRefused : Type 0 → Type 0 → Type 0 → ℕ → ℕ → PoolError → Type 0
+CommitRefused AtPages AtKept Harm before after Memory = ⊤
+CommitRefused AtPages AtKept Harm before after (Device e) = CountHasRisen before after
+CommitRefused AtPages AtKept Harm before after Damaged = Harm
+CommitRefused AtPages AtKept Harm before after Pages = AtPages
+CommitRefused AtPages AtKept Harm before after Kept = AtKept
+
 -- why a read is refused: for the device, or where there is no such page
 abbrev pub ReadRefused : Type 0 → ℕ → ℕ → PoolError → Type 0
 ReadRefused Absent before after Memory = ⊥
@@ -48,3 +56,11 @@ IsTold told Kept = ⊤
 -- the count of refused device calls does not fall
 abbrev pub Rises : ℕ → ℕ → Type 0
 Rises before after = before ≤ after
+
+-- a refusal for the device has a cause for which a pool is broken
+abbrev pub IsBrokenFor : (DiskError → Type 0) → PoolError → Type 0
+IsBrokenFor broken Memory = ⊤
+IsBrokenFor broken (Device e) = broken e
+IsBrokenFor broken Damaged = ⊤
+IsBrokenFor broken Pages = ⊤
+IsBrokenFor broken Kept = ⊤

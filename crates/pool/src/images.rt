@@ -184,7 +184,6 @@ fn drop_unread(images: &mut Items<OldImage>, pins: &[Pin], count: &mut u32)
 /// The same at one page.
 fn drop_at(slots: &mut Items<Slot>, pins: &[Pin], page: u32, count: &mut u32)
     requires { with_bytes (slot_at slots.old page).images ≤ count.old }
-    ensures newest { (n : ℕ) → (slot_at slots.new n).newest ≡ (slot_at slots.old n).newest }
     ensures len { length slots.new ≡ length slots.old }
     ensures others { (n : ℕ) → n ≢ page → (slot_at slots.new n).images ≡ (slot_at slots.old n).images }
     ensures count { count.new + with_bytes (slot_at slots.old page).images ≡ count.old + with_bytes (slot_at slots.new page).images }
@@ -203,7 +202,6 @@ fn drop_at(slots: &mut Items<Slot>, pins: &[Pin], page: u32, count: &mut u32)
 /// The same at each of these pages. Takes no memory.
 pub(crate) fn drop_pages(slots: &mut Items<Slot>, pins: &[Pin], pages: &[u32], count: &mut u32)
     requires { count.old ≡ images_in slots.old }
-    ensures newest { (n : ℕ) → (slot_at slots.new n).newest ≡ (slot_at slots.old n).newest }
     ensures count { count.new ≡ images_in slots.new }
     ensures fewer { count.new ≤ count.old }
     ensures shown { (n : ℕ) → KeepsSeen pins.now (slot_at slots.old n).images (slot_at slots.new n).images }
@@ -233,7 +231,6 @@ fn take_newest(images: &mut Items<OldImage>, last: u64)
 
 /// The same at one page.
 fn take_at(slots: &mut Items<Slot>, page: u32, last: u64)
-    ensures newest { (n : ℕ) → (slot_at slots.new n).newest ≡ (slot_at slots.old n).newest }
     ensures others { (n : ℕ) → n ≢ page → (slot_at slots.new n).images ≡ (slot_at slots.old n).images }
     ensures same { covers last (slot_at slots.old page).images ≡ false
         → (slot_at slots.new page).images ≡ (slot_at slots.old page).images }
@@ -249,7 +246,6 @@ fn take_at(slots: &mut Items<Slot>, page: u32, last: u64)
 /// Takes back the images that were kept for the commit after this one, of these pages.
 pub(crate) fn take_back(slots: &mut Items<Slot>, numbers: &[u32], last: u64)
     requires { Ascend numbers.now }
-    ensures newest { (n : ℕ) → (slot_at slots.new n).newest ≡ (slot_at slots.old n).newest }
     ensures same { (n : ℕ) → covers last (slot_at slots.old n).images ≡ false
         → (slot_at slots.new n).images ≡ (slot_at slots.old n).images }
     ensures taken { (k : ℕ) → k < length numbers.now → (others : List OldImage) (image : OldImage) → last < image.until

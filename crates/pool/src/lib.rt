@@ -1,6 +1,7 @@
 //! Versions of the pages of a file, by the numbers of commits.
 #![tactic(auto)]
 
+mod commits;
 mod error;
 mod found;
 mod images;
@@ -10,7 +11,9 @@ mod pool;
 mod slot;
 mod steps;
 mod table;
+mod zeros;
 
 pub use error::PoolError;
 pub use page_set::PageSet;
 pub use pool::{CloseRefused, Pool};
+pub use zeros::ends_in_zeros;

@@ -1,10 +1,12 @@
-ghost use Rattle.std.specs.Prelude.{◌≡◌, ◌+◌, ◌≤◌, ◌<◌, ◌∷◌, [], length, OnOk, OnErr, IfOk, IfSome, IfNone, IsSome, IsTrue, ◌↔◌, ◌==◌, ℕ, true, None};
+ghost use Rattle.std.specs.Prelude.{◌≡◌, ◌+◌, ◌≤◌, ◌<◌, ◌++◌, ◌∷◌, [], length, OnOk, OnErr, IfOk, IsSome, ◌==◌, ℕ, true};
 ghost use Rattle.std.specs.List.{list_any};
 ghost use Rattle.std.specs.Option.{option_copied};
+ghost use Rattle.journal.specs.Lists.{IsRising, image_in};
 ghost use Rattle.pool.specs.Pages.{over, only, pages_in, numbers_of};
 ghost use Rattle.pool.specs.Ready.{Ascend};
 
-use page_cache::Frame;
+use items::{Boxed, Items};
+use journal::Image;
 use pagefile::Page;
 use std::alloc::{AllocError, Global};
 use std::collections::BTreeMap;
@@ -13,7 +15,7 @@ use std::marker::Model;
 /// A map from page numbers to pages. Contracts see its entries, in the order of the numbers.
 #[derive(Drop)]
 pub struct PageSet {
-    pages: BTreeMap<u32, Frame>,
+    pages: BTreeMap<u32, Boxed<Page>>,
     alloc: Global,
 }
 
@@ -48,7 +50,7 @@ impl PageSet {
         ensures { option_copied result ≡ pages_in self.now number }
     {
         match self.pages.get(&number) {
-            Some(frame) => Some(frame.page()),
+            Some(page) => Some(page.get()),
             None => None,
         }
     }
@@ -61,8 +63,8 @@ impl PageSet {
         ensures same_len { OnOk result (IsSome (pages_in self.old number) → length self.new ≡ length self.old) }
         ensures left { OnErr result (self.new ≡ self.old) }
     {
-        let frame = Frame::new(self.alloc, page)?;
-        self.pages.insert(number, frame)?;
+        let page = Boxed::new(self.alloc, *page)?;
+        self.pages.insert(number, page)?;
         Ok(())
     }
 
@@ -90,13 +92,49 @@ impl PageSet {
         self.pages.keys().copied().collect(alloc)
     }
 
-    /// Takes the page of the lowest number out; `None` where there is none.
-    pub(crate) fn pop_first(&mut self) -> Option<(u32, Frame)>
-        ensures some { IfSome result (λ p. self.old ≡ (p.0, p.1) ∷ self.new) }
-        ensures gone { IfSome result (λ p. pages_in self.new p.0 ≡ None) }
-        ensures none { IfNone result (self.old ≡ []) }
-        ensures same { IfNone result (self.new ≡ []) }
+    /// Its pages, in the order of their numbers. Refuses for want of memory alone.
+    pub(crate) fn into_images(self, alloc: Global) -> Result<Items<Image>, AllocError>
+        ensures same { IfOk result (λ images. images ≡ self) }
+        ensures rising { IfOk result IsRising }
+        ensures sized { IfOk result (λ images. (i : ℕ) → i < length images → length (image_in images i) ≡ 4096) }
     {
-        self.pages.pop_first()
+        // That keys ascend, which is what the length tells a proof.
+        let _len = self.pages.len();
+        let PageSet { pages, alloc: _ } = self;
+        match list_images(alloc, pages) {
+            Ok(images) => Ok(images),
+            Err(error) => Err(error),
+        }
     }
+}
+
+/// How many bytes a page has.
+fn size_of(page: &Page) -> usize
+    ensures { length page.now ≡ 4096 }
+{
+    page.len()
+}
+
+/// Puts a page at the end of a list.
+fn push_image(images: &mut Items<Image>, number: u32, page: Boxed<Page>) -> Result<(), AllocError>
+    ensures pushed { OnOk result (images.new ≡ images.old ++ (number, page) ∷ []) }
+    ensures sized { length page ≡ 4096 }
+{
+    let _size = size_of(page.get());
+    images.push((number, page))
+}
+
+/// The entries of a map, in their order, of which it is not said that they rise.
+fn list_images(
+    alloc: Global,
+    mut pages: BTreeMap<u32, Boxed<Page>>,
+) -> Result<Items<Image>, AllocError>
+    ensures same { IfOk result (λ images. images ≡ pages.entries) }
+    ensures sized { IfOk result (λ images. (i : ℕ) → i < length images → length (image_in images i) ≡ 4096) }
+{
+    let mut images = Items::new(alloc);
+    'listed: while let Some((number, page)) = pages.pop_first() {
+        push_image(&mut images, number, page)?;
+    }
+    Ok(images)
 }

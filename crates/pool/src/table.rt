@@ -1,8 +1,8 @@
-//! The table of pages: a slot for each number up to the greatest that was committed.
+//! The table of old images: a slot for each number up to the greatest that was committed.
 ghost use Rattle.std.specs.Prelude.{◌≡◌, ◌≢◌, ℕ, ◌<◌, ◌≤◌, ◌++◌, ◌∷◌, [], length, OnOk, OnErr, slice_index};
 ghost use Rattle.pool.specs.Slots.{slot_at};
 
-use crate::slot::{Newest, OldImage, Slot};
+use crate::slot::{OldImage, Slot};
 use items::Items;
 use std::alloc::{AllocError, Global};
 
@@ -15,7 +15,6 @@ fn reach(alloc: Global, slots: &mut Items<Slot>, page: u32) -> Result<(), AllocE
     let place = page as usize;
     'filled: while slots.len() <= place {
         slots.push(Slot {
-            newest: Newest::AsOpened,
             images: Items::new(alloc),
         })?;
     }
@@ -37,22 +36,9 @@ pub(crate) fn reach_all(
     Ok(())
 }
 
-/// Puts a newest version in the place of another.
-pub(crate) fn set_newest(slots: &mut Items<Slot>, page: u32, newest: Newest)
-    requires { page < length slots.old }
-    ensures here { slot_at slots.new page ≡ record { newest = newest; images = (slot_at slots.old page).images } }
-    ensures others { (n : ℕ) → n ≢ page → slot_at slots.new n ≡ slot_at slots.old n }
-    ensures len { length slots.new ≡ length slots.old }
-{
-    if let Some(slot) = slots.get_mut(page as usize) {
-        slot.newest = newest;
-    }
-}
-
 /// Keeps an image of a page.
 pub(crate) fn keep_at(slots: &mut Items<Slot>, page: u32, image: OldImage) -> Result<(), AllocError>
     requires { page < length slots.old }
-    ensures newest { (n : ℕ) → (slot_at slots.new n).newest ≡ (slot_at slots.old n).newest }
     ensures kept { OnOk result ((slot_at slots.new page).images ≡ (slot_at slots.old page).images ++ image ∷ []) }
     ensures refused { OnErr result ((slot_at slots.new page).images ≡ (slot_at slots.old page).images) }
     ensures others { (n : ℕ) → n ≢ page → (slot_at slots.new n).images ≡ (slot_at slots.old n).images }

@@ -29,7 +29,7 @@ fn place_of(readers: &[Reader], reader: u64) -> Option<(usize, u64)>
 
 impl Readers {
     ghost use Rattle.std.specs.FinMap.{get, remove, empty};
-    ghost use Rattle.pool.specs.Versions.{Versions, versions_of, device_of, unwritten_of};
+    ghost use Rattle.pool.specs.Versions.{Versions, versions_of, device_of, refused_of, unwritten_of};
     ghost use Rattle.snapshot_pins.specs.Pinned.{numbers_of, with_reader, ArePinned, KeepsFound};
 
     /// Nobody. Takes no memory until the first.
@@ -62,6 +62,7 @@ impl Readers {
         ensures kept { KeepsFound (numbers_of self.new) (versions_of pool.old) (versions_of pool.new) }
         ensures unwritten { unwritten_of pool.new ≡ unwritten_of pool.old }
         ensures device { device_of pool.new ≡ device_of pool.old }
+        ensures refused { refused_of pool.new ≡ refused_of pool.old }
         ensures cause { IfErr result (λ e. e ≡ PoolError.Memory) }
     {
         match place_of(self.list.as_slice(), reader) {
@@ -80,6 +81,7 @@ impl Readers {
         ensures kept { KeepsFound (numbers_of self.new) (versions_of pool.old) (versions_of pool.new) }
         ensures unwritten { unwritten_of pool.new ≡ unwritten_of pool.old }
         ensures device { device_of pool.new ≡ device_of pool.old }
+        ensures refused { refused_of pool.new ≡ refused_of pool.old }
         ensures cause { IfErr result (λ e. e ≡ PoolError.Memory) }
     {
         let number = pool.pin()?;
@@ -100,6 +102,7 @@ impl Readers {
         ensures kept { KeepsFound (numbers_of self.new) (versions_of pool.old) (versions_of pool.new) }
         ensures unwritten { unwritten_of pool.new ≡ unwritten_of pool.old }
         ensures device { device_of pool.new ≡ device_of pool.old }
+        ensures refused { refused_of pool.new ≡ refused_of pool.old }
     {
         if let Some((place, number)) = place_of(self.list.as_slice(), reader) {
             let _ = self.list.remove(place);
@@ -115,6 +118,7 @@ impl Readers {
         ensures kept { KeepsFound (numbers_of self.new) (versions_of pool.old) (versions_of pool.new) }
         ensures unwritten { unwritten_of pool.new ≡ unwritten_of pool.old }
         ensures device { device_of pool.new ≡ device_of pool.old }
+        ensures refused { refused_of pool.new ≡ refused_of pool.old }
     {
         'ended: while let Some(found) = self.list.pop() {
             pool.unpin(found.number);

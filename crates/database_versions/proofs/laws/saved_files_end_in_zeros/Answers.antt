@@ -1,5 +1,5 @@
 use Rattle.std.proofs.Common.{◌≡◌, ◌∙◌, ℕ, List, Some, sym, subst}
-use Rattle.overlay.specs.Zeros.{EndsInZeros}
+use Rattle.pool.specs.Zeros.{EndsInZeros}
 use Rattle.overlay.proofs.WholeLemmas.{some_same}
 use Rattle.database_versions.proofs.laws.saved_files_end_in_zeros.Goals as goal
 

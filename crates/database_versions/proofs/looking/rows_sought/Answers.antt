@@ -4,7 +4,7 @@ use Rattle.store.specs.Contents.{Contents}
 use Rattle.store.specs.Indexes.{sought}
 use Rattle.store.specs.View.{AreEntries}
 use Rattle.store.specs.Errors.{Never}
-use Rattle.pool.specs.Versions.{Versions, versions_of, device_of}
+use Rattle.pool.specs.Versions.{Versions, versions_of, refused_of}
 use Rattle.overlay.specs.WriteSet.{private_of}
 use Rattle.database_versions.specs.Databases.{IsDatabase}
 use Rattle.database_versions.specs.Refusals.{of_fault}
@@ -26,14 +26,14 @@ returns-in-Err-seek_from-clause-versions g c = c.seek_from.ensures.versions ∙ 
 pub returns-in-Err-seek_from-clause-refused : goal.returns-in-Err-seek_from-clause-refused
 returns-in-Err-seek_from-clause-refused g c =
     database_fail_at ((versions_of c.args.pool.now).pages c.args.at) ((versions_of c.read_header.new.pool).pages c.args.at) (private_of c.args.changes.now) c.in-Ok.header Never
-    (g.D.Disk.refused (device_of c.args.pool.now)) (g.D.Disk.refused (device_of c.read_header.new.pool)) (g.D.Disk.refused (device_of c.seek_from.new.pool)) c.in-Err-seek_from.fault c.of_fault.result c.of_fault.ensures c.in-Ok.ensures.says
+    (refused_of c.args.pool.now) (refused_of c.read_header.new.pool) (refused_of c.seek_from.new.pool) c.in-Err-seek_from.fault c.of_fault.result c.of_fault.ensures c.in-Ok.ensures.says
     (ap (λ (v : Versions). v.pages c.args.at) c.read_header.ensures.versions) c.read_header.ensures.rising c.in-Err-seek_from.ensures.refusal
 
 pub returns-in-Err-clause-refused : goal.returns-in-Err-clause-refused
 returns-in-Err-clause-refused g c =
-    fails_as (IsDatabase ((versions_of c.args.pool.now).pages c.args.at) (private_of c.args.changes.now)) (g.D.Disk.refused (device_of c.args.pool.now)) (g.D.Disk.refused (device_of c.read_header.new.pool)) Never
+    fails_as (IsDatabase ((versions_of c.args.pool.now).pages c.args.at) (private_of c.args.changes.now)) (refused_of c.args.pool.now) (refused_of c.read_header.new.pool) Never
     c.of_fault-in-Err.result (of_fault c.in-Err.fault) c.of_fault-in-Err.ensures
-    (header_fails ((versions_of c.args.pool.now).pages c.args.at) (private_of c.args.changes.now) Never (g.D.Disk.refused (device_of c.args.pool.now)) (g.D.Disk.refused (device_of c.read_header.new.pool)) c.in-Err.fault c.in-Err.ensures.refusal)
+    (header_fails ((versions_of c.args.pool.now).pages c.args.at) (private_of c.args.changes.now) Never (refused_of c.args.pool.now) (refused_of c.read_header.new.pool) c.in-Err.fault c.in-Err.ensures.refusal)
 
 pub returns-in-Ok-seek_from-clause-writes : goal.returns-in-Ok-seek_from-clause-writes
 returns-in-Ok-seek_from-clause-writes g c = c.seek_from.ensures.writes ∙ c.read_header.ensures.writes

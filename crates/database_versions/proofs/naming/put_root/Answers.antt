@@ -1,5 +1,5 @@
 use Rattle.std.proofs.Common.{ap}
-use Rattle.pool.specs.Versions.{Versions, versions_of, device_of}
+use Rattle.pool.specs.Versions.{Versions, versions_of, refused_of}
 use Rattle.overlay.specs.WriteSet.{private_of}
 use Rattle.overlay.proofs.WholeLemmas.{whole_over}
 use Rattle.database_versions.proofs.ChangeLemmas.{put_after, put_owned_after, root_put_refused}
@@ -23,4 +23,4 @@ pub returns-clause-refusal : goal.returns-clause-refusal
 returns-clause-refusal g c =
     let e = c.set_catalog_root.ensures in
     root_put_refused c.set_catalog_root.result ((versions_of c.args.pool.now).pages c.args.at) ((versions_of c.set_catalog_root.new.pool).pages c.args.at) (private_of c.args.changes.now) (private_of c.set_catalog_root.new.changes) c.args.root
-    (g.D.Disk.refused (device_of c.args.pool.now)) (g.D.Disk.refused (device_of c.set_catalog_root.new.pool)) (ap (λ (v : Versions). v.pages c.args.at) e.versions) e.refusal
+    (refused_of c.args.pool.now) (refused_of c.set_catalog_root.new.pool) (ap (λ (v : Versions). v.pages c.args.at) e.versions) e.refusal

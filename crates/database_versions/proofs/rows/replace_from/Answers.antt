@@ -1,7 +1,7 @@
 use Rattle.std.proofs.Common.{ℕ, IfOk, IfErr, OnOk, ap, sym, subst}
 use Rattle.store.specs.Contents.{replaced}
 use Rattle.pool.specs.Pages.{PageMap, over}
-use Rattle.pool.specs.Versions.{versions_of, device_of}
+use Rattle.pool.specs.Versions.{versions_of, refused_of}
 use Rattle.overlay.specs.declared.write_set.WriteSet.{WriteSet}
 use Rattle.overlay.specs.WriteSet.{private_of}
 use Rattle.overlay.specs.InUse.{in_use}
@@ -41,6 +41,6 @@ returns-clause-refusal g c =
     let follows = c.replace.ensures.follows in
     let now = c.changes-1.given.1 (sym follows.3) in
     let pool = c.pool-1.given.1 (sym follows.2) in
-    subst (λ (n : ℕ). IfErr c.replace.result (SpaceRefused (AtLimit (over (private_of c.changes-1.given.0) ((versions_of c.args.pool.now).pages c.args.at) 0) (size_of (private_of c.changes-1.given.0))) (HoldsNoDatabaseIn (in_use ((versions_of c.args.pool.now).pages c.args.at) (private_of c.args.changes.now)) c.args.root (IsWholeOver ((versions_of c.args.pool.now).pages c.args.at) (private_of c.args.changes.now))) (g.D.Disk.refused (device_of c.args.pool.now)) n)) (sym (ap (λ p. g.D.Disk.refused (device_of p)) pool))
-    (subst (λ (w : PageMap). IfErr c.replace.result (SpaceRefused (AtLimit (over w ((versions_of c.args.pool.now).pages c.args.at) 0) (size_of w)) (HoldsNoDatabaseIn (in_use ((versions_of c.args.pool.now).pages c.args.at) (private_of c.args.changes.now)) c.args.root (IsWholeOver ((versions_of c.args.pool.now).pages c.args.at) (private_of c.args.changes.now))) (g.D.Disk.refused (device_of c.args.pool.now)) (g.D.Disk.refused (device_of c.replace.new.space.pool.now)))) (sym (ap (λ (k : WriteSet). private_of k) now))
-    (subst (λ (v : PageMap). IfErr c.replace.result (SpaceRefused (AtLimit (over (private_of c.replace.new.space.changes.now) v 0) (size_of (private_of c.replace.new.space.changes.now))) (HoldsNoDatabaseIn (in_use ((versions_of c.args.pool.now).pages c.args.at) (private_of c.args.changes.now)) c.args.root (IsWholeOver ((versions_of c.args.pool.now).pages c.args.at) (private_of c.args.changes.now))) (g.D.Disk.refused (device_of c.args.pool.now)) (g.D.Disk.refused (device_of c.replace.new.space.pool.now)))) (same_pages _ _ _ _ follows.0.versions follows.4) c.replace.ensures.refusal))
+    subst (λ (n : ℕ). IfErr c.replace.result (SpaceRefused (AtLimit (over (private_of c.changes-1.given.0) ((versions_of c.args.pool.now).pages c.args.at) 0) (size_of (private_of c.changes-1.given.0))) (HoldsNoDatabaseIn (in_use ((versions_of c.args.pool.now).pages c.args.at) (private_of c.args.changes.now)) c.args.root (IsWholeOver ((versions_of c.args.pool.now).pages c.args.at) (private_of c.args.changes.now))) (refused_of c.args.pool.now) n)) (sym (ap (λ p. refused_of p) pool))
+    (subst (λ (w : PageMap). IfErr c.replace.result (SpaceRefused (AtLimit (over w ((versions_of c.args.pool.now).pages c.args.at) 0) (size_of w)) (HoldsNoDatabaseIn (in_use ((versions_of c.args.pool.now).pages c.args.at) (private_of c.args.changes.now)) c.args.root (IsWholeOver ((versions_of c.args.pool.now).pages c.args.at) (private_of c.args.changes.now))) (refused_of c.args.pool.now) (refused_of c.replace.new.space.pool.now))) (sym (ap (λ (k : WriteSet). private_of k) now))
+    (subst (λ (v : PageMap). IfErr c.replace.result (SpaceRefused (AtLimit (over (private_of c.replace.new.space.changes.now) v 0) (size_of (private_of c.replace.new.space.changes.now))) (HoldsNoDatabaseIn (in_use ((versions_of c.args.pool.now).pages c.args.at) (private_of c.args.changes.now)) c.args.root (IsWholeOver ((versions_of c.args.pool.now).pages c.args.at) (private_of c.args.changes.now))) (refused_of c.args.pool.now) (refused_of c.replace.new.space.pool.now))) (same_pages _ _ _ _ follows.0.versions follows.4) c.replace.ensures.refusal))

@@ -1,7 +1,7 @@
 use Rattle.std.proofs.Common.{ap, ◌∙◌, arith}
 use Rattle.store.specs.Errors.{ChangingReaches}
 use Rattle.store.specs.Contents.{Contents, indexed}
-use Rattle.pool.specs.Versions.{Versions, versions_of, device_of}
+use Rattle.pool.specs.Versions.{Versions, versions_of, refused_of}
 use Rattle.overlay.specs.WriteSet.{private_of}
 use Rattle.database_versions.specs.Databases.{IsDatabase}
 use Rattle.database_versions.specs.Refusals.{of_fault, IsCounted}
@@ -38,7 +38,7 @@ returns-in-Err-put_root-clause-refused g c =
     root_fails (λ (t : Contents). indexed t c.args.name.now c.args.index) ((versions_of c.args.pool.now).pages c.args.at) ((versions_of c.read_header.new.pool).pages c.args.at) ((versions_of c.index_from.new.pool).pages c.args.at) (private_of c.args.changes.now) (private_of c.index_from.new.changes) c.in-Ok.header c.in-Ok-index_from.top c.in-Ok.ensures.says
     (ap (λ (v : Versions). v.pages c.args.at) c.read_header.ensures.versions) (ap (λ (v : Versions). v.pages c.args.at) c.index_from.ensures.versions) (λ tables h. c.in-Ok-index_from.ensures.indexed tables h c.requires) c.in-Ok-index_from.ensures.whole
     (private_of c.put_root.new.changes) (ChangingReaches (IsCounted ((versions_of c.args.pool.now).pages c.args.at) (private_of c.put_root.new.changes)))
-    (g.D.Disk.refused (device_of c.args.pool.now)) (g.D.Disk.refused (device_of c.index_from.new.pool)) (g.D.Disk.refused (device_of c.put_root.new.pool)) c.in-Err-put_root.fault c.of_fault.result c.of_fault.ensures
+    (refused_of c.args.pool.now) (refused_of c.index_from.new.pool) (refused_of c.put_root.new.pool) c.in-Err-put_root.fault c.of_fault.result c.of_fault.ensures
     (let a = c.read_header.ensures.rising in let b = c.index_from.ensures.rising in omega (arith, a, b)) (λ r. r) (λ r. r) c.in-Err-put_root.ensures.refusal
 
 pub returns-in-Err-index_from-clause-versions : goal.returns-in-Err-index_from-clause-versions
@@ -47,14 +47,14 @@ returns-in-Err-index_from-clause-versions g c = c.index_from.ensures.versions �
 pub returns-in-Err-index_from-clause-refused : goal.returns-in-Err-index_from-clause-refused
 returns-in-Err-index_from-clause-refused g c =
     table_fail ((versions_of c.args.pool.now).pages c.args.at) ((versions_of c.read_header.new.pool).pages c.args.at) (private_of c.args.changes.now) (private_of c.index_from.new.changes) c.in-Ok.header
-    (g.D.Disk.refused (device_of c.args.pool.now)) (g.D.Disk.refused (device_of c.read_header.new.pool)) (g.D.Disk.refused (device_of c.index_from.new.pool)) c.in-Err-index_from.error c.of_change.result
+    (refused_of c.args.pool.now) (refused_of c.read_header.new.pool) (refused_of c.index_from.new.pool) c.in-Err-index_from.error c.of_change.result
     c.in-Ok.ensures.says (ap (λ (v : Versions). v.pages c.args.at) c.read_header.ensures.versions) c.read_header.ensures.rising c.in-Err-index_from.ensures.refusal c.of_change.ensures
 
 pub returns-in-Err-clause-refused : goal.returns-in-Err-clause-refused
 returns-in-Err-clause-refused g c =
-    fails_as (IsDatabase ((versions_of c.args.pool.now).pages c.args.at) (private_of c.args.changes.now)) (g.D.Disk.refused (device_of c.args.pool.now)) (g.D.Disk.refused (device_of c.read_header.new.pool)) (ChangingReaches (IsCounted ((versions_of c.args.pool.now).pages c.args.at) (private_of c.args.changes.now)))
+    fails_as (IsDatabase ((versions_of c.args.pool.now).pages c.args.at) (private_of c.args.changes.now)) (refused_of c.args.pool.now) (refused_of c.read_header.new.pool) (ChangingReaches (IsCounted ((versions_of c.args.pool.now).pages c.args.at) (private_of c.args.changes.now)))
     c.of_fault-in-Err.result (of_fault c.in-Err.fault) c.of_fault-in-Err.ensures
-    (header_fails ((versions_of c.args.pool.now).pages c.args.at) (private_of c.args.changes.now) (ChangingReaches (IsCounted ((versions_of c.args.pool.now).pages c.args.at) (private_of c.args.changes.now))) (g.D.Disk.refused (device_of c.args.pool.now)) (g.D.Disk.refused (device_of c.read_header.new.pool)) c.in-Err.fault c.in-Err.ensures.refusal)
+    (header_fails ((versions_of c.args.pool.now).pages c.args.at) (private_of c.args.changes.now) (ChangingReaches (IsCounted ((versions_of c.args.pool.now).pages c.args.at) (private_of c.args.changes.now))) (refused_of c.args.pool.now) (refused_of c.read_header.new.pool) c.in-Err.fault c.in-Err.ensures.refusal)
 
 pub returns-in-Ok-put_root-clause-writes : goal.returns-in-Ok-put_root-clause-writes
 returns-in-Ok-put_root-clause-writes g c = c.put_root.ensures.writes ∙ c.index_from.ensures.writes ∙ c.read_header.ensures.writes

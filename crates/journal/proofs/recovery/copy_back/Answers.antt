@@ -1,4 +1,4 @@
-use Rattle.std.proofs.Common.{◌≡◌, [], ◌∷◌}
+use Rattle.std.proofs.Common.{◌≡◌, ◌∙◌, [], ◌∷◌, arith}
 use Rattle.std.specs.Prelude.{IsTrue}
 use Rattle.disk.specs.Keeping.{joined, weaker}
 use Rattle.pagefile.specs.Parts.{gate_part}
@@ -39,3 +39,14 @@ returns-clause-keeps g c durable honest x y v one names all =
       joined g.D.Disk.moment g.D.Disk.left_since c.args.disk.now c.copy_images.new.disk c.shut_behind.new.disk (IsAmong x y)
           (weaker g.D.Disk.moment g.D.Disk.left_since c.args.disk.now c.copy_images.new.disk (IsOpen v) (IsAmong x y) (among_open x y v one) kept.1) last.1,
     )
+
+pub returns-clause-closed : goal.returns-clause-closed
+returns-clause-closed g c = c.shut_behind.ensures.written
+
+pub returns-in_err-copy_images-clause-size : goal.returns-in_err-copy_images-clause-size
+returns-in_err-copy_images-clause-size g c honest list long = c.copy_images.ensures.size honest list long
+
+pub returns-clause-size : goal.returns-clause-size
+returns-clause-size g c honest list long =
+    let first = c.copy_images.ensures.size honest list long in
+    (c.shut_behind.ensures.changes honest (omega (arith, first, long))).size ∙ first

@@ -1,4 +1,4 @@
-use Rattle.std.proofs.Common.{◌≡◌, ◌∙◌, ◌+◌, ◌<◌, List, ℕ, [], sym, ap, subst, arith, length}
+use Rattle.std.proofs.Common.{◌≡◌, ◌∙◌, ◌+◌, ◌*◌, ◌<◌, ◌≤◌, List, ℕ, [], sym, ap, subst, arith, length}
 use Rattle.disk.specs.Keeping.{then}
 use Rattle.journal.specs.Lists.{number_in, image_in}
 use Rattle.journal.specs.Parts.{place, block}
@@ -24,6 +24,16 @@ returns-in_err-copy_image-clause-keeps g c durable v names =
     let has : HasPage c.read_number.result v.set = subst (λ (k : ℕ). HasPage k v.set) (sym number) (has_at v.set i (0, []) (omega (arith, names.many, less))) in
     then g.D.Disk.moment g.D.Disk.left_since g.D.Disk.may_leave c.args.disk.now c.loop-i.disk c.copy_image.new.disk (IsOpen v)
     (c.loop-i.invariant.keeps durable v names) (c.copy_image.ensures.keeps durable v has)
+
+pub returns-in_err-copy_image-clause-size : goal.returns-in_err-copy_image-clause-size
+returns-in_err-copy_image-clause-size g c honest list long =
+    let so_far = c.loop-i.invariant.listed honest list long in
+    let low = list.low c.loop-i.i c.loop-i-test.true in
+    let within : 4096 * c.read_number.result + 4096 ≤ length (g.D.Disk.bytes c.loop-i.disk) = omega (arith, low, c.read_number.ensures, so_far, long) in
+    (c.copy_image.ensures.changes honest within).size ∙ so_far
+
+pub returns-clause-size : goal.returns-clause-size
+returns-clause-size g c honest list long = c.loop-i.invariant.listed honest list long
 
 pub returns-clause-placed : goal.returns-clause-placed
 returns-clause-placed g c honest v names ready n less =
@@ -61,6 +71,11 @@ loop-i-preserved g c =
           let now = c.loop-i.invariant.ready honest v names ready in
           (c.copy_image.ensures.changes honest (lies_within v _ now c.read_number.result (now.within c.read_number.result has))).size
           ∙ c.loop-i.invariant.size honest v names ready;
+      listed = λ honest list long.
+          let so_far = c.loop-i.invariant.listed honest list long in
+          let low = list.low i c.loop-i-test.true in
+          let within : 4096 * c.read_number.result + 4096 ≤ length (g.D.Disk.bytes c.loop-i.disk) = omega (arith, low, c.read_number.ensures, so_far, long) in
+          (c.copy_image.ensures.changes honest within).size ∙ so_far;
       keeps = λ durable v names.
           let less : i < length v.set = omega (arith, names.many, c.loop-i-test.true) in
           let number : c.read_number.result ≡ number_in v.set i = c.read_number.ensures ∙ names.numbers.each i less in

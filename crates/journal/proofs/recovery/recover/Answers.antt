@@ -1,9 +1,11 @@
-use Rattle.std.proofs.Common.{◌≡◌, ◌∙◌, refl, sym, subst, get_or}
+use Rattle.std.proofs.Common.{◌≡◌, ◌∙◌, [], ◌∷◌, ◌≤◌, length, refl, sym, subst, ap, get_or}
 use Rattle.std.specs.Prelude.{IsTrue}
 use Rattle.disk.specs.Crashes.{Always, Bytes, Only}
 use Rattle.disk.specs.Keeping.{calm, then}
 use Rattle.pagefile.specs.declared.error.OpenError.{OpenError}
 use Rattle.pagefile.specs.declared.error.OpenError.TheVariants.{Damaged}
+use Rattle.pagefile.specs.Header.{IsInBounds}
+use Rattle.pagefile.specs.Parts.{gate_part}
 use Rattle.journal.specs.declared.found.Found.{Found}
 use Rattle.journal.specs.Headers.{IsFile, IsNoFile, IsGate, HasList, IsGood, Finds, IsFinished}
 use Rattle.journal.specs.Versions.{Version, IsShut, IsAmong, StandsFor}
@@ -137,3 +139,41 @@ returns-in-Ok-clause-whole g c =
     (λ (e : OpenError). IsTrue g.D.Disk.is_durable → IsTrue g.D.Disk.is_honest → (x y : Version) → IsGood x → IsGood y
     → Always (g.D.Disk.may_leave c.args.disk.now) (IsAmong x y) → e ≡ Damaged → ⊥) c.finish.result
     (λ e never durable honest x y one two all is. never is) c.finish.ensures.never
+
+pub returns-in-Ok-clause-closed : goal.returns-in-Ok-clause-closed
+returns-in-Ok-clause-closed g c =
+    if_ok
+    (λ (told : Found). IsFinished c.in-Ok.found told g.D.Disk.is_honest g.D.Disk.is_durable (g.D.Disk.bytes c.examine.new.disk) (g.D.Disk.bytes c.finish.new.disk)
+    (g.D.Disk.may_leave c.examine.new.disk) (g.D.Disk.may_leave c.finish.new.disk))
+    (λ (told : Found). IsTrue g.D.Disk.is_honest → gate_part (g.D.Disk.bytes c.finish.new.disk) ≡ 0 ∷ []) c.finish.result
+    (λ told d honest. d.closed honest) c.finish.ensures.done
+
+pub returns-in-Ok-clause-size : goal.returns-in-Ok-clause-size
+returns-in-Ok-clause-size g c =
+    if_ok
+    (λ (told : Found). IsFinished c.in-Ok.found told g.D.Disk.is_honest g.D.Disk.is_durable (g.D.Disk.bytes c.examine.new.disk) (g.D.Disk.bytes c.finish.new.disk)
+    (g.D.Disk.may_leave c.examine.new.disk) (g.D.Disk.may_leave c.finish.new.disk))
+    (λ (told : Found). IsTrue g.D.Disk.is_honest → length (g.D.Disk.bytes c.finish.new.disk) ≡ length (g.D.Disk.bytes c.args.disk.now)) c.finish.result
+    (λ told d honest.
+    let same : g.D.Disk.bytes c.examine.new.disk ≡ g.D.Disk.bytes c.sync.new.self = c.examine.ensures.reads.same honest in
+    let some : 4096 ≤ length (g.D.Disk.bytes c.examine.new.disk) = subst (λ (b : Bytes). 4096 ≤ length b) (sym same) (c.in-Ok.ensures.file honest).some in
+    d.size honest some ∙ ap (λ (b : Bytes). length b) (same ∙ c.sync.ensures.same honest)) c.finish.ensures.done
+
+pub returns-in_err-sync-clause-still : goal.returns-in_err-sync-clause-still
+returns-in_err-sync-clause-still g c honest shut = c.sync.ensures.same honest
+
+pub returns-in-Ok-clause-still : goal.returns-in-Ok-clause-still
+returns-in-Ok-clause-still g c honest shut =
+    let same : g.D.Disk.bytes c.examine.new.disk ≡ g.D.Disk.bytes c.args.disk.now = c.examine.ensures.reads.same honest ∙ c.sync.ensures.same honest in
+    c.finish.ensures.still honest (ap (λ (b : Bytes). gate_part b) same ∙ shut) ∙ same
+
+pub returns-in-Err-clause-still : goal.returns-in-Err-clause-still
+returns-in-Err-clause-still g c honest shut = c.examine.ensures.reads.same honest ∙ c.sync.ensures.same honest
+
+pub returns-in-Ok-clause-bounds : goal.returns-in-Ok-clause-bounds
+returns-in-Ok-clause-bounds g c =
+    if_ok
+    (λ (told : Found). IsFinished c.in-Ok.found told g.D.Disk.is_honest g.D.Disk.is_durable (g.D.Disk.bytes c.examine.new.disk) (g.D.Disk.bytes c.finish.new.disk)
+    (g.D.Disk.may_leave c.examine.new.disk) (g.D.Disk.may_leave c.finish.new.disk))
+    (λ (told : Found). IsInBounds told.header) c.finish.result
+    (λ told d. subst (λ (f : Found). IsInBounds f.header) (sym d.same) c.in-Ok.ensures.bounds) c.finish.ensures.done

@@ -1,11 +1,12 @@
-use Rattle.std.proofs.Common.{◌≡◌, [], ◌∷◌, refl, subst}
+use Rattle.std.proofs.Common.{◌≡◌, [], ◌∷◌, List, ℕ, refl, subst, sym, ap, arith}
 use Rattle.std.specs.Prelude.{IsTrue}
 use Rattle.disk.specs.Keeping.{none, weaker}
 use Rattle.pagefile.specs.Parts.{gate_part}
 use Rattle.journal.specs.Headers.{IsGate, HasList}
 use Rattle.journal.specs.Versions.{IsOpen, IsBoth, IsShut, IsAmong, InPlaces}
 use Rattle.journal.proofs.Finding.{shut_stood, torn_stood, open_stood, names}
-use Rattle.journal.proofs.States.{among_both, found_open, found_torn, places_gate, on_disk, on_ok}
+use Rattle.journal.specs.Lists.{IsList}
+use Rattle.journal.proofs.States.{among_both, found_open, found_torn, gate_one, places_gate, on_disk, on_ok}
 use Rattle.journal.proofs.recovery.settle.Goals as goal
 
 pub returns-in-Shut-clause-shut : goal.returns-in-Shut-clause-shut
@@ -60,3 +61,32 @@ returns-in-Open-clause-keeps g c durable honest only x y all =
     c.copy_back.ensures.keeps durable honest x y found.0 found.1
     (names found.0 file c.in-Open.start c.in-Open.size c.args.list.now found.2.ready gate list)
     (on_disk (IsOpen found.0) _ _ _ refl only found.2)
+
+pub returns-in-Shut-clause-closed : goal.returns-in-Shut-clause-closed
+returns-in-Shut-clause-closed g c = λ honest. subst (IsGate (g.D.Disk.bytes c.args.disk.now)) c.in-Shut.is (c.requires.gate honest)
+
+pub returns-in-Torn-clause-closed : goal.returns-in-Torn-clause-closed
+returns-in-Torn-clause-closed g c = c.shut_gate.ensures.written
+
+pub returns-in-Open-clause-closed : goal.returns-in-Open-clause-closed
+returns-in-Open-clause-closed g c = c.copy_back.ensures.closed
+
+pub returns-in-Torn-clause-size : goal.returns-in-Torn-clause-size
+returns-in-Torn-clause-size g c honest some = (c.shut_gate.ensures.changes honest some).size
+
+pub returns-in-Open-clause-size : goal.returns-in-Open-clause-size
+returns-in-Open-clause-size g c honest some =
+    let file = g.D.Disk.bytes c.args.disk.now in
+    let gate = subst (IsGate file) c.in-Open.is (c.requires.gate honest) in
+    let list = subst (HasList file c.args.list.now) c.in-Open.is (c.requires.list honest) in
+    c.copy_back.ensures.size honest (subst (λ (l : List ℕ). IsList l c.in-Open.start c.in-Open.size) (sym list) gate.2.list) gate.2.long
+
+pub returns-in-Torn-clause-still : goal.returns-in-Torn-clause-still
+returns-in-Torn-clause-still g c honest shut =
+    let gate = subst (IsGate (g.D.Disk.bytes c.args.disk.now)) c.in-Torn.is (c.requires.gate honest) in
+    absurd (gate.1 (gate_one (g.D.Disk.bytes c.args.disk.now) gate.0 0 gate.3 shut))
+
+pub returns-in-Open-clause-still : goal.returns-in-Open-clause-still
+returns-in-Open-clause-still g c honest shut =
+    let gate = subst (IsGate (g.D.Disk.bytes c.args.disk.now)) c.in-Open.is (c.requires.gate honest) in
+    let differs = gate_one (g.D.Disk.bytes c.args.disk.now) 1 0 gate.0 shut in absurd (omega (arith, differs))

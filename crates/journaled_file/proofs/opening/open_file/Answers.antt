@@ -3,6 +3,7 @@ use Rattle.std.specs.Prelude.{IsTrue}
 use Rattle.disk.specs.Crashes.{Always}
 use Rattle.disk.specs.Keeping.{joined, weaker}
 use Rattle.pagefile.specs.declared.header.FileHeader.{FileHeader}
+use Rattle.pagefile.specs.Header.{IsInBounds}
 use Rattle.journal.specs.Headers.{IsGood, IsNoFile, magic_of}
 use Rattle.journal.specs.Parts.{place}
 use Rattle.journal.specs.Versions.{Version, IsAmong, IsShut, StandsFor}
@@ -10,8 +11,8 @@ use Rattle.journal.proofs.Finding.{if_err, if_ok, stands_header}
 use Rattle.journaled_file.specs.declared.opening.OpenRefusal.{OpenRefusal}
 use Rattle.journaled_file.specs.declared.opening.OpenRefusal.TheVariants.{Damaged}
 use Rattle.journaled_file.specs.Renewed.{IsHeaderIn, Opens, IsOpening, first_pages, renewed, renewed_pages}
-use Rattle.journaled_file.specs.Shown.{IsAtRest}
-use Rattle.journaled_file.proofs.Renewing.{both_ok, counts_as, few, found_at_rest, good_one, tells_as, told_damage}
+use Rattle.journaled_file.specs.Shown.{IsAtRest, placed}
+use Rattle.journaled_file.proofs.Renewing.{both_ok, counts_as, few, format_two, found_at_rest, found_rest, good_one, tells_as, told_damage}
 use Rattle.journaled_file.proofs.opening.open_file.Goals as goal
 
 pub returns-in-Ok-clause-header : goal.returns-in-Ok-clause-header
@@ -125,3 +126,35 @@ returns-in-Ok-clause-unwritten g c =
 
 pub returns-in-Err-clause-unwritten : goal.returns-in-Err-clause-unwritten
 returns-in-Err-clause-unwritten g c = λ is. c.in-Err.ensures.unwritten (told_damage c.in-Err.cause (sym c.refusal_of.ensures ∙ is))
+
+pub returns-in-Ok-clause-rest : goal.returns-in-Ok-clause-rest
+returns-in-Ok-clause-rest g c =
+    both_ok c.as_second.result (λ (h : FileHeader). h ≡ c.in-Ok.found.header)
+    (λ (h : FileHeader). IsTrue g.D.Disk.is_honest → (v : Version)
+    → IsAtRest g.D.Disk.is_honest g.D.Disk.is_durable c.in-Ok.found.header.page_count (g.D.Disk.bytes c.recover.new.disk) (g.D.Disk.may_leave c.recover.new.disk)
+    (first_pages v c.in-Ok.found.header.page_count)
+    → IsAtRest g.D.Disk.is_honest g.D.Disk.is_durable c.in-Ok.found.header.page_count (g.D.Disk.bytes c.as_second.new.disk) (g.D.Disk.may_leave c.as_second.new.disk)
+    (placed c.in-Ok.found.header.page_count (g.D.Disk.bytes c.as_second.new.disk)))
+    (λ (h : FileHeader). IsTrue g.D.Disk.is_honest
+    → IsAtRest g.D.Disk.is_honest g.D.Disk.is_durable h.page_count (g.D.Disk.bytes c.as_second.new.disk) (g.D.Disk.may_leave c.as_second.new.disk)
+    (placed h.page_count (g.D.Disk.bytes c.as_second.new.disk)))
+    (λ h is own honest.
+    let now = found_rest g.D.Disk.is_honest g.D.Disk.is_durable (g.D.Disk.bytes c.args.disk.now) (g.D.Disk.bytes c.recover.new.disk) (g.D.Disk.may_leave c.recover.new.disk)
+    c.in-Ok.found (c.in-Ok.ensures.file honest) (c.in-Ok.ensures.closed honest) (c.in-Ok.ensures.size honest) c.in-Ok.ensures.only in
+    subst (λ (k : FileHeader). IsAtRest g.D.Disk.is_honest g.D.Disk.is_durable k.page_count (g.D.Disk.bytes c.as_second.new.disk) (g.D.Disk.may_leave c.as_second.new.disk)
+    (placed k.page_count (g.D.Disk.bytes c.as_second.new.disk))) (sym is)
+    (own honest (placed c.in-Ok.found.header.page_count (g.D.Disk.bytes c.recover.new.disk)) now))
+    c.as_second.ensures.header c.as_second.ensures.own
+
+pub returns-in-Ok-clause-still : goal.returns-in-Ok-clause-still
+returns-in-Ok-clause-still g c honest shut begins =
+    c.as_second.ensures.still honest (format_two (g.D.Disk.bytes c.args.disk.now) c.in-Ok.found (c.in-Ok.ensures.file honest) shut begins)
+    ∙ c.recover.ensures.still honest shut
+
+pub returns-in-Err-clause-still : goal.returns-in-Err-clause-still
+returns-in-Err-clause-still g c honest shut begins = c.recover.ensures.still honest shut
+
+pub returns-in-Ok-clause-bounds : goal.returns-in-Ok-clause-bounds
+returns-in-Ok-clause-bounds g c =
+    if_ok (λ (h : FileHeader). h ≡ c.in-Ok.found.header) IsInBounds c.as_second.result (λ h is. subst IsInBounds (sym is) c.in-Ok.ensures.bounds)
+    c.as_second.ensures.header

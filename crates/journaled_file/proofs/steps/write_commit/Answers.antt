@@ -3,6 +3,7 @@ use Rattle.disk.specs.Keeping.{joined, weaker}
 use Rattle.journal.specs.Versions.{IsShut, IsBoth, IsAmong, committed}
 use Rattle.journal.proofs.States.{among_shut, among_both}
 use Rattle.journaled_file.proofs.Showing.{now_journaled}
+use Rattle.journaled_file.proofs.Shutting.{places_stay, places_staged}
 use Rattle.journaled_file.proofs.steps.write_commit.Goals as goal
 
 pub returns-clause-journaled : goal.returns-clause-journaled
@@ -32,3 +33,13 @@ returns-clause-keeps g c durable honest was v r may =
           (weaker g.D.Disk.moment g.D.Disk.left_since c.stage.new.disk c.open_gate.new.disk (IsBoth v new) (IsAmong v new)
           (among_both v new v new (inl refl) (inr refl)) last.1),
     )
+
+pub returns-in_err-stage-clause-places : goal.returns-in_err-stage-clause-places
+returns-in_err-stage-clause-places g c = λ honest was v r may.
+    places_staged g.D.Disk.is_honest g.D.Disk.is_durable c.args.set.now c.args.count was (g.D.Disk.bytes c.args.disk.now) (g.D.Disk.bytes c.stage.new.disk) (g.D.Disk.may_leave c.args.disk.now)
+    v r may honest c.stage.ensures.places
+
+pub returns-clause-places : goal.returns-clause-places
+returns-clause-places g c = λ honest was v r may.
+    places_stay g.D.Disk.is_honest g.D.Disk.is_durable c.args.set.now c.args.count was (g.D.Disk.bytes c.args.disk.now) (g.D.Disk.bytes c.stage.new.disk) (g.D.Disk.bytes c.open_gate.new.disk)
+    (g.D.Disk.may_leave c.args.disk.now) v r may honest c.stage.ensures.places c.open_gate.ensures.changes

@@ -1,6 +1,6 @@
 use Rattle.std.proofs.Common.{refl}
 use Rattle.pool.specs.Pages.{over}
-use Rattle.pool.specs.Versions.{versions_of}
+use Rattle.pool.specs.Versions.{versions_of, refused_of}
 use Rattle.overlay.specs.WriteSet.{private_of}
 use Rattle.overlay.proofs.HeaderLemmas.{header_read, no_header}
 use Rattle.std.proofs.Common.{◌≡◌, None, subst, sym, arith}
@@ -23,8 +23,8 @@ returns-in-None-clause-refusal g c =
 pub returns-in_err-read_changed-clause-refusal : goal.returns-in_err-read_changed-clause-refusal
 returns-in_err-read_changed-clause-refusal g c =
     let p = err_from_is_err_and c.from_residual.result c.from_residual.ensures.1 in
-    let k = g.D.Disk.refused (device_of c.args.pool.now) in
-    let m = g.D.Disk.refused (device_of c.read_changed.new.pool) in
+    let k = refused_of c.args.pool.now in
+    let m = refused_of c.read_changed.new.pool in
     let H = over (private_of c.args.changes.now) ((versions_of c.args.pool.now).pages c.args.at) 0 ≡ None in
     rw p.1 (read_weaker p.0 H ((header : FileHeader) → IsSaid (over (private_of c.args.changes.now) ((versions_of c.args.pool.now).pages c.args.at) 0) header → ⊥) k k m
     (λ gone header said. subst (λ o. IsSaid o header) gone said) (omega arith)

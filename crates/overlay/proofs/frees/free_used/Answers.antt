@@ -5,7 +5,7 @@ use Rattle.pagefile.specs.declared.header.FileHeader.{FileHeader}
 use Rattle.overlay.specs.Layers.{size_of}
 use Rattle.overlay.specs.Whole.{IsWhole, IsTakable, TakesZeros, AtLimit}
 use Rattle.overlay.proofs.ZeroLemmas.{on_ok}
-use Rattle.pool.specs.Versions.{Versions, versions_of, device_of}
+use Rattle.pool.specs.Versions.{Versions, versions_of, refused_of}
 use Rattle.overlay.specs.WriteSet.{private_of}
 use Rattle.overlay.specs.InUse.{in_use}
 use Rattle.overlay.proofs.FreeLemmas.{never_used, never_whole, read_more, frees_by}
@@ -24,7 +24,7 @@ returns-in-Err-clause-refusal g c =
     ((header : FileHeader) → IsTakable (over (private_of c.args.changes.now) ((versions_of c.is_in_use.new.pool).pages c.args.at) 0) header → ⊥)
     (IsWhole (over (private_of c.args.changes.now) ((versions_of c.args.pool.now).pages c.args.at))
     → IsSome (in_use ((versions_of c.args.pool.now).pages c.args.at) (private_of c.args.changes.now) c.args.page) → ⊥)
-    (g.D.Disk.refused (device_of c.args.pool.now)) (g.D.Disk.refused (device_of c.is_in_use.new.pool)) (g.D.Disk.refused (device_of c.header_to_change.new.pool))
+    (refused_of c.args.pool.now) (refused_of c.is_in_use.new.pool) (refused_of c.header_to_change.new.pool)
     (λ never whole there. never_whole (over (private_of c.args.changes.now) ((versions_of c.args.pool.now).pages c.args.at)) (over (private_of c.args.changes.now) ((versions_of c.is_in_use.new.pool).pages c.args.at))
     (ap (λ (v : Versions). over (private_of c.args.changes.now) (v.pages c.args.at)) c.is_in_use.ensures.versions) never whole)
     c.is_in_use.ensures.rising c.in-Err.ensures.refusal
@@ -39,8 +39,8 @@ returns-in-Ok-clause-written g c =
 pub returns-in_err-used-clause-refusal : goal.returns-in_err-used-clause-refusal
 returns-in_err-used-clause-refusal g c =
     let p = err_from_is_err_and c.from_residual.result c.from_residual.ensures.1 in
-    let k = g.D.Disk.refused (device_of c.args.pool.now) in
-    let m = g.D.Disk.refused (device_of c.is_in_use.new.pool) in
+    let k = refused_of c.args.pool.now in
+    let m = refused_of c.is_in_use.new.pool in
     let H = in_use ((versions_of c.args.pool.now).pages c.args.at) (private_of c.args.changes.now) c.args.page ≡ None in
     rw p.1 (read_more p.0 (AtLimit (over (private_of c.args.changes.now) ((versions_of c.is_in_use.new.pool).pages c.args.at) 0) (size_of (private_of c.args.changes.now))) H
     (IsWhole (over (private_of c.args.changes.now) ((versions_of c.args.pool.now).pages c.args.at)) → IsSome (in_use ((versions_of c.args.pool.now).pages c.args.at) (private_of c.args.changes.now) c.args.page) → ⊥) k k m

@@ -1,7 +1,7 @@
 use Rattle.std.proofs.Common.{◌≡◌, ◌⊎◌, OnOk, IsSome, refl, ap, subst, inl, arith}
 use Rattle.pagefile.specs.declared.header.FileHeader.{FileHeader}
 use Rattle.pool.specs.Pages.{over}
-use Rattle.pool.specs.Versions.{Versions, versions_of, device_of}
+use Rattle.pool.specs.Versions.{Versions, versions_of, refused_of}
 use Rattle.overlay.specs.WriteSet.{private_of}
 use Rattle.overlay.specs.InUse.{in_use}
 use Rattle.overlay.specs.Layers.{size_of}
@@ -38,7 +38,7 @@ returns-else-header-root-clause-refusal g c =
     changed_more c.write_root.result (AtLimit (over (private_of c.write_root.new.changes) ((versions_of c.write_root.new.pool).pages c.args.at) 0) (size_of (private_of c.write_root.new.changes)))
     (IsWhole (over (private_of c.args.changes.now) ((versions_of c.read_header.new.pool).pages c.args.at)) → (c.args.root ≡ 0) ⊎ IsSome (in_use ((versions_of c.read_header.new.pool).pages c.args.at) (private_of c.args.changes.now) c.args.root) → ⊥)
     (IsWhole (over (private_of c.args.changes.now) ((versions_of c.args.pool.now).pages c.args.at)) → (c.args.root ≡ 0) ⊎ IsSome (in_use ((versions_of c.args.pool.now).pages c.args.at) (private_of c.args.changes.now) c.args.root) → ⊥)
-    (g.D.Disk.refused (device_of c.args.pool.now)) (g.D.Disk.refused (device_of c.read_header.new.pool)) (g.D.Disk.refused (device_of c.write_root.new.pool))
+    (refused_of c.args.pool.now) (refused_of c.read_header.new.pool) (refused_of c.write_root.new.pool)
     (subst (λ (v : Versions). IsWhole (over (private_of c.args.changes.now) (v.pages c.args.at)) → (c.args.root ≡ 0) ⊎ IsSome (in_use (v.pages c.args.at) (private_of c.args.changes.now) c.args.root) → ⊥) c.read_header.ensures.versions)
     c.read_header.ensures.rising c.write_root.ensures.refusal
 
@@ -46,5 +46,5 @@ pub returns-in-Err-clause-refusal : goal.returns-in-Err-clause-refusal
 returns-in-Err-clause-refusal g c =
     read_more c.in-Err.fault (AtLimit (over (private_of c.args.changes.now) ((versions_of c.read_header.new.pool).pages c.args.at) 0) (size_of (private_of c.args.changes.now)))
     ((header : FileHeader) → IsSaid (over (private_of c.args.changes.now) ((versions_of c.args.pool.now).pages c.args.at) 0) header → ⊥) (IsWhole (over (private_of c.args.changes.now) ((versions_of c.args.pool.now).pages c.args.at)) → (c.args.root ≡ 0) ⊎ IsSome (in_use ((versions_of c.args.pool.now).pages c.args.at) (private_of c.args.changes.now) c.args.root) → ⊥)
-    (g.D.Disk.refused (device_of c.args.pool.now)) (g.D.Disk.refused (device_of c.args.pool.now)) (g.D.Disk.refused (device_of c.read_header.new.pool))
+    (refused_of c.args.pool.now) (refused_of c.args.pool.now) (refused_of c.read_header.new.pool)
     (λ never whole used. never_whole (over (private_of c.args.changes.now) ((versions_of c.args.pool.now).pages c.args.at)) (over (private_of c.args.changes.now) ((versions_of c.args.pool.now).pages c.args.at)) refl (λ header said. never header said.0) whole) (omega arith) c.in-Err.ensures.refusal

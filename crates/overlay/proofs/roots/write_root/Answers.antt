@@ -1,7 +1,7 @@
 use Rattle.std.proofs.Common.{◌≡◌, ◌⊎◌, IsSome, refl, arith}
 use Rattle.pagefile.specs.declared.header.FileHeader.{FileHeader}
 use Rattle.pool.specs.Pages.{over}
-use Rattle.pool.specs.Versions.{versions_of, device_of}
+use Rattle.pool.specs.Versions.{versions_of, refused_of}
 use Rattle.overlay.specs.WriteSet.{private_of}
 use Rattle.overlay.specs.InUse.{in_use}
 use Rattle.overlay.specs.Layers.{size_of}
@@ -25,13 +25,13 @@ pub returns-else-root-header-clause-refusal : goal.returns-else-root-header-clau
 returns-else-root-header-clause-refusal g c =
     put_refused c.put_root.result (over (private_of c.put_root.new.changes) ((versions_of c.header_to_change.new.pool).pages c.args.at) 0) (size_of (private_of c.put_root.new.changes))
     (IsWhole (over (private_of c.args.changes.now) ((versions_of c.args.pool.now).pages c.args.at)) → (c.args.root ≡ 0) ⊎ IsSome (in_use ((versions_of c.args.pool.now).pages c.args.at) (private_of c.args.changes.now) c.args.root) → ⊥)
-    (g.D.Disk.refused (device_of c.args.pool.now)) (g.D.Disk.refused (device_of c.header_to_change.new.pool)) c.put_root.ensures.refusal
+    (refused_of c.args.pool.now) (refused_of c.header_to_change.new.pool) c.put_root.ensures.refusal
 
 pub returns-in-Err-clause-refusal : goal.returns-in-Err-clause-refusal
 returns-in-Err-clause-refusal g c =
     read_more c.in-Err.fault (AtLimit (over (private_of c.args.changes.now) ((versions_of c.header_to_change.new.pool).pages c.args.at) 0) (size_of (private_of c.args.changes.now)))
     ((header : FileHeader) → IsTakable (over (private_of c.args.changes.now) ((versions_of c.args.pool.now).pages c.args.at) 0) header → ⊥) (IsWhole (over (private_of c.args.changes.now) ((versions_of c.args.pool.now).pages c.args.at)) → (c.args.root ≡ 0) ⊎ IsSome (in_use ((versions_of c.args.pool.now).pages c.args.at) (private_of c.args.changes.now) c.args.root) → ⊥)
-    (g.D.Disk.refused (device_of c.args.pool.now)) (g.D.Disk.refused (device_of c.args.pool.now)) (g.D.Disk.refused (device_of c.header_to_change.new.pool))
+    (refused_of c.args.pool.now) (refused_of c.args.pool.now) (refused_of c.header_to_change.new.pool)
     (λ never whole used. never_whole (over (private_of c.args.changes.now) ((versions_of c.args.pool.now).pages c.args.at)) (over (private_of c.args.changes.now) ((versions_of c.args.pool.now).pages c.args.at)) refl never whole) (omega arith) c.in-Err.ensures.refusal
 
 pub returns-else-root-header-clause-from_zeros : goal.returns-else-root-header-clause-from_zeros

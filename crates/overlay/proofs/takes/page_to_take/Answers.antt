@@ -1,6 +1,6 @@
 use Rattle.std.proofs.Common.{◌+◌, true, false, refl, sym, ◌∙◌, arith}
 use Rattle.pool.specs.Pages.{over}
-use Rattle.pool.specs.Versions.{versions_of, device_of}
+use Rattle.pool.specs.Versions.{versions_of, refused_of}
 use Rattle.overlay.specs.WriteSet.{private_of}
 use Rattle.overlay.specs.Layers.{size_of}
 use Rattle.overlay.specs.Whole.{IsWhole, AtLimit}
@@ -15,7 +15,7 @@ pub returns-in-Err-clause-refusal : goal.returns-in-Err-clause-refusal
 returns-in-Err-clause-refusal g c =
     read_more c.in-Err.fault (AtLimit (over (private_of c.args.changes.now) ((versions_of c.take_first.new.pool).pages c.args.at) 0) (size_of (private_of c.args.changes.now)))
     (IsWhole (over (private_of c.args.changes.now) ((versions_of c.args.pool.now).pages c.args.at)) → ⊥) (IsWhole (over (private_of c.args.changes.now) ((versions_of c.args.pool.now).pages c.args.at)) → ⊥)
-    (g.D.Disk.refused (device_of c.args.pool.now)) (g.D.Disk.refused (device_of c.args.pool.now)) (g.D.Disk.refused (device_of c.take_first.new.pool))
+    (refused_of c.args.pool.now) (refused_of c.args.pool.now) (refused_of c.take_first.new.pool)
     (λ never. never) (omega arith) c.in-Err.ensures.refusal
 
 pub returns-then-page-ge-MOST_PAGES-clause-refusal : goal.returns-then-page-ge-MOST_PAGES-clause-refusal

@@ -1,6 +1,6 @@
 use Rattle.std.proofs.Common.{refl, ap, inl}
 use Rattle.pool.specs.Pages.{over}
-use Rattle.pool.specs.Versions.{Versions, versions_of, device_of}
+use Rattle.pool.specs.Versions.{Versions, versions_of, refused_of}
 use Rattle.overlay.specs.WriteSet.{private_of}
 use Rattle.overlay.specs.Layers.{size_of}
 use Rattle.overlay.specs.Whole.{IsWhole}
@@ -20,7 +20,7 @@ returns-in-Ok-clause-left g c =
 pub returns-in-Ok-clause-refusal : goal.returns-in-Ok-clause-refusal
 returns-in-Ok-clause-refusal g c =
     put_refused c.put_leaf.result (over (private_of c.put_leaf.new.changes) ((versions_of c.page_to_take.new.pool).pages c.args.at) 0) (size_of (private_of c.put_leaf.new.changes))
-    (IsWhole (over (private_of c.args.changes.now) ((versions_of c.args.pool.now).pages c.args.at)) → ⊥) (g.D.Disk.refused (device_of c.args.pool.now)) (g.D.Disk.refused (device_of c.page_to_take.new.pool)) c.put_leaf.ensures.refusal
+    (IsWhole (over (private_of c.args.changes.now) ((versions_of c.args.pool.now).pages c.args.at)) → ⊥) (refused_of c.args.pool.now) (refused_of c.page_to_take.new.pool) c.put_leaf.ensures.refusal
 
 pub returns-in-Err-clause-left : goal.returns-in-Err-clause-left
 returns-in-Err-clause-left g c = inl refl

@@ -1,6 +1,6 @@
 use Rattle.std.proofs.Common.{refl}
 use Rattle.pool.specs.Pages.{over}
-use Rattle.pool.specs.Versions.{versions_of}
+use Rattle.pool.specs.Versions.{versions_of, refused_of}
 use Rattle.overlay.specs.WriteSet.{private_of}
 use Rattle.overlay.proofs.TakeLemmas.{takes_first, never_first}
 use Rattle.std.proofs.Common.{◌≡◌, None, subst, sym, arith}
@@ -25,8 +25,8 @@ returns-in-None-clause-refusal g c =
 pub returns-in_err-read_changed-clause-refusal : goal.returns-in_err-read_changed-clause-refusal
 returns-in_err-read_changed-clause-refusal g c =
     let p = err_from_is_err_and c.from_residual.result c.from_residual.ensures.1 in
-    let k = g.D.Disk.refused (device_of c.args.pool.now) in
-    let m = g.D.Disk.refused (device_of c.read_changed.new.pool) in
+    let k = refused_of c.args.pool.now in
+    let m = refused_of c.read_changed.new.pool in
     let H = over (private_of c.args.changes.now) ((versions_of c.args.pool.now).pages c.args.at) c.args.header.first_free ≡ None in
     rw p.1 (read_weaker p.0 H (IsWhole (over (private_of c.args.changes.now) ((versions_of c.args.pool.now).pages c.args.at)) → ⊥) k k m
     (λ gone. never_missing (over (private_of c.args.changes.now) ((versions_of c.args.pool.now).pages c.args.at)) c.args.header c.requires.some c.requires.says c.requires.bounds gone) (omega arith)

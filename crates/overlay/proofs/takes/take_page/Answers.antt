@@ -2,7 +2,7 @@ use Rattle.std.proofs.Common.{◌≡◌, ℕ, List, Some, IfOk, OnErr, refl, sym
 use Rattle.pagefile.specs.declared.header.FileHeader.{FileHeader}
 use Rattle.pagefile.specs.Header.{IsHeader}
 use Rattle.pool.specs.Pages.{over}
-use Rattle.pool.specs.Versions.{Versions, versions_of, device_of}
+use Rattle.pool.specs.Versions.{Versions, versions_of, refused_of}
 use Rattle.overlay.specs.WriteSet.{private_of}
 use Rattle.overlay.specs.Layers.{size_of}
 use Rattle.overlay.specs.Whole.{IsWhole, IsTakable, TakesZeros, AtLimit}
@@ -28,7 +28,7 @@ pub returns-in-Ok-clause-refusal : goal.returns-in-Ok-clause-refusal
 returns-in-Ok-clause-refusal g c =
     changed_more c.take_by.result (AtLimit (over (private_of c.take_by.new.changes) ((versions_of c.take_by.new.pool).pages c.args.at) 0) (size_of (private_of c.take_by.new.changes)))
     (IsWhole (over (private_of c.args.changes.now) ((versions_of c.header_to_change.new.pool).pages c.args.at)) → ⊥) (IsWhole (over (private_of c.args.changes.now) ((versions_of c.args.pool.now).pages c.args.at)) → ⊥)
-    (g.D.Disk.refused (device_of c.args.pool.now)) (g.D.Disk.refused (device_of c.header_to_change.new.pool)) (g.D.Disk.refused (device_of c.take_by.new.pool))
+    (refused_of c.args.pool.now) (refused_of c.header_to_change.new.pool) (refused_of c.take_by.new.pool)
     (λ never whole. never (subst (λ (v : Versions). IsWhole (over (private_of c.args.changes.now) (v.pages c.args.at))) (sym c.header_to_change.ensures.versions) whole)) c.header_to_change.ensures.rising c.take_by.ensures.refusal
 
 pub returns-in-Err-clause-left : goal.returns-in-Err-clause-left
@@ -38,7 +38,7 @@ pub returns-in-Err-clause-refusal : goal.returns-in-Err-clause-refusal
 returns-in-Err-clause-refusal g c =
     read_more c.in-Err.fault (AtLimit (over (private_of c.args.changes.now) ((versions_of c.header_to_change.new.pool).pages c.args.at) 0) (size_of (private_of c.args.changes.now)))
     ((header : FileHeader) → IsTakable (over (private_of c.args.changes.now) ((versions_of c.args.pool.now).pages c.args.at) 0) header → ⊥) (IsWhole (over (private_of c.args.changes.now) ((versions_of c.args.pool.now).pages c.args.at)) → ⊥)
-    (g.D.Disk.refused (device_of c.args.pool.now)) (g.D.Disk.refused (device_of c.args.pool.now)) (g.D.Disk.refused (device_of c.header_to_change.new.pool))
+    (refused_of c.args.pool.now) (refused_of c.args.pool.now) (refused_of c.header_to_change.new.pool)
     (λ never whole. never_whole (over (private_of c.args.changes.now) ((versions_of c.args.pool.now).pages c.args.at)) (over (private_of c.args.changes.now) ((versions_of c.args.pool.now).pages c.args.at)) refl never whole) (omega arith) c.in-Err.ensures.refusal
 
 pub returns-in-Ok-clause-from_zeros : goal.returns-in-Ok-clause-from_zeros

@@ -1,5 +1,5 @@
 use Rattle.std.proofs.Common.{ap}
-use Rattle.pool.specs.Versions.{Versions, versions_of}
+use Rattle.pool.specs.Versions.{Versions, versions_of, refused_of}
 use Rattle.overlay.specs.WriteSet.{private_of}
 use Rattle.overlay.proofs.InUseLemmas.{stored_behind, stored_free, stored_writable}
 use Rattle.std.proofs.Common.{◌≡◌, None, subst, sym, ◌∙◌, arith}
@@ -30,8 +30,8 @@ returns-clause-used g c = λ _.
 pub returns-in_err-count-clause-refusal : goal.returns-in_err-count-clause-refusal
 returns-in_err-count-clause-refusal g c =
     let p = err_from_is_err_and c.from_residual.result c.from_residual.ensures.1 in
-    let k = g.D.Disk.refused (device_of c.args.pool.now) in
-    let m = g.D.Disk.refused (device_of c.page_count.new.pool) in
+    let k = refused_of c.args.pool.now in
+    let m = refused_of c.page_count.new.pool in
     rw p.1 (read_weaker p.0 (over (private_of c.args.changes.now) ((versions_of c.args.pool.now).pages c.args.at) 0 ≡ None) (in_use ((versions_of c.args.pool.now).pages c.args.at) (private_of c.args.changes.now) c.args.page ≡ None) k k m
     (none_unwritten ((versions_of c.args.pool.now).pages c.args.at) (private_of c.args.changes.now) c.args.page c.requires) (omega arith)
     (subst (ReadRefused (over (private_of c.args.changes.now) ((versions_of c.args.pool.now).pages c.args.at) 0 ≡ None) k m) (sym p.2) c.in_err-count.ensures.refusal))
@@ -39,9 +39,9 @@ returns-in_err-count-clause-refusal g c =
 pub returns-in_err-read_version-clause-refusal : goal.returns-in_err-read_version-clause-refusal
 returns-in_err-read_version-clause-refusal g c =
     let p = err_from_is_err_and c.from_residual-in_err-read_version.result c.from_residual-in_err-read_version.ensures.1 in
-    let k = g.D.Disk.refused (device_of c.args.pool.now) in
-    let b = g.D.Disk.refused (device_of c.page_count.new.pool) in
-    let m = g.D.Disk.refused (device_of c.read_version.new.pool) in
+    let k = refused_of c.args.pool.now in
+    let b = refused_of c.page_count.new.pool in
+    let m = refused_of c.read_version.new.pool in
     let H = (versions_of c.page_count.new.pool).pages c.args.at c.args.page ≡ None in
     rw p.1 (read_weaker p.0 H (in_use ((versions_of c.args.pool.now).pages c.args.at) (private_of c.args.changes.now) c.args.page ≡ None) k b m
     (unread_there ((versions_of c.args.pool.now).pages c.args.at) ((versions_of c.page_count.new.pool).pages c.args.at) (private_of c.args.changes.now) c.args.page (ap (λ (v : Versions). v.pages c.args.at) c.page_count.ensures.versions) c.requires) c.page_count.ensures.rising

@@ -1,7 +1,7 @@
 use Rattle.std.proofs.Common.{◌∙◌, ◌+◌, ap, arith, ℕ, List, drop}
 use Rattle.std.specs.Prelude.{slice_index}
 use Rattle.store.specs.Contents.{Contents, deleted, deleted_all}
-use Rattle.pool.specs.Versions.{Versions, versions_of, device_of}
+use Rattle.pool.specs.Versions.{Versions, versions_of, refused_of}
 use Rattle.overlay.specs.WriteSet.{private_of}
 use Rattle.paged_store.proofs.ManyLemmas.{changed_on, drop_item, deleting_fails}
 use Rattle.paged_store.proofs.many_rows.delete_rows.Goals as goal
@@ -24,4 +24,4 @@ pub returns-in-Err-clause-refused : goal.returns-in-Err-clause-refused
 returns-in-Err-clause-refused g c =
     deleting_fails ((versions_of c.args.pool.now).pages c.args.at) ((versions_of c.loop-number.pool).pages c.args.at) (private_of c.args.changes.now) (private_of c.loop-number.changes) (private_of c.delete_row.new.changes)
     (λ (x : Contents). deleted_all x c.args.name.now c.args.numbers.now) (λ (x : Contents). deleted_all x c.args.name.now (drop c.loop-number.number-index c.args.numbers.now)) (ap (λ (v : Versions). v.pages c.args.at) c.loop-number.invariant.versions) c.loop-number.invariant.changed
-    (g.D.Disk.refused (device_of c.args.pool.now)) (g.D.Disk.refused (device_of c.loop-number.pool)) (g.D.Disk.refused (device_of c.delete_row.new.pool)) c.loop-number.invariant.rising c.in-Err.error c.in-Err.ensures.refused
+    (refused_of c.args.pool.now) (refused_of c.loop-number.pool) (refused_of c.delete_row.new.pool) c.loop-number.invariant.rising c.in-Err.error c.in-Err.ensures.refused

@@ -1,6 +1,6 @@
 use Rattle.std.proofs.Common.{◌≡◌, ◌≤◌, drop}
 use Rattle.store.specs.Contents.{Contents, deleted_all}
-use Rattle.pool.specs.Versions.{versions_of, device_of}
+use Rattle.pool.specs.Versions.{versions_of, device_of, refused_of}
 use Rattle.overlay.specs.WriteSet.{private_of, settled_of}
 use Rattle.paged_store.proofs.ManyLemmas.{HasChanged}
 use Rattle.paged_store.proofs.many_rows.delete_rows.Given as goal
@@ -9,7 +9,7 @@ abbrev pub invariant-loop-number : goal.invariant-loop-number
 invariant-loop-number g l = record {
   versions : versions_of l.pool ≡ versions_of l.fn.pool;
   settled : settled_of l.changes ≡ settled_of l.fn.changes;
-  rising : g.D.Disk.refused (device_of l.fn.pool) ≤ g.D.Disk.refused (device_of l.pool);
+  rising : refused_of l.fn.pool ≤ refused_of l.pool;
   writes : g.D.Disk.writes (device_of l.pool) ≡ g.D.Disk.writes (device_of l.fn.pool);
   changed : HasChanged ((versions_of l.fn.pool).pages l.at) (private_of l.fn.changes) (private_of l.changes) (λ (x : Contents). deleted_all x l.name l.numbers) (λ (x : Contents). deleted_all x l.name (drop l.number-index l.numbers));
 }

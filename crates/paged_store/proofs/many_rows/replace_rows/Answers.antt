@@ -1,7 +1,7 @@
 use Rattle.std.proofs.Common.{rules, ◌≡◌, ◌∙◌, sym, ap, subst, arith, List, ◌∷◌}
 use Rattle.store.specs.Contents.{Entry, Contents, rows_of, replaced, replaced_all}
 use Rattle.store.specs.Errors.{HasLongRow}
-use Rattle.pool.specs.Versions.{Versions, versions_of, device_of}
+use Rattle.pool.specs.Versions.{Versions, versions_of, refused_of}
 use Rattle.overlay.specs.WriteSet.{private_of}
 use Rattle.paged_store.proofs.ManyLemmas.{changed_on, long_later, replacing_fails}
 use Rattle.paged_store.proofs.many_rows.replace_rows.Goals as goal
@@ -28,5 +28,5 @@ returns-in-Err-clause-refused g c =
     let moved : c.loop-entry.entry-iterator.rest.items ≡ c.in-Some.entry ∷ rest = search (rules) in
     replacing_fails ((versions_of c.args.pool.now).pages c.args.at) ((versions_of c.loop-entry.pool).pages c.args.at) (private_of c.args.changes.now) (private_of c.loop-entry.changes) (private_of c.replace_row.new.changes)
     (λ (x : Contents). replaced_all x c.args.name.now c.args.rows) (λ (x : Contents). replaced_all x c.args.name.now c.loop-entry.entry-iterator.rest.items) (ap (λ (v : Versions). v.pages c.args.at) c.loop-entry.invariant.versions) c.loop-entry.invariant.changed
-    (g.D.Disk.refused (device_of c.args.pool.now)) (g.D.Disk.refused (device_of c.loop-entry.pool)) (g.D.Disk.refused (device_of c.replace_row.new.pool)) c.loop-entry.invariant.rising c.in-Err.error
+    (refused_of c.args.pool.now) (refused_of c.loop-entry.pool) (refused_of c.replace_row.new.pool) c.loop-entry.invariant.rising c.in-Err.error
     c.in-Some.entry rest c.args.rows (subst (λ (found : List Entry). HasLongRow (rows_of found) → HasLongRow (rows_of c.args.rows)) moved c.loop-entry.invariant.long) c.in-Err.ensures.refused

@@ -1,4 +1,4 @@
-use Rattle.pool.specs.Versions.{versions_of, device_of}
+use Rattle.pool.specs.Versions.{versions_of, refused_of}
 use Rattle.overlay.specs.WriteSet.{fresh_of, settled_of, private_of}
 use Rattle.snapshot_pins.specs.Pinned.{numbers_of}
 use Rattle.std.proofs.Common.{IfOk}
@@ -14,10 +14,10 @@ pub returns-in-Found-clause-found : goal.returns-in-Found-clause-found
 returns-in-Found-clause-found g c = λ settled. read_found g.D.Disk.is_honest (versions_of c.args.pool.now) (numbers_of c.args.readers.now) (private_of c.args.changes.now) settled c.args.commits c.requires c.in-Found.reader c.number_seen-at.result c.number_seen-at.ensures (private_of c.new-none.result) (none_private (fresh_of c.new-none.result) (settled_of c.new-none.result) c.new-none.ensures.fresh c.new-none.ensures.settled) (λ (x : Contents). IfOk c.schema_of.result (λ schema. IsSchemaOf schema (database_of x))) c.args.view c.in-Found.is c.schema_of.ensures.found
 
 pub returns-in-Found-clause-refused : goal.returns-in-Found-clause-refused
-returns-in-Found-clause-refused g c = λ settled. read_fails c.schema_of.result (IsDatabase ((versions_of c.args.pool.now).pages c.number_seen-at.result) (private_of c.new-none.result)) (IsSound g.D.Disk.is_honest (versions_of c.args.pool.now) (numbers_of c.args.readers.now) (private_of c.args.changes.now) settled) (g.D.Disk.refused (device_of c.args.pool.now)) (g.D.Disk.refused (device_of c.schema_of.new.pool)) (found_there g.D.Disk.is_honest (versions_of c.args.pool.now) (numbers_of c.args.readers.now) (private_of c.args.changes.now) settled c.args.commits c.requires c.in-Found.reader c.number_seen-at.result c.number_seen-at.ensures (private_of c.new-none.result) (none_private (fresh_of c.new-none.result) (settled_of c.new-none.result) c.new-none.ensures.fresh c.new-none.ensures.settled)) c.schema_of.ensures.refused
+returns-in-Found-clause-refused g c = λ settled. read_fails c.schema_of.result (IsDatabase ((versions_of c.args.pool.now).pages c.number_seen-at.result) (private_of c.new-none.result)) (IsSound g.D.Disk.is_honest (versions_of c.args.pool.now) (numbers_of c.args.readers.now) (private_of c.args.changes.now) settled) (refused_of c.args.pool.now) (refused_of c.schema_of.new.pool) (found_there g.D.Disk.is_honest (versions_of c.args.pool.now) (numbers_of c.args.readers.now) (private_of c.args.changes.now) settled c.args.commits c.requires c.in-Found.reader c.number_seen-at.result c.number_seen-at.ensures (private_of c.new-none.result) (none_private (fresh_of c.new-none.result) (settled_of c.new-none.result) c.new-none.ensures.fresh c.new-none.ensures.settled)) c.schema_of.ensures.refused
 
 pub returns-in-Working-clause-found : goal.returns-in-Working-clause-found
 returns-in-Working-clause-found g c = λ settled. read_working g.D.Disk.is_honest (versions_of c.args.pool.now) (numbers_of c.args.readers.now) (private_of c.args.changes.now) settled c.args.commits c.requires (λ (x : Contents). IfOk c.schema_of-in-Working.result (λ schema. IsSchemaOf schema (database_of x))) c.args.view c.in-Working.is c.schema_of-in-Working.ensures.found
 
 pub returns-in-Working-clause-refused : goal.returns-in-Working-clause-refused
-returns-in-Working-clause-refused g c = λ settled. read_fails c.schema_of-in-Working.result (IsDatabase ((versions_of c.args.pool.now).pages c.args.commits) (private_of c.args.changes.now)) (IsSound g.D.Disk.is_honest (versions_of c.args.pool.now) (numbers_of c.args.readers.now) (private_of c.args.changes.now) settled) (g.D.Disk.refused (device_of c.args.pool.now)) (g.D.Disk.refused (device_of c.schema_of-in-Working.new.pool)) (working_there g.D.Disk.is_honest (versions_of c.args.pool.now) (numbers_of c.args.readers.now) (private_of c.args.changes.now) settled c.args.commits c.requires) c.schema_of-in-Working.ensures.refused
+returns-in-Working-clause-refused g c = λ settled. read_fails c.schema_of-in-Working.result (IsDatabase ((versions_of c.args.pool.now).pages c.args.commits) (private_of c.args.changes.now)) (IsSound g.D.Disk.is_honest (versions_of c.args.pool.now) (numbers_of c.args.readers.now) (private_of c.args.changes.now) settled) (refused_of c.args.pool.now) (refused_of c.schema_of-in-Working.new.pool) (working_there g.D.Disk.is_honest (versions_of c.args.pool.now) (numbers_of c.args.readers.now) (private_of c.args.changes.now) settled c.args.commits c.requires) c.schema_of-in-Working.ensures.refused

@@ -1,4 +1,4 @@
-use Rattle.pool.specs.Versions.{versions_of, device_of}
+use Rattle.pool.specs.Versions.{versions_of, refused_of}
 use Rattle.overlay.specs.WriteSet.{fresh_of, settled_of, private_of}
 use Rattle.snapshot_pins.specs.Pinned.{numbers_of}
 use Rattle.std.proofs.Common.{IfOk}
@@ -16,10 +16,10 @@ pub returns-in-Found-clause-rows : goal.returns-in-Found-clause-rows
 returns-in-Found-clause-rows g c = λ settled. read_found g.D.Disk.is_honest (versions_of c.args.pool.now) (numbers_of c.args.readers.now) (private_of c.args.changes.now) settled c.args.commits c.requires c.in-Found.reader c.number_seen-at.result c.number_seen-at.ensures (private_of c.new-none.result) (none_private (fresh_of c.new-none.result) (settled_of c.new-none.result) c.new-none.ensures.fresh c.new-none.ensures.settled) (λ (x : Contents). IfOk c.rows_sought.result (λ found. AreEntries found (sought (get x c.args.name.now) c.args.index c.args.key.now))) c.args.view c.in-Found.is c.rows_sought.ensures.rows
 
 pub returns-in-Found-clause-refused : goal.returns-in-Found-clause-refused
-returns-in-Found-clause-refused g c = λ settled. read_fails c.rows_sought.result (IsDatabase ((versions_of c.args.pool.now).pages c.number_seen-at.result) (private_of c.new-none.result)) (IsSound g.D.Disk.is_honest (versions_of c.args.pool.now) (numbers_of c.args.readers.now) (private_of c.args.changes.now) settled) (g.D.Disk.refused (device_of c.args.pool.now)) (g.D.Disk.refused (device_of c.rows_sought.new.pool)) (found_there g.D.Disk.is_honest (versions_of c.args.pool.now) (numbers_of c.args.readers.now) (private_of c.args.changes.now) settled c.args.commits c.requires c.in-Found.reader c.number_seen-at.result c.number_seen-at.ensures (private_of c.new-none.result) (none_private (fresh_of c.new-none.result) (settled_of c.new-none.result) c.new-none.ensures.fresh c.new-none.ensures.settled)) c.rows_sought.ensures.refused
+returns-in-Found-clause-refused g c = λ settled. read_fails c.rows_sought.result (IsDatabase ((versions_of c.args.pool.now).pages c.number_seen-at.result) (private_of c.new-none.result)) (IsSound g.D.Disk.is_honest (versions_of c.args.pool.now) (numbers_of c.args.readers.now) (private_of c.args.changes.now) settled) (refused_of c.args.pool.now) (refused_of c.rows_sought.new.pool) (found_there g.D.Disk.is_honest (versions_of c.args.pool.now) (numbers_of c.args.readers.now) (private_of c.args.changes.now) settled c.args.commits c.requires c.in-Found.reader c.number_seen-at.result c.number_seen-at.ensures (private_of c.new-none.result) (none_private (fresh_of c.new-none.result) (settled_of c.new-none.result) c.new-none.ensures.fresh c.new-none.ensures.settled)) c.rows_sought.ensures.refused
 
 pub returns-in-Working-clause-rows : goal.returns-in-Working-clause-rows
 returns-in-Working-clause-rows g c = λ settled. read_working g.D.Disk.is_honest (versions_of c.args.pool.now) (numbers_of c.args.readers.now) (private_of c.args.changes.now) settled c.args.commits c.requires (λ (x : Contents). IfOk c.rows_sought-in-Working.result (λ found. AreEntries found (sought (get x c.args.name.now) c.args.index c.args.key.now))) c.args.view c.in-Working.is c.rows_sought-in-Working.ensures.rows
 
 pub returns-in-Working-clause-refused : goal.returns-in-Working-clause-refused
-returns-in-Working-clause-refused g c = λ settled. read_fails c.rows_sought-in-Working.result (IsDatabase ((versions_of c.args.pool.now).pages c.args.commits) (private_of c.args.changes.now)) (IsSound g.D.Disk.is_honest (versions_of c.args.pool.now) (numbers_of c.args.readers.now) (private_of c.args.changes.now) settled) (g.D.Disk.refused (device_of c.args.pool.now)) (g.D.Disk.refused (device_of c.rows_sought-in-Working.new.pool)) (working_there g.D.Disk.is_honest (versions_of c.args.pool.now) (numbers_of c.args.readers.now) (private_of c.args.changes.now) settled c.args.commits c.requires) c.rows_sought-in-Working.ensures.refused
+returns-in-Working-clause-refused g c = λ settled. read_fails c.rows_sought-in-Working.result (IsDatabase ((versions_of c.args.pool.now).pages c.args.commits) (private_of c.args.changes.now)) (IsSound g.D.Disk.is_honest (versions_of c.args.pool.now) (numbers_of c.args.readers.now) (private_of c.args.changes.now) settled) (refused_of c.args.pool.now) (refused_of c.rows_sought-in-Working.new.pool) (working_there g.D.Disk.is_honest (versions_of c.args.pool.now) (numbers_of c.args.readers.now) (private_of c.args.changes.now) settled c.args.commits c.requires) c.rows_sought-in-Working.ensures.refused

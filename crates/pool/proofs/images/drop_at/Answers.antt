@@ -12,7 +12,7 @@ pub returns-in-Some-clause-count : goal.returns-in-Some-clause-count
 returns-in-Some-clause-count c =
     let slots = c.args.slots.now in
     let slot = c.in-Some.slot.now in
-    let now : Slot = record { newest = c.in-Some.slot.now.newest; images = c.drop_unread.new.images } in
+    let now : Slot = record { images = c.drop_unread.new.images } in
     let was_there = ap (λ (s : Slot). with_bytes s.images) (got slots c.args.page slot empty_slot (sym c.in-Some.ensures.value)) in
     let is_there = ap (λ (s : Slot). with_bytes s.images) (get_or-set_same slots c.args.page now empty_slot (slice_get_within slots c.args.page slot (sym c.in-Some.ensures.value))) in
     let count = c.drop_unread.ensures.count in omega (arith, was_there, is_there, count)
@@ -21,7 +21,7 @@ pub returns-in-Some-clause-fewer : goal.returns-in-Some-clause-fewer
 returns-in-Some-clause-fewer c =
     let slots = c.args.slots.now in
     let slot = c.in-Some.slot.now in
-    let now : Slot = record { newest = c.in-Some.slot.now.newest; images = c.drop_unread.new.images } in
+    let now : Slot = record { images = c.drop_unread.new.images } in
     let was_there = ap (λ (s : Slot). with_bytes s.images) (got slots c.args.page slot empty_slot (sym c.in-Some.ensures.value)) in
     let is_there = ap (λ (s : Slot). with_bytes s.images) (get_or-set_same slots c.args.page now empty_slot (slice_get_within slots c.args.page slot (sym c.in-Some.ensures.value))) in
     let fewer = c.drop_unread.ensures.fewer in omega (arith, was_there, is_there, fewer)
@@ -30,7 +30,7 @@ pub returns-in-Some-clause-shown : goal.returns-in-Some-clause-shown
 returns-in-Some-clause-shown c = λ v some d.
     let slots = c.args.slots.now in
     let slot = c.in-Some.slot.now in
-    let now : Slot = record { newest = c.in-Some.slot.now.newest; images = c.drop_unread.new.images } in
+    let now : Slot = record { images = c.drop_unread.new.images } in
     ap (λ (s : Slot). seen v s.images d) (get_or-set_same slots c.args.page now empty_slot (slice_get_within slots c.args.page slot (sym c.in-Some.ensures.value)))
     ∙ c.drop_unread.ensures.shown v some d ∙ sym (ap (λ (s : Slot). seen v s.images d) (got slots c.args.page slot empty_slot (sym c.in-Some.ensures.value)))
 
@@ -38,7 +38,7 @@ pub returns-in-Some-clause-covers : goal.returns-in-Some-clause-covers
 returns-in-Some-clause-covers c = λ v h.
     let slots = c.args.slots.now in
     let slot = c.in-Some.slot.now in
-    let now : Slot = record { newest = c.in-Some.slot.now.newest; images = c.drop_unread.new.images } in
+    let now : Slot = record { images = c.drop_unread.new.images } in
     ap (λ (s : Slot). covers v s.images) (got slots c.args.page slot empty_slot (sym c.in-Some.ensures.value))
     ∙ c.drop_unread.ensures.covers v (sym (ap (λ (s : Slot). covers v s.images) (get_or-set_same slots c.args.page now empty_slot (slice_get_within slots c.args.page slot (sym c.in-Some.ensures.value)))) ∙ h)
 

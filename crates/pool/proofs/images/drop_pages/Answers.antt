@@ -17,7 +17,6 @@ loop-page-preserved c =
     let inv = c.loop-page.invariant in
     let step = c.drop_at.ensures in
     record {
-      newest = λ n. step.newest n ∙ inv.newest n;
       count = let was = inv.count in let now = step.count in let all = counted_at c.loop-page.slots c.drop_at.new.slots (get_or pages i 0) step.len step.others in omega (arith, was, now, all);
       fewer = let was = inv.fewer in let now = step.count in let less = step.fewer in omega (arith, was, now, less);
       shown = by_place (λ n. KeepsSeen c.args.pins.now (slot_at c.args.slots.now n).images (slot_at c.drop_at.new.slots n).images) (get_or pages i 0)

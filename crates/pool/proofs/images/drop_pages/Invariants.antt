@@ -7,7 +7,6 @@ use Rattle.pool.proofs.images.drop_pages.Given as goal
 
 abbrev pub invariant-loop-page : goal.invariant-loop-page
 invariant-loop-page l = record {
-  newest : (n : ℕ) → (slot_at l.slots n).newest ≡ (slot_at l.fn.slots n).newest;
   count : l.count ≡ images_in l.slots;
   fewer : l.count ≤ l.fn.count;
   shown : (n : ℕ) → KeepsSeen l.pins (slot_at l.fn.slots n).images (slot_at l.slots n).images;

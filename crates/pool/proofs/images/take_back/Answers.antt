@@ -11,7 +11,6 @@ loop-page-preserved c =
     let inv = c.loop-page.invariant in
     let step = c.take_at.ensures in
     record {
-      newest = λ n. step.newest n ∙ inv.newest n;
       same = by_place (λ n. covers c.args.last (slot_at c.args.slots.now n).images ≡ false → (slot_at c.take_at.new.slots n).images ≡ (slot_at c.args.slots.now n).images) (get_or numbers i 0)
           (λ none. step.same (ap (covers c.args.last) (inv.same (get_or numbers i 0) none) ∙ none) ∙ inv.same (get_or numbers i 0) none)
           (λ n differs none. step.others n differs ∙ inv.same n none);

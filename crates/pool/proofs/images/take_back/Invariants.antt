@@ -7,7 +7,6 @@ use Rattle.pool.proofs.images.take_back.Given as goal
 
 abbrev pub invariant-loop-page : goal.invariant-loop-page
 invariant-loop-page l = record {
-  newest : (n : ℕ) → (slot_at l.slots n).newest ≡ (slot_at l.fn.slots n).newest;
   same : (n : ℕ) → covers l.last (slot_at l.fn.slots n).images ≡ false → (slot_at l.slots n).images ≡ (slot_at l.fn.slots n).images;
   taken : (k : ℕ) → k < l.page-index → (others : List OldImage) (image : OldImage) → l.last < image.until
       → (slot_at l.fn.slots (slice_index l.numbers k)).images ≡ others ++ image ∷ [] → (slot_at l.slots (slice_index l.numbers k)).images ≡ others;

@@ -5,6 +5,6 @@ use Rattle.pool.proofs.steps.count_needed.Given as goal
 
 abbrev pub invariant-loop-page : goal.invariant-loop-page
 invariant-loop-page l = record {
-  count : l.count ≡ sum_by (needs l.began (pinned_in l.pins) l.slots) (take l.page-index l.numbers);
-  most : l.count ≤ l.page-index;
+  count : l.needed ≡ sum_by (needs l.count (pinned_in l.pins) l.slots) (take l.page-index l.numbers);
+  most : l.needed ≤ l.page-index;
 }

@@ -1,10 +1,6 @@
-use Rattle.std.proofs.Common.{◌∙◌}
 use Rattle.pool.specs.Images.{pinned_in}
 use Rattle.pool.proofs.ReadyLemmas.{all_back}
 use Rattle.pool.proofs.steps.prepare.Goals as goal
-
-pub returns-in-Err-clause-newest : goal.returns-in-Err-clause-newest
-returns-in-Err-clause-newest g c = λ n. c.take_back.ensures.newest n ∙ c.prepare_all.ensures.newest n
 
 pub returns-in-Err-clause-left : goal.returns-in-Err-clause-left
 returns-in-Err-clause-left g c =

@@ -1,5 +1,5 @@
 use Rattle.std.proofs.Common.{None, ap, sym, subst}
-use Rattle.pool.specs.Versions.{Versions, versions_of}
+use Rattle.pool.specs.Versions.{Versions, versions_of, refused_of}
 use Rattle.overlay.specs.InUse.{in_use}
 use Rattle.overlay.specs.Whole.{IsWhole}
 use Rattle.overlay.proofs.InUseLemmas.{reads_in_use}
@@ -18,5 +18,5 @@ pub returns-clause-whole : goal.returns-clause-whole
 returns-clause-whole g c = subst (λ (v : Versions). IsWhole (v.pages c.args.self.now.at)) (sym c.read_version.ensures.versions)
 
 pub returns-clause-refusal : goal.returns-clause-refusal
-returns-clause-refusal g c = reads_weaker c.read_version.result _ _ (g.D.Disk.refused (device_of c.args.self.now.pool.now)) (g.D.Disk.refused (device_of c.read_version.new.pool))
+returns-clause-refusal g c = reads_weaker c.read_version.result _ _ (refused_of c.args.self.now.pool.now) (refused_of c.read_version.new.pool)
     (λ gone. none_there ((versions_of c.args.self.now.pool.now).pages c.args.self.now.at) (λ n. None) c.args.page gone) c.read_version.ensures.refusal

@@ -1,5 +1,5 @@
 use Rattle.std.proofs.Common.{ap, sym, subst}
-use Rattle.pool.specs.Versions.{Versions, versions_of}
+use Rattle.pool.specs.Versions.{Versions, versions_of, refused_of}
 use Rattle.overlay.specs.WriteSet.{private_of}
 use Rattle.overlay.specs.InUse.{in_use}
 use Rattle.overlay.specs.Whole.{IsWholeOver}
@@ -20,5 +20,5 @@ pub returns-clause-whole : goal.returns-clause-whole
 returns-clause-whole g c = subst (λ (v : Versions). IsWholeOver (v.pages c.args.self.now.at) (private_of c.args.self.now.changes.now)) (sym c.read_changed.ensures.versions)
 
 pub returns-clause-refusal : goal.returns-clause-refusal
-returns-clause-refusal g c = reads_weaker c.read_changed.result _ _ (g.D.Disk.refused (device_of c.args.self.now.pool.now)) (g.D.Disk.refused (device_of c.read_changed.new.pool))
+returns-clause-refusal g c = reads_weaker c.read_changed.result _ _ (refused_of c.args.self.now.pool.now) (refused_of c.read_changed.new.pool)
     (λ gone. none_there ((versions_of c.args.self.now.pool.now).pages c.args.self.now.at) (private_of c.args.self.now.changes.now) c.args.page gone) c.read_changed.ensures.refusal

@@ -1,6 +1,6 @@
 use Rattle.std.proofs.Common.{◌≡◌, IsSome, ap, arith}
 use Rattle.pool.specs.Pages.{over}
-use Rattle.pool.specs.Versions.{Versions, versions_of, device_of}
+use Rattle.pool.specs.Versions.{Versions, versions_of, refused_of}
 use Rattle.overlay.specs.WriteSet.{private_of}
 use Rattle.overlay.specs.InUse.{in_use}
 use Rattle.overlay.specs.Layers.{size_of}
@@ -21,4 +21,4 @@ returns-clause-refusal g c =
     changed_more c.free_page.result (AtLimit (over (private_of c.free_page.new.changes) ((versions_of c.free_page.new.pool).pages s.at) 0) (size_of (private_of c.free_page.new.changes)))
     (IsWhole (over (private_of s.changes.now) ((versions_of s.pool.now).pages s.at)) → IsSome (in_use ((versions_of s.pool.now).pages s.at) (private_of s.changes.now) c.args.page) → ⊥)
     (IsWholeOver ((versions_of s.pool.now).pages s.at) (private_of s.changes.now) → IsSome (in_use ((versions_of s.pool.now).pages s.at) (private_of s.changes.now) c.args.page) → ⊥)
-    (g.D.Disk.refused (device_of s.pool.now)) (g.D.Disk.refused (device_of s.pool.now)) (g.D.Disk.refused (device_of c.free_page.new.pool)) (λ never whole there. never whole.whole there) (omega arith) c.free_page.ensures.refusal
+    (refused_of s.pool.now) (refused_of s.pool.now) (refused_of c.free_page.new.pool) (λ never whole there. never whole.whole there) (omega arith) c.free_page.ensures.refusal

@@ -1,5 +1,5 @@
 use Rattle.std.proofs.Common.{refl, ap, inl, inr, Err}
-use Rattle.pool.specs.Versions.{versions_of, device_of}
+use Rattle.pool.specs.Versions.{versions_of, refused_of}
 use Rattle.overlay.specs.WriteSet.{fresh_of, settled_of, private_of}
 use Rattle.snapshot_pins.specs.Pinned.{numbers_of}
 use Rattle.paged_store.proofs.PageLemmas.{none_fresh}
@@ -31,7 +31,7 @@ returns-clause-goes g c =
     record {
       sound = sound_moved g.D.Disk.is_honest (versions_of s.pool) (versions_of s.pool) (numbers_of s.readers) (private_of s.changes) (settled_of s.changes) (private_of c.undo.new.self) (settled_of c.undo.new.self) refl
           (inr (inl (none_fresh (fresh_of c.undo.new.self) (settled_of c.undo.new.self) (settled_of s.changes) c.undo.ensures.fresh c.undo.ensures.settled))) (inr (inl c.undo.ensures.settled));
-      refused = no_more (g.D.Disk.refused (device_of s.pool));
+      refused = no_more (refused_of s.pool);
       damaged = c.told.ensures.rises;
       read = no_more s.read;
       stays = last_same g.D.Disk.is_honest (versions_of s.pool) (versions_of s.pool) (numbers_of s.readers) (numbers_of s.readers) (private_of s.changes) (settled_of s.changes) (private_of c.undo.new.self) (settled_of c.undo.new.self) _ _ _ _ _ _ _ _ _ _

@@ -1,6 +1,6 @@
 use Rattle.std.proofs.Common.{◌∙◌}
 use Rattle.store.specs.Contents.{Contents, appended}
-use Rattle.pool.specs.Versions.{NeedsImages, versions_of, device_of}
+use Rattle.pool.specs.Versions.{NeedsImages, versions_of, refused_of}
 use Rattle.overlay.specs.WriteSet.{settled_of, private_of, undone_of}
 use Rattle.snapshot_pins.specs.Pinned.{numbers_of}
 use Rattle.paged_store.proofs.DoneLemmas.{done_shows, done_undone, done_sound, done_alone, done_steady, append_fails}
@@ -50,7 +50,7 @@ pub returns-clause-refused : goal.returns-clause-refused
 returns-clause-refused g c =
     let s = c.args.self.now in
     append_fails (NeedsImages c.append_rows-done.new.pool (private_of c.undo_refused.new.changes)) g.D.Disk.is_honest (versions_of s.pool) (versions_of c.append_rows-done.new.pool) (numbers_of s.readers) (private_of s.changes) (settled_of s.changes) (private_of c.append_rows-done.new.changes) (settled_of c.append_rows-done.new.changes) (settled_of c.undo_refused.new.changes)
-    s.commits s.ordered.counted c.append_rows-done.ensures.versions c.append_rows-done.ensures.settled c.undo_refused.ensures.settled (g.D.Disk.refused (device_of s.pool)) (g.D.Disk.refused (device_of c.append_rows-done.new.pool))
+    s.commits s.ordered.counted c.append_rows-done.ensures.versions c.append_rows-done.ensures.settled c.undo_refused.ensures.settled (refused_of s.pool) (refused_of c.append_rows-done.new.pool)
     s.steady (undone_of c.undo_refused.new.changes) c.args.name.now c.args.rows c.undo_refused.result c.append_rows-done.result c.undo_refused.ensures.same c.undo_refused.ensures.undone c.append_rows-done.ensures.refused
 
 pub invariant_of-self : goal.invariant_of-self

@@ -1,4 +1,5 @@
-use Rattle.pool.specs.Versions.{versions_of, device_of}
+use Rattle.std.proofs.Common.{ℕ, ◌≤◌, subst}
+use Rattle.pool.specs.Versions.{versions_of, refused_of}
 use Rattle.overlay.specs.WriteSet.{fresh_of, settled_of, private_of}
 use Rattle.snapshot_pins.specs.Pinned.{numbers_of}
 use Rattle.paged_store.proofs.CloseLemmas.{closed_saved, closed_shows, closed_sound, closed_refused}
@@ -9,7 +10,7 @@ use Rattle.paged_store.proofs.paged.PagedStore.close.Goals as goal
 pub returns-in-Ok-clause-closed : goal.returns-in-Ok-clause-closed
 returns-in-Ok-clause-closed g c =
     let s = c.args.self in
-    closed_saved g.D.Disk.is_honest (g.D.Disk.bytes c.in-Ok.device) (versions_of s.pool) (versions_of c.end_all.new.pool) (numbers_of s.readers) (numbers_of c.end_all.new.self) (private_of s.changes) (settled_of s.changes) c.in-Ok.ensures.saved c.in-Ok.ensures.owned c.end_all.ensures.kept
+    closed_saved g.D.Disk.is_honest (g.D.Disk.bytes c.in-Ok.device) (versions_of s.pool) (versions_of c.end_all.new.pool) (numbers_of s.readers) (numbers_of c.end_all.new.self) (private_of s.changes) (settled_of s.changes) c.in-Ok.ensures.saved c.in-Ok.ensures.owned c.in-Ok.ensures.closed c.end_all.ensures.kept
 
 pub returns-clause-left : goal.returns-clause-left
 returns-clause-left g c =
@@ -19,7 +20,7 @@ returns-clause-left g c =
 pub returns-clause-refused : goal.returns-clause-refused
 returns-clause-refused g c =
     let s = c.args.self in
-    closed_refused g.D.Disk.refused (device_of s.pool) (device_of c.end_all.new.pool) (device_of c.in-Err.refused.pool) c.in-Err.refused.cause c.of_pool.result c.of_pool.ensures c.end_all.ensures.device c.in-Err.ensures.refusal
+    closed_refused (refused_of s.pool) (refused_of c.end_all.new.pool) (refused_of c.in-Err.refused.pool) c.in-Err.refused.cause c.of_pool.result c.of_pool.ensures c.end_all.ensures.refused c.in-Err.ensures.refusal
 
 pub invariant_of-result : goal.invariant_of-result
 invariant_of-result g c =
@@ -29,3 +30,6 @@ invariant_of-result g c =
           (orderly_kept g.D.Disk.is_honest (versions_of s.pool) (versions_of c.end_all.new.pool) s.readers c.end_all.new.self s.commits (numbers_of c.end_all.new.self) c.end_all.ensures.kept c.end_all.ensures.pinned s.ordered);
       steady = steady_none ((versions_of c.in-Err.refused.pool).pages (versions_of c.in-Err.refused.pool).last) (fresh_of c.new.result) (settled_of c.new.result) c.new.ensures.fresh c.new.ensures.settled;
     }
+
+pub returns-in-Ok-clause-counts : goal.returns-in-Ok-clause-counts
+returns-in-Ok-clause-counts g c = subst (λ (k : ℕ). k ≤ g.D.Disk.refused c.in-Ok.device) c.end_all.ensures.refused c.in-Ok.ensures.rising

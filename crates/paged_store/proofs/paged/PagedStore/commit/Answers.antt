@@ -1,5 +1,7 @@
-use Rattle.std.proofs.Common.{◌≡◌, ◌-◌, ◌^◌, refl}
-use Rattle.pool.specs.Versions.{NeedsImages, versions_of, device_of}
+use Rattle.std.proofs.Common.{◌∙◌, IsTrue, refl}
+use Rattle.pool.specs.Pages.{over}
+use Rattle.overlay.specs.Whole.{IsWhole}
+use Rattle.pool.specs.Versions.{NeedsImages, versions_of, refused_of}
 use Rattle.overlay.specs.WriteSet.{fresh_of, settled_of, private_of, undone_of}
 use Rattle.snapshot_pins.specs.Pinned.{numbers_of}
 use Rattle.database_versions.proofs.RefusalLemmas.{commit_fails}
@@ -14,7 +16,6 @@ use Rattle.paged_store.proofs.SoundLemmas.{sound_committed, same_sound}
 use Rattle.paged_store.proofs.ChangeLemmas.{told_fails}
 use Rattle.paged_store.proofs.OrderlyLemmas.{orderly_committed, orderly_same}
 use Rattle.paged_store.proofs.SteadyLemmas.{steady_none, steady_same}
-use Rattle.paged_store.proofs.GoesLemmas.{pool_tells, of_commit}
 use Rattle.paged_store.proofs.OrderlyLemmas.{no_more}
 use Rattle.paged_store.proofs.paged.PagedStore.commit.Goals as goal
 
@@ -34,9 +35,13 @@ returns-in-Err-clause-same g c =
 pub returns-in-Err-clause-refused : goal.returns-in-Err-clause-refused
 returns-in-Err-clause-refused g c =
     let s = c.args.self.now in
-    let counted : StoreLimit → Type 0 = IsCounted (NeedsImages s.pool (private_of s.changes)) g.D.Disk.is_honest ((versions_of s.pool).pages (versions_of s.pool).last) (settled_of s.changes) (undone_of s.changes) in
-    told_fails (IsSound g.D.Disk.is_honest (versions_of s.pool) (numbers_of s.readers) (private_of s.changes) (settled_of s.changes)) (g.D.Disk.refused (device_of s.pool)) (g.D.Disk.refused (device_of c.commit.new.pool)) (CommittingReaches counted s.pool.last) c.of_pool.result (of_pool c.in-Err.error) c.of_pool.ensures
-    (commit_fails (IsSound g.D.Disk.is_honest (versions_of s.pool) (numbers_of s.readers) (private_of s.changes) (settled_of s.changes)) counted s.pool.last (g.D.Disk.refused (device_of s.pool)) (g.D.Disk.refused (device_of c.commit.new.pool)) c.in-Err.error c.in-Err.ensures.refusal)
+    let last = (versions_of s.pool).pages (versions_of s.pool).last in
+    let sound = IsSound g.D.Disk.is_honest (versions_of s.pool) (numbers_of s.readers) (private_of s.changes) (settled_of s.changes) in
+    let counted : StoreLimit → Type 0 = IsCounted (NeedsImages s.pool (private_of s.changes)) g.D.Disk.is_honest last (settled_of s.changes) (undone_of s.changes) in
+    told_fails sound (refused_of s.pool) (refused_of c.commit.new.pool) (CommittingReaches counted s.pool.last) c.told.result (of_pool c.in-Err.error) (c.told.ensures.same ∙ c.of_pool.ensures)
+    (commit_fails sound (IsTrue g.D.Disk.is_honest → IsWhole (over (private_of s.changes) last) → ⊥) counted s.pool.last (refused_of s.pool) (refused_of c.commit.new.pool) c.in-Err.error
+    (λ (sound : IsSound g.D.Disk.is_honest (versions_of s.pool) (numbers_of s.readers) (private_of s.changes) (settled_of s.changes)) harm. harm sound.device sound.working.is.whole.whole)
+    c.in-Err.ensures.refusal)
 
 pub invariant_of-self : goal.invariant_of-self
 invariant_of-self g c =
@@ -83,8 +88,7 @@ returns-in-Ok-clause-goes g c =
     }
 
 pub returns-in-Err-clause-damage : goal.returns-in-Err-clause-damage
-returns-in-Err-clause-damage g c =
-    (tt, pool_tells c.of_pool.result c.in-Err.error c.args.self.now.damaged c.of_pool.ensures (of_commit ((versions_of c.args.self.now.pool).last ≡ 2 ^ 64 - 1) (NeedsImages c.args.self.now.pool (private_of c.args.self.now.changes)) (g.D.Disk.refused (device_of c.args.self.now.pool)) (g.D.Disk.refused (device_of c.commit.new.pool)) c.in-Err.error c.in-Err.ensures.refusal))
+returns-in-Err-clause-damage g c = (tt, c.told.ensures.tells)
 
 pub returns-in-Err-clause-idle : goal.returns-in-Err-clause-idle
 returns-in-Err-clause-idle g c =
@@ -96,7 +100,7 @@ returns-in-Err-clause-goes g c =
     record {
       sound = same_sound g.D.Disk.is_honest (versions_of s.pool) (versions_of c.commit.new.pool) (numbers_of s.readers) (private_of s.changes) (settled_of s.changes) c.in-Err.ensures.refused;
       refused = c.commit.ensures.rising;
-      damaged = no_more s.damaged;
+      damaged = c.told.ensures.rises;
       read = no_more s.read;
       stays = tt;
       unchanged = tt;

@@ -1,5 +1,5 @@
 use Rattle.std.proofs.Common.{refl}
-use Rattle.pool.specs.Versions.{versions_of, device_of}
+use Rattle.pool.specs.Versions.{versions_of, refused_of}
 use Rattle.overlay.specs.WriteSet.{settled_of, private_of}
 use Rattle.snapshot_pins.specs.Pinned.{numbers_of}
 use Rattle.std.specs.Prelude.{⊤}
@@ -32,8 +32,8 @@ returns-in-Err-clause-shows g c =
 pub returns-in-Err-clause-refused : goal.returns-in-Err-clause-refused
 returns-in-Err-clause-refused g c =
     let s = c.args.self.now in
-    told_fails ⊤ (g.D.Disk.refused (device_of s.pool)) (g.D.Disk.refused (device_of c.write_some.new.pool)) Never c.of_pool.result (of_pool c.in-Err.error) c.of_pool.ensures
-    (device_fails ⊤ Never (g.D.Disk.refused (device_of s.pool)) (g.D.Disk.refused (device_of c.write_some.new.pool)) c.in-Err.error c.in-Err.ensures.refusal)
+    told_fails ⊤ (refused_of s.pool) (refused_of c.write_some.new.pool) Never c.of_pool.result (of_pool c.in-Err.error) c.of_pool.ensures
+    (device_fails ⊤ Never (refused_of s.pool) (refused_of c.write_some.new.pool) c.in-Err.error c.in-Err.ensures.refusal)
 
 pub returns-in-Ok-clause-damage : goal.returns-in-Ok-clause-damage
 returns-in-Ok-clause-damage g c =
@@ -53,7 +53,7 @@ returns-in-Ok-clause-goes g c =
 
 pub returns-in-Err-clause-damage : goal.returns-in-Err-clause-damage
 returns-in-Err-clause-damage g c =
-    (tt, pool_tells c.of_pool.result c.in-Err.error c.args.self.now.damaged c.of_pool.ensures (of_device (g.D.Disk.refused (device_of c.args.self.now.pool)) (g.D.Disk.refused (device_of c.write_some.new.pool)) c.in-Err.error c.in-Err.ensures.refusal))
+    (tt, pool_tells c.of_pool.result c.in-Err.error c.args.self.now.damaged c.of_pool.ensures (of_device (refused_of c.args.self.now.pool) (refused_of c.write_some.new.pool) c.in-Err.error c.in-Err.ensures.refusal))
 
 pub returns-in-Err-clause-goes : goal.returns-in-Err-clause-goes
 returns-in-Err-clause-goes g c =

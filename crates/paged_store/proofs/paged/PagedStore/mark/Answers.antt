@@ -1,5 +1,5 @@
 use Rattle.std.proofs.Common.{◌∙◌, refl, inl, inr}
-use Rattle.pool.specs.Versions.{versions_of, device_of}
+use Rattle.pool.specs.Versions.{versions_of, refused_of}
 use Rattle.overlay.specs.WriteSet.{settled_of, private_of}
 use Rattle.snapshot_pins.specs.Pinned.{numbers_of}
 use Rattle.paged_store.proofs.ShownLemmas.{shown_marked, shown_with, same_but_mark}
@@ -35,7 +35,7 @@ returns-in-Ok-clause-goes g c =
     record {
       sound = sound_moved g.D.Disk.is_honest (versions_of s.pool) (versions_of s.pool) (numbers_of s.readers) (private_of s.changes) (settled_of s.changes) (private_of c.mark.new.self) (settled_of c.mark.new.self) refl
           (inl c.in-Ok.ensures.same) (inl c.in-Ok.ensures.settled);
-      refused = no_more (g.D.Disk.refused (device_of s.pool));
+      refused = no_more (refused_of s.pool);
       damaged = no_more s.damaged;
       read = no_more s.read;
       stays = last_same g.D.Disk.is_honest (versions_of s.pool) (versions_of s.pool) (numbers_of s.readers) (numbers_of s.readers) (private_of s.changes) (settled_of s.changes) (private_of c.mark.new.self) (settled_of c.mark.new.self) _ _ _ _ _ _ _ _ _ _
@@ -53,7 +53,7 @@ returns-in-Err-clause-goes g c =
     record {
       sound = sound_moved g.D.Disk.is_honest (versions_of s.pool) (versions_of s.pool) (numbers_of s.readers) (private_of s.changes) (settled_of s.changes) (private_of c.mark.new.self) (settled_of c.mark.new.self) refl
           (inl c.in-Err.ensures.same) (inr (inl c.in-Err.ensures.left));
-      refused = no_more (g.D.Disk.refused (device_of s.pool));
+      refused = no_more (refused_of s.pool);
       damaged = no_more s.damaged;
       read = no_more s.read;
       stays = last_same g.D.Disk.is_honest (versions_of s.pool) (versions_of s.pool) (numbers_of s.readers) (numbers_of s.readers) (private_of s.changes) (settled_of s.changes) (private_of c.mark.new.self) (settled_of c.mark.new.self) _ _ _ _ _ _ _ _ _ _

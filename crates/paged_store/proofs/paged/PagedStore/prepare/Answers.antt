@@ -1,5 +1,5 @@
 use Rattle.std.proofs.Common.{refl}
-use Rattle.pool.specs.Versions.{versions_of, device_of}
+use Rattle.pool.specs.Versions.{versions_of, refused_of}
 use Rattle.overlay.specs.WriteSet.{settled_of, private_of}
 use Rattle.snapshot_pins.specs.Pinned.{numbers_of}
 use Rattle.paged_store.proofs.ShownLemmas.{shown_with}
@@ -38,7 +38,7 @@ returns-in-Ok-clause-prepared g c = λ sound. c.in-Ok.ensures.found (settled_of 
 pub returns-in-Err-clause-refused : goal.returns-in-Err-clause-refused
 returns-in-Err-clause-refused g c =
     let s = c.args.self.now in
-    told_fails (sound_of s) (g.D.Disk.refused (device_of s.pool)) (g.D.Disk.refused (device_of c.schema_seen.new.pool)) Never c.told.result c.in-Err.error c.told.ensures.same (c.in-Err.ensures.refused (settled_of s.changes))
+    told_fails (sound_of s) (refused_of s.pool) (refused_of c.schema_seen.new.pool) Never c.told.result c.in-Err.error c.told.ensures.same (c.in-Err.ensures.refused (settled_of s.changes))
 
 pub returns-in-Ok-clause-damage : goal.returns-in-Ok-clause-damage
 returns-in-Ok-clause-damage g c =

@@ -2,7 +2,7 @@ use Rattle.std.proofs.Common.{◌∙◌, ◌∷◌, []}
 use Rattle.std.specs.FinMap.{get}
 use Rattle.paged_store.specs.Store.{shown_of}
 use Rattle.store.specs.Contents.{Contents, replaced}
-use Rattle.pool.specs.Versions.{NeedsImages, versions_of, device_of}
+use Rattle.pool.specs.Versions.{NeedsImages, versions_of, refused_of}
 use Rattle.overlay.specs.WriteSet.{settled_of, private_of, undone_of}
 use Rattle.snapshot_pins.specs.Pinned.{numbers_of}
 use Rattle.paged_store.proofs.DoneLemmas.{done_shows, done_undone, done_sound, done_alone, done_steady, replace_fails}
@@ -52,7 +52,7 @@ pub returns-clause-refused : goal.returns-clause-refused
 returns-clause-refused g c =
     let s = c.args.self.now in
     replace_fails (NeedsImages c.replace_row-done.new.pool (private_of c.undo_refused.new.changes)) g.D.Disk.is_honest (versions_of s.pool) (versions_of c.replace_row-done.new.pool) (numbers_of s.readers) (private_of s.changes) (settled_of s.changes) (private_of c.replace_row-done.new.changes) (settled_of c.replace_row-done.new.changes) (settled_of c.undo_refused.new.changes)
-    s.commits s.ordered.counted c.replace_row-done.ensures.versions c.replace_row-done.ensures.settled c.undo_refused.ensures.settled (g.D.Disk.refused (device_of s.pool)) (g.D.Disk.refused (device_of c.replace_row-done.new.pool))
+    s.commits s.ordered.counted c.replace_row-done.ensures.versions c.replace_row-done.ensures.settled c.undo_refused.ensures.settled (refused_of s.pool) (refused_of c.replace_row-done.new.pool)
     (undone_of c.undo_refused.new.changes) (get (shown_of s).working c.args.name.now) (c.args.row ∷ []) c.undo_refused.result c.replace_row-done.result c.undo_refused.ensures.same c.undo_refused.ensures.undone c.replace_row-done.ensures.refused
 
 pub invariant_of-self : goal.invariant_of-self

@@ -4,7 +4,7 @@ use Rattle.store.specs.declared.error.StoreError.{StoreError}
 use Rattle.store.specs.declared.rows.Numbered.{Numbered}
 use Rattle.store.specs.Indexes.{entries_of}
 use Rattle.store.specs.View.{AreEntries, seen_by}
-use Rattle.pool.specs.Versions.{versions_of, device_of}
+use Rattle.pool.specs.Versions.{versions_of, refused_of}
 use Rattle.overlay.specs.WriteSet.{settled_of, private_of}
 use Rattle.snapshot_pins.specs.Pinned.{numbers_of}
 use Rattle.paged_store.specs.Store.{shown_of, sound_of}
@@ -35,7 +35,7 @@ returns-clause-read g c = c.counted_rows.ensures.read
 pub returns-clause-refused : goal.returns-clause-refused
 returns-clause-refused g c =
     let s = c.args.self.now in
-    fails_so c.counted_rows.result c.rows_seen-found.result (sound_of s) (g.D.Disk.refused (device_of s.pool)) (g.D.Disk.refused (device_of c.rows_seen-found.new.pool)) c.counted_rows.ensures.same (c.rows_seen-found.ensures.refused (settled_of s.changes))
+    fails_so c.counted_rows.result c.rows_seen-found.result (sound_of s) (refused_of s.pool) (refused_of c.rows_seen-found.new.pool) c.counted_rows.ensures.same (c.rows_seen-found.ensures.refused (settled_of s.changes))
 
 pub returns-clause-damage : goal.returns-clause-damage
 returns-clause-damage g c = c.counted_rows.ensures.damage

@@ -15,6 +15,7 @@ ended-preserved g c =
       newest = c.unpin.ensures.kept c.args.pool.now.last (inl (sym (c.unpin.ensures.last ∙ i.last))) ∙ i.newest;
       unwritten = c.unpin.ensures.unwritten ∙ i.unwritten;
       device = c.unpin.ensures.device ∙ i.device;
+      refused = c.unpin.ensures.refused_calls ∙ i.refused;
     }
 
 pub returns-clause-kept : goal.returns-clause-kept

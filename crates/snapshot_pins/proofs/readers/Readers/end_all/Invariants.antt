@@ -1,5 +1,5 @@
 use Rattle.std.proofs.Common.{◌≡◌, length}
-use Rattle.pool.specs.Versions.{versions_of, device_of, unwritten_of}
+use Rattle.pool.specs.Versions.{versions_of, device_of, refused_of, unwritten_of}
 use Rattle.snapshot_pins.specs.Pinned.{ArePinned}
 use Rattle.snapshot_pins.proofs.readers.Readers.end_all.Given as goal
 
@@ -10,6 +10,7 @@ invariant-ended g l = record {
   newest : (versions_of l.pool).pages (versions_of l.fn.pool).last ≡ (versions_of l.fn.pool).pages (versions_of l.fn.pool).last;
   unwritten : unwritten_of l.pool ≡ unwritten_of l.fn.pool;
   device : device_of l.pool ≡ device_of l.fn.pool;
+  refused : refused_of l.pool ≡ refused_of l.fn.pool;
 }
 
 abbrev pub decreases-ended : goal.decreases-ended

@@ -1,0 +1,4 @@
+pub mod StandingLemmas
+pub mod ShownLemmas
+pub mod HoldLemmas
+pub mod LastLemmas
