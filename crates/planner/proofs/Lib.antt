@@ -1,0 +1,15 @@
+mod Children
+mod Divided
+mod OneSided
+mod Opened
+mod Overs
+mod Parts
+mod PlainBare
+mod QuietNodes
+mod Quieting
+mod RaisingAlike
+mod Shapes
+mod Tables
+mod TwoTables
+mod Walked
+mod Walks

@@ -1,0 +1,4 @@
+pub mod Joins
+pub mod Led
+pub mod Looks
+pub mod Parted

@@ -1,0 +1,16 @@
+use Rattle.std.proofs.Common.{◌≡◌, ap}
+use Rattle.algebra.specs.declared.tree.Tree.{Tree}
+use Rattle.algebra.specs.declared.tree.Tree.TheVariants as t
+use Rattle.planner.specs.Led.{LedAt}
+use Rattle.planner.proofs.Children.{filter-part}
+use Rattle.planner.proofs.Walked.{one-led}
+use Rattle.planner.proofs.nodes.filter_of.Goals as goal
+
+pub returns-clause-led : goal.returns-clause-led
+returns-clause-led c = λ calm old h k.
+    let led : LedAt 0 calm old c.in_ok-steps.field-0 = rw c.in_ok-steps.was at k in
+    one-led calm (t.Filter c.args.condition) (filter-part c.args.condition) old c.in_ok-steps.field-0 h led
+
+pub returns-clause-tree : goal.returns-clause-tree
+returns-clause-tree c = λ x h.
+    let came : c.in_ok-steps.field-0.tree ≡ x = rw c.in_ok-steps.was at h in ap (λ (rows : Tree). (t.Filter c.args.condition) rows) came
