@@ -1,5 +1,6 @@
 pub mod Words
 pub mod Typings
+pub mod Schemas
 pub mod QuerySteps
 pub mod ChangeCalls
 pub mod ChangeSteps

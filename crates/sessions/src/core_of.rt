@@ -11,9 +11,10 @@ use denote::Rows;
 use items::Text;
 use refusals::{Limit, Reason, Refusal};
 use replies::Reply;
+use sqlval::Schema;
 use std::alloc::Global;
 use store::{Returned, Store};
-use transactions::{drop_session, refusal_of};
+use transactions::{drop_session, refusal_of, view_of};
 
 /// A session of a core, from `new_session` to `end_session`: the least number that no other had
 /// when it was made.
@@ -52,6 +53,7 @@ impl<S: Store, L: Language + Changes<S>> Core<S, L> {
     ghost use Rattle.session_definitions.specs.Step.{Step, StepOf};
     ghost use Rattle.session_definitions.specs.World.{is_live, is_session, opened};
     ghost use Rattle.denote.specs.Database.{Database, IsGood};
+    ghost use Rattle.denote.specs.SchemaOf.{IsSchemaOf};
     ghost use Rattle.store.specs.Errors.{HasRisen};
     ghost use Rattle.store.specs.Going.{Going};
     ghost use Rattle.transactions.specs.Refused.{Counts, IfRefused, TellsNoLimit, TellsReached};
@@ -240,6 +242,38 @@ impl<S: Store, L: Language + Changes<S>> Core<S, L> {
         settle(&self.store, &mut slot, session.number);
         self.slots.set(session.number, Some(slot));
         reply
+    }
+
+    /// Makes the schema ready that a statement of this session sees: of its transaction, or of the
+    /// last commit where it has none. It begins no transaction, and the world stays as it was.
+    pub fn prepare_schema(&mut self, session: SessionId) -> Result<(), Refusal>
+        ensures prepared { OnOk result (IsSound S.is_sound S.shows self.old
+            → IsSchemaOf (S.prepared self.new.store) (seen_in (S.shows self.old.store) self.old.writer (number_of session))) }
+        ensures refused { IfErr result (λ refusal. IsSound S.is_sound S.shows self.old
+            → is_live (world_of S.shows self.old) (number_of session) ≡ true → IsReserved refusal) }
+        ensures ended { is_live (world_of S.shows self.old) (number_of session) ≡ false
+            → (result ≡ Err (Invalid reason.Session)) × (self.new ≡ self.old) }
+        ensures kept { world_of S.shows self.new ≡ world_of S.shows self.old }
+        ensures sound { IsSound S.is_sound S.shows self.old → IsSound S.is_sound S.shows self.new }
+        ensures device { IfErr result (λ refusal. refusal ≡ Disk
+            → HasRisen (S.refused self.old.store) (S.refused self.new.store)) }
+        ensures limits { IfErr result TellsNoLimit }
+        ensures goes { S.goes_on self.old.store self.new.store Going.keeps }
+    {
+        if !self.slots.stands(session.number) {
+            return Err(Refusal::Invalid(Reason::Session));
+        }
+        match self.store.prepare(view_of(self.writer, session.number)) {
+            Ok(()) => Ok(()),
+            Err(error) => Err(refusal_of(error)),
+        }
+    }
+
+    /// The schema that was made ready last, by `prepare_schema` or by a statement.
+    pub fn schema(&self) -> &Schema
+        ensures { result.now ≡ S.prepared self.now.store }
+    {
+        self.store.schema()
     }
 
     /// A new session without a transaction. Refused by the limit `sessions` exactly where 64 stand,
