@@ -13,7 +13,7 @@ use Rattle.transactions.specs.Refused.{Counts, IfRefused}
 use Rattle.shared.specs.declared.event.Event.{Event}
 use Rattle.shared.specs.declared.event.Act.{Act}
 use Rattle.shared.specs.declared.event.Act.TheVariants.{Connects, Refused, Says, Ends}
-use Rattle.shared.specs.History.{AllTellDevice, EachAct, HasRisenBy, IsCounted, TellsDevice, TellsLimits, calls_by, disks_told, is_disk, one_if, says_disk, tells_disk}
+use Rattle.shared.specs.History.{AllTellDevice, EachAct, HasRisenBy, IsCounted, TellsDevice, ActTellsLimits, calls_by, disks_told, is_disk, one_if, says_disk, tells_disk}
 use Rattle.shared.specs.Scripts.{AllTellDeviceIf, Answer, Ask, Played, TellsDeviceIf, ask_of, opened}
 use Rattle.shared.specs.Scripts.Ask.{joins, refused, says, leaves}
 use Rattle.shared.proofs.Each.{EachAsk, each_and, each_played}
@@ -91,15 +91,15 @@ told_as_many (e ∷ log) k m h =
 
 -- ---- what is counted of a history
 
-counted_by : (k m : ℕ) (log : List Event) → AllTellDevice log k m → EachAct TellsLimits log → IsCounted k m log
+counted_by : (k m : ℕ) (log : List Event) → AllTellDevice log k m → EachAct ActTellsLimits log → IsCounted k m log
 counted_by k m log told limits = record { least = least_of log k m told; told = told; as_many = told_as_many log k m told; limits = limits }
 
 pub counted_none : (k m : ℕ) → k ≤ m → IsCounted k m []
 counted_none k m less = counted_by k m [] less tt
 
 -- one call more
-pub counted_after : (k m : ℕ) (log : List Event) (e : Event) → m ≤ e.refused → TellsDevice e.act m e.refused → TellsLimits e.act → IsCounted k m log → IsCounted k e.refused (log ++ e ∷ [])
-counted_after k m log e more tells limits h = counted_by k e.refused (log ++ e ∷ []) (told_more log e k m more tells h.told) (each_and TellsLimits log e h.limits limits)
+pub counted_after : (k m : ℕ) (log : List Event) (e : Event) → m ≤ e.refused → TellsDevice e.act m e.refused → ActTellsLimits e.act → IsCounted k m log → IsCounted k e.refused (log ++ e ∷ [])
+counted_after k m log e more tells limits h = counted_by k e.refused (log ++ e ∷ []) (told_more log e k m more tells h.told) (each_and ActTellsLimits log e h.limits limits)
 
 told_raised : (log : List Event) (k m n : ℕ) → m ≤ n → AllTellDevice log k m → AllTellDevice log k n
 told_raised [] k m n more h = le_trans h more

@@ -14,7 +14,7 @@ use Rattle.transactions.specs.Refused.{IfRefused, TellsReached}
 use Rattle.shared.specs.declared.event.Event.{Event}
 use Rattle.shared.specs.declared.event.Act.{Act}
 use Rattle.shared.specs.declared.event.Act.TheVariants.{Connects, Refused, Says, Ends}
-use Rattle.shared.specs.History.{EachAct, MayReach, TellsLimits, calls_by}
+use Rattle.shared.specs.History.{EachAct, TextMayReach, ActTellsLimits, calls_by}
 use Rattle.shared.specs.Scripts.{Answer, AnswersTellLimits, Ask, Played, ask_of, opened}
 use Rattle.shared.specs.Scripts.Ask.{joins, refused, says, leaves}
 use Rattle.shared.proofs.Each.{EachAsk, each_played}
@@ -28,19 +28,19 @@ statement_may counted commits (statement.Commit work) which h = h
 statement_may counted commits _ which h = h
 
 pub call_told : (counted : StoreLimit → Type 0) (commits : ℕ) (text : Bytes) (reply : Reply) → IfRefused reply (TellsReached (CallReaches counted commits text))
-    → IfRefused reply (TellsReached (MayReach text))
+    → IfRefused reply (TellsReached (TextMayReach text))
 call_told counted commits text reply h =
-    told_wider (CallReaches counted commits text) (MayReach text) (λ which h. (commits, (h.0, h.1, statement_may counted commits h.0 which h.2))) reply h
+    told_wider (CallReaches counted commits text) (TextMayReach text) (λ which h. (commits, (h.0, h.1, statement_may counted commits h.0 which h.2))) reply h
 
 -- ---- the answers of a script
 
 abbrev AskTells : Ask → Type 0
 AskTells joins = Unit {0}
 AskTells (refused refusal) = refusal ≡ Exceeded limit.Sessions
-AskTells (says text reply) = IfRefused reply (TellsReached (MayReach text))
+AskTells (says text reply) = IfRefused reply (TellsReached (TextMayReach text))
 AskTells leaves = Unit {0}
 
-act_tells : (act : Act) → TellsLimits act → AskTells (ask_of act)
+act_tells : (act : Act) → ActTellsLimits act → AskTells (ask_of act)
 act_tells (Connects id) h = tt
 act_tells (Refused refusal) h = h
 act_tells (Says id text reply) h = h
@@ -53,6 +53,6 @@ answers_tell stands (t ∷ texts) (Err refusal ∷ answers) h = (h.0, answers_te
 answers_tell true (t ∷ texts) (Ok reply ∷ answers) h = (h.0, answers_tell true texts answers h.1)
 answers_tell false (t ∷ texts) (Ok reply ∷ answers) h = (h.1.0, answers_tell true texts answers h.1.1)
 
-pub limits_answered : (texts : List (List ℕ)) (who : ℕ) (log : List Event) (answers : List Answer) → Played texts (calls_by who log) answers → EachAct TellsLimits log
+pub limits_answered : (texts : List (List ℕ)) (who : ℕ) (log : List Event) (answers : List Answer) → Played texts (calls_by who log) answers → EachAct ActTellsLimits log
     → AnswersTellLimits texts answers
-limits_answered texts who log answers played told = answers_tell false texts answers (each_played TellsLimits AskTells act_tells texts who log answers played told)
+limits_answered texts who log answers played told = answers_tell false texts answers (each_played ActTellsLimits AskTells act_tells texts who log answers played told)

@@ -195,16 +195,16 @@ HasRisenBy n before after = min (before + n) (2 ^ 64 - 1) ≤ after
 
 -- The text may reach a limit of what the store counts, its pages, private pages or kept page
 -- images: a change each of them, and a COMMIT, which takes no private page, the others.
-abbrev pub MayReach : Bytes → StoreLimit → Type 0
-MayReach text which = (commits : ℕ) × CallReaches (λ _. Unit {0}) commits text which
+abbrev pub TextMayReach : Bytes → StoreLimit → Type 0
+TextMayReach text which = (commits : ℕ) × CallReaches (λ _. Unit {0}) commits text which
 
 -- a call tells such a limit only where its text may reach it; no session is made only where as many
 -- stand as may
-abbrev pub TellsLimits : Act → Type 0
-TellsLimits (Connects id) = Unit {0}
-TellsLimits (Refused refusal) = refusal ≡ Exceeded limit.Sessions
-TellsLimits (Says id text reply) = IfRefused reply (TellsReached (MayReach text))
-TellsLimits (Ends id) = Unit {0}
+abbrev pub ActTellsLimits : Act → Type 0
+ActTellsLimits (Connects id) = Unit {0}
+ActTellsLimits (Refused refusal) = refusal ≡ Exceeded limit.Sessions
+ActTellsLimits (Says id text reply) = IfRefused reply (TellsReached (TextMayReach text))
+ActTellsLimits (Ends id) = Unit {0}
 
 -- The count of refused calls has not fallen since it was the one. X0002 was told of a call only
 -- where it rose with this call, and so of no more calls than the device refused; limits of the
@@ -213,4 +213,4 @@ pub record IsCounted (before after : ℕ) (log : List Event) : Type 0 where
   pub least : before ≤ after
   pub told : AllTellDevice log before after
   pub as_many : HasRisenBy (disks_told log) before after
-  pub limits : EachAct TellsLimits log
+  pub limits : EachAct ActTellsLimits log

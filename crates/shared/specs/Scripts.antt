@@ -13,7 +13,7 @@ use Rattle.transactions.specs.Refused.{IfRefused, TellsReached}
 use Rattle.shared.specs.declared.event.Event.{Event}
 use Rattle.shared.specs.declared.event.Act.{Act}
 use Rattle.shared.specs.declared.event.Act.TheVariants.{Connects, Refused, Says, Ends}
-use Rattle.shared.specs.History.{Stays, AllOf, AreOwn, IsCounted, MayReach, calls_by}
+use Rattle.shared.specs.History.{Stays, AllOf, AreOwn, IsCounted, TextMayReach, calls_by}
 use Rattle.shared.specs.Views.{Past}
 
 -- a text's answer: its reply, or why no session was made for it
@@ -120,7 +120,7 @@ AllTellDeviceIf has_refused (a ∷ answers) = TellsDeviceIf has_refused a × All
 -- session is made only where as many stand as may
 abbrev pub AnswerTellsLimits : List ℕ → Answer → Type 0
 AnswerTellsLimits text (Err refusal) = refusal ≡ Exceeded limit.Sessions
-AnswerTellsLimits text (Ok reply) = IfRefused reply (TellsReached (MayReach text))
+AnswerTellsLimits text (Ok reply) = IfRefused reply (TellsReached (TextMayReach text))
 
 -- and so those of a script
 abbrev pub AnswersTellLimits : List (List ℕ) → List Answer → Type 0

@@ -15,7 +15,7 @@ use Rattle.shared.specs.declared.event.Event.{Event}
 use Rattle.shared.specs.declared.event.Act.{Act}
 use Rattle.shared.specs.declared.event.Act.TheVariants.{Connects, Refused, Says, Ends}
 use Rattle.shared.specs.declared.rule.View.{View}
-use Rattle.shared.specs.History.{IsCounted, IsLegal, Stays, event, calls_by, holder_of, AllOf, AreOwn, MayReach, at_after}
+use Rattle.shared.specs.History.{IsCounted, IsLegal, Stays, event, calls_by, holder_of, AllOf, AreOwn, TextMayReach, at_after}
 
 -- the name of no cell
 abbrev pub no_table : TableId
@@ -199,7 +199,7 @@ pub record Said (premise : Type 0) (start : World) (before : ℕ) (v : Past) (te
   pub id : ℕ
   pub at : v.at ≡ Some id
   pub call : Extends premise start before v (Says id text reply) w
-  pub limits : IfRefused reply (TellsReached (MayReach text))
+  pub limits : IfRefused reply (TellsReached (TextMayReach text))
   pub rolled_back : IsRollback text → reply ≡ Done
 
 -- it was made a session
