@@ -52,8 +52,8 @@ invariant_of-self g c =
       steady = steady_none ((versions_of c.commit.new.pool).pages (versions_of c.commit.new.pool).last) (fresh_of c.new.result) (settled_of c.new.result) c.new.ensures.fresh c.new.ensures.settled;
     }
 
-pub invariant_of-self-in-Err-1 : goal.invariant_of-self-in-Err-1
-invariant_of-self-in-Err-1 g c =
+pub invariant_of-self-in-Err : goal.invariant_of-self-in-Err-1
+invariant_of-self-in-Err g c =
     let s = c.args.self.now in
     record {
       ordered = orderly_same g.D.Disk.is_honest (versions_of s.pool) (versions_of c.commit.new.pool) s.readers s.commits c.in-Err.ensures.refused s.ordered;
