@@ -15,8 +15,8 @@ use Rattle.paged_store.proofs.SteadyLemmas.{steady_kept, steady_same}
 use Rattle.paged_store.proofs.GoesLemmas.{last_kept, last_same, as_it_was, pool_tells, of_memory, of_device}
 use Rattle.paged_store.proofs.paged.PagedStore.begin.Goals as goal
 
-pub invariant_of-self : goal.invariant_of-self
-invariant_of-self g c =
+pub invariant_of-self-2 : goal.invariant_of-self-2
+invariant_of-self-2 g c =
     let s = c.args.self.now in
     record { ordered = orderly_kept g.D.Disk.is_honest (versions_of s.pool) (versions_of c.begin.new.pool) s.readers c.begin.new.self s.commits (numbers_of c.begin.new.self) c.begin.ensures.kept c.begin.ensures.pinned s.ordered; steady = steady_kept (versions_of s.pool) (versions_of c.begin.new.pool) (numbers_of c.begin.new.self) (private_of s.changes) (settled_of s.changes) c.begin.ensures.kept s.steady }
 
@@ -71,8 +71,8 @@ returns-in-Err-clause-goes g c =
 
 -- a commit was refused
 
-pub invariant_of-self-then-is_broken : goal.invariant_of-self-then-is_broken
-invariant_of-self-then-is_broken g c =
+pub invariant_of-self : goal.invariant_of-self
+invariant_of-self g c =
     let s = c.args.self.now in
     record { ordered = orderly_same g.D.Disk.is_honest (versions_of s.pool) (versions_of c.refuse.new.self) s.readers s.commits c.refuse.ensures.versions s.ordered; steady = steady_same (versions_of s.pool) (versions_of c.refuse.new.self) (private_of s.changes) (settled_of s.changes) c.refuse.ensures.versions s.steady }
 

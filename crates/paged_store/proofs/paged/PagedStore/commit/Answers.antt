@@ -52,7 +52,7 @@ invariant_of-self g c =
       steady = steady_none ((versions_of c.commit.new.pool).pages (versions_of c.commit.new.pool).last) (fresh_of c.new.result) (settled_of c.new.result) c.new.ensures.fresh c.new.ensures.settled;
     }
 
-pub invariant_of-self-in-Err : goal.invariant_of-self-in-Err-1
+pub invariant_of-self-in-Err : goal.invariant_of-self-in-Err
 invariant_of-self-in-Err g c =
     let s = c.args.self.now in
     record {
