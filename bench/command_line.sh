@@ -72,6 +72,37 @@ check "two files" 2 "" "." run tables tables
 check "a file before the frames" 2 "" "." run tables --frames 16
 head -c 4095 /dev/zero > damaged
 check "a damaged file" 3 "^ERROR X0004$" "" run damaged
+# Rows to CSV and back.
+echo "CREATE TABLE T (A INTEGER, V VARCHAR(5)); INSERT INTO T VALUES (1, 'a,b'), (NULL, ''); COMMIT;" > in
+check "a table to dump" 0 "^00000 2$" "" run rows
+: > in
+check "a dump" 0 "^00000 2$" "" dump rows t rows.csv
+printf "NULL,''\n1,\"'a,b'\"\n" > wanted.csv
+if ! cmp wanted.csv rows.csv; then echo "a dump: wrote something else"; failed=1; fi
+echo "DELETE FROM T; COMMIT;" > in
+check "an empty table" 0 "^00000 2$" "" run rows
+: > in
+check "a load" 0 "^00000 2$" "" load rows T rows.csv
+check "it dumped again" 0 "^00000 2$" "" dump rows T again.csv
+if ! cmp wanted.csv again.csv; then echo "a load: other rows"; failed=1; fi
+cp wanted.csv in
+check "a load of standard input" 0 "^00000 2$" "" load rows T -
+: > in
+check "a load of no table" 1 "^ERROR 42000 name$" "" load rows U rows.csv
+check "a load of nothing" 0 "^02000 0$" "" load rows T in
+check "a load of no file" 3 "^ERROR X0002$" "" load rows T none/rows.csv
+check "a dump into no folder" 3 "^ERROR X0002$" "" dump rows T none/rows.csv
+cp rows kept
+ln rows other
+check "a dump into FILE" 3 "^ERROR X0002$" "" dump rows T other
+check "a load of FILE" 3 "^ERROR X0002$" "" load rows T ./rows
+if ! cmp rows kept; then echo "a dump into FILE: FILE changed"; failed=1; fi
+check "a damaged FILE" 3 "^ERROR X0004$" "" dump damaged T never.csv
+if [ -e never.csv ]; then echo "a damaged FILE: CSV was made"; failed=1; fi
+check "a dump to standard input" 2 "" "." dump rows T -
+check "a load without CSV" 2 "" "CSV" load rows T
+check "a load of an option" 2 "" "." load rows T --header
+check "help of load" 0 "<CSV>" "" load --help
 rm "$work/in"; mkdir "$work/in"
 check "input that cannot be read" 3 "^ERROR X0002$" "" run
 exit "$failed"

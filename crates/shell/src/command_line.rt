@@ -46,7 +46,7 @@ fn told<'a, S: AsStr>(alloc: Global, words: &'a [S]) -> Error {
 fn out_of_order(alloc: Global) -> Result<Error, Error> {
     Ok(command_line(alloc)?.error(
         ErrorKind::InvalidValue,
-        "the words behind run are [--frames N] [FILE], in this order",
+        "the words are run [--frames N] [FILE], load FILE TABLE CSV or dump FILE TABLE CSV, in this order",
     )?)
 }
 
@@ -66,12 +66,53 @@ fn command_line<'a>(alloc: Global) -> Result<Command<'a>, Error> {
         "The file that keeps the tables, made where there is none; without it they are gone at the end",
     );
     let run = Command::new(alloc, "run")
-        .about("Reads SQL on standard input and prints rows, counts or refusals")
+        .about("Reads SQL on standard input and prints rows, counts or refusals: sqlsh run db.nb")
         .arg(frames)?
         .arg(file)?;
+    let load = transfer_line(
+        alloc,
+        "load",
+        "Puts the rows of CSV into a table, and commits: sqlsh load db.nb T rows.csv",
+        "The rows, without a header; - is standard input",
+    )?;
+    let dump = transfer_line(
+        alloc,
+        "dump",
+        "Writes the rows of a table as CSV: sqlsh dump db.nb T rows.csv",
+        "What the rows are written to, made or emptied",
+    )?;
     let sqlsh = Command::new(alloc, "sqlsh")
         .about("A SQL engine that is being proved")
         .subcommand_required(true)
-        .subcommand(run)?;
+        .subcommand(run)?
+        .subcommand(load)?
+        .subcommand(dump)?;
     Ok(sqlsh)
+}
+
+/// A command for rows from or to CSV, and its words.
+fn transfer_line<'a>(
+    alloc: Global,
+    name: &'a str,
+    about: &'a str,
+    csv: &'a str,
+) -> Result<Command<'a>, Error> {
+    let file = Arg::new(alloc, "file")
+        .value_name("FILE")
+        .help("The file that keeps the tables, made where there is none")
+        .required(true);
+    let table = Arg::new(alloc, "table")
+        .value_name("TABLE")
+        .help("The table")
+        .required(true);
+    let csv = Arg::new(alloc, "csv")
+        .value_name("CSV")
+        .help(csv)
+        .required(true);
+    let command = Command::new(alloc, name)
+        .about(about)
+        .arg(file)?
+        .arg(table)?
+        .arg(csv)?;
+    Ok(command)
 }

@@ -15,7 +15,7 @@ const INPUT: &str = "/dev/fd/0";
 const OUTPUT: &str = "/dev/fd/1";
 
 /// Whether the file of this path is the file of that one, as far as the system tells.
-fn is_same_file<R: Files>(rt: &R, path: &str, other: &str) -> bool {
+pub fn is_same_file<R: Files>(rt: &R, path: &str, other: &str) -> bool {
     match (fs::metadata(rt, path), fs::metadata(rt, other)) {
         (Ok(file), Ok(other)) => file.dev() == other.dev() && file.ino() == other.ino(),
         _ => false,
@@ -23,7 +23,7 @@ fn is_same_file<R: Files>(rt: &R, path: &str, other: &str) -> bool {
 }
 
 /// Whether FILE is where standard output goes.
-pub(crate) fn is_output<R: Files>(rt: &R, path: &str) -> bool {
+pub fn is_output<R: Files>(rt: &R, path: &str) -> bool {
     is_same_file(rt, path, OUTPUT)
 }
 
@@ -37,7 +37,7 @@ fn is_special<R: Files>(rt: &R, path: &str) -> bool {
 
 /// FILE as a device. Refused as `FileDisk::open` is, and with nothing opened where it is no regular
 /// file, or the one from which standard input comes.
-pub(crate) fn opened_file<R: Files<File = File>>(rt: &R, path: &str) -> Result<FileDisk, DiskError>
+pub fn opened_file<R: Files<File = File>>(rt: &R, path: &str) -> Result<FileDisk, DiskError>
     ensures fresh { IfOk result (λ device. device.refused ≡ 0) }
     ensures cause { IfErr result IsSystem }
 {

@@ -36,9 +36,10 @@ const WRONG_WORDS: u8 = 2;
 /// Does what the words of a command line of `sqlsh` ask for, of which the first is the program's
 /// name, from reader to writer, and answers the exit status. Words that ask for nothing that there
 /// is are told of on the runtime's own streams, with nothing read or written here: status 2, or 0
-/// where they ask for help. Where standard input or output is not open (`are_open`), nothing is read
-/// or opened, X0002 is said and the status is 3. Others run a script over the tables in FILE, where
-/// they name one, and else over new tables on a device in memory, and the status is that of the run.
+/// where they ask for help. Where standard input or output is not open (`are_open`), nothing is
+/// read or opened, X0002 is said and the status is 3. Others run a script over the tables in FILE,
+/// where they name one, and else over new tables on a device in memory, and the status is that of
+/// the run.
 ///
 /// What a run leaves of its device, `run_over_pages` says, which hands it back; the device ends
 /// here. That it is FILE that is opened, and by one line made a `FileDisk`, is tested: what a file
@@ -73,7 +74,8 @@ pub fn sqlsh<P: Files<File = File> + Print + Eprint + AllocGlobal, S: AsStr, R: 
 
 /// Says that standard input or output is not open, and answers the exit status.
 fn refuse_closed<W: Write>(writer: &mut W) -> u8
-    ensures refused { (given : Option (List ℕ)) → IsRefused (between given given (W.contents writer.old) (W.contents writer.new)) result }
+    ensures refused { (given : Option (List ℕ))
+        → IsRefused (between given given (W.contents writer.old) (W.contents writer.new)) result }
     ensures in_memory { (given : Option (List ℕ)) (rules : Rules)
         → RunsInMemory rules new_world (between given given (W.contents writer.old) (W.contents writer.new)) result }
 {

@@ -25,11 +25,11 @@ use std::io::{Read, Write};
 use store::Store;
 
 /// The exit status where a reply was a refusal.
-const REFUSED: u8 = 1;
+pub const REFUSED: u8 = 1;
 
 /// The exit status where a store could not be opened or closed, or a script was not read or printed
 /// to its end.
-pub(crate) const FAILED: u8 = 3;
+pub const FAILED: u8 = 3;
 
 /// How a run ended.
 #[derive(Drop)]
@@ -110,7 +110,7 @@ pub fn run_to_end<S: Store, R: Read, W: Write>(
 
 /// Says why a store was not opened or closed, behind what was said before, and hands back the
 /// device or the core that there is.
-pub(crate) fn failed<S: Store, W: Write>(
+pub fn failed<S: Store, W: Write>(
     refusal: Refusal,
     was_told: bool,
     device: Option<S::Device>,

@@ -102,7 +102,7 @@ fn with_name<'a>(frames: Frames, word: &'a str) -> Option<Settings<'a>>
 }
 
 /// Whether a word is an option, and no file.
-fn is_option(word: &str) -> bool
+pub fn is_option(word: &str) -> bool
     ensures { result ≡ is_option word.now }
 {
     match word.as_bytes().first() {

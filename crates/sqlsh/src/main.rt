@@ -7,6 +7,7 @@ use std::io::BufWriter;
 use std::process::ExitCode;
 use std::rt::Env;
 use std::{env, io};
+use transfers::{run_transfer, transfer_asked};
 
 /// The exit status where the words of the command line could not be read.
 const NO_WORDS: u8 = 2;
@@ -18,6 +19,10 @@ fn main(rt: HostRuntime) -> ExitCode {
     // Before any file is opened, and to the end.
     let streams = StandardStreams::new(&rt);
     let are_open = streams.has_input() && streams.has_output();
+    if let Some(asked) = transfer_asked(words.as_slice()) {
+        let status = run_transfer(&rt, &asked, are_open, rt.reader(), &mut io::writer(&rt));
+        return ExitCode::from(status);
+    }
     let mut reader = rt.reader();
     let status = match BufWriter::new(rt.alloc(), io::writer(&rt)) {
         Ok(mut writer) => sqlsh(&rt, words.as_slice(), are_open, &mut reader, &mut writer),

@@ -1,0 +1,16 @@
+-- A store that is closed behind a command.
+use Rattle.std.proofs.Common.{◌≡◌, ◌⊎◌, inl, inr, ◌∙◌, refl, sym, subst, ℕ, Bool, List, Option, Some, None}
+use Rattle.std.specs.Prelude.{IfSome}
+use Rattle.denote.specs.Database.{Database}
+use Rattle.shell.specs.Status.{IsStatus}
+use Rattle.transfers.specs.Transfers.{Closes}
+
+module _ {D C : Type 0} (was : ℕ) (was_told : Bool) (held holds : Option (List ℕ)) (status : ℕ) (is_told : Bool) (device : Option D) (core : Option C) where
+  -- the status is that of what was said, or 3
+  pub closed_status : IsStatus was → Closes was was_told held holds status is_told device core → IsStatus status
+  closed_status of (Closes.closed back there same is told) = subst IsStatus (sym is) of
+  closed_status of (Closes.not_closed back there none tells is) = inr (inr is)
+
+  pub closed_failed : was ≡ 3 → Closes was was_told held holds status is_told device core → status ≡ 3
+  closed_failed of (Closes.closed back there same is told) = is ∙ of
+  closed_failed of (Closes.not_closed back there none tells is) = is
