@@ -14,7 +14,7 @@ use Rattle.algebra.specs.declared.tree.SetFunction.{SetFunction}
 use Rattle.algebra.specs.declared.tree.StoredTable.{StoredTable}
 use Rattle.algebra.specs.declared.tree.Tree.{Tree, Tree-F, out-Tree, roll-Tree, roll-out-Tree}
 use Rattle.algebra.specs.declared.tree.Tree.TheVariants as t
-use Rattle.rewrite_laws.proofs.Found.{filter-found, given-found, node-found, project-rolled, some-is}
+use Rattle.rewrite_laws.proofs.Found.{filter-found, given-found, project-rolled, some-is}
 use Rattle.rewrite_laws.proofs.PathLaws.{condition_be}
 use Rattle.key_lookups.specs.Sought.{conjuncts_at}
 use Rattle.rules.specs.Conjuncts.{conjuncts, quiet}
@@ -26,8 +26,8 @@ use Rattle.rules.specs.Nodes.{Node, at_filter, at_inner, at_product, first_found
 use Rattle.rules.specs.OrderRules.{apart_at, distinct_dropped, drop_distinct, has_key, items_ordered, ordered_at, sort_dropped, sort_to_range, source_of}
 use Rattle.rules.specs.Paths.{as_list, in_condition, in_expression, in_function, trees_of}
 use Rattle.rules.specs.SubqueryRules.{exists_to_half, half_at, half_under, in_to_member, member_at, member_under}
-use Rattle.planner.proofs.Opened.{out-distinct, out-filter, out-group, out-inner, out-left, out-product, out-project, out-scan, out-seek, out-set, out-sort}
-use Rattle.planner.specs.Looks.{Asks, JoinsNoSubquery, LooksUp, Nearly, Unused, Wants, after, is_filter, is_inner, IsBare, Over, alone, filter, group, project, distinct, sort}
+use Rattle.planner.proofs.Opened.{out-distinct, out-filter, out-group, out-project, out-sort}
+use Rattle.planner.specs.Looks.{JoinsNoSubquery, is_filter, IsBare, Over, alone, filter, group, project, distinct, sort}
 
 -- ---- nodes of one child
 

@@ -1,5 +1,5 @@
 -- Steps of parts, put together, and what is so of what comes.
-use Rattle.std.proofs.Common.{◌≡◌, refl, ap, sym, ◌∙◌, subst, List, map, ◌++◌, Result, Ok, Err, ℕ, Bool, Some, ◌⊎◌, inl, inr}
+use Rattle.std.proofs.Common.{◌≡◌, refl, ap, sym, ◌∙◌, subst, List, map, ◌++◌, Result, Ok, Err, ℕ, Bool, Some}
 use Rattle.std.specs.Prelude.{IfOk, IsOkAnd}
 use Rattle.algebra.specs.declared.tree.StoredTable.{StoredTable}
 use Rattle.algebra.specs.declared.tree.Tree.{Tree}

@@ -1,5 +1,5 @@
 -- A plain condition has no subquery.
-use Rattle.std.proofs.Common.{◌≡◌, refl, sym, subst, ap, ◌∙◌, Bool, List, [], ◌∷◌, ◌++◌, map, true, ◌&&◌}
+use Rattle.std.proofs.Common.{◌≡◌, refl, sym, subst, ap, ◌∙◌, List, [], ◌∷◌, ◌++◌, map, true, ◌&&◌}
 use Rattle.std.specs.List.{list_all}
 use Rattle.algebra.specs.Raising.{itself, Test, condition_plain, expression_plain, function_plain, tree_plain, is_plain, is_plain_expression, is_plain_function, is_plain_tree}
 use Rattle.algebra.specs.declared.tree.Condition.{Condition, Condition-F, roll-Condition, map-Condition, fold-roll-Condition, ind-Condition}

@@ -1,5 +1,5 @@
 -- What moves conditions down makes none that may raise of those that may not.
-use Rattle.std.proofs.Common.{◌≡◌, refl, ap, sym, ◌∙◌, subst, ℕ, Bool, true, false, not, List, [], ◌∷◌, ◌++◌, map, Option, Some, None, rules}
+use Rattle.std.proofs.Common.{◌≡◌, refl, ap, sym, ◌∙◌, subst, ℕ, Bool, true, false, not, List, [], ◌∷◌, ◌++◌, map, Some, rules}
 use Rattle.std.proofs.lemmas.Bool.{false≢true}
 use Rattle.std.specs.List.{list_all, list_any}
 use Rattle.std.specs.Prelude.{◌&&◌, ◌||◌, filter, option_and_then}
@@ -15,7 +15,7 @@ use Rattle.rules.specs.Columns.{from_right, in_left, in_right, names_only}
 use Rattle.rules.specs.Conjuncts.{and_of, conjuncts, filtered, others, quiet}
 use Rattle.rules.specs.FilterRules.{filter_below_product, filter_left_of_left_join, left_at, left_filtered, left_of, of_both, on_right, right_of, sides_filtered, split, split_filter}
 use Rattle.rules.specs.JoinRules.{fails_on_nulls, inner_below, left_to_inner, on_divided, on_into_right_side, right_filtered}
-use Rattle.rules.specs.Nodes.{Node, at_product, given}
+use Rattle.rules.specs.Nodes.{Node, given}
 use Rattle.rules.specs.Quiet.{conditions_quiet}
 use Rattle.rules.specs.Width.{width_of_tree}
 use Rattle.rules.specs.declared.rule.Rule.{Rule}

@@ -1,14 +1,11 @@
 -- Plain filters of one table: what rules make of them.
 use Rattle.std.proofs.Common.{◌≡◌, refl, ap, sym, ◌∙◌, subst, ℕ, Bool, true, false, List, [], ◌∷◌, Option, Some, None, inl, inr, rules}
 use Rattle.std.proofs.lemmas.Bool.{false≢true}
-use Rattle.std.specs.Option.{option_map, option_or}
-use Rattle.sqlval.specs.declared.truth.Truth.{Truth}
-use Rattle.sqlval.specs.declared.truth.Truth.TheVariants.{False}
+use Rattle.std.specs.Option.{option_or}
 use Rattle.sqlval.specs.declared.value.Value.{Value}
 use Rattle.algebra.specs.Raising.{is_plain, is_plain_expression, is_plain_function, is_plain_tree}
 use Rattle.algebra.specs.declared.tree.Bound.{Bound}
 use Rattle.algebra.specs.declared.tree.Condition.{Condition, out-Condition, the_lemmas}
-use Rattle.algebra.specs.declared.tree.Condition.TheVariants as c
 use Rattle.algebra.specs.declared.tree.StoredTable.{StoredTable}
 use Rattle.algebra.specs.declared.tree.Tree.{Tree, Tree-F, out-Tree}
 use Rattle.algebra.specs.declared.tree.Tree.TheVariants as t

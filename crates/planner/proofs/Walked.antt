@@ -1,12 +1,12 @@
 -- Steps of a part are steps of the whole, and steps that were walked can be replayed.
-use Rattle.std.proofs.Common.{◌≡◌, refl, ap, sym, ◌∙◌, subst, ℕ, Bool, true, false, not, List, [], ◌∷◌, ◌++◌, map, reverse, Option, Some, None, append_assoc}
+use Rattle.std.proofs.Common.{◌≡◌, refl, ap, sym, ◌∙◌, subst, ℕ, Bool, true, false, not, List, [], ◌∷◌, ◌++◌, map, reverse, Option, Some, None}
 use Rattle.std.proofs.lemmas.Bool.{false≢true}
 use Rattle.std.proofs.lemmas.List.{reverse-append}
-use Rattle.std.specs.Prelude.{◌||◌, ◌&&◌, if◌then◌else◌, option_and_then, slice_get}
+use Rattle.std.specs.Prelude.{◌||◌, ◌&&◌, option_and_then, slice_get}
 use Rattle.std.specs.Option.{option_map}
 use Rattle.algebra.specs.declared.tree.Condition.{Condition}
 use Rattle.algebra.specs.declared.tree.Tree.{Tree, Tree-F, out-Tree}
-use Rattle.rewrite_laws.proofs.Found.{some-is, given-found, map-found, then-found}
+use Rattle.rewrite_laws.proofs.Found.{some-is, given-found, then-found}
 use Rattle.rules.specs.Applied.{applied, here, replayed}
 use Rattle.rules.specs.Conjuncts.{conjuncts, quiet}
 use Rattle.rules.specs.FilterRules.{filter_below_product, filter_left_of_left_join, left_at, sides_filtered}
@@ -18,8 +18,7 @@ use Rattle.rules.specs.declared.rule.Rule.{Rule}
 use Rattle.rules.specs.declared.rule.Rule.TheVariants as by
 use Rattle.rules.specs.declared.rule.Step.{Step}
 use Rattle.rule_steps.specs.Attempted.{attempt}
-use Rattle.rule_steps.specs.declared.attempt.Attempt.{Attempt}
-use Rattle.planner.specs.Led.{IsCalm, Led, LedAt, LedBoth, in_part, moves_down, path_of, step_at, turned, walked, with_step}
+use Rattle.planner.specs.Led.{IsCalm, Led, LedAt, LedBoth, in_part, path_of, step_at, turned, walked, with_step}
 use Rattle.planner.specs.declared.nodes.Part.{Part}
 use Rattle.planner.specs.declared.nodes.Sides.{Sides}
 use Rattle.planner.specs.declared.outline.Outline.{Outline}

@@ -18,16 +18,15 @@ use Rattle.key_lookups.specs.Sought.{key_sought}
 use Rattle.rewrite_laws.proofs.CertainCases.{cons-cases, first-some, head-there, key-there, tail-there}
 use Rattle.rewrite_laws.proofs.Found.{map-found, or-found}
 use Rattle.rules.specs.Applied.{here}
-use Rattle.rules.specs.FilterRules.{filter_below_product, filter_left_of_left_join, left_at}
-use Rattle.rules.specs.JoinRules.{inner_below, left_to_inner, on_divided, on_into_right_side}
+use Rattle.rules.specs.FilterRules.{left_at}
+use Rattle.rules.specs.JoinRules.{inner_below, on_divided}
 use Rattle.rules.specs.Indexes.{is_key, key_first}
 use Rattle.rules.specs.LookupRules.{at_scan, filter_to_seek, seek_by}
 use Rattle.rules.specs.Nodes.{Node, at_filter, at_inner, at_product, first_found}
-use Rattle.rules.specs.Paths.{applied_at, as_list, in_condition, in_expression, in_function}
+use Rattle.rules.specs.Paths.{as_list, in_condition, in_expression, in_function}
 use Rattle.rules.specs.declared.rule.Rule.{Rule}
 use Rattle.rules.specs.declared.rule.Rule.TheVariants as by
 use Rattle.rule_steps.specs.Attempted.{attempt}
-use Rattle.planner.specs.Led.{path_of}
 use Rattle.planner.specs.Looks.{IsBare, JoinsNoSubquery, LooksUp, MakesNoJoin, Nearly, Over, Unused, Wants, after, alone, distinct, filter, group, is_filter, is_inner, project, sort}
 use Rattle.planner.specs.declared.nodes.Part.{Part}
 use Rattle.planner.specs.declared.outline.Outline.{Outline}

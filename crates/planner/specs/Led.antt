@@ -5,7 +5,6 @@ use Rattle.rules.specs.Applied.{here}
 use Rattle.rules.specs.Nodes.{given}
 use Rattle.rules.specs.Paths.{applied_at}
 use Rattle.rules.specs.Quiet.{conditions_quiet}
-use Rattle.rules.specs.declared.rule.Path.{Path}
 use Rattle.rules.specs.declared.rule.Rule.{Rule}
 use Rattle.rules.specs.declared.rule.Rule.TheVariants as by
 use Rattle.rules.specs.declared.rule.Step.{Step}

@@ -3,7 +3,6 @@ use Rattle.algebra.specs.declared.tree.Tree.{Tree}
 use Rattle.algebra.specs.declared.tree.Tree.TheVariants as t
 use Rattle.planner.specs.Led.{IsCalm, Led}
 use Rattle.planner.specs.Looks.{Over}
-use Rattle.planner.specs.declared.nodes.Part.{Part}
 use Rattle.planner.specs.declared.outline.Outline.{Outline}
 use Rattle.planner.proofs.Children.{distinct-part, filter-part, group-part, inner-left, inner-right, left_join-left, left_join-right, product-left, product-right, project-part, set-left, set-right, sort-part}
 use Rattle.planner.proofs.Parts.{ok-weaker}

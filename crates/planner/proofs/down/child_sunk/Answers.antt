@@ -1,4 +1,4 @@
-use Rattle.std.proofs.Common.{◌≡◌, subst, sym, refl}
+use Rattle.std.proofs.Common.{subst, sym, refl}
 use Rattle.std.specs.Prelude.{IfOk}
 use Rattle.algebra.specs.declared.tree.Tree.{Tree}
 use Rattle.algebra.specs.declared.tree.Tree.TheVariants as t

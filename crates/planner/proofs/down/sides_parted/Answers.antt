@@ -1,4 +1,4 @@
-use Rattle.std.proofs.Common.{◌≡◌, ◌∙◌, refl, sym}
+use Rattle.std.proofs.Common.{◌∙◌, refl, sym}
 use Rattle.std.proofs.lemmas.Bool.{false≢true}
 use Rattle.planner.proofs.OneSided.{scan-sides, shape-sides}
 use Rattle.planner.proofs.down.sides_parted.Goals as goal

@@ -1,4 +1,3 @@
-use Rattle.std.proofs.Common.{◌≡◌}
 use Rattle.planner.proofs.nodes.behind.Goals as goal
 
 pub returns : goal.returns

@@ -1,4 +1,3 @@
-use Rattle.std.proofs.Common.{◌≡◌}
 use Rattle.planner.specs.Joins.{OneTable}
 use Rattle.planner.specs.Led.{LedAt}
 use Rattle.planner.proofs.Parts.{sides-came, sides-lead, sides-of}

@@ -1,4 +1,4 @@
-use Rattle.std.proofs.Common.{◌≡◌, refl}
+use Rattle.std.proofs.Common.{refl}
 use Rattle.planner.proofs.nodes.with_left.Goals as goal
 
 pub returns : goal.returns

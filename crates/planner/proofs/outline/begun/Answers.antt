@@ -1,4 +1,4 @@
-use Rattle.std.proofs.Common.{◌≡◌, ap, List}
+use Rattle.std.proofs.Common.{ap, List}
 use Rattle.planner.specs.Led.{walked}
 use Rattle.rules.specs.declared.rule.Step.{Step}
 use Rattle.planner.proofs.outline.begun.Goals as goal

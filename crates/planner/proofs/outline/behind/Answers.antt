@@ -1,4 +1,4 @@
-use Rattle.std.proofs.Common.{◌≡◌, ◌++◌, sym, subst, List}
+use Rattle.std.proofs.Common.{sym, subst, List}
 use Rattle.rules.specs.declared.rule.Step.{Step}
 use Rattle.planner.specs.Led.{Led}
 use Rattle.planner.proofs.Walked.{led-on}

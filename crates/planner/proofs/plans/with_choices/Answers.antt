@@ -1,4 +1,4 @@
-use Rattle.std.proofs.Common.{◌≡◌, ◌∙◌, ap, sym, subst, List, map, false, Some}
+use Rattle.std.proofs.Common.{◌∙◌, ap, sym, subst, List, map, false, Some}
 use Rattle.rules.specs.Applied.{replayed}
 use Rattle.rules.specs.declared.rule.Step.{Step}
 use Rattle.planner.specs.Led.{Led, turned}
