@@ -21,7 +21,8 @@ use Rattle.plan_listings.proofs.LoopNodes.{looped_distinct, looped_filter, loope
 use Rattle.plan_listings.specs.Loops.{loops_by_no_index}
 use Rattle.planner.specs.Joins.{ByKeys, JoinsByKeys, OneTable, hashed, looped, ranged, scanned, sifted, sought}
 use Rattle.planner.specs.Looks.{LooksUp, Over, alone, distinct, filter as over_filter, group, project, sort}
-use Rattle.rewrite_laws.proofs.CertainCases.{cons-cases, none-there}
+use Rattle.rewrite_laws.proofs.CertainCases.{cons-cases}
+use Rattle.rewrite_laws.proofs.Conditions.{none-there}
 use Rattle.rules.specs.JoinKeys.{left_places, right_places}
 use Rattle.store.specs.Contents.{Entry}
 use Rattle.store.specs.Indexes.{by_columns}
