@@ -1,5 +1,5 @@
 //! The commands over the files that their words name.
-ghost use Rattle.std.specs.Prelude.{◌≡◌, false};
+ghost use Rattle.std.specs.Prelude.{◌≡◌, false, IfErr};
 ghost use Rattle.shell.specs.Status.{IsStatus};
 ghost use Rattle.transfers.specs.Transfers.{IsRefused};
 
