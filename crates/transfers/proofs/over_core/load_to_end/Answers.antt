@@ -1,5 +1,5 @@
 use Rattle.sessions.specs.OfCore.{world_of}
-use Rattle.transfers.proofs.Closed.{closed_status}
+use Rattle.transfers.proofs.Closed.{closed_status, handed_since}
 use Rattle.transfers.proofs.over_core.load_to_end.Goals as goal
 
 pub returns-clause-status : goal.returns-clause-status
@@ -20,3 +20,6 @@ returns-clause-loads g c = λ rules are kept.
       left = c.close_behind.ensures.saved end.sound;
       good = end.good.last;
     }
+
+pub returns-clause-handed : goal.returns-clause-handed
+returns-clause-handed g c = handed_since _ _ _ _ _ c.load_alone-reply.ensures.counts _ _ c.close_behind.ensures.handed
