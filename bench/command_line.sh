@@ -97,6 +97,12 @@ ln rows other
 check "a dump into FILE" 3 "^ERROR X0002$" "" dump rows T other
 check "a load of FILE" 3 "^ERROR X0002$" "" load rows T ./rows
 if ! cmp rows kept; then echo "a dump into FILE: FILE changed"; failed=1; fi
+# FILE that is a socket.
+python3 -c "import socket; socket.socket(socket.AF_UNIX).bind('socket')"
+check "a run over a socket" 3 "^ERROR X0002$" "" run socket
+check "a load into a socket" 3 "^ERROR X0002$" "" load socket T rows.csv
+check "a dump of a socket" 3 "^ERROR X0002$" "" dump socket T never.csv
+if [ ! -S socket ] || [ -e never.csv ]; then echo "FILE that is a socket: something changed"; failed=1; fi
 check "a damaged FILE" 3 "^ERROR X0004$" "" dump damaged T never.csv
 if [ -e never.csv ]; then echo "a damaged FILE: CSV was made"; failed=1; fi
 check "a dump to standard input" 2 "" "." dump rows T -

@@ -103,13 +103,27 @@ widest_query > deep.sql
 } > wanted
 same "the widest query over eight tables" 0 deep.sql
 
-"$program" one.sql >&- 2> err
-found=$?
-if [ "$found" = 3 ]; then echo "closed output: as it should be"; else echo "closed output: status $found"; failed=1; fi
+# closed streams: a closed output is refused, and nothing is printed anywhere; a closed input or a closed standard error changes nothing
 "$program" one.sql > wanted
-"$program" one.sql > out 2>&- <&-
-found=$?
-if [ "$found" = 0 ] && diff out wanted; then echo "other streams closed: as it should be"; else echo "other streams closed: status $found"; failed=1; fi
+# streams NAME STATUS REDIRECTION: runs the program as a shell does that redirects its streams so; it has to end with this status, printing what is wanted where that is 0
+streams() {
+  local found
+  : > out
+  bash -c 'exec "$0" one.sql '"$3" "$program" < /dev/null > out 2> err
+  found=$?
+  if [ "$found" != "$2" ] || [ -s err ]; then
+    echo "$1: status $found"; cat err; failed=1
+  elif { [ "$2" = 0 ] && ! cmp -s wanted out; } || { [ "$2" != 0 ] && [ -s out ]; }; then
+    echo "$1: printed something else"; cat out; failed=1
+  else
+    echo "$1: as it should be"
+  fi
+}
+streams "closed output" 3 ">&-"
+streams "closed input" 0 "<&-"
+streams "closed standard error" 0 "2>&-"
+streams "input and standard error closed" 0 "<&- 2>&-"
+streams "all streams closed" 3 "<&- >&- 2>&-"
 "$program" one.sql > /dev/full 2> err
 found=$?
 if [ "$found" = 3 ]; then echo "output that is refused: as it should be"; else echo "output that is refused: status $found"; failed=1; fi

@@ -1,7 +1,7 @@
 -- Entries from a key on, over plain variables.
-use Rattle.std.proofs.Common.{◌≡◌, ℕ, zero, suc, ◌+◌, ◌-◌, ◌<◌, ◌≤◌, List, [], ◌∷◌, ◌++◌, map, filter, take, drop, length, slice_index_or, refl, sym, ap, ◌∙◌, subst, Option, Some, None, Bool, true, false, if◌then◌else◌, Result, Ok, Err, OnOk, arith, append_assoc, add-one, append-nil}
+use Rattle.std.proofs.Common.{◌≡◌, ℕ, zero, suc, ◌+◌, ◌-◌, ◌<◌, ◌≤◌, List, [], ◌∷◌, ◌++◌, map, take, drop, length, slice_index_or, refl, sym, ap, ◌∙◌, subst, Option, Some, None, Bool, true, false, if◌then◌else◌, Result, Ok, Err, OnOk, arith, append_assoc, add-one, append-nil}
 use Rattle.std.specs.Prelude.{⊤}
-use Rattle.std.specs.List.{flat_map, AllByRecursion}
+use Rattle.std.specs.List.{AllByRecursion}
 use Rattle.page_space.specs.declared.error.SpaceError.{SpaceError}
 use Rattle.page_space.specs.Space.{PageMap}
 use Rattle.sqlrecord.specs.declared.kind.PageKind.TheVariants.{Leaf, Inner}
@@ -11,7 +11,7 @@ use Rattle.btree_read.specs.declared.entry.Start.{Start}
 use Rattle.btree_read.specs.Nodes.{Key, precedes, entry_of, branch_of}
 use Rattle.btree_read.specs.Search.{IsUnder, Sees, TakesBelow, child_at, route_of}
 use Rattle.btree_read.specs.Sorted.{from_on, is_from}
-use Rattle.btree_read.specs.Tree.{Chain, Ordered, Tree, entries_of, kids, IsTree}
+use Rattle.btree_read.specs.Tree.{Chain, Ordered, Tree, entries_of, IsTree}
 use Rattle.btree_read.proofs.ChainLemmas.{all_before, way, within_tree}
 use Rattle.btree_read.proofs.Kids.{kid_at}
 use Rattle.btree_read.proofs.LeafLemmas.{as_many, firsts, firsts_all, leaf_is, next_child, no_inner, no_leaf}

@@ -10,3 +10,4 @@ pub mod LastLemmas
 pub mod CountLemmas
 pub mod LeafLemmas
 pub mod BlockLemmas
+pub mod EntryLemmas

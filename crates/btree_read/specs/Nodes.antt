@@ -1,6 +1,6 @@
 -- The pages of a tree as nodes. Our own choice.
 use Rattle.std.specs.Prelude.{◌≡◌, ◌≢◌, ℕ, ◌+◌, ◌≤◌, List, [], length, map, Some, Bool}
-use Rattle.std.specs.List.{AllByRecursion}
+use Rattle.std.specs.List.{AllByRecursion, flat_map}
 use Rattle.std.specs.Ordering.{is_lt}
 use Rattle.page_space.specs.Space.{PageMap}
 use Rattle.sqlrecord.specs.declared.kind.PageKind.{PageKind}
@@ -24,6 +24,10 @@ pub data Node : Type 0 where
 
 abbrev pub entry_of : List ℕ → Entry
 entry_of cell = record { key = key_of cell; value = value_of cell }
+
+-- the entries of leaves' cells, one leaf after another
+abbrev pub entries_in : List (List (List ℕ)) → List Entry
+entries_in leaves = flat_map (λ (cells : List (List ℕ)). map entry_of cells) leaves
 
 abbrev pub branch_of : List ℕ → Branch
 branch_of cell = record { key = key_of cell; child = child_of cell }

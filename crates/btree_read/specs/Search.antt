@@ -55,5 +55,6 @@ IsNoTree pages root = (owned : List ℕ) (entries : List Entry) → IsTree pages
 -- whatever tree is under the page: its entries from there on stand behind those that were there, as
 -- far as there is room
 abbrev pub TakesBelow : PageMap → ℕ → Start → Key → ℕ → List Entry → List Entry → Result ⊤ SpaceError → Type 0
-TakesBelow pages page start k most was now result = (d : ℕ) (t : Tree d) (lo : Key) (hi : Option Key) → IsUnder pages page d t lo hi
+TakesBelow pages page start k most was now result = (d : ℕ) (t : Tree d) (lo : Key) (hi : Option Key)
+    → IsUnder pages page d t lo hi
     → OnOk result (now ≡ take most (was ++ from_on start k (entries_of d t)))

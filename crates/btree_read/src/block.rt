@@ -96,9 +96,9 @@ fn some_below<R: PageReader>(
     }
 }
 
-/// The first entries from there on of the tree at a root, in order, at most so many; none in root 0,
-/// the tree without entries. It reads the pages on one way down, and those behind it that have such
-/// entries. Refused as `get` is.
+/// The first entries from there on of the tree at a root, in order, at most so many; none in root
+/// 0, the tree without entries. It reads the pages on one way down, and those behind it that have
+/// such entries. Refused as `get` is.
 pub fn entries_from<R: PageReader>(
     space: &mut R,
     alloc: Global,

@@ -5,6 +5,7 @@ ghost use Rattle.page_space.specs.Space.{ReadRefused};
 ghost use Rattle.btree_read.specs.Nodes.{entry_of};
 ghost use Rattle.btree_read.specs.Leaves.{Names};
 
+use crate::Entries;
 use crate::entry::Entry;
 use items::Items;
 use page_space::SpaceError;
@@ -15,7 +16,7 @@ use std::alloc::{AllocError, Global};
 #[derive(Drop)]
 pub(crate) struct Walk {
     /// The entries of the leaves, in order.
-    pub(crate) entries: Items<Entry>,
+    pub(crate) entries: Entries,
     /// The page that the last leaf names as the next one; none before the first leaf.
     pub(crate) named: Option<u32>,
 }
@@ -28,20 +29,6 @@ pub(crate) fn entry_at(alloc: Global, leaf: &SlotPage<'_>, i: usize) -> Result<E
     let key = Items::from_slice(alloc, leaf.key(i))?;
     let value = Items::from_slice(alloc, leaf.value(i))?;
     Ok(Entry { key, value })
-}
-
-/// Puts the entries of a leaf behind others.
-fn take_entries(
-    alloc: Global,
-    leaf: &SlotPage<'_>,
-    entries: &mut Items<Entry>,
-) -> Result<(), AllocError>
-    ensures { OnOk result (entries.new ≡ entries.old ++ map entry_of leaf.now.cells) }
-{
-    for i in 0..leaf.len() {
-        entries.push(entry_at(alloc, leaf, i)?)?;
-    }
-    Ok(())
 }
 
 /// Whether the leaf before, if there is one, names a page.
@@ -71,7 +58,7 @@ pub(crate) fn see_leaf(
     if !is_named(walk.named, page) {
         return Err(SpaceError::Damaged);
     }
-    take_entries(alloc, leaf, &mut walk.entries)?;
+    walk.entries.put(alloc, leaf)?;
     walk.named = Some(leaf.link());
     Ok(())
 }

@@ -2,6 +2,7 @@
 #![tactic(auto)]
 
 mod block;
+mod entries;
 mod entry;
 mod last;
 mod leaf;
@@ -12,6 +13,7 @@ mod walk;
 mod whole;
 
 pub use block::entries_from;
+pub use entries::Entries;
 pub use entry::{Branch, Entry, Start};
 pub use last::last_key;
 pub use node::read_node;

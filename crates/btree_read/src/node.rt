@@ -26,8 +26,8 @@ pub fn read_node<'a, R: PageReader>(
     ensures rising { R.refused space.old ≤ R.refused space.new }
     ensures follows { R.follows space.old space.new }
 {
-    space.read(page, buffer)?;
-    let Some(node) = SlotPage::read(buffer) else {
+    let known = space.read(page, buffer)?;
+    let Some(node) = SlotPage::read_known(buffer, known) else {
         return Err(SpaceError::Damaged);
     };
     if node.is_empty() {

@@ -6,12 +6,10 @@ ghost use Rattle.page_space.specs.Space.{ReadRefused};
 ghost use Rattle.btree_read.specs.Search.{AnswersAt, IsNoTree};
 ghost use Rattle.btree_read.specs.Leaves.{SeesBelow, SeesLinks, HasNoLinkedTree};
 
-use crate::MAXIMUM_LEVELS;
-use crate::entry::Entry;
 use crate::leaf::{Walk, see_leaf};
 use crate::node::read_node;
 use crate::place::child_at;
-use items::Items;
+use crate::{Entries, MAXIMUM_LEVELS};
 use page_space::{PAGE_SIZE, PageReader, SpaceError};
 use sqlrecord::PageKind;
 use std::alloc::Global;
@@ -65,11 +63,7 @@ fn has_ended(named: Option<u32>) -> bool
 /// the tree is read once. Refused for memory, where the device refuses a call, and as damaged only
 /// where no tree is at the root; so it is where a leaf does not name the leaf that follows. Returns
 /// on any pages.
-pub fn scan<R: PageReader>(
-    space: &mut R,
-    alloc: Global,
-    root: u32,
-) -> Result<Items<Entry>, SpaceError>
+pub fn scan<R: PageReader>(space: &mut R, alloc: Global, root: u32) -> Result<Entries, SpaceError>
     ensures found { AnswersAt (R.pages space.old) root (λ entries. entries) result }
     ensures links { SeesLinks (R.pages space.old) root result }
     ensures same { R.pages space.new ≡ R.pages space.old }
@@ -79,9 +73,9 @@ pub fn scan<R: PageReader>(
     ensures follows { R.follows space.old space.new }
 {
     if root == 0 {
-        return Ok(Items::new(alloc));
+        return Ok(Entries::new(alloc));
     }
-    let entries = Items::new(alloc);
+    let entries = Entries::new(alloc);
     let mut walk = Walk {
         entries,
         named: None,

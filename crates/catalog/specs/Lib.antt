@@ -1,3 +1,4 @@
 pub mod Held
 pub mod Changed
 pub mod Left
+pub mod Decoded

@@ -3,15 +3,19 @@
 
 mod adding;
 mod altering;
+mod copies;
 mod decoding;
 mod error;
+mod known;
 mod laws;
 mod removing;
 mod schema;
 
 pub use adding::{add_table, set_root};
 pub use altering::alter_table;
+pub use copies::{copied_schema, copied_table};
 pub use error::ChangeError;
+pub use known::{KnownSchema, read_known};
 pub use laws::{schemas_stay, tables_are_one};
 pub use removing::drop_table;
 pub use schema::read_schema;

@@ -29,7 +29,7 @@ pub fn read_schema<R: PageReader>(
     ensures follows { R.follows space.old space.new }
 {
     let entries = scan(space, alloc, root)?;
-    match schema_of_entries(alloc, entries.as_slice()) {
+    match schema_of_entries(alloc, &entries) {
         Ok(schema) => Ok(schema),
         Err(ReadError::Memory) => Err(SpaceError::Memory),
         Err(ReadError::Damaged) => Err(SpaceError::Damaged),

@@ -16,7 +16,7 @@ use catalog::add_table;
 use page_space::PageSpace;
 use sqlval::Table;
 use std::alloc::Global;
-use stored_tables::find_table;
+use stored_tables::read_table;
 
 /// Puts a table whose name is free into the schema, and answers its root.
 fn add_new<S: PageSpace>(
@@ -66,7 +66,7 @@ pub fn create_table<S: PageSpace>(
     ensures rising { S.refused space.old ≤ S.refused space.new }
     ensures follows { S.follows space.old space.new }
 {
-    match find_table(space, alloc, root, &table.name) {
+    match read_table(space, alloc, root, &table.name) {
         Ok(Some(_)) => Ok(root),
         Ok(None) => add_new(space, alloc, root, table),
         Err(fault) => Err(DatabaseError::Space(fault)),

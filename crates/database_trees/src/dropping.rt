@@ -16,7 +16,7 @@ use items::{Items, Text};
 use page_space::{PageSpace, SpaceError};
 use sqlval::{Index, Table};
 use std::alloc::Global;
-use stored_tables::find_table;
+use stored_tables::read_table;
 
 /// Gives back the trees of these indexes.
 fn drop_indexes<S: PageSpace>(
@@ -104,7 +104,7 @@ pub fn drop_table<S: PageSpace>(
     ensures rising { S.refused space.old ≤ S.refused space.new }
     ensures follows { S.follows space.old space.new }
 {
-    match find_table(space, alloc, root, name) {
+    match read_table(space, alloc, root, name) {
         Ok(Some(table)) => drop_found(space, alloc, root, &table),
         Ok(None) => Ok(root),
         Err(fault) => Err(DatabaseError::Space(fault)),

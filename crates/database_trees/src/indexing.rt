@@ -22,7 +22,7 @@ use items::Text;
 use page_space::{PageSpace, SpaceError};
 use sqlval::{Column, Index, Table};
 use std::alloc::Global;
-use stored_tables::find_table;
+use stored_tables::read_table;
 use tablestore::scan;
 
 /// Makes the tree of an index over the rows of the tree at a root, which are of these types, and
@@ -112,7 +112,7 @@ fn put_index<S: PageSpace>(
     ensures rising { S.refused space.old ≤ S.refused space.new }
     ensures follows { S.follows space.old space.new }
 {
-    match find_table(space, alloc, root, &table.name) {
+    match read_table(space, alloc, root, &table.name) {
         Ok(Some(found)) => match with_index(found, index, top) {
             Ok(changed) => put_table(space, alloc, root, table, &changed),
             Err(error) => Err(error),
@@ -207,7 +207,7 @@ pub fn create_index<S: PageSpace>(
     ensures rising { S.refused space.old ≤ S.refused space.new }
     ensures follows { S.follows space.old space.new }
 {
-    match find_table(space, alloc, root, name) {
+    match read_table(space, alloc, root, name) {
         Ok(Some(table)) => create_on(space, alloc, root, &table, index),
         Ok(None) => Ok(root),
         Err(fault) => Err(DatabaseError::Space(fault)),

@@ -16,6 +16,7 @@ use crate::error::of_append;
 use crate::exchange::Exchange;
 use crate::numbering::row_of;
 use crate::settling::settle;
+use catalog::KnownSchema;
 use denote::Row;
 use items::{Items, Text};
 use page_space::{PageSpace, SpaceError};
@@ -131,6 +132,7 @@ fn replace_fitting<S: PageSpace>(
 pub fn replace<S: PageSpace>(
     space: &mut S,
     alloc: Global,
+    known: &mut KnownSchema,
     root: u32,
     name: &Text,
     number: u64,
@@ -146,7 +148,7 @@ pub fn replace<S: PageSpace>(
     ensures rising { S.refused space.old ≤ S.refused space.new }
     ensures follows { S.follows space.old space.new }
 {
-    match find_table(space, alloc, root, name) {
+    match find_table(space, alloc, known, root, name) {
         Ok(Some(table)) => replace_fitting(space, alloc, root, &table, number, row),
         Ok(None) => Ok(root),
         Err(fault) => Err(DatabaseError::Space(fault)),

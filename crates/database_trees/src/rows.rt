@@ -17,6 +17,7 @@ use crate::error::of_append;
 use crate::exchange::Exchange;
 use crate::numbering::{numbers_on, row_of};
 use crate::settling::settle;
+use catalog::KnownSchema;
 use denote::{Row, Rows};
 use items::{Items, Text};
 use page_space::{PageSpace, SpaceError};
@@ -124,6 +125,7 @@ fn append_fitting<S: PageSpace>(
 pub fn append<S: PageSpace>(
     space: &mut S,
     alloc: Global,
+    known: &mut KnownSchema,
     root: u32,
     name: &Text,
     rows: Rows,
@@ -138,7 +140,7 @@ pub fn append<S: PageSpace>(
     ensures rising { S.refused space.old ≤ S.refused space.new }
     ensures follows { S.follows space.old space.new }
 {
-    match find_table(space, alloc, root, name) {
+    match find_table(space, alloc, known, root, name) {
         Ok(Some(table)) => append_fitting(space, alloc, root, &table, rows),
         Ok(None) => Ok(root),
         Err(fault) => Err(DatabaseError::Space(fault)),
@@ -221,6 +223,7 @@ fn delete_from<S: PageSpace>(
 pub fn delete<S: PageSpace>(
     space: &mut S,
     alloc: Global,
+    known: &mut KnownSchema,
     root: u32,
     name: &Text,
     number: u64,
@@ -235,7 +238,7 @@ pub fn delete<S: PageSpace>(
     ensures rising { S.refused space.old ≤ S.refused space.new }
     ensures follows { S.follows space.old space.new }
 {
-    match find_table(space, alloc, root, name) {
+    match find_table(space, alloc, known, root, name) {
         Ok(Some(table)) => delete_from(space, alloc, root, &table, number),
         Ok(None) => Ok(root),
         Err(fault) => Err(DatabaseError::Space(fault)),

@@ -15,7 +15,7 @@ use items::Items;
 use page_space::{PageSpace, SpaceError};
 use sqlval::{Index, Table};
 use std::alloc::Global;
-use stored_tables::find_table;
+use stored_tables::read_table;
 
 /// Whether there is an index at a place, and begins at a root.
 fn begins_at(indexes: &Items<Index>, at: usize, root: u32) -> bool
@@ -126,7 +126,7 @@ fn put_roots<S: PageSpace>(
     if table.root == rows && begin_at(&table.indexes, roots) {
         return Ok(root);
     }
-    match find_table(space, alloc, root, &table.name) {
+    match read_table(space, alloc, root, &table.name) {
         Ok(Some(found)) => {
             let changed = table_with(found, rows, roots);
             put_table(space, alloc, root, table, &changed)

@@ -19,7 +19,7 @@ use items::{Items, Text};
 use page_space::{PageSpace, SpaceError};
 use sqlval::{Index, Table};
 use std::alloc::Global;
-use stored_tables::find_table;
+use stored_tables::read_table;
 
 /// Indexes without those of a name.
 fn without_named(
@@ -125,7 +125,7 @@ fn put_without<S: PageSpace>(
     ensures rising { S.refused space.old ≤ S.refused space.new }
     ensures follows { S.follows space.old space.new }
 {
-    match find_table(space, alloc, root, &table.name) {
+    match read_table(space, alloc, root, &table.name) {
         Ok(Some(found)) => match table_without(alloc, found, name) {
             Ok(changed) => put_table(space, alloc, root, table, &changed),
             Err(error) => Err(error),

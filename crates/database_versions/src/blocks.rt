@@ -14,6 +14,7 @@ ghost use Rattle.database_trees.specs.Held.{TableAt, HoldsDatabase, HoldsNoDatab
 ghost use Rattle.database_versions.specs.Databases.{IsDatabase, contents_in};
 
 use crate::causes::of_fault;
+use catalog::KnownSchema;
 use disk::Disk;
 use items::Text;
 use overlay::{Changed, WriteSet, read_header};
@@ -27,6 +28,7 @@ use store::{Numbered, Position, StoreError};
 /// The first rows above a number of the table of a name among those at a root, at most so many.
 fn scan_block_from<D: Disk>(
     alloc: Global,
+    known: &mut KnownSchema,
     pool: &mut Pool<D>,
     changes: &WriteSet,
     at: u64,
@@ -44,12 +46,13 @@ fn scan_block_from<D: Disk>(
     ensures writes { D.writes (device_of pool.new) ≡ D.writes (device_of pool.old) }
 {
     let mut space = Changed { pool, changes, at };
-    index_lookups::scan_block(&mut space, alloc, root, name, after, most)
+    index_lookups::scan_block(&mut space, alloc, known, root, name, after, most)
 }
 
 /// The first rows above a number of a table of a version with these pages over it, at most so many.
 pub fn some_rows_of<D: Disk>(
     alloc: Global,
+    known: &mut KnownSchema,
     pool: &mut Pool<D>,
     changes: &WriteSet,
     at: u64,
@@ -67,6 +70,7 @@ pub fn some_rows_of<D: Disk>(
     match read_header(pool, changes, at) {
         Ok(header) => match scan_block_from(
             alloc,
+            known,
             pool,
             changes,
             at,
@@ -86,6 +90,7 @@ pub fn some_rows_of<D: Disk>(
 /// a name among those at a root, at most so many.
 fn seek_block_from<D: Disk>(
     alloc: Global,
+    known: &mut KnownSchema,
     pool: &mut Pool<D>,
     changes: &WriteSet,
     at: u64,
@@ -105,13 +110,16 @@ fn seek_block_from<D: Disk>(
     ensures writes { D.writes (device_of pool.new) ≡ D.writes (device_of pool.old) }
 {
     let mut space = Changed { pool, changes, at };
-    index_lookups::seek_block(&mut space, alloc, root, name, index, key, after, most)
+    index_lookups::seek_block(
+        &mut space, alloc, known, root, name, index, key, after, most,
+    )
 }
 
 /// The first rows above a number of a table of a version with these pages over it whose columns
 /// equal a key, by the index at a place of the table, at most so many.
 pub fn some_rows_sought<D: Disk>(
     alloc: Global,
+    known: &mut KnownSchema,
     pool: &mut Pool<D>,
     changes: &WriteSet,
     at: u64,
@@ -131,6 +139,7 @@ pub fn some_rows_sought<D: Disk>(
     match read_header(pool, changes, at) {
         Ok(header) => match seek_block_from(
             alloc,
+            known,
             pool,
             changes,
             at,
@@ -152,6 +161,7 @@ pub fn some_rows_sought<D: Disk>(
 /// those at a root, at most so many.
 fn range_block_from<D: Disk>(
     alloc: Global,
+    known: &mut KnownSchema,
     pool: &mut Pool<D>,
     changes: &WriteSet,
     at: u64,
@@ -172,13 +182,16 @@ fn range_block_from<D: Disk>(
     ensures writes { D.writes (device_of pool.new) ≡ D.writes (device_of pool.old) }
 {
     let mut space = Changed { pool, changes, at };
-    index_lookups::range_block(&mut space, alloc, root, name, index, low, high, after, most)
+    index_lookups::range_block(
+        &mut space, alloc, known, root, name, index, low, high, after, most,
+    )
 }
 
 /// The first rows within bounds behind a place in the index at a place of a table of a version with
 /// these pages over it, at most so many, in the order of the index.
 pub fn some_rows_within<D: Disk>(
     alloc: Global,
+    known: &mut KnownSchema,
     pool: &mut Pool<D>,
     changes: &WriteSet,
     at: u64,
@@ -199,6 +212,7 @@ pub fn some_rows_within<D: Disk>(
     match read_header(pool, changes, at) {
         Ok(header) => match range_block_from(
             alloc,
+            known,
             pool,
             changes,
             at,

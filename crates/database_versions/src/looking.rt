@@ -13,6 +13,7 @@ ghost use Rattle.database_trees.specs.Held.{TableAt, HoldsDatabase, HoldsNoDatab
 ghost use Rattle.database_versions.specs.Databases.{IsDatabase, contents_in};
 
 use crate::causes::of_fault;
+use catalog::KnownSchema;
 use disk::Disk;
 use items::Text;
 use overlay::{Changed, WriteSet, read_header};
@@ -27,6 +28,7 @@ use store::{Numbered, NumberedRow, Position, StoreError};
 /// at a root.
 fn seek_from<D: Disk>(
     alloc: Global,
+    known: &mut KnownSchema,
     pool: &mut Pool<D>,
     changes: &WriteSet,
     at: u64,
@@ -44,13 +46,14 @@ fn seek_from<D: Disk>(
     ensures writes { D.writes (device_of pool.new) ≡ D.writes (device_of pool.old) }
 {
     let mut space = Changed { pool, changes, at };
-    index_lookups::seek(&mut space, alloc, root, name, index, key)
+    index_lookups::seek(&mut space, alloc, known, root, name, index, key)
 }
 
 /// The rows of a table of a version with these pages over it whose columns equal a key, by the
 /// index at a place of the table.
 pub fn rows_sought<D: Disk>(
     alloc: Global,
+    known: &mut KnownSchema,
     pool: &mut Pool<D>,
     changes: &WriteSet,
     at: u64,
@@ -68,6 +71,7 @@ pub fn rows_sought<D: Disk>(
     match read_header(pool, changes, at) {
         Ok(header) => match seek_from(
             alloc,
+            known,
             pool,
             changes,
             at,
@@ -87,6 +91,7 @@ pub fn rows_sought<D: Disk>(
 /// among those at a root.
 fn range_from<D: Disk>(
     alloc: Global,
+    known: &mut KnownSchema,
     pool: &mut Pool<D>,
     changes: &WriteSet,
     at: u64,
@@ -105,13 +110,14 @@ fn range_from<D: Disk>(
     ensures writes { D.writes (device_of pool.new) ≡ D.writes (device_of pool.old) }
 {
     let mut space = Changed { pool, changes, at };
-    index_lookups::range(&mut space, alloc, root, name, index, low, high)
+    index_lookups::range(&mut space, alloc, known, root, name, index, low, high)
 }
 
 /// The rows of a table of a version with these pages over it whose first column of the index at a
 /// place is within bounds, in the order of the index.
 pub fn rows_within<D: Disk>(
     alloc: Global,
+    known: &mut KnownSchema,
     pool: &mut Pool<D>,
     changes: &WriteSet,
     at: u64,
@@ -130,6 +136,7 @@ pub fn rows_within<D: Disk>(
     match read_header(pool, changes, at) {
         Ok(header) => match range_from(
             alloc,
+            known,
             pool,
             changes,
             at,
@@ -150,6 +157,7 @@ pub fn rows_within<D: Disk>(
 /// root.
 fn next_in_from<D: Disk>(
     alloc: Global,
+    known: &mut KnownSchema,
     pool: &mut Pool<D>,
     changes: &WriteSet,
     at: u64,
@@ -167,13 +175,14 @@ fn next_in_from<D: Disk>(
     ensures writes { D.writes (device_of pool.new) ≡ D.writes (device_of pool.old) }
 {
     let mut space = Changed { pool, changes, at };
-    index_lookups::next_in(&mut space, alloc, root, name, index, after)
+    index_lookups::next_in(&mut space, alloc, known, root, name, index, after)
 }
 
 /// The first row above a place in the index at a place of a table of a version with these pages
 /// over it.
 pub fn row_beyond<D: Disk>(
     alloc: Global,
+    known: &mut KnownSchema,
     pool: &mut Pool<D>,
     changes: &WriteSet,
     at: u64,
@@ -191,6 +200,7 @@ pub fn row_beyond<D: Disk>(
     match read_header(pool, changes, at) {
         Ok(header) => match next_in_from(
             alloc,
+            known,
             pool,
             changes,
             at,

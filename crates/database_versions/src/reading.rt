@@ -14,6 +14,7 @@ ghost use Rattle.stored_tables.specs.Held.{TableAt, HoldsTables, HoldsNoTables, 
 ghost use Rattle.database_versions.specs.Databases.{IsDatabase, contents_in};
 
 use crate::causes::of_fault;
+use catalog::KnownSchema;
 use disk::Disk;
 use items::Text;
 use overlay::{Changed, WriteSet, read_header};
@@ -26,6 +27,7 @@ use store::{Numbered, NumberedRow, StoreError};
 /// The schema of the tables at a root.
 fn schema_from<D: Disk>(
     alloc: Global,
+    known: &mut KnownSchema,
     pool: &mut Pool<D>,
     changes: &WriteSet,
     at: u64,
@@ -40,12 +42,13 @@ fn schema_from<D: Disk>(
     ensures writes { D.writes (device_of pool.new) ≡ D.writes (device_of pool.old) }
 {
     let mut space = Changed { pool, changes, at };
-    stored_tables::read_schema(&mut space, alloc, root)
+    stored_tables::read_schema(&mut space, alloc, known, root)
 }
 
 /// The schema of a version with these pages over it.
 pub fn schema_of<D: Disk>(
     alloc: Global,
+    known: &mut KnownSchema,
     pool: &mut Pool<D>,
     changes: &WriteSet,
     at: u64,
@@ -58,7 +61,7 @@ pub fn schema_of<D: Disk>(
     ensures writes { D.writes (device_of pool.new) ≡ D.writes (device_of pool.old) }
 {
     match read_header(pool, changes, at) {
-        Ok(header) => match schema_from(alloc, pool, changes, at, header.catalog_root) {
+        Ok(header) => match schema_from(alloc, known, pool, changes, at, header.catalog_root) {
             Ok(schema) => Ok(schema),
             Err(fault) => Err(of_fault(fault)),
         },
@@ -69,6 +72,7 @@ pub fn schema_of<D: Disk>(
 /// All rows of the table of a name among those at a root.
 fn scan_from<D: Disk>(
     alloc: Global,
+    known: &mut KnownSchema,
     pool: &mut Pool<D>,
     changes: &WriteSet,
     at: u64,
@@ -84,12 +88,13 @@ fn scan_from<D: Disk>(
     ensures writes { D.writes (device_of pool.new) ≡ D.writes (device_of pool.old) }
 {
     let mut space = Changed { pool, changes, at };
-    stored_tables::scan(&mut space, alloc, root, name)
+    stored_tables::scan(&mut space, alloc, known, root, name)
 }
 
 /// All rows of a table of a version with these pages over it.
 pub fn rows_of<D: Disk>(
     alloc: Global,
+    known: &mut KnownSchema,
     pool: &mut Pool<D>,
     changes: &WriteSet,
     at: u64,
@@ -103,7 +108,7 @@ pub fn rows_of<D: Disk>(
     ensures writes { D.writes (device_of pool.new) ≡ D.writes (device_of pool.old) }
 {
     match read_header(pool, changes, at) {
-        Ok(header) => match scan_from(alloc, pool, changes, at, header.catalog_root, name) {
+        Ok(header) => match scan_from(alloc, known, pool, changes, at, header.catalog_root, name) {
             Ok(found) => Ok(found),
             Err(fault) => Err(of_fault(fault)),
         },
@@ -114,6 +119,7 @@ pub fn rows_of<D: Disk>(
 /// The first row above a number of the table of a name among those at a root.
 fn next_from<D: Disk>(
     alloc: Global,
+    known: &mut KnownSchema,
     pool: &mut Pool<D>,
     changes: &WriteSet,
     at: u64,
@@ -130,12 +136,13 @@ fn next_from<D: Disk>(
     ensures writes { D.writes (device_of pool.new) ≡ D.writes (device_of pool.old) }
 {
     let mut space = Changed { pool, changes, at };
-    stored_tables::next(&mut space, alloc, root, name, after)
+    stored_tables::next(&mut space, alloc, known, root, name, after)
 }
 
 /// The first row above a number of a table of a version with these pages over it.
 pub fn row_after<D: Disk>(
     alloc: Global,
+    known: &mut KnownSchema,
     pool: &mut Pool<D>,
     changes: &WriteSet,
     at: u64,
@@ -150,7 +157,16 @@ pub fn row_after<D: Disk>(
     ensures writes { D.writes (device_of pool.new) ≡ D.writes (device_of pool.old) }
 {
     match read_header(pool, changes, at) {
-        Ok(header) => match next_from(alloc, pool, changes, at, header.catalog_root, name, after) {
+        Ok(header) => match next_from(
+            alloc,
+            known,
+            pool,
+            changes,
+            at,
+            header.catalog_root,
+            name,
+            after,
+        ) {
             Ok(found) => Ok(found),
             Err(fault) => Err(of_fault(fault)),
         },

@@ -17,6 +17,7 @@ ghost use Rattle.database_versions.specs.Refusals.{IsCounted, RowsReach, Numbers
 
 use crate::causes::{of_change, of_fault, of_rows};
 use crate::naming::put_root;
+use catalog::KnownSchema;
 use database_trees::DatabaseError;
 use denote::{Row, Rows};
 use disk::Disk;
@@ -29,6 +30,7 @@ use store::StoreError;
 /// Puts rows behind those of the table of a name, in the database at a root.
 fn append_from<D: Disk>(
     alloc: Global,
+    known: &mut KnownSchema,
     pool: &mut Pool<D>,
     changes: &mut WriteSet,
     at: u64,
@@ -52,7 +54,7 @@ fn append_from<D: Disk>(
     ensures writes { D.writes (device_of pool.new) ≡ D.writes (device_of pool.old) }
 {
     let mut space = Overlay { pool, changes, at };
-    database_trees::append(&mut space, alloc, root, name, rows)
+    database_trees::append(&mut space, alloc, known, root, name, rows)
 }
 
 /// Puts rows behind those of the table of a name, and into each of its indexes; where no table has
@@ -60,6 +62,7 @@ fn append_from<D: Disk>(
 /// the mark stay.
 pub fn append_rows<D: Disk>(
     alloc: Global,
+    known: &mut KnownSchema,
     pool: &mut Pool<D>,
     changes: &mut WriteSet,
     at: u64,
@@ -77,7 +80,16 @@ pub fn append_rows<D: Disk>(
     ensures writes { D.writes (device_of pool.new) ≡ D.writes (device_of pool.old) }
 {
     match read_header(pool, changes, at) {
-        Ok(header) => match append_from(alloc, pool, changes, at, header.catalog_root, name, rows) {
+        Ok(header) => match append_from(
+            alloc,
+            known,
+            pool,
+            changes,
+            at,
+            header.catalog_root,
+            name,
+            rows,
+        ) {
             Ok(top) => match put_root(pool, changes, at, top) {
                 Ok(()) => Ok(()),
                 Err(fault) => Err(of_fault(fault)),
@@ -91,6 +103,7 @@ pub fn append_rows<D: Disk>(
 /// Puts a row in place of the one of a number, in the database at a root.
 fn replace_from<D: Disk>(
     alloc: Global,
+    known: &mut KnownSchema,
     pool: &mut Pool<D>,
     changes: &mut WriteSet,
     at: u64,
@@ -115,7 +128,7 @@ fn replace_from<D: Disk>(
     ensures writes { D.writes (device_of pool.new) ≡ D.writes (device_of pool.old) }
 {
     let mut space = Overlay { pool, changes, at };
-    database_trees::replace(&mut space, alloc, root, name, number, row)
+    database_trees::replace(&mut space, alloc, known, root, name, number, row)
 }
 
 /// Puts a row in place of the one of a number in the table of a name, and in each of its indexes;
@@ -123,6 +136,7 @@ fn replace_from<D: Disk>(
 /// written before the mark stay.
 pub fn replace_row<D: Disk>(
     alloc: Global,
+    known: &mut KnownSchema,
     pool: &mut Pool<D>,
     changes: &mut WriteSet,
     at: u64,
@@ -143,6 +157,7 @@ pub fn replace_row<D: Disk>(
     match read_header(pool, changes, at) {
         Ok(header) => match replace_from(
             alloc,
+            known,
             pool,
             changes,
             at,
@@ -164,6 +179,7 @@ pub fn replace_row<D: Disk>(
 /// Takes the row of a number out of the table of a name, in the database at a root.
 fn delete_from<D: Disk>(
     alloc: Global,
+    known: &mut KnownSchema,
     pool: &mut Pool<D>,
     changes: &mut WriteSet,
     at: u64,
@@ -186,7 +202,7 @@ fn delete_from<D: Disk>(
     ensures writes { D.writes (device_of pool.new) ≡ D.writes (device_of pool.old) }
 {
     let mut space = Overlay { pool, changes, at };
-    database_trees::delete(&mut space, alloc, root, name, number)
+    database_trees::delete(&mut space, alloc, known, root, name, number)
 }
 
 /// Takes the row of a number out of the table of a name, and out of each of its indexes; where
@@ -194,6 +210,7 @@ fn delete_from<D: Disk>(
 /// before the mark stay.
 pub fn delete_row<D: Disk>(
     alloc: Global,
+    known: &mut KnownSchema,
     pool: &mut Pool<D>,
     changes: &mut WriteSet,
     at: u64,
@@ -213,6 +230,7 @@ pub fn delete_row<D: Disk>(
     match read_header(pool, changes, at) {
         Ok(header) => match delete_from(
             alloc,
+            known,
             pool,
             changes,
             at,

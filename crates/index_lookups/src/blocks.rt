@@ -17,9 +17,11 @@ ghost use Rattle.index_lookups.specs.Begun.{MaySkip, MayPass, rows_within, block
 
 use crate::lookups::{no_rows, start_above, start_of};
 use crate::places::{Place, index_at};
+use crate::scanning::rows_after;
 use crate::sought::Sought;
 use crate::walking::{FIRST, some_from};
 use btree_read::{Start, entries_from};
+use catalog::KnownSchema;
 use items::Text;
 use page_space::{PageReader, SpaceError};
 use sqlrecord::{EncodeError, encode_index_key};
@@ -30,13 +32,15 @@ use store::{Numbered, Position};
 use stored_tables::find_table;
 
 /// The first rows above a number of the table of a name, at most so many; none where no table has
-/// the name. Wherever a schema lies they have the types of the table's columns. It reads the pages
-/// on one way down, and those behind it that have such rows.
+/// the name. Wherever a schema lies they have the types of the table's columns. Above a number it
+/// reads the pages on one way down, and those behind it that have such rows; for the first rows it
+/// looks at all leaves of the table once, and so finds those that do not hang together.
 ///
 /// Refused as `seek` is.
 pub fn scan_block<R: PageReader>(
     space: &mut R,
     alloc: Global,
+    known: &mut KnownSchema,
     root: u32,
     name: &Text,
     after: Option<u64>,
@@ -52,10 +56,10 @@ pub fn scan_block<R: PageReader>(
     ensures rising { R.refused space.old ≤ R.refused space.new }
     ensures follows { R.follows space.old space.new }
 {
-    match find_table(space, alloc, root, name) {
+    match find_table(space, alloc, known, root, name) {
         Ok(Some(table)) => {
             let columns = table.columns.as_slice();
-            tablestore::some_rows(space, alloc, table.root, columns, after, most)
+            rows_after(space, alloc, table.root, columns, after, most)
         }
         Ok(None) => Ok(no_rows(alloc)),
         Err(fault) => Err(fault),
@@ -136,8 +140,8 @@ fn first_sought<R: PageReader>(
     }
 }
 
-/// The first rows whose columns equal a key above a number, at most so many, by a walk that begins at
-/// the key and passes over its rows up to the number.
+/// The first rows whose columns equal a key above a number, at most so many, by a walk that begins
+/// at the key and passes over its rows up to the number.
 fn sought_past<R: PageReader>(
     space: &mut R,
     alloc: Global,
@@ -236,6 +240,7 @@ fn sought_at<R: PageReader>(
 pub fn seek_block<R: PageReader>(
     space: &mut R,
     alloc: Global,
+    known: &mut KnownSchema,
     root: u32,
     name: &Text,
     index: usize,
@@ -251,7 +256,7 @@ pub fn seek_block<R: PageReader>(
     ensures rising { R.refused space.old ≤ R.refused space.new }
     ensures follows { R.follows space.old space.new }
 {
-    match index_at(space, alloc, root, name, index) {
+    match index_at(space, alloc, known, root, name, index) {
         Ok(Some(place)) => sought_at(space, alloc, &place, key, after, most),
         Ok(None) => Ok(no_rows(alloc)),
         Err(fault) => Err(fault),
@@ -395,6 +400,7 @@ fn block_at<R: PageReader>(
 pub fn range_block<R: PageReader>(
     space: &mut R,
     alloc: Global,
+    known: &mut KnownSchema,
     root: u32,
     name: &Text,
     index: usize,
@@ -411,7 +417,7 @@ pub fn range_block<R: PageReader>(
     ensures rising { R.refused space.old ≤ R.refused space.new }
     ensures follows { R.follows space.old space.new }
 {
-    match index_at(space, alloc, root, name, index) {
+    match index_at(space, alloc, known, root, name, index) {
         Ok(Some(place)) => block_at(space, alloc, &place, low, high, after, most),
         Ok(None) => Ok(no_rows(alloc)),
         Err(fault) => Err(fault),

@@ -5,6 +5,7 @@ mod blocks;
 mod keys;
 mod lookups;
 mod places;
+mod scanning;
 mod sought;
 mod walking;
 

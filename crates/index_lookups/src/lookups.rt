@@ -17,6 +17,7 @@ use crate::places::{Place, index_at};
 use crate::sought::Sought;
 use crate::walking::{FIRST, row_found, rows_from};
 use btree_read::{Start, entries_from, next};
+use catalog::KnownSchema;
 use items::{Items, Text};
 use page_space::{PageReader, SpaceError};
 use sqlrecord::{EncodeError, encode_index_key, encode_key};
@@ -105,6 +106,7 @@ fn matching<R: PageReader>(
 pub fn seek<R: PageReader>(
     space: &mut R,
     alloc: Global,
+    known: &mut KnownSchema,
     root: u32,
     name: &Text,
     index: usize,
@@ -118,7 +120,7 @@ pub fn seek<R: PageReader>(
     ensures rising { R.refused space.old ≤ R.refused space.new }
     ensures follows { R.follows space.old space.new }
 {
-    match index_at(space, alloc, root, name, index) {
+    match index_at(space, alloc, known, root, name, index) {
         Ok(Some(place)) => matching(space, alloc, &place, key),
         Ok(None) => Ok(no_rows(alloc)),
         Err(fault) => Err(fault),
@@ -175,6 +177,7 @@ fn within<R: PageReader>(
 pub fn range<R: PageReader>(
     space: &mut R,
     alloc: Global,
+    known: &mut KnownSchema,
     root: u32,
     name: &Text,
     index: usize,
@@ -189,7 +192,7 @@ pub fn range<R: PageReader>(
     ensures rising { R.refused space.old ≤ R.refused space.new }
     ensures follows { R.follows space.old space.new }
 {
-    match index_at(space, alloc, root, name, index) {
+    match index_at(space, alloc, known, root, name, index) {
         Ok(Some(place)) => within(space, alloc, &place, low, high),
         Ok(None) => Ok(no_rows(alloc)),
         Err(fault) => Err(fault),
@@ -313,6 +316,7 @@ fn row_beyond<R: PageReader>(
 pub fn next_in<R: PageReader>(
     space: &mut R,
     alloc: Global,
+    known: &mut KnownSchema,
     root: u32,
     name: &Text,
     index: usize,
@@ -326,7 +330,7 @@ pub fn next_in<R: PageReader>(
     ensures rising { R.refused space.old ≤ R.refused space.new }
     ensures follows { R.follows space.old space.new }
 {
-    match index_at(space, alloc, root, name, index) {
+    match index_at(space, alloc, known, root, name, index) {
         Ok(Some(place)) => match after {
             Some(after) => row_beyond(space, alloc, &place, after),
             None => first_row(space, alloc, &place),

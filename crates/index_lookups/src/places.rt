@@ -6,6 +6,7 @@ ghost use Rattle.page_space.specs.Space.{ReadRefused};
 ghost use Rattle.database_trees.specs.Held.{TableAt, HoldsDatabase, HoldsNoDatabase, contents_of};
 ghost use Rattle.index_lookups.specs.Walked.{place_of, IsPlaceOf};
 
+use catalog::KnownSchema;
 use items::{Items, Text};
 use page_space::{PageReader, SpaceError};
 use sqlval::{Column, Index, Table};
@@ -52,6 +53,7 @@ fn place_in(table: Table, at: usize) -> Option<Place>
 pub(crate) fn index_at<R: PageReader>(
     space: &mut R,
     alloc: Global,
+    known: &mut KnownSchema,
     root: u32,
     name: &Text,
     at: usize,
@@ -64,7 +66,7 @@ pub(crate) fn index_at<R: PageReader>(
     ensures rising { R.refused space.old ≤ R.refused space.new }
     ensures follows { R.follows space.old space.new }
 {
-    match find_table(space, alloc, root, name) {
+    match find_table(space, alloc, known, root, name) {
         Ok(Some(table)) => Ok(place_in(table, at)),
         Ok(None) => Ok(None),
         Err(fault) => Err(fault),

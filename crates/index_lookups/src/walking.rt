@@ -316,8 +316,9 @@ pub(crate) fn rows_from<R: PageReader>(
 }
 
 /// At most so many of these rows, the first.
-fn first_rows(found: Numbered, most: usize) -> Numbered
-    ensures { (rows : List stored.Entry) → AreEntries found rows → AreEntries result (take most rows) }
+pub(crate) fn first_rows(found: Numbered, most: usize) -> Numbered
+    ensures found { (rows : List stored.Entry) → AreEntries found rows → AreEntries result (take most rows) }
+    ensures taken { result.rows ≡ take most found.rows }
 {
     let Numbered { numbers, rows } = found;
     let mut numbers = numbers;

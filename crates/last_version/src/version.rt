@@ -7,6 +7,7 @@ ghost use Rattle.journal.specs.Parts.{place};
 ghost use Rattle.journal.specs.Reading.{OnlyReads};
 ghost use Rattle.journal.specs.Versions.{HasPage, IsAmong, IsCommittable, committed, laid};
 ghost use Rattle.journaled_file.specs.Shown.{IsAtRest};
+ghost use Rattle.sqlrecord.specs.Page.{IsNode};
 ghost use Rattle.page_cache.specs.Cached.{frames_in, IsClean, room_of as room_in};
 ghost use Rattle.last_version.specs.Standing.{StandsAs, version_in, version_of, shown_in, pages_below, waits_in};
 
@@ -130,9 +131,11 @@ impl<D: Disk> LastVersion<D> {
         self.file.break_off(cause);
     }
 
-    /// Reads a page. Refused where the device refuses.
-    pub fn read(&mut self, number: u32, into: &mut Page) -> Result<(), DiskError>
+    /// Reads a page, and tells whether it is known to be a sound page of a tree. Refused where the
+    /// device refuses.
+    pub fn read(&mut self, number: u32, into: &mut Page) -> Result<bool, DiskError>
         requires { number < count_of self.old }
+        ensures node { IfOk result (λ known. known ≡ true → IsNode into.new) }
         ensures value { OnOk result (IsTrue D.is_honest → shown_by self.old number ≡ Some into.new) }
         ensures version { IsTrue D.is_honest → version_under self.new ≡ version_under self.old }
         ensures read_always { IsTrue D.is_honest → IsTrue D.always_reads → is_broken self.old ≡ false → IsOk result }
@@ -145,16 +148,17 @@ impl<D: Disk> LastVersion<D> {
         if self.file.is_broken() {
             return Err(self.refuse());
         }
-        if self.cache.copy(number, into) {
-            return Ok(());
+        match self.cache.copy(number, into) {
+            Some(known) => Ok(known),
+            None => self.read_kept(number, into),
         }
-        self.read_kept(number, into)
     }
 
     /// Reads a page that is not in memory, and keeps it there where there is some.
-    fn read_kept(&mut self, number: u32, into: &mut Page) -> Result<(), DiskError>
+    fn read_kept(&mut self, number: u32, into: &mut Page) -> Result<bool, DiskError>
         requires within { number < count_of self.old }
         requires whole { is_broken self.old ≡ false }
+        ensures node { IfOk result (λ known. known ≡ true → IsNode into.new) }
         ensures value { OnOk result (IsTrue D.is_honest → shown_by self.old number ≡ Some into.new) }
         ensures version { IsTrue D.is_honest → version_under self.new ≡ version_under self.old }
         ensures read_always { IsTrue D.is_honest → IsTrue D.always_reads → IsOk result }
@@ -166,8 +170,8 @@ impl<D: Disk> LastVersion<D> {
     {
         match self.file.read(number, into) {
             Ok(()) => {
-                self.cache.keep(number, into);
-                Ok(())
+                let known = self.cache.keep(number, into);
+                Ok(known)
             }
             Err(cause) => Err(cause),
         }

@@ -61,7 +61,7 @@ vocabulary =
     ∷ (codes "ESCAPE", word.Escape, Later)
     ∷ (codes "EXCEPT", word.Except, Now)
     ∷ (codes "EXISTS", word.Exists, Now)
-    ∷ (codes "EXPLAIN", word.Explain, Later)
+    ∷ (codes "EXPLAIN", word.Explain, Now)
     ∷ (codes "FALSE", word.False, Now)
     ∷ (codes "FETCH", word.Fetch, Now)
     ∷ (codes "FLOAT", word.Float, Later)

@@ -179,7 +179,7 @@ pub const WORDS: [Entry; 111] = [
     ("ESCAPE", Word::Escape, Support::Later),
     ("EXCEPT", Word::Except, Support::Now),
     ("EXISTS", Word::Exists, Support::Now),
-    ("EXPLAIN", Word::Explain, Support::Later),
+    ("EXPLAIN", Word::Explain, Support::Now),
     ("FALSE", Word::False, Support::Now),
     ("FETCH", Word::Fetch, Support::Now),
     ("FLOAT", Word::Float, Support::Later),

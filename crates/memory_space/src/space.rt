@@ -42,7 +42,7 @@ impl PageReader for MemorySpace {
 
     ghost follows_trans = { λ a b c h g. tt };
 
-    fn read(&mut self, page: u32, into: &mut Page) -> Result<(), SpaceError> {
+    fn read(&mut self, page: u32, into: &mut Page) -> Result<bool, SpaceError> {
         let at = page as usize;
         if page == 0 || page >= 65536 || at >= self.pages.len() {
             return Err(SpaceError::Damaged);
@@ -50,7 +50,7 @@ impl PageReader for MemorySpace {
         match &self.pages.as_slice()[at] {
             Some(bytes) => {
                 *into = *bytes.get();
-                Ok(())
+                Ok(false)
             }
             None => Err(SpaceError::Damaged),
         }

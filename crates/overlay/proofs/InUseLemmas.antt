@@ -139,7 +139,7 @@ in_use-others version written next n some same m differs = in_use-apart version 
     (λ k. ap (λ (o : Option (List ℕ)). is_counted (pick o (version 0)) m) (same 0 (λ h. some (sym h))))
 
 -- what was read is what lies in a page in use
-pub reads_in_use : {E : Type 0} (result : Result (Unit {0}) E) (version written : PageMap) (n : ℕ) (into : List ℕ)
+pub reads_in_use : {X E : Type 0} (result : Result X E) (version written : PageMap) (n : ℕ) (into : List ℕ)
     → OnOk result ((bytes : List ℕ) → over written version n ≡ Some bytes → into ≡ bytes) → OnOk result ((bytes : List ℕ) → in_use version written n ≡ Some bytes → into ≡ bytes)
 reads_in_use (Ok done) version written n into value = λ bytes e. value bytes (in_use-read version written n bytes e)
 reads_in_use (Err e) version written n into value = value

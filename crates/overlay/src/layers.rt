@@ -5,7 +5,7 @@ ghost use Rattle.pool.specs.Pages.{over, only, pick, pages_in};
 ghost use Rattle.overlay.specs.Layers.{size_of, AreListed};
 
 use items::Items;
-use pagefile::Page;
+use page_cache::Frame;
 use pool::PageSet;
 use std::alloc::AllocError;
 
@@ -37,7 +37,7 @@ fn put_counted(
     set: &mut PageSet,
     count: &mut usize,
     number: u32,
-    page: &Page,
+    page: &Frame,
 ) -> Result<(), AllocError>
     requires { count.old ≡ size_of (pages_in set.old) }
     ensures put { OnOk result (pages_in set.new ≡ over (only number page.now) (pages_in set.old)) }
@@ -46,10 +46,10 @@ fn put_counted(
     ensures long { length set.old ≤ count.old → length set.new ≤ count.new }
 {
     if has_page(set, number) {
-        set.put(number, page)?;
+        set.put_copy(number, page)?;
         return Ok(());
     }
-    set.put(number, page)?;
+    set.put_copy(number, page)?;
     *count += 1;
     Ok(())
 }

@@ -36,7 +36,7 @@ impl<'a, D: Disk> PageReader for Snapshot<'a, D> {
 
     ghost follows_trans = { λ a b c h g. (read_on _ _ _ _ _ _ _ _ _ h.0 g.0, g.1 ∙ h.1, g.2 ∙ h.2) };
 
-    fn read(&mut self, page: u32, into: &mut Page) -> Result<(), SpaceError> {
+    fn read(&mut self, page: u32, into: &mut Page) -> Result<bool, SpaceError> {
         read_version(self.pool, self.at, page, into)
     }
 }

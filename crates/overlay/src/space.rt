@@ -43,7 +43,7 @@ impl<'a, D: Disk> PageReader for Overlay<'a, D> {
 
     ghost follows_trans = { λ a b c h g. (read_on _ _ _ _ _ _ _ _ _ h.0 g.0, mark_on _ _ _ h.1 g.1, g.2 ∙ h.2, g.3 ∙ h.3, g.4 ∙ h.4) };
 
-    fn read(&mut self, page: u32, into: &mut Page) -> Result<(), SpaceError> {
+    fn read(&mut self, page: u32, into: &mut Page) -> Result<bool, SpaceError> {
         read_changed(self.pool, self.changes, self.at, page, into)
     }
 }

@@ -2,6 +2,7 @@
 ghost use Rattle.std.specs.Prelude.{◌≡◌, ◌+◌, length, ◌≢◌, ◌<◌, ◌≤◌, ℕ, List, Some, None, true, false, slice_index, OnOk, OnErr, IfOk, IfErr};
 ghost use Rattle.page_space.specs.Space.{ReadRefused, ChangeRefused};
 ghost use Rattle.pagefile.specs.Number.{number_at};
+ghost use Rattle.sqlrecord.specs.Page.{IsNode};
 ghost use Rattle.pool.specs.Pages.{over, only};
 ghost use Rattle.pool.specs.Versions.{versions_of, device_of, refused_of};
 ghost use Rattle.overlay.specs.WriteSet.{settled_of, private_of, undone_of};
@@ -42,7 +43,7 @@ fn page_count<D: Disk>(pool: &mut Pool<D>, changes: &WriteSet, at: u64) -> Resul
 {
     let mut first = [0; PAGE_SIZE];
     match read_changed(pool, changes, at, 0, &mut first) {
-        Ok(()) => Ok(number_in(&first, 8)),
+        Ok(_) => Ok(number_in(&first, 8)),
         Err(fault) => Err(fault),
     }
 }
@@ -102,7 +103,8 @@ pub(crate) fn is_in_use<D: Disk>(
         return Ok(false);
     }
     match changes.get(page) {
-        Some(bytes) => {
+        Some(frame) => {
+            let bytes = frame.page();
             if bytes[0] == FREE {
                 return Ok(false);
             }
@@ -112,7 +114,7 @@ pub(crate) fn is_in_use<D: Disk>(
     }
 }
 
-/// Puts these bytes in place of a page in use.
+/// Puts these bytes, a sound page of a tree, in place of a page in use.
 pub(crate) fn write_page<D: Disk>(
     pool: &mut Pool<D>,
     changes: &mut WriteSet,
@@ -120,7 +122,8 @@ pub(crate) fn write_page<D: Disk>(
     page: u32,
     bytes: &Page,
 ) -> Result<(), SpaceError>
-    requires { slice_index bytes.now 0 ≢ 3 }
+    requires kind { slice_index bytes.now 0 ≢ 3 }
+    requires node { IsNode bytes.now }
     ensures written { OnOk result (private_of changes.new ≡ over (only page bytes.now) (private_of changes.old)) }
     ensures used { OnOk result (IsWritable (over (private_of changes.old) ((versions_of pool.old).pages at)) page) }
     ensures within { OnOk result (0 < page) }
@@ -137,5 +140,5 @@ pub(crate) fn write_page<D: Disk>(
     if !used {
         return Err(SpaceError::Damaged);
     }
-    changes.put(page, bytes)
+    changes.put_node(page, bytes)
 }

@@ -1,5 +1,6 @@
 ghost use Rattle.std.specs.Prelude.{◌≡◌, ◌≤◌, ◌<◌, ◌+◌, ℕ, None, IsSome, false, length, OnOk, OnErr, IfOk, IfErr};
 ghost use Rattle.std.specs.Option.{is_some, option_copied};
+ghost use Rattle.sqlrecord.specs.Page.{IsNode};
 ghost use Rattle.pool.specs.Pages.{over, only, pages_in};
 ghost use Rattle.overlay.specs.Layers.{size_of, AreListed, IsNotKept};
 ghost use Rattle.overlay.specs.Undone.{counts_in, none_undone, AreUndone};
@@ -8,6 +9,7 @@ use crate::PRIVATE_PAGES;
 use crate::layers::{list_number, settle_all};
 use crate::uses::number_in;
 use items::Items;
+use page_cache::Frame;
 use page_space::SpaceError;
 use pagefile::Page;
 use pool::PageSet;
@@ -44,11 +46,11 @@ pub struct WriteSet {
 }
 
 /// The page count and the first free page that a page 0 says.
-fn counts_of(first: Option<&Page>) -> Option<(u32, u32)>
+fn counts_of(first: Option<&Frame>) -> Option<(u32, u32)>
     ensures { result ≡ counts_in (option_copied first.entry) }
 {
     match first {
-        Some(page) => Some((number_in(page, 8), number_in(page, 12))),
+        Some(frame) => Some((number_in(frame.page(), 8), number_in(frame.page(), 12))),
         None => None,
     }
 }
@@ -86,7 +88,7 @@ impl WriteSet {
     }
 
     /// The page of this number as it was written before the mark.
-    fn settled_page(&self, number: u32) -> Option<&Page>
+    fn settled_page(&self, number: u32) -> Option<&Frame>
         ensures { option_copied result ≡ settled_of self.now number }
     {
         match self.newer.get(number) {
@@ -96,7 +98,7 @@ impl WriteSet {
     }
 
     /// The page of this number as it was written last; `None` where it was not written.
-    pub fn get(&self, number: u32) -> Option<&Page>
+    pub fn get(&self, number: u32) -> Option<&Frame>
         ensures { option_copied result ≡ private_of self.now number }
     {
         match self.fresh.get(number) {
@@ -106,29 +108,29 @@ impl WriteSet {
     }
 
     /// Writes a page that was written before. Refuses for memory alone.
-    fn put_again(&mut self, number: u32, page: &Page) -> Result<(), AllocError>
+    fn put_again(&mut self, number: u32, page: Frame) -> Result<(), AllocError>
         requires { IsSome (private_of self.old number) }
-        ensures put { OnOk result (private_of self.new ≡ over (only number page.now) (private_of self.old)) }
+        ensures put { OnOk result (private_of self.new ≡ over (only number page) (private_of self.old)) }
         ensures settled { settled_of self.new ≡ settled_of self.old }
         ensures undone { undone_of self.new ≡ undone_of self.old }
         ensures left { OnErr result (private_of self.new ≡ private_of self.old) }
     {
         list_number(&mut self.fresh_numbers, &self.fresh, number)?;
-        self.fresh.put(number, page)?;
+        self.fresh.put_frame(number, page)?;
         Ok(())
     }
 
     /// Writes a page that was not written before. Refuses for memory alone.
-    fn put_new(&mut self, number: u32, page: &Page) -> Result<(), AllocError>
+    fn put_new(&mut self, number: u32, page: Frame) -> Result<(), AllocError>
         requires new { is_some (private_of self.old number) ≡ false }
         requires room { size_of (private_of self.old) < 1024 }
-        ensures put { OnOk result (private_of self.new ≡ over (only number page.now) (private_of self.old)) }
+        ensures put { OnOk result (private_of self.new ≡ over (only number page) (private_of self.old)) }
         ensures settled { settled_of self.new ≡ settled_of self.old }
         ensures undone { undone_of self.new ≡ undone_of self.old }
         ensures left { OnErr result (private_of self.new ≡ private_of self.old) }
     {
         list_number(&mut self.fresh_numbers, &self.fresh, number)?;
-        self.fresh.put(number, page)?;
+        self.fresh.put_frame(number, page)?;
         self.private_count += 1;
         Ok(())
     }
@@ -144,6 +146,31 @@ impl WriteSet {
     /// written before; then all stays as it was.
     pub(crate) fn put(&mut self, number: u32, page: &Page) -> Result<(), SpaceError>
         ensures put { OnOk result (private_of self.new ≡ over (only number page.now) (private_of self.old)) }
+        ensures settled { settled_of self.new ≡ settled_of self.old }
+        ensures undone { undone_of self.new ≡ undone_of self.old }
+        ensures left { OnErr result (private_of self.new ≡ private_of self.old) }
+        ensures refusal { IfErr result (IsNotKept (size_of (private_of self.new))) }
+    {
+        let frame = Frame::new(self.alloc, page)?;
+        self.put_frame(number, frame)
+    }
+
+    /// Writes a sound page of a tree, as `put`, without a test.
+    pub(crate) fn put_node(&mut self, number: u32, page: &Page) -> Result<(), SpaceError>
+        requires { IsNode page.now }
+        ensures put { OnOk result (private_of self.new ≡ over (only number page.now) (private_of self.old)) }
+        ensures settled { settled_of self.new ≡ settled_of self.old }
+        ensures undone { undone_of self.new ≡ undone_of self.old }
+        ensures left { OnErr result (private_of self.new ≡ private_of self.old) }
+        ensures refusal { IfErr result (IsNotKept (size_of (private_of self.new))) }
+    {
+        let frame = Frame::of_node(self.alloc, page)?;
+        self.put_frame(number, frame)
+    }
+
+    /// Writes a page, as `put`.
+    fn put_frame(&mut self, number: u32, page: Frame) -> Result<(), SpaceError>
+        ensures put { OnOk result (private_of self.new ≡ over (only number page) (private_of self.old)) }
         ensures settled { settled_of self.new ≡ settled_of self.old }
         ensures undone { undone_of self.new ≡ undone_of self.old }
         ensures left { OnErr result (private_of self.new ≡ private_of self.old) }

@@ -1,6 +1,7 @@
 //! Pages written over a version.
 ghost use Rattle.std.specs.Prelude.{◌≡◌, ◌≢◌, ◌≤◌, ℕ, Some, None, IsSome, slice_index, OnOk, OnErr, IfErr};
 ghost use Rattle.page_space.specs.Space.{ChangeRefused};
+ghost use Rattle.sqlrecord.specs.Page.{IsNode};
 ghost use Rattle.pool.specs.Pages.{over};
 ghost use Rattle.pool.specs.Versions.{versions_of, device_of, refused_of};
 ghost use Rattle.overlay.specs.WriteSet.{settled_of, private_of, undone_of};
@@ -15,10 +16,10 @@ use page_space::SpaceError;
 use pagefile::Page;
 use pool::Pool;
 
-/// Puts these bytes, which are not those of a free page, in place of a page in use at a commit with
-/// a transaction's pages over it. Refused for memory, where the device refuses a call, at the limit
-/// of private pages, and as damaged only where the page is not in use; then no page is other than
-/// it was.
+/// Puts these bytes, which are those of a sound page of a tree, in place of a page in use at a
+/// commit with a transaction's pages over it. Refused for memory, where the device refuses a call,
+/// at the limit of private pages, and as damaged only where the page is not in use; then no page is
+/// other than it was.
 pub fn replace_page<D: Disk>(
     pool: &mut Pool<D>,
     changes: &mut WriteSet,
@@ -26,7 +27,8 @@ pub fn replace_page<D: Disk>(
     page: u32,
     bytes: &Page,
 ) -> Result<(), SpaceError>
-    requires { slice_index bytes.now 0 ≢ 3 }
+    requires kind { slice_index bytes.now 0 ≢ 3 }
+    requires node { IsNode bytes.now }
     ensures written { OnOk result (IsSome (in_use ((versions_of pool.old).pages at) (private_of changes.old) page)
         → in_use ((versions_of pool.new).pages at) (private_of changes.new) page ≡ Some bytes.now) }
     ensures others { (n : ℕ) → n ≢ page

@@ -1,4 +1,5 @@
-ghost use Rattle.std.specs.Prelude.{◌≡◌, ◌≢◌, ◌<◌, ◌≤◌, ℕ, true, [], List, Option, Some, Contains, IfOk, length};
+ghost use Rattle.std.specs.Prelude.{◌≡◌, ◌≢◌, ◌<◌, ◌≤◌, ℕ, true, [], List, Option, Some, Contains, IfOk, IfSome, length};
+ghost use Rattle.sqlrecord.specs.Page.{IsNode};
 ghost use Rattle.lru.specs.LruCache.{lru_cache};
 
 use crate::Frame;
@@ -47,30 +48,39 @@ impl PageCache {
         self.frames.len()
     }
 
-    /// Copies the page of a number, where it is in memory; tells whether it is.
-    pub fn copy(&mut self, number: u32, into: &mut Page) -> bool
-        ensures found { result ≡ true → (shows : ℕ → Option (List ℕ)) → IsClean shows self.old
-            → shows number ≡ Some into.new }
+    /// Copies the page of a number, where it is in memory; tells whether it is known to be a sound
+    /// page of a tree, and nothing where it is not in memory.
+    pub fn copy(&mut self, number: u32, into: &mut Page) -> Option<bool>
+        ensures found { IfSome result (λ known. (shows : ℕ → Option (List ℕ)) → IsClean shows self.old
+            → shows number ≡ Some into.new) }
+        ensures node { IfSome result (λ known. known ≡ true → IsNode into.new) }
         ensures clean { (shows : ℕ → Option (List ℕ)) → IsClean shows self.old → IsClean shows self.new }
         ensures room { room_of self.new ≡ room_of self.old }
     {
         let Some(frame) = self.frames.peek(&number) else {
-            return false;
+            return None;
         };
         *into = *frame.page();
+        let known = frame.is_node();
         self.frames.promote(&number);
-        true
+        Some(known)
     }
 
-    /// Keeps a page in memory, in place of what was there of its number. Where memory is wanting it
-    /// is not kept.
-    pub fn keep(&mut self, number: u32, page: &Page)
+    /// Keeps a page in memory, in place of what was there of its number; tells whether it is known
+    /// to be a sound page of a tree. Where memory is wanting it is not kept.
+    pub fn keep(&mut self, number: u32, page: &Page) -> bool
+        ensures node { result ≡ true → IsNode page.now }
         ensures clean { (shows : ℕ → Option (List ℕ)) → shows number ≡ Some page.now → IsClean shows self.old
             → IsClean shows self.new }
         ensures room { room_of self.new ≡ room_of self.old }
     {
-        if let Ok(frame) = Frame::new(self.alloc, page) {
-            let _ = self.frames.put(number, frame);
+        match Frame::new(self.alloc, page) {
+            Ok(frame) => {
+                let known = frame.is_node();
+                let _ = self.frames.put(number, frame);
+                known
+            }
+            Err(_) => false,
         }
     }
 

@@ -1,4 +1,5 @@
-ghost use Rattle.std.specs.Prelude.{◌≡◌, ◌≢◌, ◌<◌, ◌≤◌, ℕ, List, Some, None, IsSome, IfOk, IfErr, OnOk, OnErr, slice_index};
+ghost use Rattle.std.specs.Prelude.{◌≡◌, ◌≢◌, ◌<◌, ◌≤◌, ℕ, List, Some, None, IsSome, IfOk, IfErr, OnOk, OnErr, true, slice_index};
+ghost use Rattle.sqlrecord.specs.Page.{IsNode};
 ghost use Rattle.page_space.specs.declared.error.SpaceError.{SpaceError};
 ghost use Rattle.page_space.specs.Space.{PageMap, IsFresh, ReadRefused, ChangeRefused};
 
@@ -21,10 +22,11 @@ pub trait PageReader {
     /// Whether the list of free pages is one.
     ghost is_whole: { Self → Type 0 };
 
-    /// Gives what lies at a page, where one lies there. Refused for memory, where the device
-    /// refuses a call, and as damaged only where no page lies. After a refusal `into` may hold
-    /// anything.
-    fn read(&mut self, page: u32, into: &mut Page) -> Result<(), SpaceError>
+    /// Gives what lies at a page, where one lies there, and tells whether it is known to be a sound
+    /// page of a tree. Refused for memory, where the device refuses a call, and as damaged only
+    /// where no page lies. After a refusal `into` may hold anything.
+    fn read(&mut self, page: u32, into: &mut Page) -> Result<bool, SpaceError>
+        ensures node { IfOk result (λ known. known ≡ true → IsNode into.new) }
         ensures bytes { OnOk result ((bytes : List ℕ) → pages self.old page ≡ Some bytes → into.new ≡ bytes) }
         ensures same { pages self.new ≡ pages self.old }
         ensures whole { is_whole self.old → is_whole self.new }
@@ -50,11 +52,12 @@ pub trait PageSpace: PageReader {
     /// That the space is at the limit that a fault names.
     ghost at_limit: { Self → SpaceError → Type 0 };
 
-    /// Puts these bytes, which are not those of a free page, in place of a page in use. Refused for
-    /// memory, where the device refuses a call, at the limit of private pages, and as damaged only
-    /// where the page is not in use.
+    /// Puts these bytes, which are those of a sound page of a tree, in place of a page in use.
+    /// Refused for memory, where the device refuses a call, at the limit of private pages, and as
+    /// damaged only where the page is not in use.
     fn write(&mut self, page: u32, bytes: &Page) -> Result<(), SpaceError>
-        requires { slice_index bytes.now 0 ≢ 3 }
+        requires kind { slice_index bytes.now 0 ≢ 3 }
+        requires node { IsNode bytes.now }
         ensures written { OnOk result (IsSome (Self.pages self.old page) → Self.pages self.new page ≡ Some bytes.now) }
         ensures others { (n : ℕ) → n ≢ page → Self.pages self.new n ≡ Self.pages self.old n }
         ensures whole { OnOk result (Self.is_whole self.old → Self.is_whole self.new) }

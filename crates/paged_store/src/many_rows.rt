@@ -8,6 +8,7 @@ ghost use Rattle.database_versions.specs.Changed.{IsNow};
 ghost use Rattle.database_versions.specs.Databases.{IsDatabase, IsOwned, contents_in};
 ghost use Rattle.database_versions.specs.Refusals.{IsCounted, RowsReach};
 
+use catalog::KnownSchema;
 use database_versions::{delete_row, replace_row};
 use denote::Row;
 use disk::Disk;
@@ -21,6 +22,7 @@ use store::StoreError;
 /// that those written before the mark stay.
 pub(crate) fn replace_rows<D: Disk>(
     alloc: Global,
+    known: &mut KnownSchema,
     pool: &mut Pool<D>,
     changes: &mut WriteSet,
     at: u64,
@@ -39,7 +41,7 @@ pub(crate) fn replace_rows<D: Disk>(
 {
     for entry in rows.into_vec() {
         let (number, row) = entry;
-        match replace_row(alloc, pool, changes, at, name, number, row) {
+        match replace_row(alloc, known, pool, changes, at, name, number, row) {
             Ok(()) => {}
             Err(error) => return Err(error),
         }
@@ -51,6 +53,7 @@ pub(crate) fn replace_rows<D: Disk>(
 /// written before the mark stay.
 pub(crate) fn delete_rows<D: Disk>(
     alloc: Global,
+    known: &mut KnownSchema,
     pool: &mut Pool<D>,
     changes: &mut WriteSet,
     at: u64,
@@ -68,7 +71,7 @@ pub(crate) fn delete_rows<D: Disk>(
     ensures writes { D.writes (device_of pool.new) ≡ D.writes (device_of pool.old) }
 {
     for number in numbers {
-        match delete_row(alloc, pool, changes, at, name, *number) {
+        match delete_row(alloc, known, pool, changes, at, name, *number) {
             Ok(()) => {}
             Err(error) => return Err(error),
         }

@@ -13,6 +13,7 @@ use crate::seen::{
 };
 use crate::undoing::undo_refused;
 use crate::writing::write_some;
+use catalog::KnownSchema;
 use database_versions::{
     append_rows, close_pool, create_index, create_table, delete_row, drop_index, drop_table,
     of_pool, pool_over, replace_row,
@@ -40,6 +41,8 @@ pub struct Paged<D: Disk> {
     pool: Pool<D>,
     changes: WriteSet,
     readers: Readers,
+    /// The schema that was decoded last.
+    known: KnownSchema,
     /// The schema that was made ready last.
     prepared: Schema,
     /// The number of the last commit.
@@ -140,6 +143,7 @@ impl<D: Disk + Drop> Store for Paged<D> {
                 pool,
                 changes: WriteSet::new(alloc),
                 readers: Readers::new(alloc),
+                known: KnownSchema::new(alloc),
                 prepared: Schema {
                     tables: Items::new(alloc),
                 },
@@ -153,6 +157,7 @@ impl<D: Disk + Drop> Store for Paged<D> {
 
     fn close(self) -> Result<D, Returned<Self>> {
         let alloc = self.alloc;
+        let known = self.known;
         let prepared = self.prepared;
         let commits = self.commits;
         let read = self.read;
@@ -169,6 +174,7 @@ impl<D: Disk + Drop> Store for Paged<D> {
                     pool: refused.pool,
                     changes: WriteSet::new(alloc),
                     readers,
+                    known,
                     prepared,
                     commits,
                     read,
@@ -237,6 +243,7 @@ impl<D: Disk + Drop> Store for Paged<D> {
     fn prepare(&mut self, view: View) -> Result<(), StoreError> {
         match schema_seen(
             self.alloc,
+            &mut self.known,
             &mut self.pool,
             &self.changes,
             &self.readers,
@@ -309,6 +316,7 @@ impl<D: Disk + Drop> Store for Paged<D> {
     fn append(&mut self, name: &Text, rows: Rows) -> Result<(), StoreError> {
         let done = append_rows(
             self.alloc,
+            &mut self.known,
             &mut self.pool,
             &mut self.changes,
             self.commits,
@@ -321,6 +329,7 @@ impl<D: Disk + Drop> Store for Paged<D> {
     fn replace(&mut self, name: &Text, number: u64, row: Row) -> Result<(), StoreError> {
         let done = replace_row(
             self.alloc,
+            &mut self.known,
             &mut self.pool,
             &mut self.changes,
             self.commits,
@@ -334,6 +343,7 @@ impl<D: Disk + Drop> Store for Paged<D> {
     fn delete(&mut self, name: &Text, number: u64) -> Result<(), StoreError> {
         let done = delete_row(
             self.alloc,
+            &mut self.known,
             &mut self.pool,
             &mut self.changes,
             self.commits,
@@ -346,6 +356,7 @@ impl<D: Disk + Drop> Store for Paged<D> {
     fn replace_rows(&mut self, name: &Text, rows: Items<(u64, Row)>) -> Result<(), StoreError> {
         let done = replace_rows(
             self.alloc,
+            &mut self.known,
             &mut self.pool,
             &mut self.changes,
             self.commits,
@@ -358,6 +369,7 @@ impl<D: Disk + Drop> Store for Paged<D> {
     fn delete_rows(&mut self, name: &Text, numbers: &[u64]) -> Result<(), StoreError> {
         let done = delete_rows(
             self.alloc,
+            &mut self.known,
             &mut self.pool,
             &mut self.changes,
             self.commits,
@@ -370,6 +382,7 @@ impl<D: Disk + Drop> Store for Paged<D> {
     fn scan(&mut self, alloc: Global, view: View, name: &Text) -> Result<Numbered, StoreError> {
         let found = rows_seen(
             alloc,
+            &mut self.known,
             &mut self.pool,
             &self.changes,
             &self.readers,
@@ -389,6 +402,7 @@ impl<D: Disk + Drop> Store for Paged<D> {
     ) -> Result<Option<NumberedRow>, StoreError> {
         let found = next_seen(
             alloc,
+            &mut self.known,
             &mut self.pool,
             &self.changes,
             &self.readers,
@@ -410,6 +424,7 @@ impl<D: Disk + Drop> Store for Paged<D> {
     ) -> Result<Numbered, StoreError> {
         let found = sought_seen(
             alloc,
+            &mut self.known,
             &mut self.pool,
             &self.changes,
             &self.readers,
@@ -433,6 +448,7 @@ impl<D: Disk + Drop> Store for Paged<D> {
     ) -> Result<Numbered, StoreError> {
         let found = ranged_seen(
             alloc,
+            &mut self.known,
             &mut self.pool,
             &self.changes,
             &self.readers,
@@ -456,6 +472,7 @@ impl<D: Disk + Drop> Store for Paged<D> {
     ) -> Result<Option<NumberedRow>, StoreError> {
         let found = beyond_seen(
             alloc,
+            &mut self.known,
             &mut self.pool,
             &self.changes,
             &self.readers,
@@ -478,6 +495,7 @@ impl<D: Disk + Drop> Store for Paged<D> {
     ) -> Result<Numbered, StoreError> {
         let found = some_rows_seen(
             alloc,
+            &mut self.known,
             &mut self.pool,
             &self.changes,
             &self.readers,
@@ -502,6 +520,7 @@ impl<D: Disk + Drop> Store for Paged<D> {
     ) -> Result<Numbered, StoreError> {
         let found = some_sought_seen(
             alloc,
+            &mut self.known,
             &mut self.pool,
             &self.changes,
             &self.readers,
@@ -529,6 +548,7 @@ impl<D: Disk + Drop> Store for Paged<D> {
     ) -> Result<Numbered, StoreError> {
         let found = some_ranged_seen(
             alloc,
+            &mut self.known,
             &mut self.pool,
             &self.changes,
             &self.readers,

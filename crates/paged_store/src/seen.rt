@@ -15,6 +15,7 @@ ghost use Rattle.snapshot_pins.specs.Pinned.{numbers_of};
 ghost use Rattle.paged_store.specs.Shown.{stored};
 ghost use Rattle.paged_store.specs.Sound.{IsSound};
 
+use catalog::KnownSchema;
 use database_versions::{
     row_after, row_beyond, rows_of, rows_sought, rows_within, schema_of, some_rows_of,
     some_rows_sought, some_rows_within,
@@ -42,6 +43,7 @@ fn number_seen(readers: &Readers, reader: u64, commits: u64) -> u64
 /// The schema of a view.
 pub(crate) fn schema_seen<D: Disk>(
     alloc: Global,
+    known: &mut KnownSchema,
     pool: &mut Pool<D>,
     changes: &WriteSet,
     readers: &Readers,
@@ -62,15 +64,16 @@ pub(crate) fn schema_seen<D: Disk>(
         View::Found(reader) => {
             let at = number_seen(readers, reader, commits);
             let none = WriteSet::new(alloc);
-            schema_of(alloc, pool, &none, at)
+            schema_of(alloc, known, pool, &none, at)
         }
-        View::Working => schema_of(alloc, pool, changes, commits),
+        View::Working => schema_of(alloc, known, pool, changes, commits),
     }
 }
 
 /// All rows of a table of a view.
 pub(crate) fn rows_seen<D: Disk>(
     alloc: Global,
+    known: &mut KnownSchema,
     pool: &mut Pool<D>,
     changes: &WriteSet,
     readers: &Readers,
@@ -92,15 +95,16 @@ pub(crate) fn rows_seen<D: Disk>(
         View::Found(reader) => {
             let at = number_seen(readers, reader, commits);
             let none = WriteSet::new(alloc);
-            rows_of(alloc, pool, &none, at, name)
+            rows_of(alloc, known, pool, &none, at, name)
         }
-        View::Working => rows_of(alloc, pool, changes, commits, name),
+        View::Working => rows_of(alloc, known, pool, changes, commits, name),
     }
 }
 
 /// The first row above a number of a table of a view.
 pub(crate) fn next_seen<D: Disk>(
     alloc: Global,
+    known: &mut KnownSchema,
     pool: &mut Pool<D>,
     changes: &WriteSet,
     readers: &Readers,
@@ -123,15 +127,16 @@ pub(crate) fn next_seen<D: Disk>(
         View::Found(reader) => {
             let at = number_seen(readers, reader, commits);
             let none = WriteSet::new(alloc);
-            row_after(alloc, pool, &none, at, name, after)
+            row_after(alloc, known, pool, &none, at, name, after)
         }
-        View::Working => row_after(alloc, pool, changes, commits, name, after),
+        View::Working => row_after(alloc, known, pool, changes, commits, name, after),
     }
 }
 
 /// The rows of a table of a view whose columns equal a key, by the index at a place of the table.
 pub(crate) fn sought_seen<D: Disk>(
     alloc: Global,
+    known: &mut KnownSchema,
     pool: &mut Pool<D>,
     changes: &WriteSet,
     readers: &Readers,
@@ -155,9 +160,9 @@ pub(crate) fn sought_seen<D: Disk>(
         View::Found(reader) => {
             let at = number_seen(readers, reader, commits);
             let none = WriteSet::new(alloc);
-            rows_sought(alloc, pool, &none, at, name, index, key)
+            rows_sought(alloc, known, pool, &none, at, name, index, key)
         }
-        View::Working => rows_sought(alloc, pool, changes, commits, name, index, key),
+        View::Working => rows_sought(alloc, known, pool, changes, commits, name, index, key),
     }
 }
 
@@ -165,6 +170,7 @@ pub(crate) fn sought_seen<D: Disk>(
 /// the order of the index.
 pub(crate) fn ranged_seen<D: Disk>(
     alloc: Global,
+    known: &mut KnownSchema,
     pool: &mut Pool<D>,
     changes: &WriteSet,
     readers: &Readers,
@@ -189,15 +195,16 @@ pub(crate) fn ranged_seen<D: Disk>(
         View::Found(reader) => {
             let at = number_seen(readers, reader, commits);
             let none = WriteSet::new(alloc);
-            rows_within(alloc, pool, &none, at, name, index, low, high)
+            rows_within(alloc, known, pool, &none, at, name, index, low, high)
         }
-        View::Working => rows_within(alloc, pool, changes, commits, name, index, low, high),
+        View::Working => rows_within(alloc, known, pool, changes, commits, name, index, low, high),
     }
 }
 
 /// The first row above a place in the index at a place of a table of a view.
 pub(crate) fn beyond_seen<D: Disk>(
     alloc: Global,
+    known: &mut KnownSchema,
     pool: &mut Pool<D>,
     changes: &WriteSet,
     readers: &Readers,
@@ -221,15 +228,16 @@ pub(crate) fn beyond_seen<D: Disk>(
         View::Found(reader) => {
             let at = number_seen(readers, reader, commits);
             let none = WriteSet::new(alloc);
-            row_beyond(alloc, pool, &none, at, name, index, after)
+            row_beyond(alloc, known, pool, &none, at, name, index, after)
         }
-        View::Working => row_beyond(alloc, pool, changes, commits, name, index, after),
+        View::Working => row_beyond(alloc, known, pool, changes, commits, name, index, after),
     }
 }
 
 /// The first rows of a table of a view above a number, at most so many.
 pub(crate) fn some_rows_seen<D: Disk>(
     alloc: Global,
+    known: &mut KnownSchema,
     pool: &mut Pool<D>,
     changes: &WriteSet,
     readers: &Readers,
@@ -253,15 +261,16 @@ pub(crate) fn some_rows_seen<D: Disk>(
         View::Found(reader) => {
             let at = number_seen(readers, reader, commits);
             let none = WriteSet::new(alloc);
-            some_rows_of(alloc, pool, &none, at, name, after, most)
+            some_rows_of(alloc, known, pool, &none, at, name, after, most)
         }
-        View::Working => some_rows_of(alloc, pool, changes, commits, name, after, most),
+        View::Working => some_rows_of(alloc, known, pool, changes, commits, name, after, most),
     }
 }
 
 /// The first rows of a table of a view whose columns equal a key above a number, at most so many.
 pub(crate) fn some_sought_seen<D: Disk>(
     alloc: Global,
+    known: &mut KnownSchema,
     pool: &mut Pool<D>,
     changes: &WriteSet,
     readers: &Readers,
@@ -287,10 +296,10 @@ pub(crate) fn some_sought_seen<D: Disk>(
         View::Found(reader) => {
             let at = number_seen(readers, reader, commits);
             let none = WriteSet::new(alloc);
-            some_rows_sought(alloc, pool, &none, at, name, index, key, after, most)
+            some_rows_sought(alloc, known, pool, &none, at, name, index, key, after, most)
         }
         View::Working => some_rows_sought(
-            alloc, pool, changes, commits, name, index, key, after, most,
+            alloc, known, pool, changes, commits, name, index, key, after, most,
         ),
     }
 }
@@ -298,6 +307,7 @@ pub(crate) fn some_sought_seen<D: Disk>(
 /// The first rows of a table of a view within bounds behind a place in an index, at most so many.
 pub(crate) fn some_ranged_seen<D: Disk>(
     alloc: Global,
+    known: &mut KnownSchema,
     pool: &mut Pool<D>,
     changes: &WriteSet,
     readers: &Readers,
@@ -324,10 +334,12 @@ pub(crate) fn some_ranged_seen<D: Disk>(
         View::Found(reader) => {
             let at = number_seen(readers, reader, commits);
             let none = WriteSet::new(alloc);
-            some_rows_within(alloc, pool, &none, at, name, index, low, high, after, most)
+            some_rows_within(
+                alloc, known, pool, &none, at, name, index, low, high, after, most,
+            )
         }
         View::Working => some_rows_within(
-            alloc, pool, changes, commits, name, index, low, high, after, most,
+            alloc, known, pool, changes, commits, name, index, low, high, after, most,
         ),
     }
 }

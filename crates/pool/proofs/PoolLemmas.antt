@@ -58,7 +58,7 @@ past (s ∷ slots) (suc n) e = past slots n e
 
 pub found_image : (shown : Option (List ℕ) → Option (List ℕ)) (image : Option (List ℕ)) (bytes : List ℕ) (found : Found) → ((newest : Option (List ℕ)) → shown newest ≡ image)
     → IsFound (λ newest. image) bytes found → IsFound shown bytes found
-found_image shown image bytes Copied is h = λ newest. is newest ∙ h newest
+found_image shown image bytes (Copied known) is h = (λ newest. is newest ∙ h.0 newest, h.1)
 found_image shown image bytes Newest is h = λ newest. is newest ∙ h image ∙ h newest
 found_image shown image bytes Absent is h = λ newest. is newest ∙ h newest
 

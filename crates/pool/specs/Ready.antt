@@ -1,6 +1,7 @@
 -- What a page has before a commit replaces it, and what was found of a page.
 use Rattle.std.specs.Prelude.{◌≡◌, ◌⊎◌, ℕ, ◌+◌, ◌<◌, ◌==◌, true, false, List, [], ◌∷◌, ◌++◌, Option, Some, None, length, slice_index_or}
 use Rattle.std.specs.List.{list_any}
+use Rattle.sqlrecord.specs.Page.{IsNode}
 use Rattle.pool.specs.declared.pins.Pin.{Pin}
 use Rattle.pool.specs.declared.found.Found.{Found}
 use Rattle.pool.specs.declared.found.Found.TheVariants.{Copied, Newest, Absent}
@@ -9,10 +10,11 @@ use Rattle.pool.specs.Pins.{pins_at}
 use Rattle.pool.specs.Images.{covers, reads_newest}
 use Rattle.pool.specs.Slots.{seen}
 
--- what was found of a page, whatever its newest version is: the bytes of an old image, that the
--- newest version is read, or that there was no page
+-- what was found of a page, whatever its newest version is: the bytes of an old image, and whether
+-- they are known to be a sound page of a tree; that the newest version is read; or that there was no
+-- page
 abbrev pub IsFound : (Option (List ℕ) → Option (List ℕ)) → List ℕ → Found → Type 0
-IsFound shown bytes Copied = (newest : Option (List ℕ)) → shown newest ≡ Some bytes
+IsFound shown bytes (Copied known) = ((newest : Option (List ℕ)) → shown newest ≡ Some bytes) × (known ≡ true → IsNode bytes)
 IsFound shown bytes Newest = (newest : Option (List ℕ)) → shown newest ≡ newest
 IsFound shown bytes Absent = (newest : Option (List ℕ)) → shown newest ≡ None
 

@@ -1,7 +1,8 @@
 //! What a commit reads of a page, and where it stands.
-ghost use Rattle.std.specs.Prelude.{◌≡◌, ◌<◌, ◌≤◌, nat_lt, ℕ, List, Option, Some, None, MatchOption, OnOk, IfOk, IfErr, IsTrue, false};
+ghost use Rattle.std.specs.Prelude.{◌≡◌, ◌<◌, ◌≤◌, nat_lt, ℕ, List, Option, Some, None, MatchOption, OnOk, IfOk, IfErr, IsTrue, true, false};
 ghost use Rattle.std.specs.Option.{is_some};
 ghost use Rattle.journal.specs.Reading.{OnlyReads};
+ghost use Rattle.sqlrecord.specs.Page.{IsNode};
 ghost use Rattle.last_version.specs.Lasts.{device_under, count_of, shown_by, version_under, refused_of, is_broken, Tells, HoldsAs};
 ghost use Rattle.pool.specs.Ready.{IsFound};
 ghost use Rattle.pool.specs.Refused.{IsRefused, ReadRefused, IsNotOfDevice, IsTold};
@@ -17,8 +18,9 @@ use std::alloc::Global;
 
 /// Where a page was found.
 pub(crate) enum Found {
-    /// An old image of it is read, and was copied.
-    Copied,
+    /// An old image of it is read, and was copied: whether it is known to be a sound page of a
+    /// tree.
+    Copied(bool),
     /// The newest version is read.
     Newest,
     /// There was no such page.
@@ -46,7 +48,7 @@ fn copy_frame(frame: &Option<Frame>, into: &mut Page) -> Found
     match frame {
         Some(frame) => {
             *into = *frame.page();
-            Found::Copied
+            Found::Copied(frame.is_node())
         }
         None => Found::Absent,
     }
@@ -72,13 +74,14 @@ fn find_at(slots: &[Slot], page: u32, at: u64, into: &mut Page) -> Found
     }
 }
 
-/// Gives the newest version of a page. Refused where the device refuses, and as damaged where there
-/// is no such page.
+/// Gives the newest version of a page, and tells whether it is known to be a sound page of a tree.
+/// Refused where the device refuses, and as damaged where there is no such page.
 fn read_newest<D: Disk>(
     file: &mut LastVersion<D>,
     page: u32,
     into: &mut Page,
-) -> Result<(), PoolError>
+) -> Result<bool, PoolError>
+    ensures node { IfOk result (λ known. known ≡ true → IsNode into.new) }
     ensures value { OnOk result (IsTrue D.is_honest → shown_by file.old page ≡ Some into.new) }
     ensures version { IsTrue D.is_honest → version_under file.new ≡ version_under file.old }
     ensures refusal { IfErr result (ReadRefused (shown_by file.old page ≡ None) (refused_of file.old) (refused_of file.new)) }
@@ -94,20 +97,21 @@ fn read_newest<D: Disk>(
         return Err(PoolError::Damaged);
     }
     match file.read(page, into) {
-        Ok(()) => Ok(()),
+        Ok(known) => Ok(known),
         Err(cause) => Err(PoolError::Device(cause)),
     }
 }
 
-/// Gives what lies at a page at a commit. Refused where the device refuses, and as damaged where no
-/// page lies there.
+/// Gives what lies at a page at a commit, and tells whether it is known to be a sound page of a
+/// tree. Refused where the device refuses, and as damaged where no page lies there.
 pub(crate) fn read_at<D: Disk>(
     file: &mut LastVersion<D>,
     slots: &[Slot],
     page: u32,
     at: u64,
     into: &mut Page,
-) -> Result<(), PoolError>
+) -> Result<bool, PoolError>
+    ensures node { IfOk result (λ known. known ≡ true → IsNode into.new) }
     ensures value { OnOk result (IsTrue D.is_honest
         → pages_at (shown_by file.old) slots.now at page ≡ Some into.new) }
     ensures version { IsTrue D.is_honest → version_under file.new ≡ version_under file.old }
@@ -122,7 +126,7 @@ pub(crate) fn read_at<D: Disk>(
     ensures holds { HoldsAs file.old file.new }
 {
     match find_at(slots, page, at, into) {
-        Found::Copied => Ok(()),
+        Found::Copied(known) => Ok(known),
         Found::Newest => read_newest(file, page, into),
         Found::Absent => Err(PoolError::Damaged),
     }
@@ -160,7 +164,7 @@ pub(crate) fn newest_frame<D: Disk>(
     }
     let mut bytes = [0; PAGE_SIZE];
     match file.read(page, &mut bytes) {
-        Ok(()) => some_frame(alloc, &bytes),
+        Ok(_) => some_frame(alloc, &bytes),
         Err(cause) => Err(PoolError::Device(cause)),
     }
 }

@@ -5,8 +5,9 @@ ghost use Rattle.journal.specs.Lists.{IsRising, image_in};
 ghost use Rattle.pool.specs.Pages.{over, only, pages_in, numbers_of};
 ghost use Rattle.pool.specs.Ready.{Ascend};
 
-use items::{Boxed, Items};
+use items::Items;
 use journal::Image;
+use page_cache::Frame;
 use pagefile::Page;
 use std::alloc::{AllocError, Global};
 use std::collections::BTreeMap;
@@ -15,7 +16,7 @@ use std::marker::Model;
 /// A map from page numbers to pages. Contracts see its entries, in the order of the numbers.
 #[derive(Drop)]
 pub struct PageSet {
-    pages: BTreeMap<u32, Boxed<Page>>,
+    pages: BTreeMap<u32, Frame>,
     alloc: Global,
 }
 
@@ -46,13 +47,10 @@ impl PageSet {
     }
 
     /// The page of this number; `None` where it has none.
-    pub fn get(&self, number: u32) -> Option<&Page>
+    pub fn get(&self, number: u32) -> Option<&Frame>
         ensures { option_copied result ≡ pages_in self.now number }
     {
-        match self.pages.get(&number) {
-            Some(page) => Some(page.get()),
-            None => None,
-        }
+        self.pages.get(&number)
     }
 
     /// Makes this the page of its number. Refuses for want of memory alone, and then stays as it
@@ -63,7 +61,30 @@ impl PageSet {
         ensures same_len { OnOk result (IsSome (pages_in self.old number) → length self.new ≡ length self.old) }
         ensures left { OnErr result (self.new ≡ self.old) }
     {
-        let page = Boxed::new(self.alloc, *page)?;
+        let page = Frame::new(self.alloc, page)?;
+        self.pages.insert(number, page)?;
+        Ok(())
+    }
+
+    /// Makes this the page of its number, as `put`: it is not tested again.
+    pub fn put_frame(&mut self, number: u32, page: Frame) -> Result<(), AllocError>
+        ensures put { OnOk result (pages_in self.new ≡ over (only number page) (pages_in self.old)) }
+        ensures len { OnOk result (length self.new ≤ length self.old + 1) }
+        ensures same_len { OnOk result (IsSome (pages_in self.old number) → length self.new ≡ length self.old) }
+        ensures left { OnErr result (self.new ≡ self.old) }
+    {
+        self.pages.insert(number, page)?;
+        Ok(())
+    }
+
+    /// Makes a copy of this the page of its number, as `put`: it is not tested again.
+    pub fn put_copy(&mut self, number: u32, page: &Frame) -> Result<(), AllocError>
+        ensures put { OnOk result (pages_in self.new ≡ over (only number page.now) (pages_in self.old)) }
+        ensures len { OnOk result (length self.new ≤ length self.old + 1) }
+        ensures same_len { OnOk result (IsSome (pages_in self.old number) → length self.new ≡ length self.old) }
+        ensures left { OnErr result (self.new ≡ self.old) }
+    {
+        let page = page.copy(self.alloc)?;
         self.pages.insert(number, page)?;
         Ok(())
     }
@@ -116,19 +137,17 @@ fn size_of(page: &Page) -> usize
 }
 
 /// Puts a page at the end of a list.
-fn push_image(images: &mut Items<Image>, number: u32, page: Boxed<Page>) -> Result<(), AllocError>
+fn push_image(images: &mut Items<Image>, number: u32, page: Frame) -> Result<(), AllocError>
     ensures pushed { OnOk result (images.new ≡ images.old ++ (number, page) ∷ []) }
     ensures sized { length page ≡ 4096 }
 {
-    let _size = size_of(page.get());
+    let _size = size_of(page.page());
+    let page = page.into_page();
     images.push((number, page))
 }
 
 /// The entries of a map, in their order, of which it is not said that they rise.
-fn list_images(
-    alloc: Global,
-    mut pages: BTreeMap<u32, Boxed<Page>>,
-) -> Result<Items<Image>, AllocError>
+fn list_images(alloc: Global, mut pages: BTreeMap<u32, Frame>) -> Result<Items<Image>, AllocError>
     ensures same { IfOk result (λ images. images ≡ pages.entries) }
     ensures sized { IfOk result (λ images. (i : ℕ) → i < length images → length (image_in images i) ≡ 4096) }
 {

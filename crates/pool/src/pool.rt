@@ -10,6 +10,7 @@ ghost use Rattle.journal.specs.Reading.{OnlyReads};
 ghost use Rattle.journal.specs.Versions.{IsAmong, IsCommittable, committed};
 ghost use Rattle.journaled_file.specs.Shown.{IsAtRest};
 ghost use Rattle.last_version.specs.Standing.{pages_below, padded_of, version_in};
+ghost use Rattle.sqlrecord.specs.Page.{IsNode};
 ghost use Rattle.pool.specs.Images.{AreKept, AreNeeded, images_in, pinned_in};
 ghost use Rattle.pool.specs.Slots.{slot_at};
 
@@ -174,10 +175,11 @@ impl<D: Disk> Pool<D> {
         }
     }
 
-    /// Gives what lies at a page at a commit. Refused where the device refuses, and as damaged
-    /// where no page lies there; `into` then may hold anything but what it held before. It writes
-    /// nothing.
-    pub fn read(&mut self, at: u64, page: u32, into: &mut Page) -> Result<(), PoolError>
+    /// Gives what lies at a page at a commit, and tells whether it is known to be a sound page of a
+    /// tree. Refused where the device refuses, and as damaged where no page lies there; `into` then
+    /// may hold anything but what it held before. It writes nothing.
+    pub fn read(&mut self, at: u64, page: u32, into: &mut Page) -> Result<bool, PoolError>
+        ensures node { IfOk result (λ known. known ≡ true → IsNode into.new) }
         ensures value { OnOk result ((bytes : List ℕ) → (versions_of self.old).pages at page ≡ Some bytes
             → into.new ≡ bytes) }
         ensures there { OnOk result (IsTrue D.is_honest → IsSome ((versions_of self.old).pages at page)) }
@@ -201,7 +203,7 @@ impl<D: Disk> Pool<D> {
             return Err(self.refuse());
         }
         match read_at(&mut self.file, self.slots.as_slice(), page, at, into) {
-            Ok(()) => Ok(()),
+            Ok(known) => Ok(known),
             Err(error) => Err(error),
         }
     }

@@ -23,19 +23,9 @@ use Rattle.transactions.specs.Refused.{TellsNoLimit}
 use Rattle.tree_tables.specs.TablesRead.{Agree, tables_in_tree}
 use Rattle.query_answers.specs.Answered.{rows_found, IsTreeOf, RefusesAs}
 
--- the two laws, as the calls of them say
-abbrev pub ListingsAnswer : Type 0
-ListingsAnswer = (described : List ℕ → StoredTable) → ((name : List ℕ) → (described name).name ≡ name) → (db : Database) (ordered : OrderedQuery)
-    → Answers (reply_of (tree_listing (rows_in db) (tree_of_ordered described ordered) [])) (denotes db ordered)
-
+-- the law, as the call of it says
 abbrev pub ListingsRead : Type 0
 ListingsRead = (tables others : Tables) (tree : Tree) → Agree tables others (tables_in_tree tree) → tree_listing tables tree ≡ tree_listing others tree
-
-pub listed_answers : ListingsAnswer → (c : Contents) (tree : Tree) (listed : Outcome) → listed ≡ tree_listing (rows_found c) tree []
-    → (ordered : OrderedQuery) → IsTreeOf ordered tree → Answers (reply_of listed) (denotes (database_of c) ordered)
-listed_answers answer c tree listed is ordered t =
-    let same : listed ≡ tree_listing (rows_found c) (tree_of_ordered t.described ordered) [] = is ∙ ap (λ (x : Tree). tree_listing (rows_found c) x []) t.is in
-    subst (λ (o : Outcome). Answers (reply_of o) (denotes (database_of c) ordered)) (sym same) (answer t.described t.names (database_of c) ordered)
 
 -- rows, and a fault
 pub rows_answer : (reply : Result (List Row) Fault) (rows : List Row) (o : OrderedOutcome) → reply ≡ Ok rows → Answers reply o → Answers (Ok rows) o
@@ -64,16 +54,3 @@ pub run_listed : ListingsRead → (c : Contents) (lent : Tables) (tree : Tree) (
     → IfOk result (λ listed. outcome_of listed ≡ tree_listing lent tree []) → Sound → IfOk result (λ listed. outcome_of listed ≡ tree_listing (rows_found c) tree [])
 run_listed read c lent tree Sound agree (Ok listed) is sound = is ∙ ap (λ (m : _). m []) (read lent (rows_found c) tree (agree sound))
 run_listed read c lent tree Sound agree (Err refusal) is sound = tt
-
-module _ (answer : ListingsAnswer) (c : Contents) (tree : Tree) (Sound : Type 0) (listed : Outcome) (is : Sound → listed ≡ tree_listing (rows_found c) tree []) where
-  pub rows_given : (result : Result (List Row) Refusal) → IfOk result (λ rows. reply_of listed ≡ Ok rows)
-      → IfOk result (λ rows. Sound → (ordered : OrderedQuery) → IsTreeOf ordered tree → Answers (Ok rows) (denotes (database_of c) ordered))
-  rows_given (Ok rows) shown = λ sound ordered t.
-      rows_answer (reply_of listed) rows (denotes (database_of c) ordered) shown (listed_answers answer c tree listed (is sound) ordered t)
-  rows_given (Err refusal) shown = tt
-
-  pub refusal_given : (result : Result (List Row) Refusal) → IfErr result (RefusesAs (reply_of listed))
-      → IfErr result (λ refusal. Sound → (ordered : OrderedQuery) → IsTreeOf ordered tree → MayRefuse (denotes (database_of c) ordered).unordered.faults refusal)
-  refusal_given (Ok rows) shown = tt
-  refusal_given (Err refusal) shown = λ sound ordered t.
-      fault_answers (reply_of listed) refusal (denotes (database_of c) ordered) shown (listed_answers answer c tree listed (is sound) ordered t)

@@ -3,3 +3,6 @@ pub mod Answered
 pub mod Refused
 pub mod Sources
 pub mod Gives
+pub mod Itself
+pub mod Planned
+pub mod Explanation

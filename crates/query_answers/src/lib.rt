@@ -2,14 +2,19 @@
 //! forms of tables.
 #![tactic(auto)]
 
+mod explanation;
 mod fault;
+mod itself;
 mod lent;
+mod planned;
 mod query;
 mod rows;
 mod sources;
 
+pub use explanation::explain;
 pub use fault::refusal_of_fault;
 pub use lent::{LentTable, LentTables, lent_tables};
-pub use query::{answer, query_tree, run_all};
+pub use planned::{answer, query_plan, run_plan};
+pub use query::{query_tree, run_all};
 pub use rows::rows_to_insert;
 pub use sources::{source_trees, tables_for_sources};

@@ -1,12 +1,7 @@
 //! The answer of a query.
 ghost use Rattle.std.specs.Prelude.{◌≡◌, ◌≢◌, ◌≤◌, ◌+◌, [], Ok, IfOk, IfErr};
 ghost use Rattle.refusals.specs.declared.refusal.Refusal.TheVariants.{Disk, Memory};
-ghost use Rattle.typing.specs.declared.typed.OrderedQuery.{OrderedQuery as Asked};
-ghost use Rattle.denote.specs.Answer.{Answers};
-ghost use Rattle.denote.specs.Query.{denotes};
-ghost use Rattle.store.specs.Contents.{database_of};
 ghost use Rattle.store.specs.Errors.{HasRisen};
-ghost use Rattle.query_answers.specs.Refused.{MayRefuse};
 ghost use Rattle.algebra.specs.Described.{described_in};
 ghost use Rattle.algebra.specs.Listing.{reply_of, tree_listing};
 ghost use Rattle.algebra.specs.Translated.{tree_of_ordered};
@@ -19,9 +14,9 @@ ghost use Rattle.query_answers.specs.Lent.{rows_under};
 ghost use Rattle.query_answers.specs.Answered.{IsTreeOf, RefusesAs, rows_found};
 
 use crate::fault::refusal_of_fault;
+use crate::itself::{reads_itself, run_by_itself};
 use crate::lent::lent_tables;
 use algebra::Tree;
-use algebra_laws::listings_answer_queries;
 use denote::{Rows, Stop};
 use executor::Listed;
 use refusals::Refusal;
@@ -57,6 +52,34 @@ pub fn run_all<R: Reading>(alloc: Global, reading: &mut R, plan: &Tree) -> Resul
         → HasRisen (R.shows reading.old).refused (R.shows reading.new).refused) }
     ensures follows { R.follows reading.old reading.new }
 {
+    match reads_itself(alloc, plan) {
+        Err(_) => Err(Refusal::Memory),
+        Ok(goes) => {
+            if goes {
+                run_by_itself(alloc, reading, plan)
+            } else {
+                run_whole(alloc, reading, plan)
+            }
+        }
+    }
+}
+
+/// The same of any plan: its tables are lent to it whole.
+pub(crate) fn run_whole<R: Reading>(
+    alloc: Global,
+    reading: &mut R,
+    plan: &Tree,
+) -> Result<Listed, Refusal>
+    ensures lists { R.is_sound reading.old
+        → IfOk result (λ listed. outcome_of listed ≡ tree_listing (rows_found (R.shows reading.old).contents) plan.now []) }
+    ensures read { R.is_sound reading.old
+        → IfOk result (λ _. (R.shows reading.new).read ≤ (R.shows reading.old).read + rows_under (rows_found (R.shows reading.old).contents) (tables_in_tree plan.now)) }
+    ensures refused { IfErr result (λ refusal. R.is_sound reading.old → IsReserved refusal) }
+    ensures limits { IfErr result TellsNoLimit }
+    ensures counts { IfErr result (λ refusal. refusal ≡ Disk
+        → HasRisen (R.shows reading.old).refused (R.shows reading.new).refused) }
+    ensures follows { R.follows reading.old reading.new }
+{
     listings_read_their_tables();
     let names = match tables_in_tree(alloc, plan) {
         Ok(names) => names,
@@ -80,29 +103,8 @@ fn unstopped(listed: Result<Listed, Stop>) -> Result<Listed, Refusal>
     }
 }
 
-/// The rows of a query by its tree. Each table that it names is read once. It is refused by one of
-/// the query's faults, and for what the store is refused for.
-pub fn answer<R: Reading>(alloc: Global, reading: &mut R, tree: &Tree) -> Result<Rows, Refusal>
-    ensures answers { IfOk result (λ rows. R.is_sound reading.old → (ordered : Asked) → IsTreeOf ordered tree.now
-        → Answers (Ok rows) (denotes (database_of (R.shows reading.old).contents) ordered)) }
-    ensures read { R.is_sound reading.old
-        → IfOk result (λ _. (R.shows reading.new).read ≤ (R.shows reading.old).read + rows_under (rows_found (R.shows reading.old).contents) (tables_in_tree tree.now)) }
-    ensures refused { IfErr result (λ refusal. R.is_sound reading.old → (ordered : Asked) → IsTreeOf ordered tree.now
-        → MayRefuse (denotes (database_of (R.shows reading.old).contents) ordered).unordered.faults refusal) }
-    ensures limits { IfErr result TellsNoLimit }
-    ensures counts { IfErr result (λ refusal. refusal ≡ Disk
-        → HasRisen (R.shows reading.old).refused (R.shows reading.new).refused) }
-    ensures follows { R.follows reading.old reading.new }
-{
-    listings_answer_queries();
-    match run_all(alloc, reading, tree) {
-        Ok(listed) => shown(listed),
-        Err(refusal) => Err(refusal),
-    }
-}
-
 /// What is shown of a listing: its rows, or the fault that ends it.
-fn shown(listed: Listed) -> Result<Rows, Refusal>
+pub(crate) fn shown(listed: Listed) -> Result<Rows, Refusal>
     ensures rows { IfOk result (λ rows. reply_of (outcome_of listed) ≡ Ok rows) }
     ensures refused { IfErr result (RefusesAs (reply_of (outcome_of listed))) }
     ensures stored { IfErr result (λ refusal. refusal ≢ Disk) }

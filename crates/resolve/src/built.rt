@@ -5,13 +5,13 @@ ghost use Rattle.typing.specs.Built.{is_built};
 
 use ast::Statement;
 
-/// Whether all forms of a statement are built: all but EXPLAIN and cursors.
+/// Whether all forms of a statement are built: all but those of cursors.
 pub fn is_built(statement: &Statement) -> bool
     ensures { result ≡ is_built statement.now }
 {
     match statement {
         Statement::Query(_) => true,
-        Statement::Explain(_) => false,
+        Statement::Explain(_) => true,
         Statement::CreateTable(_) => true,
         Statement::DropTable(_) => true,
         Statement::CreateIndex(_) => true,

@@ -1,6 +1,5 @@
 -- What each statement answers and does. A rule speaks of the session in which the statement is made
 -- and of the transaction in which it runs, its own or one that begins now.
--- Scaffolding until it is built: EXPLAIN.
 use Rattle.std.specs.Prelude.{◌≡◌, ◌⊎◌, ℕ, ◌<◌, ◌≤◌, zero, suc, true, false, List, [], ◌∷◌, ◌++◌, Option, Some, None, Ok, Err}
 use Rattle.std.specs.FinMap.{get, contains_key, len, insert}
 use Rattle.sqlval.specs.Value.{Row}
@@ -46,7 +45,7 @@ pub data Queries (rules : Rules) (session : Session) (t : Transaction) (x : Orde
       → Refuses (refusal_of fault) reply effect → Queries rules session t x reply effect
 
 -- EXPLAIN (our own choice): as a query, but nothing is evaluated. Which lines it answers is open
--- here.
+-- here: `query_answers` says what they show.
 pub data Explains (rules : Rules) (session : Session) (t : Transaction) (x : OrderedQuery) (reply : Reply) (effect : Effect) : Type 0 where
   wrong : (refusal : Refusal) → IsReason rules t.working (asks.Explain x) refusal
       → Refuses refusal reply effect → Explains rules session t x reply effect

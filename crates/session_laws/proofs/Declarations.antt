@@ -77,7 +77,7 @@ module _ (checks : CheckLaw) (columns : ColumnLaw) (indexes : IndexLaw) (schema 
 
   found_right : (x : Statement) → IsRead text x → answered_found x schema ≡ Ok (does.Change change) → DeclaresRightly db change
   found_right (asks.Query tree) read e = no_change db (ordered_found (known schema) tree) does.Query change (λ q f. absurd (cc f)) e
-  found_right (asks.Explain tree) read e = absurd (cc e)
+  found_right (asks.Explain tree) read e = no_change db (ordered_found (known schema) tree) does.Explain change (λ q f. absurd (cc f)) e
   found_right (asks.CreateTable tree) read e = of_kind db (create_found (known schema) tree) change_of.CreateTable change (created tree read) e
   found_right (asks.DropTable name) read e = of_kind db (dropped_table (known schema) name) change_of.DropTable change (λ n f. tt) e
   found_right (asks.CreateIndex tree) read e = of_kind db (index_found (known schema) tree) change_of.CreateIndex change

@@ -1,7 +1,7 @@
-pub mod Words
 pub mod Typings
 pub mod Schemas
 pub mod QuerySteps
+pub mod ExplainSteps
 pub mod ChangeCalls
 pub mod ChangeSteps
 pub mod PutIn

@@ -13,7 +13,7 @@ use Rattle.typing.specs.declared.statement.Typed.TheVariants as does
 use Rattle.typing.specs.declared.typed.OrderedQuery as typed
 use Rattle.typing.specs.Statement.{answered_found}
 use Rattle.denote.specs.Answer.{Answers}
-use Rattle.denote.specs.Database.{Database}
+use Rattle.denote.specs.Database.{CheckReading, Database, IsGood}
 use Rattle.denote.specs.Query.{denotes}
 use Rattle.denote.specs.SchemaOf.{IsSchemaOf}
 use Rattle.replies.specs.declared.reply.Reply.TheVariants as says
@@ -39,6 +39,7 @@ use Rattle.transactions.proofs.Orders.{begun_by, not_writer}
 use Rattle.transactions.proofs.Steps.{Answered, answers, found_by, nothing_moves, read_once, runs_works, withholds}
 use Rattle.query_answers.specs.Refused.{MayRefuse}
 use Rattle.sessions.specs.Answered.{GivesRows, RefusesQuery}
+use Rattle.sessions.specs.Seen.{seen_in}
 use Rattle.sessions.proofs.Typings.{typed_query, means, Against, read_as}
 
 -- ---- over a version
@@ -76,7 +77,21 @@ module _ (rules : Rules) (x : OrderedQuery) (statement : Statement) (schema lent
       refuses_rows rules (database_of (seen_by old view)) schema x q.0 refusal are of (known ∙ ap Ok q.1)
       (subst (λ (st : Stored). MayRefuse (denotes (database_of (seen_by st view)) q.0).unordered.faults refusal) same (h q.0 q.1))
 
+  -- the version is good, and the schema its own, once that is made ready
+  pub good_still : IsGood rules.check (database_of (seen_by old view)) → IsGood rules.check (database_of (seen_by mid view))
+  good_still good = subst (λ (st : Stored). IsGood rules.check (database_of (seen_by st view))) (sym same) good
+
+  pub schema_still : IsSchemaOf schema (database_of (seen_by mid view))
+  schema_still = subst (λ (st : Stored). IsSchemaOf schema (database_of (seen_by st view))) (sym same) of
+
 -- ---- in a session
+
+-- what it sees once it has begun is good
+pub good_begun : (reading : CheckReading) (st mid : Stored) (w : Option ℕ) (s : ℕ) (view : View) → mid ≡ begun st s → view ≡ view_in w s
+    → IsGood reading (seen_in st w s) → IsGood reading (database_of (seen_by mid view))
+good_begun reading st mid w s view begins seen good =
+    subst (λ (x : Stored). IsGood reading (database_of (seen_by x view))) (sym begins)
+    (subst (λ (v : View). IsGood reading (database_of (seen_by (begun st s) v))) (sym seen) good)
 
 -- once it has begun, a session sees what its transaction reads
 pub sees_contents : (st : Stored) (w : Option ℕ) (s : ℕ) → IsOrderly st w → seen_by (begun st s) (view_in w s) ≡ read_once st w s

@@ -1,4 +1,4 @@
--- What the rules of names and types give for a query and for a change.
+-- What the rules of names and types give for a query, an EXPLAIN and a change.
 use Rattle.std.proofs.Common.{◌≡◌, Bool, true, false, cond, [], ◌∷◌, Ok, Err, Contains, refl, sym, ap, ◌∙◌, arith}
 use Rattle.refusals.specs.declared.refusal.Refusal.{Refusal}
 use Rattle.refusals.specs.declared.refusal.Refusal.TheVariants as refused
@@ -31,6 +31,13 @@ pub typed_query : (x : OrderedQuery) (schema : Schema) (t : Typed) → answered_
 typed_query x schema t e = go (ordered_found (known schema) x) e
   where
     go : (f : Finding typed.OrderedQuery) → (f >>= (λ q. Ok (does.Query q))) ≡ Ok t → (q : typed.OrderedQuery) × (t ≡ does.Query q)
+    go (Ok q) e = (q, cc)
+    go (Err reasons) e = absurd (cc)
+
+pub typed_explain : (x : OrderedQuery) (schema : Schema) (t : Typed) → answered_found (asks.Explain x) schema ≡ Ok t → (q : typed.OrderedQuery) × (t ≡ does.Explain q)
+typed_explain x schema t e = go (ordered_found (known schema) x) e
+  where
+    go : (f : Finding typed.OrderedQuery) → (f >>= (λ q. Ok (does.Explain q))) ≡ Ok t → (q : typed.OrderedQuery) × (t ≡ does.Explain q)
     go (Ok q) e = (q, cc)
     go (Err reasons) e = absurd (cc)
 

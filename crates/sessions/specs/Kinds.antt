@@ -1,4 +1,4 @@
--- Which statements are queries, changes, and forms that come later.
+-- Which statements are queries and changes, and which are of cursors.
 use Rattle.std.specs.Prelude.{◌≡◌, Bool, true, false}
 use Rattle.lexer.specs.Token.{Bytes}
 use Rattle.ast.specs.declared.statement.OrderedQuery.{OrderedQuery}
@@ -42,11 +42,6 @@ is_fetch _ = false
 abbrev pub IsFetchText : Bytes → Type 0
 IsFetchText text = (name : Name) × IsRead text (asks.Fetch name)
 
--- whether its form comes later: EXPLAIN
-abbrev pub is_later : Statement → Bool
-is_later (asks.Explain x) = true
-is_later _ = false
-
 abbrev pub IsOfKind : Kind → Statement → Type 0
 IsOfKind kind.Query x = (query : OrderedQuery) × (x ≡ asks.Query query)
 IsOfKind kind.Change x = is_change x ≡ true
@@ -54,4 +49,4 @@ IsOfKind kind.Commit x = (work : Bool) × (x ≡ asks.Commit work)
 IsOfKind kind.Rollback x = (work : Bool) × (x ≡ asks.Rollback work)
 IsOfKind (kind.SetTransaction mode) x = x ≡ asks.SetTransaction mode
 IsOfKind kind.Cursor x = is_of_cursor x ≡ true
-IsOfKind kind.Later x = is_later x ≡ true
+IsOfKind kind.Explain x = (query : OrderedQuery) × (x ≡ asks.Explain query)

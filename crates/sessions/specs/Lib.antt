@@ -1,6 +1,7 @@
 pub mod Kinds
 pub mod Seen
 pub mod Answered
+pub mod Explained
 pub mod Changed
 pub mod Numbers
 pub mod Held

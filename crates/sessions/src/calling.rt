@@ -1,6 +1,8 @@
 //! From the text of a call to its reply.
 ghost use Rattle.std.specs.Prelude.{◌≡◌, ◌≢◌, ◌⊎◌, ℕ, false, [], ◌∷◌, Option};
 ghost use Rattle.std.specs.FinMap.{get};
+ghost use Rattle.ast.specs.declared.statement.OrderedQuery.{OrderedQuery};
+ghost use Rattle.ast.specs.declared.statement.Statement.TheVariants as asks;
 ghost use Rattle.lexer.specs.Token.{Bytes};
 ghost use Rattle.denote.specs.Database.{IsGood};
 ghost use Rattle.session_definitions.specs.Asked.{Asked};
@@ -15,6 +17,7 @@ ghost use Rattle.transactions.specs.Orderly.{IsOrderly};
 ghost use Rattle.transactions.specs.Refused.{Counts, IfRefused, TellsReached};
 ghost use Rattle.transactions.specs.Shown.{settled};
 ghost use Rattle.sessions.specs.Committing.{CommitsAsWriter, IsCommitOfWriter};
+ghost use Rattle.sessions.specs.Explained.{IfLines, ShowsLines};
 ghost use Rattle.sessions.specs.Held.{FitsIn, Holds, Leaves};
 ghost use Rattle.sessions.specs.Kinds.{IsFetchText, is_declare, is_fetch};
 ghost use Rattle.sessions.specs.Limits.{CallReaches, StatementReaches};
@@ -24,12 +27,12 @@ ghost use Rattle.sessions.specs.Seen.{seen_in};
 use crate::change::change;
 use crate::changes::Changes;
 use crate::cursor_calls::{cursor_call, declare, declared_in};
+use crate::explaining::explain_query;
 use crate::kind::{Kind, kind_of};
 use crate::language::Language;
 use crate::query::query;
 use crate::slots::Slot;
 use ast::Statement;
-use refusals::Refusal;
 use replies::Reply;
 use std::alloc::Global;
 use store::Store;
@@ -62,6 +65,8 @@ pub(crate) fn call<S: Store, L: Language + Changes<S>>(
         → Holds (S.shows store.old) writer.old session slot.old.cursors
         → IsGood rules.check (seen_in (S.shows store.old) writer.old session)
         → Leaves rules session (Asked.Text text.now) result (S.shows store.old) writer.old slot.old (S.shows store.new) writer.new slot.new }
+    ensures explained { (x : OrderedQuery) → IsRead text.now (asks.Explain x) → S.is_sound store.old
+        → IfLines result (ShowsLines (seen_in (S.shows store.old) writer.old session) x) }
     ensures device { Counts result (S.refused store.old) (S.refused store.new) }
     ensures limits { IfRefused result (TellsReached (CallReaches (S.counted store.old) (S.shows store.old).commits text.now)) }
     ensures rolled_back { IsRollback text.now → result ≡ Reply.Done }
@@ -102,6 +107,8 @@ fn carry_out<S: Store, L: Language + Changes<S>>(
         → Holds (S.shows store.old) writer.old session slot.old.cursors
         → IsGood rules.check (seen_in (S.shows store.old) writer.old session)
         → Leaves rules session (Asked.Text text) result (S.shows store.old) writer.old slot.old (S.shows store.new) writer.new slot.new }
+    ensures explained { (x : OrderedQuery) → statement.now ≡ asks.Explain x → S.is_sound store.old
+        → IfLines result (ShowsLines (seen_in (S.shows store.old) writer.old session) x) }
     ensures device { Counts result (S.refused store.old) (S.refused store.new) }
     ensures limits { IfRefused result (TellsReached (StatementReaches (S.counted store.old) (S.shows store.old).commits statement.now)) }
     ensures kept { IfRefused result (λ refusal. refusal ≢ SerializationFailure → is_fetch statement.now ≡ false
@@ -119,6 +126,6 @@ fn carry_out<S: Store, L: Language + Changes<S>>(
         Kind::Rollback => roll_back(store, writer, &mut slot.mode, session),
         Kind::SetTransaction(set) => set_mode(store, *writer, &mut slot.mode, session, set),
         Kind::Cursor => cursor_call(alloc, language, store, *writer, slot, session, statement),
-        Kind::Later => Reply::Refused(Refusal::NotSupported),
+        Kind::Explain => explain_query(alloc, language, store, *writer, session, statement),
     }
 }

@@ -58,10 +58,14 @@ impl<S: Store, L: Language + Changes<S>> Core<S, L> {
     ghost use Rattle.store.specs.Going.{Going};
     ghost use Rattle.transactions.specs.Refused.{Counts, IfRefused, TellsNoLimit, TellsReached};
     ghost use Rattle.refusals.specs.declared.limit.Limit.TheVariants as limit;
+    ghost use Rattle.ast.specs.declared.statement.OrderedQuery.{OrderedQuery};
+    ghost use Rattle.ast.specs.declared.statement.Statement.TheVariants as asks;
+    ghost use Rattle.statement_definitions.specs.Reading.{IsRead};
     ghost use Rattle.statement_definitions.specs.Rollback.{IsRollback};
     ghost use Rattle.refusals.specs.declared.reason.Reason.TheVariants as reason;
     ghost use Rattle.refusals.specs.declared.refusal.Refusal.TheVariants.{CursorState, Damaged, Disk, Exceeded, Invalid, SerializationFailure};
     ghost use Rattle.sessions.specs.Committing.{CommitsAsWriter};
+    ghost use Rattle.sessions.specs.Explained.{IfLines, ShowsLines};
     ghost use Rattle.sessions.specs.Kinds.{IsFetchText};
     ghost use Rattle.sessions.specs.Limits.{CallReaches};
     ghost use Rattle.sessions.specs.Seen.{seen_in};
@@ -76,8 +80,9 @@ impl<S: Store, L: Language + Changes<S>> Core<S, L> {
     /// the device only where a call of the device was refused. A limit of what the store counts
     /// (pages, private pages, kept page images) is told only of a change, or of a COMMIT where the
     /// store reaches it. Only a COMMIT of the session that writes may write on the device, and it
-    /// writes nothing where nothing was changed. That the database which the statement sees is good
-    /// is a law of runs; a change relies on it.
+    /// writes nothing where nothing was changed. The lines of an EXPLAIN show a plan of its query
+    /// over the schema that the session sees. That the database which the statement sees is good is
+    /// a law of runs; a change and a query rely on it.
     pub fn step(&mut self, session: SessionId, text: &[u8]) -> Reply
         ensures step { (rules : Rules) → AreRules rules → IsSound S.is_sound S.shows self.old
             → is_live (world_of S.shows self.old) (number_of session) ≡ true
@@ -86,6 +91,8 @@ impl<S: Store, L: Language + Changes<S>> Core<S, L> {
         ensures sound { (rules : Rules) → AreRules rules → IsSound S.is_sound S.shows self.old
             → IsGood rules.check (seen_in (S.shows self.old.store) self.old.writer (number_of session))
             → IsSound S.is_sound S.shows self.new }
+        ensures explained { (x : OrderedQuery) → IsRead text.now (asks.Explain x) → S.is_sound self.old.store
+            → IfLines result (ShowsLines (seen_in (S.shows self.old.store) self.old.writer (number_of session)) x) }
         ensures rolled_back { IsRollback text.now → is_live (world_of S.shows self.old) (number_of session) ≡ true
             → result ≡ Reply.Done }
         ensures ended { is_live (world_of S.shows self.old) (number_of session) ≡ false

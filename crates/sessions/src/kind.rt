@@ -13,8 +13,7 @@ pub(crate) enum Kind {
     SetTransaction(AccessMode),
     /// DECLARE, OPEN, FETCH or CLOSE.
     Cursor,
-    /// A form that is not built yet. Some word of its text is not supported.
-    Later,
+    Explain,
 }
 
 /// The kind of a statement.
@@ -33,7 +32,7 @@ pub(crate) fn kind_of(statement: &Statement) -> Kind
         Statement::Commit(_) => Kind::Commit,
         Statement::Rollback(_) => Kind::Rollback,
         Statement::SetTransaction(mode) => Kind::SetTransaction(*mode),
-        Statement::Explain(_) => Kind::Later,
+        Statement::Explain(_) => Kind::Explain,
         Statement::DeclareCursor(_) => Kind::Cursor,
         Statement::OpenCursor(_) => Kind::Cursor,
         Statement::Fetch(_) => Kind::Cursor,

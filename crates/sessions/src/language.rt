@@ -1,5 +1,6 @@
 //! How the texts of statements are read and typed, which sessions take as it is.
-ghost use Rattle.std.specs.Prelude.{◌≡◌, ◌≢◌, ◌↔◌, IsTrue, IfOk, IfErr};
+ghost use Rattle.std.specs.Prelude.{◌≡◌, ◌≢◌, ◌↔◌, IsTrue, IfOk, IfErr, MatchResult};
+ghost use Rattle.ast.specs.declared.statement.Statement.{Statement as Tree};
 ghost use Rattle.refusals.specs.declared.refusal.Refusal.TheVariants.{Disk, Memory};
 ghost use Rattle.statement_definitions.specs.Reading.{IsRead, IsUnread};
 ghost use Rattle.statement_definitions.specs.Rollback.{IsRollback};
@@ -22,11 +23,13 @@ pub trait Language: Drop {
     fn is_rollback(&self, text: &[u8]) -> bool
         ensures { IsTrue result ↔ IsRollback text.now };
 
-    /// The statement of a text. A text that is no statement is refused by the first thing that is
-    /// wrong with it; any may be refused for want of memory.
+    /// The statement of a text, which is one at most. A text that is no statement is refused by the
+    /// first thing that is wrong with it; any may be refused for want of memory.
     fn read(&self, alloc: Global, text: &[u8]) -> Result<Statement, Refusal>
         ensures read { IfOk result (λ x. IsRead text.now x) }
-        ensures unread { IfErr result (λ refusal. refusal ≢ Memory → IsUnread text.now refusal) };
+        ensures unread { IfErr result (λ refusal. refusal ≢ Memory → IsUnread text.now refusal) }
+        ensures only { (x : Tree) → IsRead text.now x
+            → MatchResult result (λ found. found ≡ x) (λ refusal. refusal ≡ Memory) };
 
     /// What a statement stands for over a schema: by the rules of names and types, or a reason of
     /// theirs against it; any may be refused for want of memory.

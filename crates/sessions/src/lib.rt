@@ -7,6 +7,7 @@ mod change;
 mod changes;
 mod core_of;
 mod cursor_calls;
+mod explaining;
 mod inserting;
 mod kind;
 mod language;

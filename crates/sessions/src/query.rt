@@ -1,7 +1,9 @@
 //! A query in a session.
 ghost use Rattle.std.specs.Prelude.{◌≡◌, ◌⊎◌, Ok, IfOk, IfErr};
 ghost use Rattle.denote.specs.Answer.{Answers};
+ghost use Rattle.denote.specs.Database.{CheckReading, IsGood};
 ghost use Rattle.denote.specs.Query.{denotes};
+ghost use Rattle.denote.specs.SchemaOf.{IsSchemaOf};
 ghost use Rattle.typing.specs.declared.statement.Typed.TheVariants as does;
 ghost use Rattle.typing.specs.declared.typed.OrderedQuery.{OrderedQuery as Query};
 ghost use Rattle.ast.specs.declared.statement.OrderedQuery.{OrderedQuery};
@@ -23,11 +25,12 @@ ghost use Rattle.transactions.specs.Shown.{Kept, settled};
 ghost use Rattle.transactions.specs.Orderly.{IsOrderly};
 ghost use Rattle.transactions.specs.Refused.{Counts, IfRefused, TellsNoLimit};
 ghost use Rattle.sessions.specs.Answered.{GivesRows, RefusesQuery};
+ghost use Rattle.sessions.specs.Seen.{seen_in};
 
 use crate::language::{Language, typed_by};
 use ast::Statement;
 use denote::Rows;
-use query_answers::{answer, query_tree};
+use query_answers::{answer, query_plan};
 use refusals::Refusal;
 use replies::Reply;
 use std::alloc::Global;
@@ -49,6 +52,7 @@ pub(crate) fn query<S: Store, L: Language>(
         → statement.now ≡ asks.Query x → IsRead text (asks.Query x) → (IsRollback text → ⊥)
         → S.is_sound store.old → IsOrderly (S.shows store.old) writer
         → IsClosedIn (get (S.shows store.old).readers session) kept
+        → IsGood rules.check (seen_in (S.shows store.old) writer session)
         → Moves rules session text result (S.shows store.old) writer kept (S.shows store.new) writer
         (settled (get (S.shows store.new).readers session) kept) }
     ensures device { Counts result (S.refused store.old) (S.refused store.new) }
@@ -81,9 +85,11 @@ fn rows_seen<S: Store, L: Language>(
 ) -> Result<Rows, Refusal>
     ensures gives { IfOk result (λ rows. (rules : Rules) (x : OrderedQuery) → AreRules rules
         → statement.now ≡ asks.Query x → S.is_sound store.old
+        → IsGood rules.check (database_of (seen_by (S.shows store.old) view))
         → GivesRows rules (database_of (seen_by (S.shows store.old) view)) x rows) }
     ensures refused { IfErr result (λ refusal. (rules : Rules) (x : OrderedQuery) → AreRules rules
         → statement.now ≡ asks.Query x → S.is_sound store.old
+        → IsGood rules.check (database_of (seen_by (S.shows store.old) view))
         → RefusesQuery rules (database_of (seen_by (S.shows store.old) view)) x refusal) }
     ensures device { IfErr result (λ refusal. refusal ≡ Disk → HasRisen (S.refused store.old) (S.refused store.new)) }
     ensures limits { IfErr result TellsNoLimit }
@@ -99,16 +105,20 @@ fn rows_seen<S: Store, L: Language>(
     }
 }
 
-/// The rows of a typed query, by its tree.
+/// The rows of a typed query, by its plan.
 fn evaluate<S: Store>(
     alloc: Global,
     store: &mut S,
     view: View,
     typed: &Typed,
 ) -> Result<Rows, Refusal>
-    ensures answers { IfOk result (λ rows. (query : Query) → typed.now ≡ does.Query query → S.is_sound store.old
+    ensures answers { IfOk result (λ rows. (reading : CheckReading) (query : Query) → typed.now ≡ does.Query query
+        → S.is_sound store.old → IsGood reading (database_of (seen_by (S.shows store.old) view))
+        → IsSchemaOf (S.prepared store.old) (database_of (seen_by (S.shows store.old) view))
         → Answers (Ok rows) (denotes (database_of (seen_by (S.shows store.old) view)) query)) }
-    ensures refused { IfErr result (λ refusal. (query : Query) → typed.now ≡ does.Query query → S.is_sound store.old
+    ensures refused { IfErr result (λ refusal. (reading : CheckReading) (query : Query) → typed.now ≡ does.Query query
+        → S.is_sound store.old → IsGood reading (database_of (seen_by (S.shows store.old) view))
+        → IsSchemaOf (S.prepared store.old) (database_of (seen_by (S.shows store.old) view))
         → MayRefuse (denotes (database_of (seen_by (S.shows store.old) view)) query).unordered.faults refusal) }
     ensures device { IfErr result (λ refusal. refusal ≡ Disk → HasRisen (S.refused store.old) (S.refused store.new)) }
     ensures limits { IfErr result TellsNoLimit }
@@ -117,12 +127,12 @@ fn evaluate<S: Store>(
 {
     match typed {
         Typed::Query(query) => {
-            let tree = match query_tree(alloc, store.schema(), query) {
-                Ok(tree) => tree,
+            let plan = match query_plan(alloc, store.schema(), query) {
+                Ok(plan) => plan,
                 Err(_) => return Err(Refusal::Memory),
             };
             let mut seen = Seen { store, view };
-            answer(alloc, &mut seen, &tree)
+            answer(alloc, &mut seen, &plan)
         }
         _ => Err(Refusal::NotSupported),
     }

@@ -4,11 +4,11 @@ use Rattle.std.specs.Prelude.{◌⊎◌, ◌-◌, IsTrue}
 use Rattle.std.proofs.Common.{subst}
 use Rattle.std.specs.Ordering.{is_lt}
 use Rattle.sqlrecord.specs.declared.kind.PageKind.{PageKind}
-use Rattle.sqlrecord.specs.declared.kind.PageKind.TheVariants.{Inner}
+use Rattle.sqlrecord.specs.declared.kind.PageKind.TheVariants.{Leaf, Inner}
 use Rattle.sqlrecord.specs.Key.{byte_order}
 use Rattle.std.proofs.lemmas.Bool.{cases_lt}
 use Rattle.std.proofs.lemmas.List.{length-append, length-drop, get_or_append_left, get_or_push}
-use Rattle.sqlrecord.specs.Page.{count_of, cell_of, cells_of, cells_upto, key_of, value_of, key_length_of, IsCell, AreCells}
+use Rattle.sqlrecord.specs.Page.{count_of, cell_of, cells_of, cells_upto, key_of, value_of, key_length_of, kind_byte, IsCell, AreCells, IsNode, IsSound}
 
 length_upto : (page : List ℕ) (n : ℕ) → length (cells_upto page n) ≡ n
 length_upto page zero = refl
@@ -54,3 +54,14 @@ child_there cells kind value i are inner h e =
     let all = cell.has_child inner in
     let rest = length-drop (2 + key_length_of (get_or cells i [])) (get_or cells i []) in
     rw e (omega (arith, all, rest))
+
+-- ---- the kind that a page's first byte says
+
+one_kind : (n : ℕ) (kind other : PageKind) → n ≡ kind_byte kind → n ≡ kind_byte other → kind ≡ other
+one_kind n Leaf Leaf e f = refl
+one_kind n Leaf Inner e f = absurd (omega (arith, e, f))
+one_kind n Inner Leaf e f = absurd (omega (arith, e, f))
+one_kind n Inner Inner e f = refl
+
+pub node_of : (page : List ℕ) (kind : PageKind) → IsSound page kind → IsNode page
+node_of page kind sound other says = subst (λ (k : PageKind). IsSound page k) (one_kind _ kind other sound.head.is_kind says) sound

@@ -102,6 +102,10 @@ pub record IsSound (page : List ℕ) (kind : PageKind) : Type 0 where
   pub low : two_at page 4 ≡ lowest_of page (count_of page)
   pub cells : AreCells kind (cells_of page)
 
+-- sound, of the kind that the page's first byte says, if it says one
+abbrev pub IsNode : List ℕ → Type 0
+IsNode page = (kind : PageKind) → slice_index page 0 ≡ kind_byte kind → IsSound page kind
+
 -- what a page is to its readers
 pub record PageView : Type 0 where
   pub kind : PageKind

@@ -24,7 +24,7 @@ pub use kind::PageKind;
 pub use laws::{
     cells_of_pages_fit, codes_have_their_lengths, keys_keep_order, keys_tell_apart, rows_tell_apart,
 };
-pub use page::SlotPage;
+pub use page::{KeptCells, SlotPage, is_node};
 pub use row::{MAXIMUM_ROW, decode_row, encode_row};
 
 /// The bytes of a page.

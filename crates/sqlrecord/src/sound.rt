@@ -235,8 +235,57 @@ fn has_cells(page: &[u8], kind: PageKind) -> bool
     true
 }
 
-/// Whether a page is sound.
-pub(crate) fn is_sound(page: &[u8], kind: PageKind) -> bool
+/// The bytes of a cell that begins and ends there.
+fn cell_between(page: &[u8], i: usize, begin: usize, end: usize) -> &[u8]
+    requires begin { begin ≡ offset_of page.now i }
+    requires end { end ≡ offset_of page.now i + length_of page.now i }
+    requires within { end ≤ length page.now }
+    ensures { result.now ≡ cell_of page.now i }
+{
+    &page[begin..end]
+}
+
+/// The lowest byte that a cell uses, where the slots lie in the page, each cell lies behind the
+/// slots and the cells before it and is formed as its kind asks, and the keys rise. So are all pages
+/// that `build_page` makes: one walk over their slots tells all.
+#[tactic(auto, using(crate::proofs::PageLemmas::cell_facts))]
+fn lowest_in_order(page: &[u8], kind: PageKind) -> Option<usize>
+    requires { length page.now ≡ 4096 }
+    ensures slots { IfSome result (λ lowest. HasSlots page.now) }
+    ensures lowest { IfSome result (λ lowest. lowest ≡ lowest_of page.now (count_of page.now)) }
+    ensures apart { IfSome result (λ lowest. IsApart page.now) }
+    ensures cells { IfSome result (λ lowest. AreCells kind (cells_of page.now)) }
+{
+    let count = two(page, 2);
+    if 16 + 4 * count > PAGE_SIZE {
+        return None;
+    }
+    let mut lowest = PAGE_SIZE;
+    let mut past = 16 + 4 * count;
+    let mut before: &[u8] = &[];
+    for i in 0..count {
+        let begin = two(page, 16 + 4 * i);
+        let end = begin + two(page, 18 + 4 * i);
+        if begin < past || end > PAGE_SIZE {
+            return None;
+        }
+        let cell = cell_between(page, i, begin, end);
+        if !is_cell(cell, kind) {
+            return None;
+        }
+        let key = key_in(cell);
+        if i > 0 && !precedes(before, key) {
+            return None;
+        }
+        lowest = lowest.min(begin);
+        past = end;
+        before = key;
+    }
+    Some(lowest)
+}
+
+/// Whether a page is sound, however its cells lie in it.
+fn is_sound_anyhow(page: &[u8], kind: PageKind) -> bool
     requires { length page.now ≡ 4096 }
     ensures { IsTrue result ↔ IsSound page.now kind }
 {
@@ -248,5 +297,16 @@ pub(crate) fn is_sound(page: &[u8], kind: PageKind) -> bool
                 && (places.is_ascending || is_apart(page))
                 && has_cells(page, kind)
         }
+    }
+}
+
+/// Whether a page is sound.
+pub(crate) fn is_sound(page: &[u8], kind: PageKind) -> bool
+    requires { length page.now ≡ 4096 }
+    ensures { IsTrue result ↔ IsSound page.now kind }
+{
+    match lowest_in_order(page, kind) {
+        None => is_sound_anyhow(page, kind),
+        Some(lowest) => has_head(page, kind) && two(page, 4) == lowest,
     }
 }

@@ -1,5 +1,5 @@
 -- Refusals, handed on.
-use Rattle.std.proofs.Common.{ℕ, ◌≤◌, Result, Ok, Err, IfErr, arith}
+use Rattle.std.proofs.Common.{◌≡◌, ℕ, ◌≤◌, Result, Ok, Err, IfErr, sym, subst, arith}
 use Rattle.page_space.specs.Space.{ReadRefused}
 use Rattle.page_space.specs.declared.error.SpaceError.{SpaceError}
 use Rattle.page_space.specs.declared.error.SpaceError.TheVariants as fault
@@ -18,3 +18,8 @@ read_harm fault.Disk H G k m more h = h
 read_harm fault.Damaged H G k m more h = more h
 read_harm fault.Pages H G k m more h = h
 read_harm fault.Private H G k m more h = h
+
+-- memory was wanting
+pub memory_refused : {X : Type 0} (result : Result X SpaceError) (H : Type 0) (k m : ℕ) → IfErr result (λ f. f ≡ fault.Memory) → IfErr result (ReadRefused H k m)
+memory_refused (Ok x) H k m h = h
+memory_refused (Err f) H k m h = subst (λ (x : SpaceError). ReadRefused H k m x) (sym h) tt

@@ -9,5 +9,5 @@ mod reading;
 
 pub use content_laws::contents_are_read;
 pub use laws::{no_tables_at_first, numbers_rise, tables_stay};
-pub use naming::find_table;
+pub use naming::{find_table, read_table};
 pub use reading::{next, read_schema, scan};

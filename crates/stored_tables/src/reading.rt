@@ -12,19 +12,33 @@ ghost use Rattle.stored_tables.specs.Held.{TableAt, HoldsTables, HoldsNoTables, 
 ghost use Rattle.stored_tables.specs.Named.{table_named, AreTyped, IsTyped};
 
 use crate::naming::find_table;
+use catalog::{KnownSchema, copied_schema, read_known};
 use items::{Items, Text};
 use page_space::{PageReader, SpaceError};
 use sqlval::Schema;
 use std::alloc::Global;
 use store::{Numbered, NumberedRow};
 
-/// The schema of the tables that lie at a root; root 0 is the schema without tables.
+/// A copy of a schema.
+fn schema_copied(alloc: Global, schema: &Schema) -> Result<Schema, SpaceError>
+    ensures found { IfOk result (λ copied. copied ≡ schema.now) }
+    ensures memory { IfErr result (λ fault. fault ≡ SpaceError.Memory) }
+{
+    match copied_schema(alloc, schema) {
+        Ok(copied) => Ok(copied),
+        Err(_) => Err(SpaceError::Memory),
+    }
+}
+
+/// The schema of the tables that lie at a root; root 0 is the schema without tables. It is decoded
+/// only where it is not the one that is known.
 ///
 /// Refused for want of memory, where the device refuses a call, and as damaged only where no tables
 /// are held there.
 pub fn read_schema<R: PageReader>(
     space: &mut R,
     alloc: Global,
+    known: &mut KnownSchema,
     root: u32,
 ) -> Result<Schema, SpaceError>
     ensures found { (tables : List TableAt) → HoldsTables (R.pages space.old) root tables
@@ -35,8 +49,8 @@ pub fn read_schema<R: PageReader>(
     ensures rising { R.refused space.old ≤ R.refused space.new }
     ensures follows { R.follows space.old space.new }
 {
-    match catalog::read_schema(space, alloc, root) {
-        Ok(schema) => Ok(schema),
+    match read_known(space, alloc, known, root) {
+        Ok(()) => schema_copied(alloc, known.schema()),
         Err(fault) => Err(fault),
     }
 }
@@ -59,6 +73,7 @@ fn no_rows(alloc: Global) -> Numbered
 pub fn scan<R: PageReader>(
     space: &mut R,
     alloc: Global,
+    known: &mut KnownSchema,
     root: u32,
     name: &Text,
 ) -> Result<Numbered, SpaceError>
@@ -72,7 +87,7 @@ pub fn scan<R: PageReader>(
     ensures rising { R.refused space.old ≤ R.refused space.new }
     ensures follows { R.follows space.old space.new }
 {
-    match find_table(space, alloc, root, name) {
+    match find_table(space, alloc, known, root, name) {
         Ok(Some(table)) => tablestore::scan(space, alloc, table.root, table.columns.as_slice()),
         Ok(None) => Ok(no_rows(alloc)),
         Err(fault) => Err(fault),
@@ -86,6 +101,7 @@ pub fn scan<R: PageReader>(
 pub fn next<R: PageReader>(
     space: &mut R,
     alloc: Global,
+    known: &mut KnownSchema,
     root: u32,
     name: &Text,
     after: Option<u64>,
@@ -100,7 +116,7 @@ pub fn next<R: PageReader>(
     ensures rising { R.refused space.old ≤ R.refused space.new }
     ensures follows { R.follows space.old space.new }
 {
-    match find_table(space, alloc, root, name) {
+    match find_table(space, alloc, known, root, name) {
         Ok(Some(table)) => {
             tablestore::next(space, alloc, table.root, table.columns.as_slice(), after)
         }

@@ -1,5 +1,6 @@
 pub mod KeyLemmas
 pub mod DecodeLemmas
+pub mod LeftLemmas
 pub mod NumberLemmas
 pub mod AppendLemmas
 pub mod OneLemmas

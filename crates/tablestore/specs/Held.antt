@@ -1,10 +1,12 @@
 -- Rows by their numbers, as the entries of a tree. Our own choice.
-use Rattle.std.specs.Prelude.{◌≡◌, ℕ, ◌<◌, ◌≤◌, ◌^◌, true, List, length, map, None, Result, Ok, Err}
+use Rattle.std.specs.Prelude.{◌≡◌, ℕ, ◌++◌, ◌<◌, ◌≤◌, ◌^◌, true, List, length, map, None, Result, Ok, Err}
 use Rattle.std.specs.List.{AllByRecursion}
 use Rattle.sqlval.specs.declared.schema.Column.{Column}
 use Rattle.sqlval.specs.Value.{Row}
 use Rattle.denote.specs.Database.{fits_columns}
 use Rattle.store.specs.Contents as stored
+use Rattle.store.specs.declared.rows.Numbered.{Numbered}
+use Rattle.store.specs.View.{AreEntries}
 use Rattle.sqlrecord.specs.declared.error.DecodeError.{DecodeError}
 use Rattle.sqlrecord.specs.declared.error.DecodeError.TheVariants.{OutOfMemory}
 use Rattle.sqlrecord.specs.Storable.{AllStorable}
@@ -69,6 +71,17 @@ pub record HoldsFitting (pages : PageMap) (root : ℕ) (owned : List ℕ) (colum
 abbrev pub HoldsNoFitting : PageMap → ℕ → List Column → Type 0
 HoldsNoFitting pages root columns = (owned : List ℕ) (rows : List stored.Entry)
     → HoldsFitting pages root owned columns rows → ⊥
+
+-- of the rows `all`, which have codes and fit these columns, the first ones were found, and the
+-- entries that are left are those of the others
+pub record AreLeft (columns : List Column) (found : Numbered) (ahead : List Entry) (all : List stored.Entry) : Type 0 where
+  pub before : List stored.Entry
+  pub rest : List stored.Entry
+  pub are : before ++ rest ≡ all
+  pub read : AreEntries found before
+  pub left : ahead ≡ entries_of rest
+  pub kept : AreKept rest
+  pub fits : AreFitting columns rest
 
 -- what is decoded is so, or else memory was refused
 abbrev pub Gives : {A : Type 0} → Result A DecodeError → (A → Type 0) → Type 0

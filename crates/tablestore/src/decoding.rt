@@ -1,20 +1,22 @@
 //! Rows from the entries of a tree.
-ghost use Rattle.std.specs.Prelude.{◌≡◌, ◌<◌, ◌^◌, true, List, ℕ, Option, Some, IfOk, IfSome};
+ghost use Rattle.std.specs.Prelude.{◌≡◌, ◌++◌, ◌<◌, ◌^◌, true, List, ℕ, Option, Some, map, IfOk, IfSome, OnOk};
 ghost use Rattle.std.specs.List.{AllByRecursion};
 ghost use Rattle.std.specs.Option.{option_map};
 ghost use Rattle.sqlval.specs.Value.{Row as AnyRow};
 ghost use Rattle.sqlrecord.specs.Key.{number_code};
-ghost use Rattle.sqlrecord.specs.Row.{IsCodeOf};
+ghost use Rattle.sqlrecord.specs.Row.{IsCodeOf, row_code};
+ghost use Rattle.btree_read.specs.declared.entry.Entry.{Entry as AnyEntry};
+ghost use Rattle.btree_read.specs.Nodes.{entry_of as cell_entry};
 ghost use Rattle.store.specs.Contents as stored;
 ghost use Rattle.store.specs.View.{AreEntries, IsEntry, entry_of};
-ghost use Rattle.tablestore.specs.Held.{row_entry, entries_of, IsKept, AreKept, RowFits, Fits, AreFitting, IsNumbered, Gives};
+ghost use Rattle.tablestore.specs.Held.{row_entry, entries_of, IsKept, AreKept, AreLeft, RowFits, Fits, AreFitting, IsNumbered, Gives};
 
 use crate::fitting::fits_columns;
 use crate::number::NUMBERS;
-use btree_read::Entry;
+use btree_read::{Entries, Entry};
 use denote::Row;
 use items::Items;
-use sqlrecord::{DecodeError, decode_row, row_number_of};
+use sqlrecord::{DecodeError, SlotPage, decode_row, row_number_of};
 use sqlval::Column;
 use std::alloc::Global;
 use store::{Numbered, NumberedRow};
@@ -52,6 +54,27 @@ fn row_fitting(alloc: Global, columns: &[Column], bytes: &[u8]) -> Result<Row, D
     Ok(row)
 }
 
+/// The row of a key and its value, which fits these columns, with its number.
+fn row_of_parts(
+    alloc: Global,
+    columns: &[Column],
+    key: &[u8],
+    value: &[u8],
+) -> Result<NumberedRow, DecodeError>
+    ensures kept { (e : stored.Entry) → IsKept e → Fits columns.now e → key.now ≡ number_code e.0
+        → value.now ≡ row_code e.1
+        → Gives result (λ found. entry_of found ≡ e) }
+    ensures typed { IfOk result (λ found. Fits columns.now (entry_of found)) }
+    ensures below { IfOk result (λ found. found.number < 2 ^ 63) }
+    ensures code { IfOk result (λ found. key.now ≡ number_code found.number) }
+{
+    let Some(number) = number_of(key) else {
+        return Err(DecodeError::Damaged);
+    };
+    let row = row_fitting(alloc, columns, value)?;
+    Ok(NumberedRow { number, row })
+}
+
 /// The row of an entry, which fits these columns, with its number.
 pub(crate) fn row_of_entry(
     alloc: Global,
@@ -63,11 +86,53 @@ pub(crate) fn row_of_entry(
     ensures typed { IfOk result (λ found. Fits columns.now (entry_of found)) }
     ensures numbered { IfOk result (λ found. IsNumbered entry.now found.number) }
 {
-    let Some(number) = number_of(entry.key.as_slice()) else {
-        return Err(DecodeError::Damaged);
+    match row_of_parts(alloc, columns, entry.key.as_slice(), entry.value.as_slice()) {
+        Ok(found) => Ok(found),
+        Err(error) => Err(error),
+    }
+}
+
+/// Puts the rows of a leaf behind others, with their numbers.
+fn put_rows(
+    alloc: Global,
+    columns: &[Column],
+    leaf: &SlotPage<'_>,
+    found: &mut Numbered,
+) -> Result<(), DecodeError>
+    ensures kept { (more : List AnyEntry) (all : List stored.Entry)
+        → AreLeft columns.now found.old (map cell_entry leaf.now.cells ++ more) all
+        → Gives result (λ read. AreLeft columns.now found.new more all) }
+    ensures typed { AllByRecursion (RowFits columns.now) found.old.rows
+        → OnOk result (AllByRecursion (RowFits columns.now) found.new.rows) }
+{
+    for i in 0..leaf.len() {
+        let row = row_of_parts(alloc, columns, leaf.key(i), leaf.value(i))?;
+        found.numbers.push(row.number)?;
+        found.rows.push(row.row)?;
+    }
+    Ok(())
+}
+
+/// The rows of the entries of leaves, with their numbers.
+pub(crate) fn rows_of_leaves(
+    alloc: Global,
+    columns: &[Column],
+    entries: &Entries,
+) -> Result<Numbered, DecodeError>
+    ensures kept { (all : List stored.Entry) → AreKept all → AreFitting columns.now all → entries.now ≡ entries_of all
+        → Gives result (λ found. AreEntries found all) }
+    ensures typed { IfOk result (λ found. AllByRecursion (RowFits columns.now) found.rows) }
+{
+    let mut found = Numbered {
+        numbers: Items::new(alloc),
+        rows: Items::new(alloc),
     };
-    let row = row_fitting(alloc, columns, entry.value.as_slice())?;
-    Ok(NumberedRow { number, row })
+    let leaves = entries.leaves();
+    for leaf in leaves {
+        let page = leaf.page();
+        put_rows(alloc, columns, &page, &mut found)?;
+    }
+    Ok(found)
 }
 
 /// The rows of entries, with their numbers.

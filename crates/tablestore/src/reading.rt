@@ -8,7 +8,7 @@ ghost use Rattle.store.specs.Indexes.{entry_after, some_after};
 ghost use Rattle.page_space.specs.Space.{ReadRefused};
 ghost use Rattle.tablestore.specs.Held.{entries_of, row_entry, HoldsRows, HoldsNoRows, HoldsFitting, HoldsNoFitting, RowFits, Fits};
 
-use crate::decoding::{row_found, rows_of_entries};
+use crate::decoding::{row_found, rows_of_entries, rows_of_leaves};
 use btree_read::{Entry, Start, entries_from, seek};
 use items::Items;
 use page_space::{PageReader, SpaceError};
@@ -38,7 +38,7 @@ pub fn scan<R: PageReader>(
     ensures follows { R.follows space.old space.new }
 {
     let entries = btree_read::scan(space, alloc, root)?;
-    match rows_of_entries(alloc, columns, entries.as_slice()) {
+    match rows_of_leaves(alloc, columns, &entries) {
         Ok(found) => Ok(found),
         Err(DecodeError::OutOfMemory) => Err(SpaceError::Memory),
         Err(DecodeError::Damaged) => Err(SpaceError::Damaged),

@@ -4,9 +4,8 @@ use Rattle.std.specs.Prelude.{Bool, true, false}
 use Rattle.ast.specs.declared.statement.Statement.{Statement}
 use Rattle.ast.specs.declared.statement.Statement.TheVariants as statement
 
--- all but EXPLAIN and cursors
+-- all but those of cursors, whose queries are asked as queries
 abbrev pub is_built : Statement → Bool
-is_built (statement.Explain query) = false
 is_built (statement.DeclareCursor cursor) = false
 is_built (statement.OpenCursor name) = false
 is_built (statement.Fetch name) = false

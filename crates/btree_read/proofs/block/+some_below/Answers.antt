@@ -1,4 +1,4 @@
-use Rattle.std.proofs.Common.{◌+◌, ◌-◌, ◌≤◌, ◌∙◌, Ok, sym, arith}
+use Rattle.std.proofs.Common.{◌+◌, ◌∙◌, Ok, sym, arith}
 use Rattle.std.proofs.lemmas.Result.{err_from_is_err_and}
 use Rattle.btree_read.proofs.BlockLemmas.{child_taken, first_taken, one_further, taken_inner, taken_leaf}
 use Rattle.btree_read.proofs.NodeLemmas.{harm_weaker, read_refused}

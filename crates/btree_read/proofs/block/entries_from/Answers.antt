@@ -1,5 +1,4 @@
 use Rattle.std.proofs.lemmas.Result.{err_from_is_err_and}
-use Rattle.btree_read.proofs.BlockLemmas.{taken_at_root}
 use Rattle.btree_read.proofs.CountLemmas.{no_tree_at_root}
 use Rattle.btree_read.proofs.NodeLemmas.{harm_weaker}
 use Rattle.btree_read.proofs.block.entries_from.Goals as goal

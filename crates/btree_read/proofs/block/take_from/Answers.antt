@@ -1,4 +1,4 @@
-use Rattle.std.proofs.Common.{◌≡◌, ◌≤◌, ◌-◌, ◌++◌, ◌∷◌, [], ◌∙◌, ap, sym, subst, map, take, drop, length, slice_index_or, arith, List}
+use Rattle.std.proofs.Common.{◌≤◌, ◌-◌, ◌++◌, ◌∷◌, [], ◌∙◌, ap, sym, subst, map, take, drop, length, slice_index_or, arith, List}
 use Rattle.btree_read.specs.declared.entry.Entry.{Entry}
 use Rattle.btree_read.specs.Nodes.{entry_of}
 use Rattle.btree_read.proofs.BlockLemmas.{all_cells, at_most, cells_on, from_place, more_taken}

@@ -1,4 +1,4 @@
-use Rattle.std.proofs.Common.{◌∙◌, sym, ap, arith, rules, ◌≡◌, ◌+◌, ◌≤◌, ℕ}
+use Rattle.std.proofs.Common.{◌∙◌, sym, ap, arith}
 use Rattle.btree_read.specs.Sorted.{is_from}
 use Rattle.btree_read.proofs.PlaceLemmas.{is_from_all, is_from_none}
 use Rattle.btree_read.proofs.place.first_place.Goals as goal

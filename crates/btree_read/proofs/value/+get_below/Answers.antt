@@ -1,4 +1,4 @@
-use Rattle.std.proofs.Common.{◌≡◌, ◌-◌, ◌+◌, ◌≤◌, ◌∙◌, sym, ap, arith, ℕ, List, Option, Ok}
+use Rattle.std.proofs.Common.{sym, arith, ℕ, List, Option, Ok}
 use Rattle.btree_read.specs.Sorted.{get_of}
 use Rattle.std.proofs.lemmas.Result.{err_from_is_err_and}
 use Rattle.btree_read.proofs.NodeLemmas.{harm_weaker, read_refused_on}

@@ -1,4 +1,4 @@
-use Rattle.std.proofs.Common.{◌≡◌, ◌<◌, ◌≤◌, length, ◌∙◌, sym, ap, arith, rules, true, false, Some}
+use Rattle.std.proofs.Common.{◌<◌, length, ◌∙◌, sym, ap, arith, Some}
 use Rattle.btree_read.specs.Nodes.{precedes}
 use Rattle.btree_read.proofs.PlaceLemmas.{get_past, get_at}
 use Rattle.btree_read.proofs.value.value_in.Goals as goal

@@ -1,4 +1,4 @@
-use Rattle.std.proofs.Common.{◌≡◌, ◌-◌, ◌+◌, ◌≤◌, ◌∙◌, sym, ap, arith, ℕ, List, Option, Some, None, Ok, inl, inr}
+use Rattle.std.proofs.Common.{◌∙◌, sym, arith, Option, Some, None, Ok, inl, inr}
 use Rattle.std.proofs.lemmas.Result.{err_from_is_err_and}
 use Rattle.btree_read.specs.declared.entry.Entry.{Entry}
 use Rattle.btree_read.specs.Sorted.{first_from}

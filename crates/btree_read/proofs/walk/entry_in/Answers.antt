@@ -1,4 +1,4 @@
-use Rattle.std.proofs.Common.{◌≡◌, ◌<◌, ◌≤◌, length, ◌∙◌, sym, ap, arith}
+use Rattle.std.proofs.Common.{◌<◌, length, sym, arith}
 use Rattle.btree_read.proofs.PlaceLemmas.{first_past, first_at}
 use Rattle.btree_read.proofs.walk.entry_in.Goals as goal
 

@@ -18,14 +18,14 @@ returns-in_err-step-clause-refusal g c =
 pub returns-then-branch-clause-rows : goal.returns-then-branch-clause-rows
 returns-then-branch-clause-rows g c = λ rows left h s.
     let w = c.walked.invariant.walks rows left h s in
-    c.first_rows-then-branch.ensures (filter (is_wanted c.args.sought c.args.place.now.columns) left)
+    c.first_rows-then-branch.ensures.found (filter (is_wanted c.args.sought c.args.place.now.columns) left)
     (has_walked c.args.place.now.columns rows (is_wanted c.args.sought c.args.place.now.columns) left c.walked.walk c.step.new.walk _ c.if-branch.true w (c.in_ok-step.ensures.stepped rows w.rest w.list (indexed_in (g.R.PageReader.pages c.args.space.now) (g.R.PageReader.pages c.walked.space) c.args.place.now.root c.args.place.now.rows_root c.args.place.now.types c.args.place.now.columns rows c.walked.invariant.same h) w.stands w.are))
 
 pub returns-then-len-most-clause-rows : goal.returns-then-len-most-clause-rows
 returns-then-len-most-clause-rows g c = λ rows left h s.
     let w = c.walked.invariant.walks rows left h s in
     subst (AreEntries c.first_rows.result) (has_enough c.args.place.now.columns rows (is_wanted c.args.sought c.args.place.now.columns) left c.walked.walk c.args.most w (search rules))
-    (c.first_rows.ensures w.list w.are)
+    (c.first_rows.ensures.found w.list w.are)
 
 pub walked-preserved : goal.walked-preserved
 walked-preserved g c = record {

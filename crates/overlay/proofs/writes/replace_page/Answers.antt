@@ -9,7 +9,7 @@ pub returns-clause-written : goal.returns-clause-written
 returns-clause-written g c =
     shown_after c.write_page.result ((versions_of c.args.pool.now).pages c.args.at) ((versions_of c.write_page.new.pool).pages c.args.at)
     (private_of c.args.changes.now) (private_of c.write_page.new.changes) c.args.page c.args.bytes.now
-    (ap (λ (v : Versions). v.pages c.args.at) c.write_page.ensures.versions) c.requires c.write_page.ensures.written
+    (ap (λ (v : Versions). v.pages c.args.at) c.write_page.ensures.versions) c.requires.kind c.write_page.ensures.written
 
 pub returns-clause-others : goal.returns-clause-others
 returns-clause-others g c =
@@ -21,13 +21,13 @@ pub returns-clause-whole : goal.returns-clause-whole
 returns-clause-whole g c =
     whole_after false c.write_page.result ((versions_of c.args.pool.now).pages c.args.at) ((versions_of c.write_page.new.pool).pages c.args.at)
     (private_of c.args.changes.now) (private_of c.write_page.new.changes) c.args.page c.args.bytes.now
-    (ap (λ (v : Versions). v.pages c.args.at) c.write_page.ensures.versions) c.requires c.write_page.ensures.written c.write_page.ensures.used c.write_page.ensures.within
+    (ap (λ (v : Versions). v.pages c.args.at) c.write_page.ensures.versions) c.requires.kind c.write_page.ensures.written c.write_page.ensures.used c.write_page.ensures.within
 
 pub returns-clause-full : goal.returns-clause-full
 returns-clause-full g c =
     whole_after true c.write_page.result ((versions_of c.args.pool.now).pages c.args.at) ((versions_of c.write_page.new.pool).pages c.args.at)
     (private_of c.args.changes.now) (private_of c.write_page.new.changes) c.args.page c.args.bytes.now
-    (ap (λ (v : Versions). v.pages c.args.at) c.write_page.ensures.versions) c.requires c.write_page.ensures.written c.write_page.ensures.used c.write_page.ensures.within
+    (ap (λ (v : Versions). v.pages c.args.at) c.write_page.ensures.versions) c.requires.kind c.write_page.ensures.written c.write_page.ensures.used c.write_page.ensures.within
 
 pub returns-clause-zeros : goal.returns-clause-zeros
 returns-clause-zeros g c =

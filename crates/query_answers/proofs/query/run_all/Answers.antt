@@ -1,8 +1,17 @@
-use Rattle.query_answers.specs.Lent.{rows_lent}
-use Rattle.query_answers.proofs.Answering.{run_listed}
+use Rattle.std.proofs.Common.{◌≡◌, true, rules}
+use Rattle.query_answers.proofs.ByItself.{fewer_read, runs}
 use Rattle.query_answers.proofs.query.run_all.Goals as goal
 
-pub returns-clause-lists : goal.returns-clause-lists
-returns-clause-lists g c =
-    run_listed c.listings_read_their_tables.ensures (g.R.Reading.shows c.args.reading.now).contents (rows_lent c.in-Ok-lent_tables.lent.tables) c.args.plan.now (g.R.Reading.is_sound c.args.reading.now)
-    (λ sound. rw (c.as_slice.ensures, c.in-Ok.ensures.named) at c.in-Ok-lent_tables.ensures.lent sound) c.unstopped.result (c.unstopped.ensures.lists _ c.listed_once.ensures.lists)
+pub returns-then-goes-clause-lists : goal.returns-then-goes-clause-lists
+returns-then-goes-clause-lists g c = λ sound.
+    let goes : c.in-Ok.goes ≡ true = search rules in
+    c.run_by_itself.ensures.lists sound
+    (runs c.args.plan.now (g.R.Reading.shows c.args.reading.now) ((rw c.in-Ok.is at c.reads_itself.ensures) goes))
+
+pub returns-then-goes-clause-read : goal.returns-then-goes-clause-read
+returns-then-goes-clause-read g c = λ sound.
+    let goes : c.in-Ok.goes ≡ true = search rules in
+    let itself = (rw c.in-Ok.is at c.reads_itself.ensures) goes in
+    let shown = g.R.Reading.shows c.args.reading.now in
+    fewer_read shown c.args.plan.now itself _ _ c.run_by_itself.result
+    (c.run_by_itself.ensures.read sound (runs c.args.plan.now shown itself) itself.scans.once)

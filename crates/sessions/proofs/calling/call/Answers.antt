@@ -7,6 +7,8 @@ use Rattle.statement_definitions.specs.Reading.{IsRead}
 use Rattle.store.specs.Stored.{SameButMark}
 use Rattle.sessions.specs.Kinds.{IsFetchText, is_declare}
 use Rattle.sessions.specs.Numbers.{kept_of}
+use Rattle.ast.specs.declared.statement.Statement.TheVariants as asks
+use Rattle.sessions.proofs.ExplainSteps.{another}
 use Rattle.sessions.proofs.Devices.{never_counts, never_read}
 use Rattle.sessions.proofs.Going.{commits_as_writer}
 use Rattle.sessions.proofs.Holding.{fits_same, gone_fits}
@@ -25,6 +27,9 @@ returns-then-is_rollback-clause-leaves g c = λ rules are sound order holds good
       moves = c.roll_back.ensures.moves rules c.args.text.now is.0 (kept_of c.args.slot.now) is.1 order;
       fits = gone_fits (g.S.Store.shows c.roll_back.new.store) c.roll_back.new.writer c.args.session c.args.slot.now.cursors c.roll_back.ensures.gone;
     }
+
+pub returns-then-is_rollback-clause-explained : goal.returns-then-is_rollback-clause-explained
+returns-then-is_rollback-clause-explained g c = λ x read sound. rw c.roll_back.ensures.done tt
 
 pub returns-then-is_rollback-clause-device : goal.returns-then-is_rollback-clause-device
 returns-then-is_rollback-clause-device g c = rw c.roll_back.ensures.done tt
@@ -52,6 +57,10 @@ returns-in-Ok-declared_in-clause-leaves g c = λ rules are sound order holds goo
     c.declare.ensures.leaves rules c.args.text.now (g.S.Store.shows c.args.store.now) c.args.writer.now c.args.session (subst (IsRead c.args.text.now) c.in-Ok-declared_in.ensures c.in-Ok.ensures.read)
     (λ is. let bad : false ≡ true = (rw c.if-is_rollback.false at c.is_rollback.ensures).1 is in cc) order holds
 
+pub returns-in-Ok-declared_in-clause-explained : goal.returns-in-Ok-declared_in-clause-explained
+returns-in-Ok-declared_in-clause-explained g c = λ x read sound.
+    another _ c.in-Ok.statement _ x c.in-Ok-declared_in.ensures refl (c.in-Ok.ensures.only (asks.Explain x) read)
+
 pub returns-in-Ok-declared_in-clause-device : goal.returns-in-Ok-declared_in-clause-device
 returns-in-Ok-declared_in-clause-device g c = never_counts c.declare.result _ _ c.declare.ensures.device
 
@@ -73,6 +82,10 @@ pub returns-in-Err-declared_in-clause-leaves : goal.returns-in-Err-declared_in-c
 returns-in-Err-declared_in-clause-leaves g c = λ rules are sound order holds good.
     c.carry_out.ensures.leaves rules c.args.text.now are (subst (IsRead c.args.text.now) (sym c.in-Err-declared_in.ensures.0) c.in-Ok.ensures.read) (ap is_declare c.in-Err-declared_in.ensures.0 ∙ c.in-Err-declared_in.ensures.1)
     (λ is. let bad : false ≡ true = (rw c.if-is_rollback.false at c.is_rollback.ensures).1 is in cc) sound order holds good
+
+pub returns-in-Err-declared_in-clause-explained : goal.returns-in-Err-declared_in-clause-explained
+returns-in-Err-declared_in-clause-explained g c = λ x read sound.
+    c.carry_out.ensures.explained x (c.in-Err-declared_in.ensures.0 ∙ c.in-Ok.ensures.only (asks.Explain x) read) sound
 
 pub returns-in-Err-declared_in-clause-limits : goal.returns-in-Err-declared_in-clause-limits
 returns-in-Err-declared_in-clause-limits g c =

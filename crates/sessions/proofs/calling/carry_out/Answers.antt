@@ -10,7 +10,7 @@ use Rattle.statement_definitions.specs.Reading.{IsRead}
 use Rattle.sessions.proofs.Devices.{counts_state}
 use Rattle.sessions.proofs.Going.{commit_goes, commit_of_writer}
 use Rattle.sessions.proofs.Limits.{none_told, state_told, told_of_change, told_wider}
-use Rattle.sessions.proofs.Words.{later_unread}
+use Rattle.sessions.proofs.ExplainSteps.{another, no_change, no_cursor_call}
 use Rattle.ast.specs.declared.statement.Statement.{Statement}
 use Rattle.sessions.specs.Kinds.{is_fetch}
 use Rattle.sessions.specs.Numbers.{kept_of}
@@ -26,7 +26,7 @@ returns-in-Query-clause-leaves g c = λ rules text are read declares other sound
     let is = c.in-Query.ensures in
     record {
       moves = c.query.ensures.moves rules text is.0 (kept_of c.args.slot.now) are is.1 (subst (IsRead text) is.1 read) other sound order
-          (closed_in (g.S.Store.shows c.args.store.now) c.args.writer.now c.args.session _ c.args.slot.now holds);
+          (closed_in (g.S.Store.shows c.args.store.now) c.args.writer.now c.args.session _ c.args.slot.now holds) good;
       fits = queried_fits (g.S.Store.shows c.args.store.now) (g.S.Store.shows c.query.new.store) c.args.writer.now c.args.session c.args.slot.now.cursors c.query.ensures.left holds;
     }
 
@@ -64,8 +64,35 @@ pub returns-in-Cursor-clause-leaves : goal.returns-in-Cursor-clause-leaves
 returns-in-Cursor-clause-leaves g c = λ rules text are read declares other sound order holds good.
     c.cursor_call.ensures.leaves rules text are read c.in-Cursor.ensures declares other sound order holds
 
-pub returns-in-Later-clause-leaves : goal.returns-in-Later-clause-leaves
-returns-in-Later-clause-leaves g c = λ rules text are read declares other sound order holds good. absurd (later_unread c.args.statement.now text c.in-Later.ensures read)
+pub returns-in-Explain-clause-leaves : goal.returns-in-Explain-clause-leaves
+returns-in-Explain-clause-leaves g c = λ rules text are read declares other sound order holds good.
+    let is = c.in-Explain.ensures in
+    record {
+      moves = c.explain_query.ensures.moves rules text is.0 (kept_of c.args.slot.now) are is.1 (subst (IsRead text) is.1 read) other sound order
+          (closed_in (g.S.Store.shows c.args.store.now) c.args.writer.now c.args.session _ c.args.slot.now holds);
+      fits = queried_fits (g.S.Store.shows c.args.store.now) (g.S.Store.shows c.explain_query.new.store) c.args.writer.now c.args.session c.args.slot.now.cursors c.explain_query.ensures.left holds;
+    }
+
+pub returns-in-Explain-clause-explained : goal.returns-in-Explain-clause-explained
+returns-in-Explain-clause-explained g c = c.explain_query.ensures.explained
+
+pub returns-in-Query-clause-explained : goal.returns-in-Query-clause-explained
+returns-in-Query-clause-explained g c = λ x is. another _ c.args.statement.now _ x c.in-Query.ensures.1 refl is
+
+pub returns-in-Change-clause-explained : goal.returns-in-Change-clause-explained
+returns-in-Change-clause-explained g c = λ x is. no_change _ c.args.statement.now x c.in-Change.ensures is
+
+pub returns-in-Commit-clause-explained : goal.returns-in-Commit-clause-explained
+returns-in-Commit-clause-explained g c = λ x is. another _ c.args.statement.now _ x c.in-Commit.ensures.1 refl is
+
+pub returns-in-Rollback-clause-explained : goal.returns-in-Rollback-clause-explained
+returns-in-Rollback-clause-explained g c = λ x is. another _ c.args.statement.now _ x c.in-Rollback.ensures.1 refl is
+
+pub returns-in-SetTransaction-clause-explained : goal.returns-in-SetTransaction-clause-explained
+returns-in-SetTransaction-clause-explained g c = λ x is. another _ c.args.statement.now _ x c.in-SetTransaction.ensures refl is
+
+pub returns-in-Cursor-clause-explained : goal.returns-in-Cursor-clause-explained
+returns-in-Cursor-clause-explained g c = λ x is. no_cursor_call _ c.args.statement.now x c.in-Cursor.ensures is
 
 pub returns-in-Rollback-clause-device : goal.returns-in-Rollback-clause-device
 returns-in-Rollback-clause-device g c = rw c.roll_back.ensures.done tt
@@ -75,6 +102,9 @@ returns-in-SetTransaction-clause-device g c = counts_state c.set_mode.result _ _
 
 pub returns-in-Query-clause-limits : goal.returns-in-Query-clause-limits
 returns-in-Query-clause-limits g c = none_told (StatementReaches (g.S.Store.counted c.args.store.now) (g.S.Store.shows c.args.store.now).commits c.args.statement.now) c.query.result c.query.ensures.limits
+
+pub returns-in-Explain-clause-limits : goal.returns-in-Explain-clause-limits
+returns-in-Explain-clause-limits g c = none_told (StatementReaches (g.S.Store.counted c.args.store.now) (g.S.Store.shows c.args.store.now).commits c.args.statement.now) c.explain_query.result c.explain_query.ensures.limits
 
 pub returns-in-Cursor-clause-limits : goal.returns-in-Cursor-clause-limits
 returns-in-Cursor-clause-limits g c = none_told (StatementReaches (g.S.Store.counted c.args.store.now) (g.S.Store.shows c.args.store.now).commits c.args.statement.now) c.cursor_call.result c.cursor_call.ensures.limits
@@ -133,8 +163,11 @@ returns-in-Commit-clause-commits g c =
 pub returns-in-SetTransaction-clause-commits : goal.returns-in-SetTransaction-clause-commits
 returns-in-SetTransaction-clause-commits g c = inl (g.met.S.Store.goes_on_refl _ Going.changes)
 
-pub returns-in-Later-clause-commits : goal.returns-in-Later-clause-commits
-returns-in-Later-clause-commits g c = inl (g.met.S.Store.goes_on_refl _ Going.changes)
+pub returns-in-Explain-clause-goes : goal.returns-in-Explain-clause-goes
+returns-in-Explain-clause-goes g c = g.met.S.Store.goes_on_trans _ _ _ Going.keeps (Going.writes ((g.S.Store.shows c.args.store.now).working ∷ [])) c.explain_query.ensures.goes (g.met.S.Store.goes_on_refl _ (Going.writes ((g.S.Store.shows c.args.store.now).working ∷ [])))
+
+pub returns-in-Explain-clause-commits : goal.returns-in-Explain-clause-commits
+returns-in-Explain-clause-commits g c = inl (g.met.S.Store.goes_on_trans _ _ _ Going.keeps Going.changes c.explain_query.ensures.goes (g.met.S.Store.goes_on_refl _ Going.changes))
 
 pub returns-in-Query-clause-kept : goal.returns-in-Query-clause-kept
 returns-in-Query-clause-kept g c =
@@ -170,8 +203,11 @@ returns-in-Cursor-clause-kept g c =
     (Keeps c.args.statement.now (g.S.Store.shows c.args.store.now) c.args.writer.now (kept_of c.args.slot.now) (g.S.Store.shows c.cursor_call.new.store) c.args.writer.now (kept_of c.cursor_call.new.slot))
     (λ refusal k other fetch. let h = k fetch in (h.0, refl, h.1)) c.cursor_call.ensures.kept
 
-pub returns-in-Later-clause-kept : goal.returns-in-Later-clause-kept
-returns-in-Later-clause-kept g c = λ other fetch. (same (g.S.Store.shows c.args.store.now) (g.S.Store.shows c.args.store.now) refl, refl, refl)
+pub returns-in-Explain-clause-kept : goal.returns-in-Explain-clause-kept
+returns-in-Explain-clause-kept g c =
+    refused_alike c.explain_query.result (λ refusal. SameButMark (g.S.Store.shows c.args.store.now) (g.S.Store.shows c.explain_query.new.store))
+    (Keeps c.args.statement.now (g.S.Store.shows c.args.store.now) c.args.writer.now (kept_of c.args.slot.now) (g.S.Store.shows c.explain_query.new.store) c.args.writer.now (kept_of c.args.slot.now))
+    (λ refusal k other fetch. (k, refl, refl)) c.explain_query.ensures.kept
 
 pub returns-in-Query-clause-idle : goal.returns-in-Query-clause-idle
 returns-in-Query-clause-idle g c = λ unchanged. (g.met.S.Store.goes_on_goes _ _ _ c.query.ensures.goes).stays.writes
@@ -184,3 +220,6 @@ returns-in-Change-clause-idle g c = λ unchanged. (g.met.S.Store.goes_on_goes _ 
 
 pub returns-in-Rollback-clause-idle : goal.returns-in-Rollback-clause-idle
 returns-in-Rollback-clause-idle g c = λ unchanged. (g.met.S.Store.goes_on_goes _ _ _ c.roll_back.ensures.goes).stays.writes
+
+pub returns-in-Explain-clause-idle : goal.returns-in-Explain-clause-idle
+returns-in-Explain-clause-idle g c = λ unchanged. (g.met.S.Store.goes_on_goes _ _ _ c.explain_query.ensures.goes).stays.writes

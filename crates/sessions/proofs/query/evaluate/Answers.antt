@@ -1,10 +1,30 @@
 use Rattle.std.proofs.Common.{sym, subst, ◌∙◌}
-use Rattle.std.proofs.lemmas.Result.{IfErr-weaker}
-use Rattle.query_answers.specs.Answered.{IsTreeOf}
+use Rattle.std.proofs.lemmas.Result.{IfErr-weaker, IfOk-weaker}
+use Rattle.query_answers.specs.Planned.{IsPlanOf}
+use Rattle.sqlval.specs.declared.schema.Schema.{Schema}
+use Rattle.denote.specs.SchemaOf.{IsSchemaOf}
+use Rattle.store.specs.Contents.{database_of}
+use Rattle.store.specs.View.{seen_by}
+use Rattle.typing.specs.declared.typed.OrderedQuery as typed
 use Rattle.sessions.proofs.QuerySteps.{one_query}
 use Rattle.sessions.proofs.query.evaluate.Goals as goal
 
+pub returns-in-Ok-clause-answers : goal.returns-in-Ok-clause-answers
+returns-in-Ok-clause-answers g c = IfOk-weaker c.answer.result _ _
+    (λ rows h reading query is sound good of.
+    let contents = seen_by (g.S.Store.shows c.args.store.now) c.args.view in
+    h sound query (subst (λ (q : typed.OrderedQuery). IsPlanOf contents q c.in-Ok.plan)
+    (one_query c.in-Query.query query (sym c.in-Query.is ∙ is))
+    (c.in-Ok.ensures.plan reading contents good
+    (subst (λ (schema : Schema). IsSchemaOf schema (database_of contents)) (sym c.schema.ensures) of))))
+    c.answer.ensures.answers
+
 pub returns-in-Ok-clause-refused : goal.returns-in-Ok-clause-refused
 returns-in-Ok-clause-refused g c = IfErr-weaker c.answer.result _ _
-    (λ refusal h query is sound. h sound query (subst (λ q. IsTreeOf q c.in-Ok.tree) (one_query c.in-Query.query query (sym c.in-Query.is ∙ is)) c.in-Ok.ensures.tree))
+    (λ refusal h reading query is sound good of.
+    let contents = seen_by (g.S.Store.shows c.args.store.now) c.args.view in
+    h sound query (subst (λ (q : typed.OrderedQuery). IsPlanOf contents q c.in-Ok.plan)
+    (one_query c.in-Query.query query (sym c.in-Query.is ∙ is))
+    (c.in-Ok.ensures.plan reading contents good
+    (subst (λ (schema : Schema). IsSchemaOf schema (database_of contents)) (sym c.schema.ensures) of))))
     c.answer.ensures.refused

@@ -5,13 +5,13 @@ use Rattle.store.specs.Stored.{Stored, begun}
 use Rattle.transactions.proofs.Orders.{same}
 use Rattle.transactions.proofs.Steps.{nothing_moves, withholds}
 use Rattle.transactions.proofs.Tests.{reserved, tells_reached, unbegun}
-use Rattle.sessions.proofs.QuerySteps.{gives, refuses}
+use Rattle.sessions.proofs.QuerySteps.{gives, good_begun, refuses}
 use Rattle.sessions.proofs.Devices.{risen_later, risen_still}
 use Rattle.store.specs.Going.{Going}
 use Rattle.sessions.proofs.query.query.Goals as goal
 
 pub returns-in-Err-clause-moves : goal.returns-in-Err-clause-moves
-returns-in-Err-clause-moves g c = λ rules text x kept are is read other sound order shut.
+returns-in-Err-clause-moves g c = λ rules text x kept are is read other sound order shut good.
     let st : Stored = g.S.Store.shows c.args.store.now in
     rw c.refusal_of.ensures
     (nothing_moves rules st _ _ kept (Asked.Text text) _ _ order
@@ -19,14 +19,16 @@ returns-in-Err-clause-moves g c = λ rules text x kept are is read other sound o
     (same st _ (rw c.in-Err.is at c.begin.ensures.same)))
 
 pub returns-in-Ok-clause-moves : goal.returns-in-Ok-clause-moves
-returns-in-Ok-clause-moves g c = λ rules text x kept are is read other sound order shut.
+returns-in-Ok-clause-moves g c = λ rules text x kept are is read other sound order shut good.
     let begins : g.S.Store.shows c.begin.new.self ≡ begun (g.S.Store.shows c.args.store.now) c.args.session = rw c.in_default.is at c.begin.ensures.shows in
-    gives rules _ _ _ kept text x _ _ order shut read begins c.view_of.ensures _ _ (c.in-Ok.ensures.gives rules x are is ((g.met.S.Store.goes_on_goes _ _ _ c.begin.ensures.goes).sound sound)) c.rows_seen.ensures.shows
+    gives rules _ _ _ kept text x _ _ order shut read begins c.view_of.ensures _ _ (c.in-Ok.ensures.gives rules x are is ((g.met.S.Store.goes_on_goes _ _ _ c.begin.ensures.goes).sound sound)
+    (good_begun rules.check _ _ _ _ _ begins c.view_of.ensures good)) c.rows_seen.ensures.shows
 
 pub returns-in-Err-rows_seen-clause-moves : goal.returns-in-Err-rows_seen-clause-moves
-returns-in-Err-rows_seen-clause-moves g c = λ rules text x kept are is read other sound order shut.
+returns-in-Err-rows_seen-clause-moves g c = λ rules text x kept are is read other sound order shut good.
     let begins : g.S.Store.shows c.begin.new.self ≡ begun (g.S.Store.shows c.args.store.now) c.args.session = rw c.in_default.is at c.begin.ensures.shows in
-    refuses rules _ _ _ kept text x _ _ order shut read begins c.view_of.ensures _ _ other (c.in-Err-rows_seen.ensures.refused rules x are is ((g.met.S.Store.goes_on_goes _ _ _ c.begin.ensures.goes).sound sound))
+    refuses rules _ _ _ kept text x _ _ order shut read begins c.view_of.ensures _ _ other (c.in-Err-rows_seen.ensures.refused rules x are is ((g.met.S.Store.goes_on_goes _ _ _ c.begin.ensures.goes).sound sound)
+    (good_begun rules.check _ _ _ _ _ begins c.view_of.ensures good))
     (unbegun _ _ _ _ _ c.number.ensures c.is_none-idle.ensures _ (same _ _ (c.rows_seen.ensures.shows ∙ begins)) c.take_back.ensures.shows)
 
 pub returns-in-Err-clause-left : goal.returns-in-Err-clause-left

@@ -4,13 +4,13 @@ use Rattle.last_version.specs.Standing.{shown_in}
 use Rattle.journal.specs.Reading.{OnlyReads}
 use Rattle.last_version.proofs.version.LastVersion.read.Goals as goal
 
-pub returns-then-copy-clause-reads : goal.returns-then-copy-clause-reads
-returns-then-copy-clause-reads g c =
+pub returns-in-Some-clause-reads : goal.returns-in-Some-clause-reads
+returns-in-Some-clause-reads g c =
     reads_none g.D.Disk.is_honest g.D.Disk.is_durable g.D.Disk.bytes g.D.Disk.synced g.D.Disk.writes g.D.Disk.settled g.D.Disk.moment g.D.Disk.left_since g.D.Disk.may_leave
     (λ d b durable left. g.met.D.Disk.only_now d b durable left) c.args.self.now.file.disk
 
-pub returns-then-copy-clause-value : goal.returns-then-copy-clause-value
-returns-then-copy-clause-value g c = λ honest. c.copy.ensures.found c.if-copy.true (shown_in c.args.self.now.file) (c.args.self.now.clean honest)
+pub returns-in-Some-clause-value : goal.returns-in-Some-clause-value
+returns-in-Some-clause-value g c = λ honest. c.in-Some.ensures.found (shown_in c.args.self.now.file) (c.args.self.now.clean honest)
 
 pub returns-then-is_broken-clause-reads : goal.returns-then-is_broken-clause-reads
 returns-then-is_broken-clause-reads g c =

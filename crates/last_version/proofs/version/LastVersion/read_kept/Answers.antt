@@ -11,7 +11,7 @@ invariant_of-self g c = record {
   stands = λ honest. file_now c.read.new.self (version_of c.args.self.now.file) honest (c.read.ensures.stands honest (version_of c.args.self.now.file) (c.args.self.now.stands honest));
   clean = λ honest.
       let same = shown_file c.args.self.now.file c.read.new.self c.read.ensures.set c.read.ensures.written c.read.ensures.pages (c.read.ensures.reads.same honest) in
-      c.keep.ensures.clean (shown_in c.read.new.self)
+      c.keep-known.ensures.clean (shown_in c.read.new.self)
       (ap (λ (p : ℕ → Option (List ℕ)). p c.args.number) same ∙ shown_there c.args.self.now.file.count (version_of c.args.self.now.file).pages c.args.number c.requires.within
       ∙ ap (λ (p : List ℕ). Some p) (sym (c.in-Ok.ensures.value honest (version_of c.args.self.now.file) (c.args.self.now.stands honest))))
       (clean_as (shown_in c.args.self.now.file) (shown_in c.read.new.self) _ (λ n. ap (λ (p : ℕ → Option (List ℕ)). p n) same) (c.args.self.now.clean honest));
@@ -52,7 +52,7 @@ returns-in-Ok-clause-holds g c =
       left = ap (λ (l : List (ℕ × List ℕ)). length l) left;
       waits = λ n. ap (λ (l : List (ℕ × List ℕ)). waits_in l n) left;
       broken = ap gate.is_broken c.read.ensures.gate;
-      room = c.keep.ensures.room;
+      room = c.keep-known.ensures.room;
     }
 
 pub returns-in-Err-clause-holds : goal.returns-in-Err-clause-holds

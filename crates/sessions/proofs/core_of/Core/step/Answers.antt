@@ -45,6 +45,9 @@ returns-clause-step g c = λ rules are sound live good.
     (sym (put_as c.set.new.self.all all n c.settle.new.slot (settled (get new.readers n) (kept_of c.call-reply.new.slot)) put c.settle.ensures.kept))
     (leaves.moves.step (kept_in all) (kept_here all n slot is))
 
+pub returns-clause-explained : goal.returns-clause-explained
+returns-clause-explained g c = c.call-reply.ensures.explained
+
 pub returns-clause-sound : goal.returns-clause-sound
 returns-clause-sound g c = λ rules are sound good.
     let st = g.S.Store.shows c.args.self.now.store in

@@ -1,0 +1,5 @@
+mod Declared
+mod Made
+mod Sought
+mod Told
+mod Whole

@@ -1,0 +1,3 @@
+pub mod Nodes
+pub mod Margins
+pub mod Characters

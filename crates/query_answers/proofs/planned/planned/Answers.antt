@@ -1,0 +1,4 @@
+use Rattle.query_answers.proofs.planned.planned.Goals as goal
+
+pub returns-in-Ok-clause-stored : goal.returns-in-Ok-clause-stored
+returns-in-Ok-clause-stored c = (c.rules_keep_the_outcome.ensures.replayed _ _ _ c.in-Ok.ensures.replays).stored

@@ -1,0 +1,12 @@
+use Rattle.std.proofs.Common.{sym, subst, ◌∙◌}
+use Rattle.algebra.specs.Described.{described_in}
+use Rattle.algebra.specs.Translated.{tree_of_ordered}
+use Rattle.typing.specs.declared.typed.OrderedQuery as typed
+use Rattle.query_answers.specs.Explanation.{ShowsPlan}
+use Rattle.sessions.proofs.ExplainSteps.{one_query}
+use Rattle.sessions.proofs.explaining.lines_of.Goals as goal
+
+pub returns-in-Ok-clause-explained : goal.returns-in-Ok-clause-explained
+returns-in-Ok-clause-explained c = λ query is.
+    subst (λ (q : typed.OrderedQuery). ShowsPlan (tree_of_ordered (described_in c.args.schema.now) q) c.in-Ok.lines)
+    (one_query c.in-Explain.query query (sym c.in-Explain.is ∙ is)) c.in-Ok.ensures.shows

@@ -1,0 +1,12 @@
+use Rattle.std.proofs.Common.{◌≡◌, List, drop}
+use Rattle.std.specs.List.{AllByRecursion}
+use Rattle.store.specs.Contents as stored
+use Rattle.btree_read.specs.Nodes.{entries_in}
+use Rattle.tablestore.specs.Held.{entries_of, AreKept, AreLeft, RowFits, AreFitting}
+use Rattle.tablestore.proofs.decoding.rows_of_leaves.Given as goal
+
+abbrev pub invariant-loop-leaf : goal.invariant-loop-leaf
+invariant-loop-leaf l = record {
+  left : (all : List stored.Entry) → AreKept all → AreFitting l.columns all → l.entries ≡ entries_of all → AreLeft l.columns l.found (entries_in (drop l.leaf-index l.leaves)) all;
+  typed : AllByRecursion (RowFits l.columns) l.found.rows;
+}
