@@ -1,4 +1,7 @@
+#!/usr/bin/env python3
 """The toolchain's command as a module that computes each digest of a crate once in a run.
+
+  tools/toolchain.py WORD ..    is `rt WORD ..` so
 
 The toolchain computes the digest of a crate, and the list of all that is below it, by a recursion
 over crates.txt that remembers nothing: as often as there are ways down to each crate.
@@ -68,3 +71,7 @@ def crates_of(rt, top, names):
             read_files(known[folder])
         found += [it for it in [*known[folder].below(), known[folder]] if it not in found]
     return found
+
+
+if __name__ == "__main__":
+    sys.exit(toolchain().main(sys.argv[1:]))
