@@ -1,5 +1,5 @@
 //! The schema that was decoded last.
-ghost use Rattle.std.specs.Prelude.{◌≡◌, ◌≤◌, ℕ, List, OnOk, IfErr};
+ghost use Rattle.std.specs.Prelude.{◌≡◌, ◌≤◌, ℕ, List, [], OnOk, IfErr};
 ghost use Rattle.sqlval.specs.declared.schema.Table.{Table as AnyTable};
 ghost use Rattle.page_space.specs.Space.{ReadRefused};
 ghost use Rattle.catalog_records.specs.Records.{schema_records};
@@ -25,7 +25,9 @@ pub struct KnownSchema {
 
 impl KnownSchema {
     /// The schema without tables.
-    pub fn new(alloc: Global) -> KnownSchema {
+    pub fn new(alloc: Global) -> KnownSchema
+        ensures { result.schema.tables ≡ [] }
+    {
         KnownSchema {
             entries: Entries::new(alloc),
             schema: Schema {

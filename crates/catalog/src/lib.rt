@@ -3,7 +3,6 @@
 
 mod adding;
 mod altering;
-mod copies;
 mod decoding;
 mod error;
 mod known;
@@ -13,7 +12,6 @@ mod schema;
 
 pub use adding::{add_table, set_root};
 pub use altering::alter_table;
-pub use copies::{copied_schema, copied_table};
 pub use error::ChangeError;
 pub use known::{KnownSchema, read_known};
 pub use laws::{schemas_stay, tables_are_one};

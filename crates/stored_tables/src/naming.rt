@@ -5,9 +5,10 @@ ghost use Rattle.page_space.specs.Space.{ReadRefused};
 ghost use Rattle.catalog.specs.Held.{HoldsSchema, HoldsNoSchema};
 ghost use Rattle.stored_tables.specs.Named.{table_named};
 
-use catalog::{KnownSchema, copied_table, read_known, read_schema};
+use catalog::{KnownSchema, read_known, read_schema};
 use items::Text;
 use page_space::{PageReader, SpaceError};
+use schema_copies::copied_table;
 use sqlval::{Schema, Table};
 use std::alloc::Global;
 

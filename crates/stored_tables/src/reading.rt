@@ -12,9 +12,10 @@ ghost use Rattle.stored_tables.specs.Held.{TableAt, HoldsTables, HoldsNoTables, 
 ghost use Rattle.stored_tables.specs.Named.{table_named, AreTyped, IsTyped};
 
 use crate::naming::find_table;
-use catalog::{KnownSchema, copied_schema, read_known};
+use catalog::{KnownSchema, read_known};
 use items::{Items, Text};
 use page_space::{PageReader, SpaceError};
+use schema_copies::copied_schema;
 use sqlval::Schema;
 use std::alloc::Global;
 use store::{Numbered, NumberedRow};
