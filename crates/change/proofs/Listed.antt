@@ -1,10 +1,8 @@
--- The rows that a query lists, as sources of VALUES.
+-- The rows that answer a query, as sources of VALUES.
 use Rattle.std.proofs.Common.{◌≡◌, ◌∙◌, refl, sym, ap, subst, append-nil, ℕ, List, [], ◌∷◌, ◌++◌, map, Option, Some, None, Result, Ok, Err, inl, inr, ◌⊎◌, Contains, arith}
 use Rattle.std.proofs.lemmas.List.Elements.{Contains-append_left}
-use Rattle.std.specs.Prelude.{IfOk, IfErr}
 use Rattle.std.specs.FinMap.{get}
 use Rattle.refusals.specs.declared.refusal.Refusal.{Refusal}
-use Rattle.refusals.specs.declared.refusal.Refusal.TheVariants.{Memory}
 use Rattle.sqlval.specs.declared.schema.Schema.{Schema}
 use Rattle.sqlval.specs.declared.schema.Table as stored
 use Rattle.sqlval.specs.declared.value.Value.{Value}
@@ -21,24 +19,21 @@ use Rattle.algebra.specs.declared.tree.Expression.{Expression}
 use Rattle.algebra.specs.declared.tree.StoredTable.{StoredTable}
 use Rattle.algebra.specs.Described.{described_in, known_of, table_at}
 use Rattle.algebra.specs.Translated.{tree_of_expression}
-use Rattle.algebra_laws.specs.Shown.{Lists}
 use Rattle.denote.specs.declared.fault.Fault.{Fault}
-use Rattle.denote.specs.Bag.{Permutes}
+use Rattle.denote.specs.Answer.{Answers}
 use Rattle.denote.specs.Change.{inserted_rows}
 use Rattle.denote.specs.Database.{Table, Database, CheckReading, checks_of, rows_in}
 use Rattle.denote.specs.Evaluation.{Evaluation, adding, faults_in, together}
 use Rattle.denote.specs.Meaning.{Tables, query_outcome, value_of}
-use Rattle.denote.specs.Outcome.{Outcome}
+use Rattle.denote.specs.Query.{denotes}
 use Rattle.denote.specs.StoredRow.{inserted_row}
 use Rattle.denote.proofs.Nodes.{value_constant}
-use Rattle.executor.specs.declared.listed.Listed.{Listed}
-use Rattle.executor.specs.Reply.{as_list, outcome_of}
 use Rattle.operator_laws.specs.Same.{IsSameBag}
 use Rattle.operator_laws.proofs.Same.{IsSameValue-refl, together-rows}
-use Rattle.session_definitions.specs.Refusals.{IsReserved, refusal_of}
 use Rattle.translation.proofs.TreeNodes.{expression_constant}
 use Rattle.tree_tables.specs.TablesRead.{Agree}
 use Rattle.tree_tables.proofs.Nodes.{expression_constant as names_of_constant}
+use Rattle.query_answers.specs.Planned.{unordered}
 use Rattle.query_answers.specs.Refused.{GivesFaults, MayRefuse}
 use Rattle.query_answers.specs.Sources.{AreTreesOf, tables_in_row, tables_in_rows}
 use Rattle.constraints.specs.Changed.{RefusesChange}
@@ -101,24 +96,6 @@ module _ (checks : List Condition) (tables : Tables) (table : Table) (places : L
 
 -- ---- the rows of a query
 
--- whole lists
-pub listed_as : (T : Type 0) (result : Result (List (List Expression)) Refusal) (listed : Listed) (listing : Outcome) → (T → outcome_of listed ≡ listing) → IfOk result (λ _. listed.fault ≡ None)
-    → IfOk result (λ sources. sources ≡ constants listed.rows) → IfOk result (λ sources. (rows : List Row) × (sources ≡ constants rows) × (T → listing ≡ record { rows = rows; faults = [] }))
-listed_as T (Ok sources) listed listing is none e =
-    let ended : outcome_of listed ≡ record { rows = listed.rows; faults = [] } = ap (λ (fault : Option Fault). let o : Outcome = record { rows = listed.rows; faults = as_list fault } in o) none in
-    (listed.rows, e, λ sound. sym (is sound) ∙ ended)
-listed_as T (Err refusal) listed listing is none e = tt
-
--- and those that end with a fault
-pub ended_as : (result : Result (List (List Expression)) Refusal) (listed : Listed) (listing : Outcome) → outcome_of listed ≡ listing
-    → IfErr result (λ refusal. (refusal ≡ Memory) ⊎ ((fault : Fault) × (refusal ≡ refusal_of fault) × (listed.fault ≡ Some fault))) → IfErr result (MayRefuse listing.faults)
-ended_as (Ok sources) listed listing is h = tt
-ended_as (Err refusal) listed listing is (inl e) = inl (subst IsReserved (sym e) tt)
-ended_as (Err refusal) listed listing is (inr h) =
-    let faults : as_list listed.fault ≡ listing.faults = ap (λ (o : Outcome). o.faults) is in
-    let ends : h.0 ∷ [] ≡ listing.faults = sym (ap as_list h.2) ∙ faults in
-    inr (h.0, h.1, subst (λ (fs : List Fault). Contains fs h.0) ends (0, omega arith, refl))
-
 adding_has : {A : Type 0} (faults : List Fault) (x : Evaluation A) (fault : Fault) → Contains faults fault → Contains (faults_in (adding faults x)) fault
 adding_has [] x fault one = absurd (let below = one.1 in omega (arith, below))
 adding_has (f ∷ faults) x fault one = Contains-append_left (f ∷ faults) (faults_in x) fault one
@@ -127,25 +104,15 @@ module _ (reading : CheckReading) (db : Database) (i : Insert) (table : Table) (
   stores : Row → Evaluation Row
   stores row = inserted_row (checks_of reading i.table table) table i.columns (map Ok row)
 
-  -- a list of the query's rows without a fault
-  pub permuted : (listing : Outcome) (rows : List Row) → Lists listing (query_outcome (rows_in db) query []) → listing ≡ record { rows = rows; faults = [] }
-      → ((query_outcome (rows_in db) query []).faults ≡ []) × Permutes (query_outcome (rows_in db) query []).rows rows
-  permuted listing rows l e =
-      let here = subst (λ (o : Outcome). Lists o (query_outcome (rows_in db) query [])) e l in
-      let whole = here.complete refl in
-      let all : rows ++ here.missing ≡ rows = ap (λ (missing : List Row). rows ++ missing) whole.1 ∙ append-nil rows in
-      (whole.0, subst (λ (given : List Row). Permutes (query_outcome (rows_in db) query []).rows given) all here.rows)
-
   stored_is : (query_outcome (rows_in db) query []).faults ≡ [] → stored_of reading db i table i.source ≡ together (map stores (query_outcome (rows_in db) query []).rows)
   unfolding stores
   stored_is none =
       ap (stored_of reading db i table) source ∙ ap (λ (faults : List Fault). adding faults (together (map stores (query_outcome (rows_in db) query []).rows))) none
 
-  pub given_query : (listing : Outcome) (rows given : List Row) → Lists listing (query_outcome (rows_in db) query []) → listing ≡ record { rows = rows; faults = [] }
+  pub given_query : (rows given : List Row) → Answers (Ok rows) (denotes db (unordered query))
       → stored_of reading db i table (from.Values (typed_rows rows)) ≡ Ok given → AreGiven reading db i given
   unfolding stores
-  given_query listing rows given l e is =
-      let whole = permuted listing rows l e in
+  given_query rows given whole is =
       let o = query_outcome (rows_in db) query [] in
       let same : together (map stores rows) ≡ Ok given = sym (constants_stored (checks_of reading i.table table) (rows_in db) table i.columns rows) ∙ is in
       by (together (map stores o.rows)) refl
@@ -157,12 +124,11 @@ module _ (reading : CheckReading) (db : Database) (i : Insert) (table : Table) (
       by (Ok meant) found order stored_so = record { table = table; there = there; meant = meant; given = stored_so ∙ found; order = order }
       by (Err faults) found order stored_so = absurd order
 
-  pub refuses_query : (listing : Outcome) (rows : List Row) (refusal : Refusal) → Lists listing (query_outcome (rows_in db) query []) → listing ≡ record { rows = rows; faults = [] }
+  pub refuses_query : (rows : List Row) (refusal : Refusal) → Answers (Ok rows) (denotes db (unordered query))
       → GivesFaults (faults_in (stored_of reading db i table (from.Values (typed_rows rows)))) refusal → RefusesChange reading db (does.Insert i) refusal
   unfolding stores
-  refuses_query listing rows refusal l e (inl memory) = refuses_as reading db i table there refusal (inl memory)
-  refuses_query listing rows refusal l e (inr h) =
-      let whole = permuted listing rows l e in
+  refuses_query rows refusal whole (inl memory) = refuses_as reading db i table there refusal (inl memory)
+  refuses_query rows refusal whole (inr h) =
       let o = query_outcome (rows_in db) query [] in
       let among = subst (λ (x : Evaluation (List Row)). Contains (faults_in x) h.0) (constants_stored (checks_of reading i.table table) (rows_in db) table i.columns rows) h.2 in
       refuses_as reading db i table there refusal (inr (
@@ -178,10 +144,10 @@ module _ (reading : CheckReading) (db : Database) (i : Insert) (table : Table) (
       by fault (Err faults) (Ok rows) same one = absurd same
       by fault (Err faults) (Err others) same one = (same fault).1 one
 
-  pub refuses_listing : (listing : Outcome) (refusal : Refusal) → Lists listing (query_outcome (rows_in db) query []) → MayRefuse listing.faults refusal → RefusesChange reading db (does.Insert i) refusal
-  refuses_listing listing refusal l (inl reserved) = RefusesChange.withheld reserved
-  refuses_listing listing refusal l (inr h) =
+  pub refuses_fault : (refusal : Refusal) → MayRefuse (query_outcome (rows_in db) query []).faults refusal → RefusesChange reading db (does.Insert i) refusal
+  refuses_fault refusal (inl reserved) = RefusesChange.withheld reserved
+  refuses_fault refusal (inr h) =
       let o = query_outcome (rows_in db) query [] in
-      let one = adding_has o.faults (together (map (λ row. inserted_row (checks_of reading i.table table) table i.columns (map Ok row)) o.rows)) h.0 (l.within h.0 h.2) in
+      let one = adding_has o.faults (together (map (λ row. inserted_row (checks_of reading i.table table) table i.columns (map Ok row)) o.rows)) h.0 h.2 in
       RefusesChange.raises h.0 h.1 (raised_in reading db i table there h.0
       (subst (λ (x : Evaluation (List Row)). Contains (faults_in x) h.0) (sym (ap (stored_of reading db i table) source)) one))

@@ -70,11 +70,13 @@ fn rows_of<S: Store>(
 ) -> Result<Rows, Refusal>
     ensures gives { IfOk result (λ rows. (reading : CheckReading) (table : Table) → S.is_sound store.old
         → IsSchemaOf (S.prepared store.old) (database_of (S.shows store.old).working)
+        → IsGood reading (database_of (S.shows store.old).working)
         → get (database_of (S.shows store.old).working) insert.now.table ≡ Some table
         → AreChecksOf (checks_of reading insert.now.table table) checks.now.conditions
         → AreGiven reading (database_of (S.shows store.old).working) insert.now rows) }
     ensures refused { IfErr result (λ refusal. (reading : CheckReading) (table : Table) → S.is_sound store.old
         → IsSchemaOf (S.prepared store.old) (database_of (S.shows store.old).working)
+        → IsGood reading (database_of (S.shows store.old).working)
         → get (database_of (S.shows store.old).working) insert.now.table ≡ Some table
         → AreChecksOf (checks_of reading insert.now.table table) checks.now.conditions
         → RefusesChange reading (database_of (S.shows store.old).working) (does.Insert insert.now) refusal) }

@@ -18,6 +18,7 @@ use Rattle.places.proofs.Wholes.{left_kept}
 use Rattle.places.specs.Left.{Entries, before, left}
 use Rattle.places.specs.Views.{is_whole}
 use Rattle.query_answers.specs.Answered.{rows_found}
+use Rattle.rules.specs.Same.{IsSameTree}
 use Rattle.session_definitions.specs.Cursor.{Begins, IsAtEnd, MayGive, MayRaise, having_given}
 use Rattle.session_definitions.specs.Refusals.{refusal_of}
 use Rattle.session_definitions.specs.World.{Cursor}
@@ -36,7 +37,7 @@ end_is : (cursor : OpenCursor) (contents : Contents) → Fits cursor contents �
 end_is cursor contents fits = ap (λ (o : Outcome). o.faults) (sym fits.whole)
 
 abbrev pub moved : OpenCursor → Place → OpenCursor
-moved cursor place = record { plan = cursor.plan; place = place }
+moved cursor place = record { tree = cursor.tree; plan = cursor.plan; place = place }
 
 module _ (cursor : OpenCursor) (place : Place) (contents : Contents) (fits : Fits cursor contents) where
   abbrev rest : Outcome
@@ -55,10 +56,11 @@ module _ (cursor : OpenCursor) (place : Place) (contents : Contents) (fits : Fit
     gives = λ i. record { outcome = (cursor_of cursor contents).outcome; given = given_now i }
 
     pub may_give : Sorts → Answers → MayGive (cursor_of cursor contents) row
-    may_give sorts answers = begins (rows_found contents) cursor.plan sorts answers ((cursor_of cursor contents).given ++ row ∷ []) rest.rows now_given
+    may_give sorts answers = begins (rows_found contents) cursor.plan cursor.tree fits.same sorts answers ((cursor_of cursor contents).given ++ row ∷ []) rest.rows now_given
 
     pub fits_on : is_whole place ≡ true → Fits (moved cursor place) contents
     fits_on kept = record {
+      same = fits.same;
       whole = (λ i. before (given_now i) rest)
           ∙ (λ i. record { rows = sym now_given i; faults = (ap (λ (o : Outcome). o.faults) takes ∙ sym (end_is cursor contents fits)) i });
       kept = kept;
@@ -71,6 +73,7 @@ module _ (cursor : OpenCursor) (place : Place) (contents : Contents) (fits : Fit
 
     pub fits_still : is_whole place ≡ true → Fits (moved cursor place) contents
     fits_still kept = record {
+      same = fits.same;
       whole = (λ i. before (rows_given (whole_list cursor contents).rows (same i).rows) (same i)) ∙ fits.whole;
       kept = kept;
     }
@@ -85,13 +88,13 @@ module _ (cursor : OpenCursor) (place : Place) (contents : Contents) (fits : Fit
 
       pub at_end : Sorts → Answers → (left (entries_at contents) place cursor.plan).faults ≡ [] → IsAtEnd (cursor_of cursor contents)
       at_end sorts answers clean =
-          let found = whole (rows_found contents) cursor.plan sorts answers (cursor_of cursor contents).given all_given
+          let found = whole (rows_found contents) cursor.plan cursor.tree fits.same sorts answers (cursor_of cursor contents).given all_given
           (end_is cursor contents fits ∙ ap (λ (o : Outcome). o.faults) (sym same) ∙ clean) in
           record { clean = found.0; all = found.1 }
 
       pub may_raise : Sorts → Answers → (fault : Fault) → (left (entries_at contents) place cursor.plan).faults ≡ fault ∷ [] → MayRaise (cursor_of cursor contents) fault
       may_raise sorts answers fault is =
-          raises (rows_found contents) cursor.plan sorts answers fault [] (end_is cursor contents fits ∙ ap (λ (o : Outcome). o.faults) (sym same) ∙ is)
+          raises (rows_found contents) cursor.plan cursor.tree fits.same sorts answers fault [] (end_is cursor contents fits ∙ ap (λ (o : Outcome). o.faults) (sym same) ∙ is)
 
 -- ---- a cursor is opened
 
@@ -108,16 +111,16 @@ given_none rows = ap (λ n. take n rows) (none_left (length rows))
 pub whole_kept : (rows : IntoIter Row _) (fault : Option Fault) → is_whole (p.Kept rows fault) ≡ true
 whole_kept rows fault = search (rules, the_lemmas)
 
-pub begins_kept : (plan : Tree) (rows : IntoIter Row _) (fault : Option Fault) (listed : Listed) (contents : Contents) → into_iter_items rows ≡ listed.rows → fault ≡ listed.fault
-    → outcome_of listed ≡ tree_listing (rows_found contents) plan [] → is_whole (p.Kept rows fault) ≡ true
-    → BeginsAt (record { plan = plan; place = p.Kept rows fault }) contents
-begins_kept plan rows fault listed contents items ends is kept = record {
-  fits = record { whole = (λ i. before (given i) (rest_list cursor contents)) ∙ same; kept = kept };
+pub begins_kept : (tree plan : Tree) (rows : IntoIter Row _) (fault : Option Fault) (listed : Listed) (contents : Contents) → into_iter_items rows ≡ listed.rows → fault ≡ listed.fault
+    → outcome_of listed ≡ tree_listing (rows_found contents) plan [] → IsSameTree (rows_found contents) plan tree
+    → is_whole (p.Kept rows fault) ≡ true → BeginsAt (record { tree = tree; plan = plan; place = p.Kept rows fault }) contents
+begins_kept tree plan rows fault listed contents items ends is stands kept = record {
+  fits = record { same = stands; whole = (λ i. before (given i) (rest_list cursor contents)) ∙ same; kept = kept };
   given = given;
 }
   where
     cursor : OpenCursor
-    cursor = record { plan = plan; place = p.Kept rows fault }
+    cursor = record { tree = tree; plan = plan; place = p.Kept rows fault }
 
     same : rest_list cursor contents ≡ whole_list cursor contents
     same = left_kept (entries_at contents) rows fault plan ∙ (λ i. record { rows = items i; faults = (as_ends fault ∙ ap as_list ends) i }) ∙ is
@@ -143,7 +146,7 @@ none_come old sorts answers contents fits = record {
   fits = fits;
   leaves = λ i. record { outcome = (cursor_of old contents).outcome; given = sym (append-nil (cursor_of old contents).given) i };
   begun = subst (λ (given : List Row). Begins (cursor_of old contents).outcome given) (sym (append-nil (cursor_of old contents).given))
-      (begins (rows_found contents) old.plan sorts answers (cursor_of old contents).given (rest_list old contents).rows (parts old contents fits));
+      (begins (rows_found contents) old.plan old.tree fits.same sorts answers (cursor_of old contents).given (rest_list old contents).rows (parts old contents fits));
   all = refl;
 }
 

@@ -11,6 +11,7 @@ use Rattle.denote.specs.Outcome.{Outcome}
 use Rattle.places.specs.Left.{Entries, before, left}
 use Rattle.places.specs.Views.{is_whole}
 use Rattle.query_answers.specs.Answered.{rows_found}
+use Rattle.rules.specs.Same.{IsSameTree}
 use Rattle.session_definitions.specs.Cursor.{IsAtEnd, MayGive, MayGiveRows, MayRaise, having_given}
 use Rattle.session_definitions.specs.Refusals.{refusal_of}
 use Rattle.session_definitions.specs.World.{Cursor}
@@ -34,12 +35,14 @@ rows_given whole rest = take (length whole - length rest) whole
 
 abbrev pub cursor_of : OpenCursor → Contents → Cursor
 cursor_of cursor contents = record {
-  outcome = ordered_outcome (rows_found contents) cursor.plan;
+  outcome = ordered_outcome (rows_found contents) cursor.tree;
   given = rows_given (whole_list cursor contents).rows (rest_list cursor contents).rows;
 }
 
--- What is left of the list is all of it but the rows that were given, and is kept.
+-- What is left of the list is all of it but the rows that were given, and is kept. The plan stands
+-- for the tree.
 pub record Fits (cursor : OpenCursor) (contents : Contents) : Type 0 where
+  pub same : IsSameTree (rows_found contents) cursor.plan cursor.tree
   pub whole : before (cursor_of cursor contents).given (rest_list cursor contents) ≡ whole_list cursor contents
   pub kept : is_whole cursor.place ≡ true
 

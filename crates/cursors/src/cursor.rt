@@ -8,6 +8,8 @@ ghost use Rattle.executor.specs.Reply.{outcome_of};
 ghost use Rattle.places.specs.Left.{Entries, before, left};
 ghost use Rattle.places.specs.Views.{is_whole};
 ghost use Rattle.query_answers.specs.Answered.{rows_found};
+ghost use Rattle.query_answers.specs.Planned.{StandsFor};
+ghost use Rattle.rules.specs.Same.{IsSameTree};
 ghost use Rattle.session_definitions.specs.Cursor.{having_given};
 ghost use Rattle.session_definitions.specs.Refusals.{IsReserved};
 ghost use Rattle.store.specs.Contents.{Contents};
@@ -22,50 +24,54 @@ use executor::Listed;
 use items::Items;
 use order_laws::listings_are_sorted;
 use places::{Place, first_row};
-use query_answers::{refusal_of_fault, run_all};
+use query_answers::{PlannedQuery, refusal_of_fault, run_plan};
 use refusals::Refusal;
 use std::alloc::Global;
 use store::Reading;
 
-/// A cursor that is open: its plan, and how far the list of that was given.
+/// A cursor that is open: the tree of its query, by which is said what it may give, the plan, and
+/// how far the list of that was given.
 #[derive(Drop)]
 pub struct OpenCursor {
+    pub(crate) tree: Tree,
     pub(crate) plan: Tree,
     pub(crate) place: Place,
 }
 
 /// The cursor of a list of which nothing was given yet.
-fn at_beginning(plan: Tree, listed: Listed) -> OpenCursor
-    ensures begins { (contents : Contents) → outcome_of listed ≡ tree_listing (rows_found contents) plan []
-        → BeginsAt result contents }
-    ensures plan { result.plan ≡ plan }
+fn at_beginning(query: PlannedQuery, listed: Listed) -> OpenCursor
+    ensures begins { (contents : Contents) → outcome_of listed ≡ tree_listing (rows_found contents) query.plan []
+        → IsSameTree (rows_found contents) query.plan query.tree → BeginsAt result contents }
+    ensures tree { result.tree ≡ query.tree }
 {
+    let PlannedQuery { tree, plan } = query;
     let Listed { rows, fault } = listed;
     OpenCursor {
+        tree,
         plan,
         place: Place::Kept(rows.into_vec().into_iter(), fault),
     }
 }
 
-/// Opens a cursor of a plan, which is a tree as it stands, over the tables as the reading finds
-/// them: its whole list is made, with the fault that ends it. It is refused for what `run_all` is
-/// refused for.
+/// Opens a cursor of a query over the tables as the reading finds them, by its plan: the whole list
+/// of that is made, with the fault that ends it. It is refused for what `run_plan` is refused for.
 pub fn open_cursor<R: Reading>(
     alloc: Global,
     reading: &mut R,
-    plan: Tree,
+    query: PlannedQuery,
 ) -> Result<OpenCursor, Refusal>
     ensures begins { IfOk result (λ cursor. R.is_sound reading.old
+        → StandsFor (R.shows reading.old).contents query.plan query.tree
         → BeginsAt cursor (R.shows reading.old).contents) }
-    ensures plan { IfOk result (λ cursor. cursor.plan ≡ plan) }
+    ensures tree { IfOk result (λ cursor. cursor.tree ≡ query.tree) }
     ensures refused { IfErr result (λ refusal. R.is_sound reading.old → IsReserved refusal) }
     ensures limits { IfErr result TellsNoLimit }
     ensures counts { IfErr result (λ refusal. refusal ≡ Disk
         → HasRisen (R.shows reading.old).refused (R.shows reading.new).refused) }
     ensures follows { R.follows reading.old reading.new }
 {
-    match run_all(alloc, reading, &plan) {
-        Ok(listed) => Ok(at_beginning(plan, listed)),
+    match run_plan(alloc, reading, &query.plan) {
+        Ok(listed) => Ok(at_beginning(query, listed)),
         Err(refusal) => Err(refusal),
     }
 }

@@ -16,11 +16,11 @@ use Rattle.denote.specs.Database.{rows_in}
 use Rattle.denote.specs.Outcome.{OrderedOutcome, Outcome}
 use Rattle.denote.specs.Query.{denotes}
 use Rattle.places.specs.Indexes.{HasIndexes}
-use Rattle.rules.specs.Same.{AreAmong}
+use Rattle.rules.specs.Same.{AreAmong, Fits, IsSameTree, Keeps}
 use Rattle.rules.specs.Stored.{stored_in_tree}
 use Rattle.store.specs.Contents.{Contents, database_of}
 use Rattle.query_answers.specs.Answered.{RefusesAs, rows_found}
-use Rattle.query_answers.specs.Planned.{IsPlanOf}
+use Rattle.query_answers.specs.Planned.{IsPlanOf, StandsFor}
 use Rattle.query_answers.specs.Refused.{MayRefuse}
 use Rattle.query_answers.proofs.Answering.{fault_answers, rows_answer}
 
@@ -52,6 +52,24 @@ module _ (contents : Contents) (schema : Schema) (query : OrderedQuery) (tree : 
     indexed = indexed plan (subst (λ (t : Tree). AreAmong (stored_in_tree plan) (stored_in_tree t)) is stored);
   }
   plan_found means indexed (Err error) stored answers = tt
+
+-- beside the tree, of which the plan was chosen for another copy
+pub stands_for : (contents : Contents) (schema : Schema) (query : OrderedQuery) (tree copy : Tree)
+    → tree ≡ tree_of_ordered (described_in schema) query → copy ≡ tree_of_ordered (described_in schema) query
+    → Fits (rows_in (database_of contents)) (tree_of_ordered (described_in schema) query)
+    → ((plan : Tree) → AreAmong (stored_in_tree plan) (stored_in_tree (tree_of_ordered (described_in schema) query))
+    → HasIndexes contents plan)
+    → (plan : Tree) → AreAmong (stored_in_tree plan) (stored_in_tree copy) → Keeps plan copy → StandsFor contents plan tree
+stands_for contents schema query tree copy is same fits indexed plan stored keeps = record {
+  same = subst (λ (t : Tree). IsSameTree (rows_in (database_of contents)) plan t) (sym is) (record {
+    outcome = kept.same (rows_in (database_of contents)) fits;
+    keys = kept.keys;
+  });
+  indexed = indexed plan (subst (λ (t : Tree). AreAmong (stored_in_tree plan) (stored_in_tree t)) same stored);
+}
+  where
+    kept : Keeps plan (tree_of_ordered (described_in schema) query)
+    kept = subst (λ (t : Tree). Keeps plan t) same keeps
 
 -- ---- what it lists, as clauses of a call
 

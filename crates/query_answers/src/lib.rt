@@ -14,7 +14,7 @@ mod sources;
 pub use explanation::explain;
 pub use fault::refusal_of_fault;
 pub use lent::{LentTable, LentTables, lent_tables};
-pub use planned::{answer, query_plan, run_plan};
+pub use planned::{PlannedQuery, answer, plan_beside_tree, query_plan, run_plan, unordered_plan};
 pub use query::{query_tree, run_all};
 pub use rows::rows_to_insert;
 pub use sources::{source_trees, tables_for_sources};

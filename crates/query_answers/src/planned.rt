@@ -6,7 +6,7 @@ ghost use Rattle.typing.specs.declared.typed.OrderedQuery.{OrderedQuery as Asked
 ghost use Rattle.algebra.specs.Described.{described_in};
 ghost use Rattle.algebra.specs.Listing.{reply_of, tree_listing};
 ghost use Rattle.algebra.specs.OrderKeys.{ordered_outcome};
-ghost use Rattle.algebra.specs.Translated.{tree_of_ordered};
+ghost use Rattle.algebra.specs.Translated.{tree_of_ordered, tree_of_query};
 ghost use Rattle.algebra.specs.declared.tree.Condition.{Condition};
 ghost use Rattle.algebra.specs.declared.tree.StoredTable.{StoredTable};
 ghost use Rattle.denote.specs.Answer.{Answers};
@@ -20,7 +20,7 @@ ghost use Rattle.places.specs.Left.{entries_in};
 ghost use Rattle.plan_listings.specs.Loops.{loops_by_no_index};
 ghost use Rattle.planner.specs.Joins.{AsksPairs, JoinsByKeys};
 ghost use Rattle.planner.specs.Looks.{Asks, LooksUp};
-ghost use Rattle.rules.specs.Same.{AreAmong, Fits};
+ghost use Rattle.rules.specs.Same.{AreAmong, Fits, Keeps};
 ghost use Rattle.rules.specs.Stored.{stored_in_tree};
 ghost use Rattle.store.specs.Contents.{Contents, database_of};
 ghost use Rattle.store.specs.Errors.{HasRisen};
@@ -28,9 +28,9 @@ ghost use Rattle.streams.specs.Parts.{names_in_parts};
 ghost use Rattle.streams.specs.Reads.{to_begin};
 ghost use Rattle.transactions.specs.Refused.{TellsNoLimit};
 ghost use Rattle.tree_tables.specs.TablesRead.{tables_in_tree};
-ghost use Rattle.query_answers.specs.Answered.{rows_found};
+ghost use Rattle.query_answers.specs.Answered.{IsTreeOf, rows_found};
 ghost use Rattle.query_answers.specs.Lent.{rows_under};
-ghost use Rattle.query_answers.specs.Planned.{IsPlanOf};
+ghost use Rattle.query_answers.specs.Planned.{IsPlanOf, StandsFor, unordered};
 ghost use Rattle.query_answers.specs.Refused.{MayRefuse};
 
 use crate::itself::run_by_itself;
@@ -47,7 +47,8 @@ use sqlval::Schema;
 use std::alloc::{AllocError, Global};
 use store::Reading;
 use streams::tables_in_parts;
-use typing::OrderedQuery;
+use translation::translate_query;
+use typing::{OrderedQuery, Query};
 
 /// The plan that is chosen for a query which was typed over this schema. Over every good database
 /// whose schema it is its list answers the query, and it reads by indexes that the tables have
@@ -72,9 +73,60 @@ pub fn query_plan(alloc: Global, schema: &Schema, query: &OrderedQuery) -> Resul
     }
 }
 
+/// The same of a query without ORDER BY, as that of an INSERT.
+pub fn unordered_plan(alloc: Global, schema: &Schema, query: &Query) -> Result<Tree, AllocError>
+    ensures plan { (reading : CheckReading) (contents : Contents) → IsGood reading (database_of contents)
+        → IsSchemaOf schema.now (database_of contents) → IfOk result (IsPlanOf contents (unordered query.now)) }
+    ensures looks { (condition : Condition) (table : StoredTable)
+        → Asks condition table (tree_of_query (described_in schema.now) query.now)
+        → IfOk result (λ plan. LooksUp condition table plan) }
+    ensures joins { (condition : Condition) (left right : StoredTable)
+        → AsksPairs condition left right (tree_of_query (described_in schema.now) query.now)
+        → IfOk result (λ plan. JoinsByKeys left right plan) }
+{
+    described_tables_are_known();
+    translation_keeps_the_meaning();
+    match translate_query(alloc, schema, query) {
+        Ok(rows) => planned(alloc, rows),
+        Err(error) => Err(error),
+    }
+}
+
+/// The tree of a query, and the plan that is chosen for it.
+#[derive(Drop)]
+pub struct PlannedQuery {
+    pub tree: Tree,
+    pub plan: Tree,
+}
+
+/// The tree of a query that was typed over this schema, and the plan that is chosen for it, which
+/// stands for the tree over every good database of this schema. Refuses for want of memory alone.
+pub fn plan_beside_tree(
+    alloc: Global,
+    schema: &Schema,
+    query: &OrderedQuery,
+) -> Result<PlannedQuery, AllocError>
+    ensures tree { IfOk result (λ p. IsTreeOf query.now p.tree) }
+    ensures plan { (reading : CheckReading) (contents : Contents) → IsGood reading (database_of contents)
+        → IsSchemaOf schema.now (database_of contents) → IfOk result (λ p. StandsFor contents p.plan p.tree) }
+    ensures looks { (condition : Condition) (table : StoredTable)
+        → Asks condition table (tree_of_ordered (described_in schema.now) query.now)
+        → IfOk result (λ p. LooksUp condition table p.plan) }
+    ensures joins { (condition : Condition) (left right : StoredTable)
+        → AsksPairs condition left right (tree_of_ordered (described_in schema.now) query.now)
+        → IfOk result (λ p. JoinsByKeys left right p.plan) }
+{
+    described_tables_are_known();
+    let tree = query_tree(alloc, schema, query)?;
+    let copy = query_tree(alloc, schema, query)?;
+    let plan = planned(alloc, copy)?;
+    Ok(PlannedQuery { tree, plan })
+}
+
 /// The plan that is chosen for a tree. It reads no other tables, and over tables that fit the tree
 /// its list answers the tree.
 fn planned(alloc: Global, tree: Tree) -> Result<Tree, AllocError>
+    ensures keeps { IfOk result (λ plan. Keeps plan tree) }
     ensures stored { IfOk result (λ plan. AreAmong (stored_in_tree plan) (stored_in_tree tree)) }
     ensures answers { (tables : Tables) → Fits tables tree
         → IfOk result (λ plan. Answers (reply_of (tree_listing tables plan [])) (ordered_outcome tables tree)) }

@@ -85,12 +85,12 @@ both_ok P Q R (Ok x) so p q = so x p q
 both_ok P Q R (Err e) so p q = tt
 
 -- the cursor of a tree of a query has the outcome of the query
-pub means_as : (contents : Contents) (q : typed.OrderedQuery) (tree : Tree) (cursor : OpenCursor) → cursor.plan ≡ tree → IsTreeOf q tree
+pub means_as : (contents : Contents) (q : typed.OrderedQuery) (tree : Tree) (cursor : OpenCursor) → cursor.tree ≡ tree → IsTreeOf q tree
     → ((described : List ℕ → StoredTable) → ((name : List ℕ) → (described name).name ≡ name) → (db : Database) (ordered : typed.OrderedQuery)
     → ordered_outcome (rows_in db) (tree_of_ordered described ordered) ≡ denotes db ordered)
     → (cursor_of cursor contents).outcome ≡ denotes (database_of contents) q
-means_as contents q tree cursor plan of law =
-    ap (λ (p : Tree). ordered_outcome (rows_in (database_of contents)) p) (plan ∙ of.is) ∙ law of.described of.names (database_of contents) q
+means_as contents q tree cursor is of law =
+    ap (λ (p : Tree). ordered_outcome (rows_in (database_of contents)) p) (is ∙ of.is) ∙ law of.described of.names (database_of contents) q
 
 pub opens_as : (rules : Rules) (x : OrderedQuery) (schema lent : Schema) (q : typed.OrderedQuery) (old mid : Stored) (view : View) → AreRules rules → lent ≡ schema → mid ≡ old
     → IsSchemaOf schema (database_of (seen_by old view)) → ordered_found (known lent) x ≡ Ok q → (cursor : OpenCursor) → BeginsAt cursor (seen_by mid view)

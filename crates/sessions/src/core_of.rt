@@ -128,12 +128,14 @@ impl<S: Store, L: Language + Changes<S>> Core<S, L> {
 
     /// Opens the query in this text as the cursor without a name: another statement is refused by
     /// `syntax`, and 24000 where it is open. It begins a transaction. While it is open a change is
-    /// 24000.
+    /// 24000. That the database which it sees is good is a law of runs; it relies on it.
     pub fn open_query(&mut self, session: SessionId, text: &[u8]) -> Reply
         ensures step { (rules : Rules) → AreRules rules → IsSound S.is_sound S.shows self.old
             → is_live (world_of S.shows self.old) (number_of session) ≡ true
+            → IsGood rules.check (seen_in (S.shows self.old.store) self.old.writer (number_of session))
             → StepOf rules (world_of S.shows self.old) (number_of session) (Asked.Query text.now) result (world_of S.shows self.new) }
         ensures sound { (rules : Rules) → AreRules rules → IsSound S.is_sound S.shows self.old
+            → IsGood rules.check (seen_in (S.shows self.old.store) self.old.writer (number_of session))
             → IsSound S.is_sound S.shows self.new }
         ensures ended { is_live (world_of S.shows self.old) (number_of session) ≡ false
             → (result ≡ Reply.Refused (Invalid reason.Session)) × (self.new ≡ self.old) }

@@ -3,7 +3,9 @@ ghost use Rattle.std.specs.Prelude.{◌≡◌, ◌≢◌, ℕ, true, false, [], 
 ghost use Rattle.std.specs.FinMap.{get};
 ghost use Rattle.ast.specs.declared.statement.Statement.TheVariants as asks;
 ghost use Rattle.lexer.specs.Token.{Bytes};
+ghost use Rattle.denote.specs.Database.{CheckReading, IsGood};
 ghost use Rattle.denote.specs.Query.{denotes};
+ghost use Rattle.denote.specs.SchemaOf.{IsSchemaOf};
 ghost use Rattle.session_definitions.specs.Asked.{Asked};
 ghost use Rattle.session_definitions.specs.Refusals.{IsReserved};
 ghost use Rattle.session_definitions.specs.Rules.{Rules, AreRules};
@@ -21,6 +23,7 @@ ghost use Rattle.cursors.specs.Opened.{BeginsAt, Fits, cursor_of};
 ghost use Rattle.sessions.specs.Held.{Holds, Leaves};
 ghost use Rattle.sessions.specs.Kinds.{is_declare, is_fetch, is_of_cursor};
 ghost use Rattle.sessions.specs.Numbers.{kept_of};
+ghost use Rattle.sessions.specs.Seen.{seen_in};
 ghost use Rattle.sessions.specs.Opened.{GivesNext, OpensAs, RefusesOpening, told};
 
 use crate::language::{Language, query_typed_by};
@@ -30,7 +33,7 @@ use ast::{DeclareCursor, OrderedQuery, Statement};
 use cursors::{OpenCursor, next_row, open_cursor};
 use denote::Row;
 use lexer::Name;
-use query_answers::{query_tree, refusal_of_fault};
+use query_answers::{plan_beside_tree, refusal_of_fault};
 use refusals::Refusal;
 use replies::Reply;
 use std::alloc::Global;
@@ -182,6 +185,7 @@ pub(crate) fn opened<S: Store, L: Language>(
     query: &OrderedQuery,
 ) -> Result<OpenCursor, Refusal>
     ensures opens { IfOk result (λ cursor. (rules : Rules) → AreRules rules → S.is_sound store.old
+        → IsGood rules.check (database_of (seen_by (S.shows store.old) view))
         → OpensAs rules (seen_by (S.shows store.old) view) query.now cursor) }
     ensures refused { IfErr result (λ refusal. (rules : Rules) → AreRules rules → S.is_sound store.old
         → RefusesOpening rules (database_of (seen_by (S.shows store.old) view)) query.now refusal) }
@@ -199,14 +203,17 @@ pub(crate) fn opened<S: Store, L: Language>(
     }
 }
 
-/// A cursor of a typed query, by its tree.
+/// A cursor of a typed query, by its plan.
 fn opened_typed<S: Store>(
     alloc: Global,
     store: &mut S,
     view: View,
     query: &TypedQuery,
 ) -> Result<OpenCursor, Refusal>
-    ensures begins { IfOk result (λ cursor. S.is_sound store.old → BeginsAt cursor (seen_by (S.shows store.old) view)) }
+    ensures begins { IfOk result (λ cursor. (reading : CheckReading) → S.is_sound store.old
+        → IsGood reading (database_of (seen_by (S.shows store.old) view))
+        → IsSchemaOf (S.prepared store.old) (database_of (seen_by (S.shows store.old) view))
+        → BeginsAt cursor (seen_by (S.shows store.old) view)) }
     ensures means { IfOk result (λ cursor.
         (cursor_of cursor (seen_by (S.shows store.old) view)).outcome ≡ denotes (database_of (seen_by (S.shows store.old) view)) query.now) }
     ensures refused { IfErr result (λ refusal. S.is_sound store.old → IsReserved refusal) }
@@ -216,12 +223,12 @@ fn opened_typed<S: Store>(
     ensures goes { S.goes_on store.old store.new Going.reads }
 {
     translation_keeps_the_meaning();
-    let tree = match query_tree(alloc, store.schema(), query) {
-        Ok(tree) => tree,
+    let planned = match plan_beside_tree(alloc, store.schema(), query) {
+        Ok(planned) => planned,
         Err(_) => return Err(Refusal::Memory),
     };
     let mut seen = Seen { store, view };
-    open_cursor(alloc, &mut seen, tree)
+    open_cursor(alloc, &mut seen, planned)
 }
 
 /// OPEN. It begins a transaction where the session has none, but not where it is refused: 24000
@@ -240,6 +247,7 @@ fn open<S: Store, L: Language>(
         → (IsRollback text → ⊥)
         → S.is_sound store.old → IsOrderly (S.shows store.old) writer
         → Holds (S.shows store.old) writer session slot.old.cursors
+        → IsGood rules.check (seen_in (S.shows store.old) writer session)
         → Leaves rules session (Asked.Text text) result (S.shows store.old) writer slot.old (S.shows store.new) writer slot.new }
     ensures device { Counts result (S.refused store.old) (S.refused store.new) }
     ensures limits { IfRefused result TellsNoLimit }
@@ -284,6 +292,7 @@ pub(crate) fn cursor_call<S: Store, L: Language>(
         → is_declare statement.now ≡ false → (IsRollback text → ⊥)
         → S.is_sound store.old → IsOrderly (S.shows store.old) writer
         → Holds (S.shows store.old) writer session slot.old.cursors
+        → IsGood rules.check (seen_in (S.shows store.old) writer session)
         → Leaves rules session (Asked.Text text) result (S.shows store.old) writer slot.old (S.shows store.new) writer slot.new }
     ensures device { Counts result (S.refused store.old) (S.refused store.new) }
     ensures limits { IfRefused result TellsNoLimit }

@@ -3,6 +3,7 @@ ghost use Rattle.std.specs.Prelude.{◌≡◌, ◌≢◌, ℕ, is_some, MatchOpt
 ghost use Rattle.refusals.specs.declared.refusal.Refusal.TheVariants.{CursorState, Disk};
 ghost use Rattle.ast.specs.declared.statement.Statement.TheVariants as asks;
 ghost use Rattle.lexer.specs.Token.{Bytes};
+ghost use Rattle.denote.specs.Database.{IsGood};
 ghost use Rattle.session_definitions.specs.Asked.{Asked};
 ghost use Rattle.session_definitions.specs.Rules.{Rules, AreRules};
 ghost use Rattle.statement_definitions.specs.Reading.{IsRead};
@@ -13,6 +14,7 @@ ghost use Rattle.transactions.specs.Orderly.{IsOrderly};
 ghost use Rattle.transactions.specs.Refused.{Counts, IfRefused, TellsNoLimit};
 ghost use Rattle.cursors.specs.Opened.{Fits};
 ghost use Rattle.sessions.specs.Held.{Holds, Leaves};
+ghost use Rattle.sessions.specs.Seen.{seen_in};
 ghost use Rattle.sessions.specs.Opened.{GivesRows};
 
 use crate::cursor_calls::{AfterFetch, let_go, opened, refused};
@@ -39,6 +41,7 @@ pub(crate) fn open_query<S: Store, L: Language>(
 ) -> Reply
     ensures leaves { (rules : Rules) → AreRules rules → S.is_sound store.old → IsOrderly (S.shows store.old) writer
         → Holds (S.shows store.old) writer session slot.old.cursors
+        → IsGood rules.check (seen_in (S.shows store.old) writer session)
         → Leaves rules session (Asked.Query text.now) result (S.shows store.old) writer slot.old (S.shows store.new) writer slot.new }
     ensures device { Counts result (S.refused store.old) (S.refused store.new) }
     ensures limits { IfRefused result TellsNoLimit }
@@ -67,6 +70,7 @@ fn open_statement<S: Store, L: Language>(
     ensures leaves { (rules : Rules) (text : Bytes) → AreRules rules → IsRead text statement.now
         → S.is_sound store.old → IsOrderly (S.shows store.old) writer
         → Holds (S.shows store.old) writer session slot.old.cursors
+        → IsGood rules.check (seen_in (S.shows store.old) writer session)
         → Leaves rules session (Asked.Query text) result (S.shows store.old) writer slot.old (S.shows store.new) writer slot.new }
     ensures device { Counts result (S.refused store.old) (S.refused store.new) }
     ensures limits { IfRefused result TellsNoLimit }
@@ -95,6 +99,7 @@ fn open_read<S: Store, L: Language>(
     ensures leaves { (rules : Rules) (text : Bytes) → AreRules rules → IsRead text (asks.Query query.now)
         → S.is_sound store.old → IsOrderly (S.shows store.old) writer
         → Holds (S.shows store.old) writer session slot.old.cursors
+        → IsGood rules.check (seen_in (S.shows store.old) writer session)
         → Leaves rules session (Asked.Query text) result (S.shows store.old) writer slot.old (S.shows store.new) writer slot.new }
     ensures device { Counts result (S.refused store.old) (S.refused store.new) }
     ensures limits { IfRefused result TellsNoLimit }

@@ -24,7 +24,7 @@ returns-in-Ok-rows_of-clause-changes g c = IfOk-weaker c.insert_rows.result _ _
     let schema : IsSchemaOf c.schema.result.now (database_of old.working) = subst (λ (s : Schema). IsSchemaOf s (database_of old.working)) (sym c.schema.ensures) of in
     let there = c.in-Ok.ensures.there (database_of old.working) schema in
     let decided = c.in-Ok.ensures.decides reading (database_of old.working) is_reading schema in
-    let given = c.in-Ok-rows_of.ensures.gives reading there.0 sound of there.1 (decided there.0 there.1) in
+    let given = c.in-Ok-rows_of.ensures.gives reading there.0 sound of good there.1 (decided there.0 there.1) in
     let same : old ≡ g.S.Store.shows c.rows_of.new.store = sym c.rows_of.ensures.shows in
     subst (λ (s : Stored). HasAccepted reading s (does.Insert c.args.insert.now) reply (g.S.Store.shows c.insert_rows.new.store)) (sym same)
     (h reading c.args.insert.now.columns c.args.insert.now.source ((g.met.S.Store.goes_on_goes _ _ _ c.rows_of.ensures.goes).sound sound)
@@ -40,7 +40,7 @@ returns-in-Ok-rows_of-clause-refused g c = IfErr-weaker c.insert_rows.result _ _
     let schema : IsSchemaOf c.schema.result.now (database_of old.working) = subst (λ (s : Schema). IsSchemaOf s (database_of old.working)) (sym c.schema.ensures) of in
     let there = c.in-Ok.ensures.there (database_of old.working) schema in
     let decided = c.in-Ok.ensures.decides reading (database_of old.working) is_reading schema in
-    let given = c.in-Ok-rows_of.ensures.gives reading there.0 sound of there.1 (decided there.0 there.1) in
+    let given = c.in-Ok-rows_of.ensures.gives reading there.0 sound of good there.1 (decided there.0 there.1) in
     let same : old ≡ g.S.Store.shows c.rows_of.new.store = sym c.rows_of.ensures.shows in
     subst (λ (s : Stored). RefusesChange reading (database_of s.working) (does.Insert c.args.insert.now) refusal) (sym same)
     (h reading c.args.insert.now.columns c.args.insert.now.source ((g.met.S.Store.goes_on_goes _ _ _ c.rows_of.ensures.goes).sound sound)
@@ -54,7 +54,7 @@ returns-clause-refused g c = λ reading is_reading sound of good.
     let db = database_of (g.S.Store.shows c.args.store.now).working in
     let schema : IsSchemaOf c.schema.result.now db = subst (λ (s : Schema). IsSchemaOf s db) (sym c.schema.ensures) of in
     let there = c.in-Ok.ensures.there db schema in
-    c.in-Err-rows_of.ensures.refused reading there.0 sound of there.1 (c.in-Ok.ensures.decides reading db is_reading schema there.0 there.1)
+    c.in-Err-rows_of.ensures.refused reading there.0 sound of good there.1 (c.in-Ok.ensures.decides reading db is_reading schema there.0 there.1)
 
 pub returns-clause-device : goal.returns-clause-device
 returns-clause-device g c = c.in-Err-rows_of.ensures.device c.in-Ok.ensures.some
@@ -77,7 +77,7 @@ returns-in-Ok-rows_of-clause-limits g c =
     (λ reading is_reading sound of good.
     let schema : IsSchemaOf c.schema.result.now db = subst (λ (s : Schema). IsSchemaOf s db) (sym c.schema.ensures) of in
     let there = c.in-Ok.ensures.there db schema in
-    c.in-Ok-rows_of.ensures.gives reading there.0 sound of there.1 (c.in-Ok.ensures.decides reading db is_reading schema there.0 there.1))
+    c.in-Ok-rows_of.ensures.gives reading there.0 sound of good there.1 (c.in-Ok.ensures.decides reading db is_reading schema there.0 there.1))
     refusal h)
     c.insert_rows.ensures.limits
 

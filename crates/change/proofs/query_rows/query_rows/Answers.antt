@@ -1,36 +1,29 @@
-use Rattle.std.proofs.Common.{◌≡◌, ◌∙◌, sym, ap, subst, List, []}
+use Rattle.std.proofs.Common.{◌≡◌, ◌∙◌, sym, subst, List}
+use Rattle.std.specs.Prelude.{IfOk}
 use Rattle.std.proofs.lemmas.Result.{IfOk-weaker, IfErr-weaker}
 use Rattle.sqlval.specs.declared.schema.Schema.{Schema}
 use Rattle.algebra.specs.declared.tree.Expression.{Expression}
-use Rattle.algebra.specs.declared.tree.Tree.{Tree}
-use Rattle.algebra.specs.Described.{described_in}
-use Rattle.algebra.specs.Listing.{tree_listing}
-use Rattle.algebra.specs.TreeOutcome.{tree_outcome}
-use Rattle.algebra_laws.specs.Shown.{Lists}
 use Rattle.denote.specs.Database.{rows_in}
-use Rattle.denote.specs.Meaning.{query_outcome}
-use Rattle.denote.specs.Outcome.{Outcome}
 use Rattle.denote.specs.SchemaOf.{IsSchemaOf}
 use Rattle.query_answers.specs.Lent.{rows_lent}
+use Rattle.query_answers.specs.Planned.{IsPlanOf, unordered}
 use Rattle.query_answers.specs.Sources.{AreTreesOf, tables_in_rows}
 use Rattle.store.specs.Contents.{database_of}
 use Rattle.tree_tables.specs.TablesRead.{Agree}
-use Rattle.change.proofs.Listed.{all_agree, are_trees, described_named, given_query, refuses_listing, refuses_query}
+use Rattle.change.proofs.Listed.{all_agree, are_trees, given_query, refuses_fault, refuses_query}
 use Rattle.change.specs.Listed.{typed_rows}
 use Rattle.change.proofs.query_rows.query_rows.Goals as goal
 
 pub returns-in-Ok-sources_of-clause-gives : goal.returns-in-Ok-sources_of-clause-gives
 returns-in-Ok-sources_of-clause-gives g c = IfOk-weaker c.stored_rows.result _ _
-    (λ rows h reading table sound of there checks source.
+    (λ rows h reading table sound of good there checks source.
     let db = database_of (g.S.Store.shows c.args.store.now).working in
     let lent : IsSchemaOf c.schema-in-Ok-sources_of.result.now db = subst (λ (s : Schema). IsSchemaOf s db) (sym (c.schema-in-Ok-sources_of.ensures ∙ c.sources_of.ensures.prepared)) of in
-    let found = c.in-Ok-sources_of.ensures.lists in
+    let known : IsSchemaOf c.schema.result.now db = subst (λ (s : Schema). IsSchemaOf s db) (sym c.schema.ensures) of in
+    let planned = c.in-Ok.ensures.plan reading (g.S.Store.shows c.args.store.now).working good known in
+    let found = c.in-Ok-sources_of.ensures.gives in
     let slice : c.as_slice.result.now ≡ c.in-Ok-sources_of.sources = c.as_slice.ensures in
-    let meant : tree_outcome (rows_in db) c.in-Ok.tree [] ≡ query_outcome (rows_in db) c.args.query.now [] =
-    ap (λ (t : Tree). tree_outcome (rows_in db) t []) c.in-Ok.ensures.translated
-    ∙ c.translation_keeps_the_meaning.ensures.query (described_in c.schema.result.now) (described_named c.schema.result.now) (rows_in db) c.args.query.now [] in
-    let lists = subst (λ (o : Outcome). Lists (tree_listing (rows_in db) c.in-Ok.tree []) o) meant (c.listings_answer_outcomes.ensures (rows_in db) c.in-Ok.tree []) in
-    given_query reading db c.args.insert.now table there c.args.query.now source (tree_listing (rows_in db) c.in-Ok.tree []) found.0 rows lists (found.2 sound)
+    given_query reading db c.args.insert.now table there c.args.query.now source found.0 rows (found.2 sound c.args.query.now planned)
     (h reading db table (typed_rows found.0) lent there checks
     (subst (λ (trees : List (List Expression)). AreTreesOf (typed_rows found.0) trees) (sym (slice ∙ found.1)) (are_trees c.schema.result.now found.0))
     (subst (λ (trees : List (List Expression)). Agree (rows_lent c.new.result) (rows_in db) (tables_in_rows trees)) (sym (slice ∙ found.1)) (all_agree (rows_lent c.new.result) (rows_in db) found.0))))
@@ -38,16 +31,14 @@ returns-in-Ok-sources_of-clause-gives g c = IfOk-weaker c.stored_rows.result _ _
 
 pub returns-in-Ok-sources_of-clause-refused : goal.returns-in-Ok-sources_of-clause-refused
 returns-in-Ok-sources_of-clause-refused g c = IfErr-weaker c.stored_rows.result _ _
-    (λ refusal h reading table sound of there checks source.
+    (λ refusal h reading table sound of good there checks source.
     let db = database_of (g.S.Store.shows c.args.store.now).working in
     let lent : IsSchemaOf c.schema-in-Ok-sources_of.result.now db = subst (λ (s : Schema). IsSchemaOf s db) (sym (c.schema-in-Ok-sources_of.ensures ∙ c.sources_of.ensures.prepared)) of in
-    let found = c.in-Ok-sources_of.ensures.lists in
+    let known : IsSchemaOf c.schema.result.now db = subst (λ (s : Schema). IsSchemaOf s db) (sym c.schema.ensures) of in
+    let planned = c.in-Ok.ensures.plan reading (g.S.Store.shows c.args.store.now).working good known in
+    let found = c.in-Ok-sources_of.ensures.gives in
     let slice : c.as_slice.result.now ≡ c.in-Ok-sources_of.sources = c.as_slice.ensures in
-    let meant : tree_outcome (rows_in db) c.in-Ok.tree [] ≡ query_outcome (rows_in db) c.args.query.now [] =
-    ap (λ (t : Tree). tree_outcome (rows_in db) t []) c.in-Ok.ensures.translated
-    ∙ c.translation_keeps_the_meaning.ensures.query (described_in c.schema.result.now) (described_named c.schema.result.now) (rows_in db) c.args.query.now [] in
-    let lists = subst (λ (o : Outcome). Lists (tree_listing (rows_in db) c.in-Ok.tree []) o) meant (c.listings_answer_outcomes.ensures (rows_in db) c.in-Ok.tree []) in
-    refuses_query reading db c.args.insert.now table there c.args.query.now source (tree_listing (rows_in db) c.in-Ok.tree []) found.0 refusal lists (found.2 sound)
+    refuses_query reading db c.args.insert.now table there c.args.query.now source found.0 refusal (found.2 sound c.args.query.now planned)
     (h reading db table (typed_rows found.0) lent there checks
     (subst (λ (trees : List (List Expression)). AreTreesOf (typed_rows found.0) trees) (sym (slice ∙ found.1)) (are_trees c.schema.result.now found.0))
     (subst (λ (trees : List (List Expression)). Agree (rows_lent c.new.result) (rows_in db) (tables_in_rows trees)) (sym (slice ∙ found.1)) (all_agree (rows_lent c.new.result) (rows_in db) found.0))))
@@ -56,17 +47,16 @@ returns-in-Ok-sources_of-clause-refused g c = IfErr-weaker c.stored_rows.result 
 pub returns-in-Ok-sources_of-clause-device : goal.returns-in-Ok-sources_of-clause-device
 returns-in-Ok-sources_of-clause-device g c = IfErr-weaker c.stored_rows.result _ _
     (λ refusal h some is.
-    let found = c.in-Ok-sources_of.ensures.lists in
+    let found = c.in-Ok-sources_of.ensures.gives in
     let slice : c.as_slice.result.now ≡ c.in-Ok-sources_of.sources = c.as_slice.ensures in
     absurd (h (typed_rows found.0)
     (subst (λ (trees : List (List Expression)). AreTreesOf (typed_rows found.0) trees) (sym (slice ∙ found.1)) (are_trees c.schema.result.now found.0)) some is))
     c.stored_rows.ensures.device
 
 pub returns-clause-refused : goal.returns-clause-refused
-returns-clause-refused g c = λ reading table sound of there checks source.
+returns-clause-refused g c = λ reading table sound of good there checks source.
     let db = database_of (g.S.Store.shows c.args.store.now).working in
-    let meant : tree_outcome (rows_in db) c.in-Ok.tree [] ≡ query_outcome (rows_in db) c.args.query.now [] =
-    ap (λ (t : Tree). tree_outcome (rows_in db) t []) c.in-Ok.ensures.translated
-    ∙ c.translation_keeps_the_meaning.ensures.query (described_in c.schema.result.now) (described_named c.schema.result.now) (rows_in db) c.args.query.now [] in
-    let lists = subst (λ (o : Outcome). Lists (tree_listing (rows_in db) c.in-Ok.tree []) o) meant (c.listings_answer_outcomes.ensures (rows_in db) c.in-Ok.tree []) in
-    refuses_listing reading db c.args.insert.now table there c.args.query.now source (tree_listing (rows_in db) c.in-Ok.tree []) c.in-Err-sources_of.refusal lists (c.in-Err-sources_of.ensures.refused sound)
+    let known : IsSchemaOf c.schema.result.now db = subst (λ (s : Schema). IsSchemaOf s db) (sym c.schema.ensures) of in
+    let planned = c.in-Ok.ensures.plan reading (g.S.Store.shows c.args.store.now).working good known in
+    refuses_fault reading db c.args.insert.now table there c.args.query.now source c.in-Err-sources_of.refusal
+    (c.in-Err-sources_of.ensures.refused sound c.args.query.now planned)

@@ -62,7 +62,7 @@ returns-in-SetTransaction-clause-leaves g c = λ rules text are read declares ot
 
 pub returns-in-Cursor-clause-leaves : goal.returns-in-Cursor-clause-leaves
 returns-in-Cursor-clause-leaves g c = λ rules text are read declares other sound order holds good.
-    c.cursor_call.ensures.leaves rules text are read c.in-Cursor.ensures declares other sound order holds
+    c.cursor_call.ensures.leaves rules text are read c.in-Cursor.ensures declares other sound order holds good
 
 pub returns-in-Explain-clause-leaves : goal.returns-in-Explain-clause-leaves
 returns-in-Explain-clause-leaves g c = λ rules text are read declares other sound order holds good.

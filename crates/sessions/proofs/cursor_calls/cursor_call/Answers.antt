@@ -10,15 +10,15 @@ use Rattle.sessions.proofs.Statements.{no_cursor}
 use Rattle.sessions.proofs.cursor_calls.cursor_call.Goals as goal
 
 pub returns-in-OpenCursor-clause-leaves : goal.returns-in-OpenCursor-clause-leaves
-returns-in-OpenCursor-clause-leaves g c = λ rules text are read of declares other sound order holds.
-    c.open.ensures.leaves rules text are (subst (IsRead text) c.in-OpenCursor.is read) other sound order holds
+returns-in-OpenCursor-clause-leaves g c = λ rules text are read of declares other sound order holds good.
+    c.open.ensures.leaves rules text are (subst (IsRead text) c.in-OpenCursor.is read) other sound order holds good
 
 pub returns-in-Fetch-clause-leaves : goal.returns-in-Fetch-clause-leaves
-returns-in-Fetch-clause-leaves g c = λ rules text are read of declares other sound order holds.
+returns-in-Fetch-clause-leaves g c = λ rules text are read of declares other sound order holds good.
     c.fetch.ensures.leaves rules text (g.S.Store.shows c.args.store.now) c.args.writer c.args.session (subst (IsRead text) c.in-Fetch.is read) order holds
 
 pub returns-in-CloseCursor-clause-leaves : goal.returns-in-CloseCursor-clause-leaves
-returns-in-CloseCursor-clause-leaves g c = λ rules text are read of declares other sound order holds.
+returns-in-CloseCursor-clause-leaves g c = λ rules text are read of declares other sound order holds good.
     c.close.ensures.leaves rules text (g.S.Store.shows c.args.store.now) c.args.writer c.args.session (subst (IsRead text) c.in-CloseCursor.is read) order holds
 
 pub returns-in-Fetch-clause-device : goal.returns-in-Fetch-clause-device
@@ -43,7 +43,7 @@ returns-in-CloseCursor-clause-kept g c =
     (λ refusal k fetch. (same (g.S.Store.shows c.args.store.now) (g.S.Store.shows c.args.store.now) refl, k)) c.close.ensures.kept
 
 pub returns-in_default-clause-leaves : goal.returns-in_default-clause-leaves
-returns-in_default-clause-leaves g c = λ rules text are read of declares other sound order holds.
+returns-in_default-clause-leaves g c = λ rules text are read of declares other sound order holds good.
     absurd (no_cursor c.args.statement.now c.in_default.not-OpenCursor c.in_default.not-Fetch c.in_default.not-CloseCursor of declares)
 
 pub returns-in_default-clause-kept : goal.returns-in_default-clause-kept

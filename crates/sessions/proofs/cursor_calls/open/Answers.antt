@@ -11,11 +11,12 @@ use Rattle.sessions.proofs.Devices.{risen_later, risen_still}
 use Rattle.sessions.proofs.Exchanges.{Exchanged}
 use Rattle.sessions.proofs.Holding.{closed_in, fits_same}
 use Rattle.sessions.proofs.OpenFits.{opens_leaves}
+use Rattle.sessions.proofs.QuerySteps.{good_begun}
 use Rattle.sessions.proofs.OpenSteps.{open_already, refuses, undeclared}
 use Rattle.sessions.proofs.cursor_calls.open.Goals as goal
 
 pub returns-then-is_open-clause-leaves : goal.returns-then-is_open-clause-leaves
-returns-then-is_open-clause-leaves g c = λ rules text are read other sound order holds. record {
+returns-then-is_open-clause-leaves g c = λ rules text are read other sound order holds good. record {
   moves = open_already rules (g.S.Store.shows c.args.store.now) c.args.writer c.args.session (kept_of c.args.slot.now) text c.args.name.now order
       (closed_in (g.S.Store.shows c.args.store.now) c.args.writer c.args.session _ c.args.slot.now holds) read c.is_open.result c.is_open.ensures c.if-is_open.true;
   fits = fits_same (g.S.Store.shows c.args.store.now) (g.S.Store.shows c.args.store.now) c.args.writer c.args.writer c.args.session c.args.slot.now.cursors
@@ -23,7 +24,7 @@ returns-then-is_open-clause-leaves g c = λ rules text are read other sound orde
 }
 
 pub returns-in_default-clause-leaves : goal.returns-in_default-clause-leaves
-returns-in_default-clause-leaves g c = λ rules text are read other sound order holds. record {
+returns-in_default-clause-leaves g c = λ rules text are read other sound order holds good. record {
   moves = undeclared rules (g.S.Store.shows c.args.store.now) c.args.writer c.args.session (kept_of c.args.slot.now) text c.args.name.now order
       (closed_in (g.S.Store.shows c.args.store.now) c.args.writer c.args.session _ c.args.slot.now holds) read (sym (rw c.in_default.is at c.query_of.ensures));
   fits = fits_same (g.S.Store.shows c.args.store.now) (g.S.Store.shows c.args.store.now) c.args.writer c.args.writer c.args.session c.args.slot.now.cursors
@@ -31,7 +32,7 @@ returns-in_default-clause-leaves g c = λ rules text are read other sound order 
 }
 
 pub returns-in-Err-clause-leaves : goal.returns-in-Err-clause-leaves
-returns-in-Err-clause-leaves g c = λ rules text are read other sound order holds.
+returns-in-Err-clause-leaves g c = λ rules text are read other sound order holds good.
     let st : Stored = g.S.Store.shows c.args.store.now in
     let k = same (g.S.Store.shows c.args.store.now) _ (rw c.in-Err.is at c.begin.ensures.same) in
     record {
@@ -43,7 +44,7 @@ returns-in-Err-clause-leaves g c = λ rules text are read other sound order hold
     }
 
 pub returns-in-Ok-clause-leaves : goal.returns-in-Ok-clause-leaves
-returns-in-Ok-clause-leaves g c = λ rules text are read other sound order holds.
+returns-in-Ok-clause-leaves g c = λ rules text are read other sound order holds good.
     let begins : g.S.Store.shows c.begin.new.self ≡ begun (g.S.Store.shows c.args.store.now) c.args.session = rw c.in_default-begin.is at c.begin.ensures.shows in
     let put : Exchanged c.args.slot.now.cursors c.exchange-was.new.self c.args.name.now (Some c.in-Ok.cursor) c.exchange-was.result = record {
       opened = c.exchange-was.ensures.opened;
@@ -58,11 +59,11 @@ returns-in-Ok-clause-leaves g c = λ rules text are read other sound order holds
     rw c.let_go.ensures
     (opens_leaves rules (g.S.Store.shows c.args.store.now) c.args.writer c.args.session c.args.slot.now text c.args.name.now order holds read c.in-Some.query.now
     (sym (rw c.in-Some.is at c.query_of.ensures)) c.is_open.result c.is_open.ensures c.if-is_open.false (g.S.Store.shows c.begin.new.self) _ begins c.view_of.ensures c.in-Ok.cursor
-    (c.in-Ok.ensures.opens rules are ((g.met.S.Store.goes_on_goes _ _ _ c.begin.ensures.goes).sound sound)) (g.S.Store.shows c.opened.new.store) c.opened.ensures.shows
+    (c.in-Ok.ensures.opens rules are ((g.met.S.Store.goes_on_goes _ _ _ c.begin.ensures.goes).sound sound) (good_begun rules.check _ _ _ _ _ begins c.view_of.ensures good)) (g.S.Store.shows c.opened.new.store) c.opened.ensures.shows
     c.exchange-was.new.self c.exchange-was.result put)
 
 pub returns-in-Err-opened-clause-leaves : goal.returns-in-Err-opened-clause-leaves
-returns-in-Err-opened-clause-leaves g c = λ rules text are read other sound order holds.
+returns-in-Err-opened-clause-leaves g c = λ rules text are read other sound order holds good.
     let begins : g.S.Store.shows c.begin.new.self ≡ begun (g.S.Store.shows c.args.store.now) c.args.session = rw c.in_default-begin.is at c.begin.ensures.shows in
     let k = unbegun (g.S.Store.shows c.args.store.now) (g.S.Store.shows c.take_back.new.store) c.args.session _ _ c.number.ensures c.is_none-idle.ensures _
     (same _ _ (c.opened.ensures.shows ∙ begins)) c.take_back.ensures.shows in

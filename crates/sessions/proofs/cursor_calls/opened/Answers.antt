@@ -2,9 +2,11 @@ use Rattle.std.proofs.Common.{sym, subst}
 use Rattle.std.proofs.lemmas.Result.{IfErr-weaker}
 use Rattle.ast.specs.declared.statement.Statement.TheVariants as asks
 use Rattle.sqlval.specs.declared.schema.Schema.{Schema}
+use Rattle.denote.specs.Database.{IsGood}
 use Rattle.denote.specs.SchemaOf.{IsSchemaOf}
 use Rattle.store.specs.Contents.{database_of}
 use Rattle.store.specs.Going.{Going}
+use Rattle.store.specs.Stored.{Stored}
 use Rattle.store.specs.View.{seen_by}
 use Rattle.transactions.proofs.Tests.{reserved, tells_reached}
 use Rattle.sessions.specs.Opened.{RefusesOpening}
@@ -15,9 +17,12 @@ use Rattle.sessions.proofs.cursor_calls.opened.Goals as goal
 
 pub returns-in-Ok-clause-opens : goal.returns-in-Ok-clause-opens
 returns-in-Ok-clause-opens g c = both_ok _ _ _ c.opened_typed.result
-    (λ cursor begins outcome rules are sound.
-    opens_as rules c.args.query.now _ _ c.in-Ok.typed _ _ c.args.view are c.schema.ensures c.prepare.ensures.shows ((rw c.in_default.is at c.prepare.ensures.prepared) sound) c.in-Ok.ensures.finds.ok cursor
-    (begins ((g.met.S.Store.goes_on_goes _ _ _ c.prepare.ensures.goes).sound sound)) outcome)
+    (λ cursor begins outcome rules are sound good.
+    let of = (rw c.in_default.is at c.prepare.ensures.prepared) sound in
+    opens_as rules c.args.query.now _ _ c.in-Ok.typed _ _ c.args.view are c.schema.ensures c.prepare.ensures.shows of c.in-Ok.ensures.finds.ok cursor
+    (begins rules.check ((g.met.S.Store.goes_on_goes _ _ _ c.prepare.ensures.goes).sound sound)
+    (subst (λ (st : Stored). IsGood rules.check (database_of (seen_by st c.args.view))) (sym c.prepare.ensures.shows) good)
+    (subst (λ (st : Stored). IsSchemaOf (g.S.Store.prepared c.prepare.new.self) (database_of (seen_by st c.args.view))) (sym c.prepare.ensures.shows) of)) outcome)
     c.opened_typed.ensures.begins c.opened_typed.ensures.means
 
 pub returns-in-Err-clause-refused : goal.returns-in-Err-clause-refused

@@ -9,10 +9,10 @@ use Rattle.sessions.proofs.UnnamedOpens.{refuses_other, refuses_unread}
 use Rattle.sessions.proofs.query_calls.open_query.Goals as goal
 
 pub returns-in-Ok-clause-leaves : goal.returns-in-Ok-clause-leaves
-returns-in-Ok-clause-leaves g c = λ rules are sound order holds. c.open_statement.ensures.leaves rules c.args.text.now are c.in-Ok.ensures.read sound order holds
+returns-in-Ok-clause-leaves g c = λ rules are sound order holds good. c.open_statement.ensures.leaves rules c.args.text.now are c.in-Ok.ensures.read sound order holds good
 
 pub returns-in-Err-clause-leaves : goal.returns-in-Err-clause-leaves
-returns-in-Err-clause-leaves g c = λ rules are sound order holds. record {
+returns-in-Err-clause-leaves g c = λ rules are sound order holds good. record {
   moves = refuses_unread rules (g.S.Store.shows c.args.store.now) c.args.writer c.args.session (kept_of c.args.slot.now) c.args.text.now order c.in-Err.refusal c.in-Err.ensures.unread;
   fits = fits_same (g.S.Store.shows c.args.store.now) (g.S.Store.shows c.args.store.now) c.args.writer c.args.writer c.args.session c.args.slot.now.cursors
       (same (g.S.Store.shows c.args.store.now) (g.S.Store.shows c.args.store.now) refl) refl holds;

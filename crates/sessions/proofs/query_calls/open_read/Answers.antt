@@ -8,12 +8,13 @@ use Rattle.sessions.specs.Numbers.{kept_of}
 use Rattle.sessions.proofs.Devices.{risen_later, risen_still}
 use Rattle.sessions.proofs.Exchanges.{held_some}
 use Rattle.sessions.proofs.Holding.{closed_in, fits_same}
+use Rattle.sessions.proofs.QuerySteps.{good_begun}
 use Rattle.sessions.proofs.UnnamedFits.{Replaced, opens_leaves}
 use Rattle.sessions.proofs.UnnamedOpens.{open_already, opening_withheld, refuses}
 use Rattle.sessions.proofs.query_calls.open_read.Goals as goal
 
 pub returns-then-has_unnamed-clause-leaves : goal.returns-then-has_unnamed-clause-leaves
-returns-then-has_unnamed-clause-leaves g c = λ rules text are read sound order holds. record {
+returns-then-has_unnamed-clause-leaves g c = λ rules text are read sound order holds good. record {
   moves = open_already rules (g.S.Store.shows c.args.store.now) c.args.writer c.args.session (kept_of c.args.slot.now) text order
       (closed_in (g.S.Store.shows c.args.store.now) c.args.writer c.args.session _ c.args.slot.now holds) c.args.query.now read c.has_unnamed.result
       (λ contents. c.has_unnamed.ensures ∙ sym (held_some c.args.slot.now.cursors.unnamed contents)) c.if-has_unnamed.true;
@@ -22,7 +23,7 @@ returns-then-has_unnamed-clause-leaves g c = λ rules text are read sound order 
 }
 
 pub returns-in-Err-clause-leaves : goal.returns-in-Err-clause-leaves
-returns-in-Err-clause-leaves g c = λ rules text are read sound order holds.
+returns-in-Err-clause-leaves g c = λ rules text are read sound order holds good.
     let k = same (g.S.Store.shows c.args.store.now) _ (rw c.in-Err.is at c.begin.ensures.same) in
     record {
       moves = rw c.refusal_of.ensures
@@ -32,7 +33,7 @@ returns-in-Err-clause-leaves g c = λ rules text are read sound order holds.
     }
 
 pub returns-in-Ok-clause-leaves : goal.returns-in-Ok-clause-leaves
-returns-in-Ok-clause-leaves g c = λ rules text are read sound order holds.
+returns-in-Ok-clause-leaves g c = λ rules text are read sound order holds good.
     let begins : g.S.Store.shows c.begin.new.self ≡ begun (g.S.Store.shows c.args.store.now) c.args.session = rw c.in_default.is at c.begin.ensures.shows in
     let put : Replaced c.args.slot.now.cursors c.exchange_unnamed-was.new.self (Some c.in-Ok.cursor) c.exchange_unnamed-was.result = record {
       puts = c.exchange_unnamed-was.ensures.puts;
@@ -42,11 +43,11 @@ returns-in-Ok-clause-leaves g c = λ rules text are read sound order holds.
     rw c.let_go.ensures
     (opens_leaves rules (g.S.Store.shows c.args.store.now) c.args.writer c.args.session c.args.slot.now text order holds c.args.query.now read c.has_unnamed.result
     (λ contents. c.has_unnamed.ensures ∙ sym (held_some c.args.slot.now.cursors.unnamed contents)) c.if-has_unnamed.false (g.S.Store.shows c.begin.new.self) _ begins c.view_of.ensures c.in-Ok.cursor
-    (c.in-Ok.ensures.opens rules are ((g.met.S.Store.goes_on_goes _ _ _ c.begin.ensures.goes).sound sound)) (g.S.Store.shows c.opened.new.store) c.opened.ensures.shows
+    (c.in-Ok.ensures.opens rules are ((g.met.S.Store.goes_on_goes _ _ _ c.begin.ensures.goes).sound sound) (good_begun rules.check _ _ _ _ _ begins c.view_of.ensures good)) (g.S.Store.shows c.opened.new.store) c.opened.ensures.shows
     c.exchange_unnamed-was.new.self c.exchange_unnamed-was.result put)
 
 pub returns-in-Err-opened-clause-leaves : goal.returns-in-Err-opened-clause-leaves
-returns-in-Err-opened-clause-leaves g c = λ rules text are read sound order holds.
+returns-in-Err-opened-clause-leaves g c = λ rules text are read sound order holds good.
     let begins : g.S.Store.shows c.begin.new.self ≡ begun (g.S.Store.shows c.args.store.now) c.args.session = rw c.in_default.is at c.begin.ensures.shows in
     let k = unbegun (g.S.Store.shows c.args.store.now) (g.S.Store.shows c.take_back.new.store) c.args.session _ _ c.number.ensures c.is_none-idle.ensures _
     (same _ _ (c.opened.ensures.shows ∙ begins)) c.take_back.ensures.shows in

@@ -14,34 +14,34 @@ use Rattle.sessions.proofs.Kept.{refused_alike, world_kept}
 use Rattle.sessions.proofs.core_of.Core.open_query.Goals as goal
 
 pub returns-then-not-stands-clause-step : goal.returns-then-not-stands-clause-step
-returns-then-not-stands-clause-step g c = λ rules are sound live.
+returns-then-not-stands-clause-step g c = λ rules are sound live good.
     let none : held_at c.args.self.now.slots.all c.args.session.number ≡ None = not_held _ (sym c.stands.ensures.is ∙ c.if-not-stands.true) in
     let dead = not_live (g.S.Store.shows c.args.self.now.store) c.args.self.now.writer (kept_in c.args.self.now.slots.all) c.args.session.number (kept_none c.args.self.now.slots.all c.args.session.number none) in
     let bad : true ≡ false = sym live ∙ dead in absurd (cc)
 
 pub returns-clause-step : goal.returns-clause-step
-returns-clause-step g c = λ rules are sound live.
+returns-clause-step g c = λ rules are sound live good.
     let st = g.S.Store.shows c.args.self.now.store in
     let new = g.S.Store.shows c.open_query-reply.new.store in
     let all = c.args.self.now.slots.all in
     let n = c.args.session.number in
     let slot = c.take-slot.result in
     let is = c.take-slot.ensures.is in
-    let leaves = c.open_query-reply.ensures.leaves rules are sound.store sound.order (sound.held n slot is) in
+    let leaves = c.open_query-reply.ensures.leaves rules are sound.store sound.order (sound.held n slot is) good in
     let put = put_back c.set.new.self.all c.take-slot.new.self.all all n c.settle.new.slot c.take-slot.ensures.left c.set.ensures in
     subst (λ (slots : Slots). StepOf rules (shown st c.args.self.now.writer (kept_in all)) n (Asked.Query c.args.text.now) c.open_query-reply.result (shown new c.args.self.now.writer slots))
     (sym (put_as c.set.new.self.all all n c.settle.new.slot (settled (get new.readers n) (kept_of c.open_query-reply.new.slot)) put c.settle.ensures.kept))
     (leaves.moves.step (kept_in all) (kept_here all n slot is))
 
 pub returns-clause-sound : goal.returns-clause-sound
-returns-clause-sound g c = λ rules are sound.
+returns-clause-sound g c = λ rules are sound good.
     let st = g.S.Store.shows c.args.self.now.store in
     let new = g.S.Store.shows c.open_query-reply.new.store in
     let all = c.args.self.now.slots.all in
     let n = c.args.session.number in
     let slot = c.take-slot.result in
     let is = c.take-slot.ensures.is in
-    let leaves = c.open_query-reply.ensures.leaves rules are sound.store sound.order (sound.held n slot is) in
+    let leaves = c.open_query-reply.ensures.leaves rules are sound.store sound.order (sound.held n slot is) good in
     let put = put_back c.set.new.self.all c.take-slot.new.self.all all n c.settle.new.slot c.take-slot.ensures.left c.set.ensures in
     let within = held_within all n slot is in
     record {
