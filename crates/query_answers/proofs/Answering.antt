@@ -1,27 +1,22 @@
 -- What a listing over lent tables says of the query that its tree is of.
-use Rattle.std.proofs.Common.{◌≡◌, refl, sym, ap, subst, ◌∙◌, ℕ, List, [], Result, Ok, Err, IfOk, IfErr, inl, inr}
+use Rattle.std.proofs.Common.{◌≡◌, sym, ap, subst, ◌∙◌, List, [], Result, Ok, Err, IfOk, inl, inr}
 use Rattle.refusals.specs.declared.refusal.Refusal.{Refusal}
 use Rattle.sqlval.specs.Value.{Row}
-use Rattle.typing.specs.declared.typed.OrderedQuery.{OrderedQuery}
-use Rattle.algebra.specs.declared.tree.StoredTable.{StoredTable}
 use Rattle.algebra.specs.declared.tree.Tree.{Tree}
-use Rattle.algebra.specs.Listing.{tree_listing, reply_of}
-use Rattle.algebra.specs.Translated.{tree_of_ordered}
+use Rattle.algebra.specs.Listing.{tree_listing}
 use Rattle.denote.specs.declared.fault.Fault.{Fault}
 use Rattle.denote.specs.declared.fault.Fault.TheVariants as raised
 use Rattle.denote.specs.Answer.{Answers}
-use Rattle.denote.specs.Database.{Database, rows_in}
 use Rattle.denote.specs.Meaning.{Tables}
-use Rattle.denote.specs.Outcome.{Outcome, OrderedOutcome}
-use Rattle.denote.specs.Query.{denotes}
+use Rattle.denote.specs.Outcome.{OrderedOutcome}
 use Rattle.session_definitions.specs.Refusals.{IsReserved, refusal_of}
-use Rattle.store.specs.Contents.{Contents, database_of}
+use Rattle.store.specs.Contents.{Contents}
 use Rattle.executor.specs.declared.listed.Listed.{Listed}
 use Rattle.executor.specs.Reply.{outcome_of}
 use Rattle.query_answers.specs.Refused.{MayRefuse}
 use Rattle.transactions.specs.Refused.{TellsNoLimit}
 use Rattle.tree_tables.specs.TablesRead.{Agree, tables_in_tree}
-use Rattle.query_answers.specs.Answered.{rows_found, IsTreeOf, RefusesAs}
+use Rattle.query_answers.specs.Answered.{rows_found, RefusesAs}
 
 -- the law, as the call of it says
 abbrev pub ListingsRead : Type 0

@@ -1,18 +1,15 @@
 -- What plans list and read that read their tables themselves.
-use Rattle.std.proofs.Common.{if◌then◌else◌, filter, ◌≡◌, refl, sym, ap, subst, ◌∙◌, ℕ, zero, suc, Bool, true, false, ◌||◌, ◌&&◌, not, List, [], ◌∷◌, ◌++◌, length, ◌+◌, ◌<◌, ◌≤◌, Option, Some, None, inl, inr, ◌⊎◌, Contains, arith, Result, Ok, Err, IfOk}
+use Rattle.std.proofs.Common.{if◌then◌else◌, filter, ◌≡◌, refl, sym, ap, subst, ◌∙◌, ℕ, zero, suc, Bool, true, false, ◌||◌, ◌&&◌, not, List, [], ◌∷◌, length, ◌+◌, ◌≤◌, Contains, arith, Result, Ok, Err, IfOk}
 use Rattle.std.specs.FinMap.{get}
 use Rattle.std.specs.List.{list_any, sum_by}
 use Rattle.std.specs.Cmp.Lexicographic.{bytes_decides}
-use Rattle.std.proofs.lemmas.List.Sums.{sum_by-append, sum_by-cons}
-use Rattle.std.proofs.lemmas.List.Elements.{Contains-append_cases}
+use Rattle.std.proofs.lemmas.List.Sums.{sum_by-cons}
 use Rattle.sqlval.specs.Schema.{same_name}
-use Rattle.sqlval.specs.Value.{Row}
 use Rattle.algebra.specs.declared.tree.StoredTable.{StoredTable}
 use Rattle.algebra.specs.declared.tree.Tree.{Tree}
 use Rattle.algebra.specs.Listing.{tree_listing}
 use Rattle.denote.specs.Meaning.{Tables}
-use Rattle.denote.specs.Outcome.{Outcome}
-use Rattle.store.specs.Contents.{Contents, Entry, rows_of}
+use Rattle.store.specs.Contents.{Entry, rows_of}
 use Rattle.store.specs.Indexes.{entries_of}
 use Rattle.store.specs.View.{Shown}
 use Rattle.places.specs.Indexes.{HasIndexes}

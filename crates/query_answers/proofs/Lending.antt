@@ -1,7 +1,7 @@
 -- Tables that are lent one after another, each with the rows under its name.
-use Rattle.std.proofs.Common.{◌≡◌, refl, sym, ap, subst, ◌∙◌, ℕ, Bool, true, false, ◌||◌, cond, if◌then◌else◌, suc, min, ◌^◌, ◌-◌, List, [], ◌∷◌, ◌++◌, length, take, get_or, map, filter, not, ◌+◌, ◌<◌, ◌≤◌, Option, Some, None, inl, inr, ◌⊎◌, Contains, arith}
+use Rattle.std.proofs.Common.{◌≡◌, refl, sym, ap, subst, ◌∙◌, ℕ, Bool, true, false, ◌||◌, cond, if◌then◌else◌, suc, min, ◌^◌, ◌-◌, List, [], ◌∷◌, ◌++◌, length, take, get_or, filter, not, ◌+◌, ◌<◌, ◌≤◌, Option, Some, None, inl, inr, ◌⊎◌, Contains, arith}
 use Rattle.std.specs.FinMap.{get}
-use Rattle.std.specs.List.{list_any, sum_by}
+use Rattle.std.specs.List.{list_any}
 use Rattle.std.specs.Option.{option_map}
 use Rattle.std.specs.Cmp.Lexicographic.{bytes_decides}
 use Rattle.std.proofs.lemmas.List.Elements.{Contains-push_cases}
@@ -12,7 +12,6 @@ use Rattle.std.proofs.Math.Seq.{take-suc}
 use Rattle.sqlval.specs.Schema.{same_name}
 use Rattle.sqlval.specs.Value.{Row}
 use Rattle.denote.specs.Database.{rows_of as rows_of_table}
-use Rattle.denote.specs.Bag.{distinct_by}
 use Rattle.denote.specs.Meaning.{Tables}
 use Rattle.store.specs.View.{counted_on}
 use Rattle.store.specs.Contents.{Contents, StoredTable, table_of, rows_of}

@@ -1,5 +1,5 @@
 -- The plans that read their tables themselves.
-use Rattle.std.specs.Prelude.{◌≡◌, ℕ, Bool, true, not, ◌&&◌, List, [], ◌∷◌}
+use Rattle.std.specs.Prelude.{◌≡◌, Bool, true, not, ◌&&◌, [], ◌∷◌}
 use Rattle.std.specs.List.{list_any}
 use Rattle.sqlval.specs.Schema.{same_name}
 use Rattle.algebra.specs.declared.tree.Tree.{Tree}

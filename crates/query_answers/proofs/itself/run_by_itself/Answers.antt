@@ -1,4 +1,4 @@
-use Rattle.std.proofs.Common.{◌≡◌, ◌∙◌}
+use Rattle.std.proofs.Common.{◌∙◌}
 use Rattle.transactions.proofs.Tests.{tells_reached}
 use Rattle.query_answers.proofs.ByItself.{lists_plan}
 use Rattle.query_answers.proofs.itself.run_by_itself.Goals as goal

@@ -1,4 +1,4 @@
-use Rattle.std.proofs.Common.{◌≡◌, sym, subst}
+use Rattle.std.proofs.Common.{sym, subst}
 use Rattle.algebra.specs.Described.{described_in}
 use Rattle.algebra.specs.declared.tree.Tree.{Tree}
 use Rattle.denote.specs.Database.{rows_in}

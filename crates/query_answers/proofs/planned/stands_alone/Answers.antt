@@ -1,4 +1,4 @@
-use Rattle.std.proofs.Common.{◌≡◌, sym, ◌∙◌}
+use Rattle.std.proofs.Common.{sym, ◌∙◌}
 use Rattle.query_answers.proofs.planned.stands_alone.Goals as goal
 
 pub returns-in-Ok : goal.returns-in-Ok

@@ -1,4 +1,4 @@
-use Rattle.std.proofs.Common.{◌≡◌, List, map, ap, ◌∙◌}
+use Rattle.std.proofs.Common.{List, map, ap, ◌∙◌}
 use Rattle.typing.specs.declared.typed.Expression.{Expression}
 use Rattle.algebra.specs.Described.{described_in}
 use Rattle.algebra.specs.Translated.{tree_of_expression}
