@@ -1,5 +1,5 @@
 -- What lies at a page and what its reader sees.
-use Rattle.std.proofs.Common.{◌≡◌, ℕ, ◌≤◌, List, [], ◌∷◌, length, refl, sym, ap, ◌∙◌, subst, Option, Some, None, IsSome, Result, Ok, Err, IfErr, rules, arith}
+use Rattle.std.proofs.Common.{◌≡◌, ℕ, ◌≤◌, List, [], ◌∷◌, length, refl, sym, ap, ◌∙◌, subst, Option, Some, None, IsSome, Result, Ok, Err, IfErr, IfOk, IsErrAnd, rules, arith}
 use Rattle.page_space.specs.Space.{PageMap, ReadRefused}
 use Rattle.page_space.specs.declared.error.SpaceError.{SpaceError}
 use Rattle.page_space.specs.declared.error.SpaceError.TheVariants.{Memory, Disk, Damaged, Pages, Private}
@@ -71,3 +71,16 @@ read_refused_on (Err f) H G a b c h g w = read_refused H G a b c f h g w
 
 pub harm_weaker : (H G : Type 0) (a c : ℕ) (f : SpaceError) → (H → G) → ReadRefused H a c f → ReadRefused G a c f
 harm_weaker H G a c f g w = read_refused H G a a c f (omega arith) g w
+
+-- ---- what the exit of a `?` hands on
+
+pub never_ok : {A E : Type 0} (result : Result A E) (Q : E → Type 0) (P : A → Type 0) → IsErrAnd result Q → IfOk result P
+never_ok (Ok x) Q P h = absurd h
+never_ok (Err e) Q P h = tt
+
+pub err_passed : {A E : Type 0} (result : Result A E) (e : E) (P : E → Type 0) → IsErrAnd result (λ f. f ≡ e) → P e → IfErr result P
+err_passed (Ok x) e P h w = absurd h
+err_passed (Err f) e P h w = subst P (sym h) w
+
+pub memory_passed : {A : Type 0} (result : Result A SpaceError) (H : Type 0) (a b : ℕ) → IsErrAnd result (λ f. f ≡ Memory) → IfErr result (ReadRefused H a b)
+memory_passed result H a b h = err_passed result Memory (ReadRefused H a b) h tt

@@ -1,14 +1,13 @@
-use Rattle.std.proofs.Common.{◌+◌, ◌-◌, ◌∙◌, sym, arith}
-use Rattle.std.proofs.lemmas.Result.{err_from_is_err_and}
-use Rattle.btree_read.proofs.NodeLemmas.{harm_weaker, read_refused}
+use Rattle.std.proofs.Common.{le_trans, ◌+◌, ◌-◌, ◌∙◌, sym, arith}
+use Rattle.btree_read.proofs.NodeLemmas.{harm_weaker, read_refused, never_ok, err_passed}
 use Rattle.btree_read.proofs.SearchLemmas.{no_level_left}
 use Rattle.btree_read.proofs.LeafLemmas.{seen_leaf, leaf_not_named, leaf_refused_on, no_tree_linked, no_node_linked, none_seen, one_more_seen, child_not_seen, one_more, seen_inner}
 use Rattle.btree_read.proofs.whole.+scan_below.Goals as goal
 
 pub returns-in_err-node-clause-refusal : goal.returns-in_err-node-clause-refusal
 returns-in_err-node-clause-refusal g t c =
-    let p = err_from_is_err_and c.from_residual.result c.from_residual.ensures.1 in
-    rw (p.1, p.2) (harm_weaker _ _ _ _ _ (no_node_linked _ _ c.args.levels c.args.walk.now) c.in_err-node.ensures.refusal)
+    err_passed c.from_residual.result c.in_err-node.field-0.0 _ c.from_residual.ensures.1
+    (harm_weaker _ _ _ _ _ (no_node_linked _ _ c.args.levels c.args.walk.now) c.in_err-node.ensures.refusal)
 
 pub returns-then-levels-eq0-clause-refusal : goal.returns-then-levels-eq0-clause-refusal
 returns-then-levels-eq0-clause-refusal g t c = no_tree_linked _ _ _ c.args.walk.now (no_level_left _ _ _ _ c.in_ok-node.ensures.node (sym c.in-Inner.ensures) c.if-levels-eq0.true)
@@ -22,8 +21,8 @@ returns-in-Leaf-clause-refusal g t c =
 
 pub returns-in_err-scan_below-in-Inner-clause-refusal : goal.returns-in_err-scan_below-in-Inner-clause-refusal
 returns-in_err-scan_below-in-Inner-clause-refusal g t c =
-    let p = err_from_is_err_and c.from_residual-in_err-scan_below-in-Inner.result c.from_residual-in_err-scan_below-in-Inner.ensures.1 in
-    rw (p.1, p.2) (read_refused _ _ _ _ _ _ c.in_ok-node.ensures.rising
+    err_passed c.from_residual-in_err-scan_below-in-Inner.result c.in_err-scan_below-in-Inner.field-0.0 _ c.from_residual-in_err-scan_below-in-Inner.ensures.1
+    (read_refused _ _ _ _ _ _ c.in_ok-node.ensures.rising
     (child_not_seen _ _ _ _ 0 _ c.in_ok-node.ensures.same c.in_ok-node.ensures.node (sym c.in-Inner.ensures) (omega arith) c.child_at-first.ensures c.args.walk.now c.args.walk.now (none_seen _ _ c.args.walk.now)
     c.args.levels (c.args.levels - 1) (omega arith)) c.in_err-scan_below-in-Inner.ensures.refusal)
 
@@ -39,8 +38,8 @@ loop-i-init g t c = record {
 
 pub returns-in_err-scan_below-in-Inner-2-clause-refusal : goal.returns-in_err-scan_below-in-Inner-2-clause-refusal
 returns-in_err-scan_below-in-Inner-2-clause-refusal g t c =
-    let p = err_from_is_err_and c.from_residual-in_err-scan_below-in-Inner-2.result c.from_residual-in_err-scan_below-in-Inner-2.ensures.1 in
-    rw (p.1, p.2) (read_refused _ _ _ _ _ _ c.loop-i.invariant.rising
+    err_passed c.from_residual-in_err-scan_below-in-Inner-2.result c.in_err-scan_below-in-Inner-2.field-0.0 _ c.from_residual-in_err-scan_below-in-Inner-2.ensures.1
+    (read_refused _ _ _ _ _ _ c.loop-i.invariant.rising
     (child_not_seen _ _ _ _ (c.loop-i.i + 1) _ c.loop-i.invariant.same c.in_ok-node.ensures.node (sym c.in-Inner.ensures) (omega arith) c.child_at-child.ensures c.args.walk.now c.loop-i.walk c.loop-i.invariant.stays
     c.args.levels (c.args.levels - 1) (omega arith)) c.in_err-scan_below-in-Inner-2.ensures.refusal)
 
@@ -58,3 +57,117 @@ loop-i-preserved g t c = record {
 pub returns-after-loop-i-clause-sees : goal.returns-after-loop-i-clause-sees
 returns-after-loop-i-clause-sees g t c =
     seen_inner _ _ _ c.loop-i.i c.args.walk.now c.loop-i.walk c.in_ok-node.ensures.node (sym c.in-Inner.ensures) (omega (arith, c.loop-i-test.false, c.loop-i.auto.i-end, c.len-i-end.ensures.length)) c.loop-i.invariant.stays
+
+pub returns-in_err-node-clause-sees : goal.returns-in_err-node-clause-sees
+returns-in_err-node-clause-sees g t c = λ d s lo hi under. never_ok c.from_residual.result _ _ c.from_residual.ensures.1
+
+pub returns-in_err-node-clause-same : goal.returns-in_err-node-clause-same
+returns-in_err-node-clause-same g t c = c.read_node.ensures.same
+
+pub returns-in_err-node-clause-whole : goal.returns-in_err-node-clause-whole
+returns-in_err-node-clause-whole g t c = c.read_node.ensures.whole
+
+pub returns-in_err-node-clause-rising : goal.returns-in_err-node-clause-rising
+returns-in_err-node-clause-rising g t c = c.read_node.ensures.rising
+
+pub returns-in_err-node-clause-follows : goal.returns-in_err-node-clause-follows
+returns-in_err-node-clause-follows g t c = c.read_node.ensures.follows
+
+pub returns-in_err-scan_below-in-Inner-clause-sees : goal.returns-in_err-scan_below-in-Inner-clause-sees
+returns-in_err-scan_below-in-Inner-clause-sees g t c = λ d s lo hi under. never_ok c.from_residual-in_err-scan_below-in-Inner.result _ _ c.from_residual-in_err-scan_below-in-Inner.ensures.1
+
+pub returns-in_err-scan_below-in-Inner-clause-same : goal.returns-in_err-scan_below-in-Inner-clause-same
+returns-in_err-scan_below-in-Inner-clause-same g t c = c.scan_below.ensures.same ∙ c.read_node.ensures.same
+
+pub returns-in_err-scan_below-in-Inner-clause-whole : goal.returns-in_err-scan_below-in-Inner-clause-whole
+returns-in_err-scan_below-in-Inner-clause-whole g t c = λ w. c.scan_below.ensures.whole (c.read_node.ensures.whole w)
+
+pub returns-in_err-scan_below-in-Inner-clause-rising : goal.returns-in_err-scan_below-in-Inner-clause-rising
+returns-in_err-scan_below-in-Inner-clause-rising g t c = le_trans c.read_node.ensures.rising c.scan_below.ensures.rising
+
+pub returns-in_err-scan_below-in-Inner-clause-follows : goal.returns-in_err-scan_below-in-Inner-clause-follows
+returns-in_err-scan_below-in-Inner-clause-follows g t c = g.met.R.PageReader.follows_trans _ _ _ c.read_node.ensures.follows c.scan_below.ensures.follows
+
+pub returns-in_err-scan_below-in-Inner-2-clause-sees : goal.returns-in_err-scan_below-in-Inner-2-clause-sees
+returns-in_err-scan_below-in-Inner-2-clause-sees g t c = λ d s lo hi under. never_ok c.from_residual-in_err-scan_below-in-Inner-2.result _ _ c.from_residual-in_err-scan_below-in-Inner-2.ensures.1
+
+pub returns-in_err-scan_below-in-Inner-2-clause-same : goal.returns-in_err-scan_below-in-Inner-2-clause-same
+returns-in_err-scan_below-in-Inner-2-clause-same g t c = c.scan_below-in-loop-i.ensures.same ∙ c.loop-i.invariant.same
+
+pub returns-in_err-scan_below-in-Inner-2-clause-whole : goal.returns-in_err-scan_below-in-Inner-2-clause-whole
+returns-in_err-scan_below-in-Inner-2-clause-whole g t c = λ w. c.scan_below-in-loop-i.ensures.whole (c.loop-i.invariant.whole w)
+
+pub returns-in_err-scan_below-in-Inner-2-clause-rising : goal.returns-in_err-scan_below-in-Inner-2-clause-rising
+returns-in_err-scan_below-in-Inner-2-clause-rising g t c = le_trans c.loop-i.invariant.rising c.scan_below-in-loop-i.ensures.rising
+
+pub returns-in_err-scan_below-in-Inner-2-clause-follows : goal.returns-in_err-scan_below-in-Inner-2-clause-follows
+returns-in_err-scan_below-in-Inner-2-clause-follows g t c = g.met.R.PageReader.follows_trans _ _ _ c.loop-i.invariant.follows c.scan_below-in-loop-i.ensures.follows
+
+pub returns-then-levels-eq0-clause-sees : goal.returns-then-levels-eq0-clause-sees
+returns-then-levels-eq0-clause-sees g t c = λ d s lo hi under. tt
+
+pub returns-then-levels-eq0-clause-same : goal.returns-then-levels-eq0-clause-same
+returns-then-levels-eq0-clause-same g t c = c.read_node.ensures.same
+
+pub returns-then-levels-eq0-clause-whole : goal.returns-then-levels-eq0-clause-whole
+returns-then-levels-eq0-clause-whole g t c = c.read_node.ensures.whole
+
+pub returns-then-levels-eq0-clause-rising : goal.returns-then-levels-eq0-clause-rising
+returns-then-levels-eq0-clause-rising g t c = c.read_node.ensures.rising
+
+pub returns-then-levels-eq0-clause-follows : goal.returns-then-levels-eq0-clause-follows
+returns-then-levels-eq0-clause-follows g t c = c.read_node.ensures.follows
+
+pub returns-in-Leaf-clause-same : goal.returns-in-Leaf-clause-same
+returns-in-Leaf-clause-same g t c = c.read_node.ensures.same
+
+pub returns-in-Leaf-clause-whole : goal.returns-in-Leaf-clause-whole
+returns-in-Leaf-clause-whole g t c = c.read_node.ensures.whole
+
+pub returns-in-Leaf-clause-rising : goal.returns-in-Leaf-clause-rising
+returns-in-Leaf-clause-rising g t c = c.read_node.ensures.rising
+
+pub returns-in-Leaf-clause-follows : goal.returns-in-Leaf-clause-follows
+returns-in-Leaf-clause-follows g t c = c.read_node.ensures.follows
+
+pub returns-after-loop-i-clause-refusal : goal.returns-after-loop-i-clause-refusal
+returns-after-loop-i-clause-refusal g t c = tt
+
+pub returns-after-loop-i-clause-same : goal.returns-after-loop-i-clause-same
+returns-after-loop-i-clause-same g t c = c.loop-i.invariant.same
+
+pub returns-after-loop-i-clause-whole : goal.returns-after-loop-i-clause-whole
+returns-after-loop-i-clause-whole g t c = c.loop-i.invariant.whole
+
+pub returns-after-loop-i-clause-rising : goal.returns-after-loop-i-clause-rising
+returns-after-loop-i-clause-rising g t c = c.loop-i.invariant.rising
+
+pub returns-after-loop-i-clause-follows : goal.returns-after-loop-i-clause-follows
+returns-after-loop-i-clause-follows g t c = c.loop-i.invariant.follows
+
+pub kind-requires : goal.kind-requires
+kind-requires g t c = tt
+
+pub len-i-end-requires : goal.len-i-end-requires
+len-i-end-requires g t c = tt
+
+pub see_leaf-requires : goal.see_leaf-requires
+see_leaf-requires g t c = tt
+
+pub read_node-requires : goal.read_node-requires
+read_node-requires g t c κs = λ h. h
+
+pub child_at-first-requires-clause-inner : goal.child_at-first-requires-clause-inner
+child_at-first-requires-clause-inner g t c = sym c.in-Inner.ensures
+
+pub child_at-child-requires-clause-inner : goal.child_at-child-requires-clause-inner
+child_at-child-requires-clause-inner g t c = sym c.in-Inner.ensures
+
+pub child_at-child-requires-clause-place : goal.child_at-child-requires-clause-place
+child_at-child-requires-clause-place g t c = omega (arith, c.loop-i-test.true, c.loop-i.auto.i-end, c.len-i-end.ensures.length)
+
+pub overflow_sub-levels : goal.overflow_sub-levels
+overflow_sub-levels g t c = omega (arith, c.if-levels-eq0.false)
+
+pub overflow_sub-levels-in-loop-i : goal.overflow_sub-levels-in-loop-i
+overflow_sub-levels-in-loop-i g t c = omega (arith, c.if-levels-eq0.false)
