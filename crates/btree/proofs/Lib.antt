@@ -4,6 +4,7 @@ pub mod GrowLemmas
 pub mod CellLemmas
 pub mod SizeLemmas
 pub mod WithLemmas
+pub mod LentLemmas
 pub mod RefusalLemmas
 pub mod StepLemmas
 pub mod RootLemmas

@@ -1,5 +1,5 @@
 -- Why a change is refused.
-use Rattle.std.proofs.Common.{◌≡◌, ℕ, zero, suc, ◌+◌, ◌<◌, ◌≤◌, List, [], ◌∷◌, ◌++◌, map, length, take, drop, refl, sym, ap, ◌∙◌, subst, Bool, true, false, Option, None, Some, IsSome, Result, Ok, Err, IfErr, arith, nat_lt}
+use Rattle.std.proofs.Common.{◌≡◌, ℕ, zero, suc, ◌+◌, ◌<◌, ◌≤◌, List, [], ◌∷◌, ◌++◌, map, length, take, drop, refl, sym, ap, ◌∙◌, subst, Bool, true, false, Option, None, Some, IsSome, Result, Ok, Err, IfErr, IsErrAnd, OnOk, ◌≢◌, arith, nat_lt}
 use Rattle.std.specs.Prelude.{slice_index_or}
 use Rattle.std.specs.List.{AllByRecursion}
 use borrow.Author.Tests.{ltb-true, ltb-false}
@@ -14,6 +14,7 @@ use Rattle.btree_read.specs.Sorted.{put}
 use Rattle.btree_read.specs.Search.{HasNoTree}
 use Rattle.btree_read.proofs.OrderLemmas.{empty_lowest}
 use Rattle.btree_read.proofs.CountLemmas.{few_levels}
+use Rattle.btree_read.proofs.NodeLemmas.{err_passed, not_fresh}
 use Rattle.btree_read.proofs.SearchLemmas.{under_root, no_node_no_tree}
 use Rattle.btree_read.specs.Lists.{Apart}
 use Rattle.btree.specs.Overfull.{size_of, IsOverfull, RisesBehind, HasNoTreeFor, IsNoTreeIn}
@@ -136,3 +137,40 @@ pub root_refused : (pages : PageMap) (root : ℕ) (k : Key) (W : Type 0) → ((n
 root_refused pages zero k W b nz f owned entries w wh = nz refl
 root_refused pages (suc r) k W b nz f owned entries w wh =
     f w.depth w.tree [] None (few_levels pages w.depth w.tree b w.holds (subst Apart (sym w.owns) w.apart)) (under_root pages (suc r) owned entries w) (record { low = empty_lowest k; high = tt }) wh
+
+-- ---- what the exit of a `?` hands on
+
+pub memory_refused : {A : Type 0} (result : Result A SpaceError) (AtLimit : SpaceError → Type 0) (H : Type 0) (a b : ℕ) → IsErrAnd result (λ f. f ≡ Memory)
+    → IfErr result (ChangeRefused AtLimit H a b)
+memory_refused result L H a b h = err_passed result Memory (ChangeRefused L H a b) h tt
+
+-- what is kept from a later moment on is kept from an earlier one on
+pub kept_from : {A E : Type 0} (result : Result A E) (P Q R : Type 0) → (P → Q) → OnOk result (Q → R) → OnOk result (P → R)
+kept_from (Ok x) P Q R f h = λ p. h (f p)
+kept_from (Err e) P Q R f h = tt
+
+-- ---- a call on the space that is not refused where all is well
+
+pub page_is_used : (pages : PageMap) (page : ℕ) (W S Z : Type 0) → pages page ≡ None → IsSome (pages page) → W → S → Z → ⊥
+page_is_used pages page W S Z e used w s z = not_fresh pages page used e
+
+pub space_is_whole : (W U S Z : Type 0) → (W → ⊥) → U → W → S → Z → ⊥
+space_is_whole W U S Z h u w s z = h w
+
+-- a page in use is in use still, once another one was taken
+pub still_used : (old new : PageMap) (page fresh : ℕ) (W S Z : Type 0) → old fresh ≡ None → ((n : ℕ) → n ≢ fresh → new n ≡ old n)
+    → new page ≡ None → IsSome (old page) → W → S → Z → ⊥
+still_used old new page fresh W S Z free others e used w s z =
+    not_fresh old page used (sym (others page (λ h. not_fresh old page used (ap old h ∙ free))) ∙ e)
+
+-- and the one that was taken, once the first one was written
+pub now_used : (old mid new : PageMap) (page fresh : ℕ) (W S Z : Type 0) → old fresh ≡ None → IsSome (mid fresh) → ((n : ℕ) → n ≢ page → new n ≡ mid n)
+    → new fresh ≡ None → IsSome (old page) → W → S → Z → ⊥
+now_used old mid new page fresh W S Z free now others e used w s z =
+    not_fresh mid fresh now (sym (others fresh (λ h. not_fresh old page used (ap old (sym h) ∙ free))) ∙ e)
+
+pub whole_in_tree : (pages : PageMap) (root : ℕ) (W W1 : Type 0) → (W → W1) → (W1 → ⊥) → IsNoTreeIn pages root W
+whole_in_tree pages root W W1 f h owned entries tree w = h (f w)
+
+pub taken_in_tree : (pages : PageMap) (root : ℕ) (W : Type 0) (now : PageMap) (page : ℕ) → IsSome (now page) → now page ≡ None → IsNoTreeIn pages root W
+taken_in_tree pages root W now page used e owned entries tree w = not_fresh now page used e

@@ -1,3 +1,4 @@
+use Rattle.btree_read.proofs.NodeLemmas.{never_ok}
 use Rattle.std.proofs.Common.{◌≡◌, ◌∙◌, sym, ap, map}
 use Rattle.sqlrecord.specs.Build.{lent}
 use Rattle.btree_read.specs.Nodes.{branch_of}
@@ -5,7 +6,7 @@ use Rattle.btree.proofs.CellLemmas.{stocked_branch, branches_with, put_in_inner_
 use Rattle.std.proofs.Common.{subst, true, IsSome}
 use Rattle.sqlrecord.specs.declared.kind.PageKind.TheVariants.{Inner}
 use Rattle.sqlrecord.specs.Page.{AreCells}
-use Rattle.btree.proofs.RefusalLemmas.{change_harm_on, inner_are, put_inner_refused}
+use Rattle.btree.proofs.RefusalLemmas.{memory_refused, change_harm_on, inner_are, put_inner_refused}
 use Rattle.btree.proofs.inner.put_in_inner.Goals as goal
 
 pub returns-clause-written : goal.returns-clause-written
@@ -27,3 +28,42 @@ returns-clause-refusal g c =
     change_harm_on c.write_inner.result (g.S.PageSpace.at_limit c.write_inner.new.space) _ _ (g.S.PageReader.refused c.args.space.now) (g.S.PageReader.refused c.write_inner.new.space)
     (put_inner_refused (IsSome (g.S.PageReader.pages c.args.space.now c.args.page)) (g.S.PageReader.is_whole c.args.space.now) c.args.node.now.cells _ c.args.at c.args.cell.now c.args.node.now.link (ap lent c.as_slice-2.ensures.value ∙ c.in_ok-cells.ensures.with) c.requires.fits c.requires.cell)
     c.write_inner.ensures.refusal
+
+pub returns-in_err-cells-clause-written : goal.returns-in_err-cells-clause-written
+returns-in_err-cells-clause-written g c = λ small used stocked. never_ok c.from_residual.result _ _ c.from_residual.ensures.1
+
+pub returns-in_err-cells-clause-small : goal.returns-in_err-cells-clause-small
+returns-in_err-cells-clause-small g c = never_ok c.from_residual.result _ _ c.from_residual.ensures.1
+
+pub returns-in_err-cells-clause-whole : goal.returns-in_err-cells-clause-whole
+returns-in_err-cells-clause-whole g c = never_ok c.from_residual.result _ _ c.from_residual.ensures.1
+
+pub returns-in_err-cells-clause-refusal : goal.returns-in_err-cells-clause-refusal
+returns-in_err-cells-clause-refusal g c = memory_refused c.from_residual.result (g.S.PageSpace.at_limit c.args.space.now) _ _ _ c.from_residual.ensures.1
+
+pub returns-in_err-cells-clause-follows : goal.returns-in_err-cells-clause-follows
+returns-in_err-cells-clause-follows g c = g.met.S.PageReader.follows_refl _
+
+pub returns-then-not-are_cells-clause-written : goal.returns-then-not-are_cells-clause-written
+returns-then-not-are_cells-clause-written g c = λ small used stocked. tt
+
+pub returns-then-not-are_cells-clause-small : goal.returns-then-not-are_cells-clause-small
+returns-then-not-are_cells-clause-small g c = tt
+
+pub returns-then-not-are_cells-clause-whole : goal.returns-then-not-are_cells-clause-whole
+returns-then-not-are_cells-clause-whole g c = tt
+
+pub returns-then-not-are_cells-clause-follows : goal.returns-then-not-are_cells-clause-follows
+returns-then-not-are_cells-clause-follows g c = g.met.S.PageReader.follows_refl _
+
+pub returns-clause-small : goal.returns-clause-small
+returns-clause-small g c = c.write_inner.ensures.small
+
+pub returns-clause-whole : goal.returns-clause-whole
+returns-clause-whole g c = c.write_inner.ensures.whole
+
+pub returns-clause-rising : goal.returns-clause-rising
+returns-clause-rising g c = c.write_inner.ensures.rising
+
+pub returns-clause-follows : goal.returns-clause-follows
+returns-clause-follows g c = c.write_inner.ensures.follows

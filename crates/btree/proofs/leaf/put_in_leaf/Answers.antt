@@ -1,3 +1,4 @@
+use Rattle.btree_read.proofs.NodeLemmas.{never_ok}
 use Rattle.std.proofs.Common.{◌≡◌, ◌∙◌, sym, ap, subst, map, IsSome}
 use Rattle.sqlrecord.specs.Build.{lent}
 use Rattle.btree_read.specs.Nodes.{entry_of}
@@ -8,7 +9,7 @@ use Rattle.sqlrecord.specs.Page.{AreCells}
 use Rattle.btree_read.specs.Nodes.{precedes}
 use Rattle.btree_read.proofs.PlaceLemmas.{key_at}
 use Rattle.btree.proofs.WithLemmas.{are_with}
-use Rattle.btree.proofs.RefusalLemmas.{change_harm_on, put_refused}
+use Rattle.btree.proofs.RefusalLemmas.{memory_refused, change_harm_on, put_refused}
 use Rattle.btree.proofs.leaf.put_in_leaf.Goals as goal
 
 pub returns-clause-written : goal.returns-clause-written
@@ -30,3 +31,30 @@ returns-clause-refusal g c =
     change_harm_on c.write_leaf.result (g.S.PageSpace.at_limit c.write_leaf.new.space) _ _ (g.S.PageReader.refused c.args.space.now) (g.S.PageReader.refused c.write_leaf.new.space)
     (put_refused (IsSome (g.S.PageReader.pages c.args.space.now c.args.page)) (g.S.PageReader.is_whole c.args.space.now) c.args.leaf.now.cells _ _ _ _ _ c.args.leaf.now.link (ap lent c.as_slice.ensures.value ∙ c.in_ok-cells.ensures.with) c.place_of-at.ensures.order c.requires.fits c.requires.cell c.place_of-at.ensures.put)
     c.write_leaf.ensures.refusal
+
+pub returns-in_err-cells-clause-written : goal.returns-in_err-cells-clause-written
+returns-in_err-cells-clause-written g c = λ value cell small used stocked. never_ok c.from_residual.result _ _ c.from_residual.ensures.1
+
+pub returns-in_err-cells-clause-small : goal.returns-in_err-cells-clause-small
+returns-in_err-cells-clause-small g c = never_ok c.from_residual.result _ _ c.from_residual.ensures.1
+
+pub returns-in_err-cells-clause-whole : goal.returns-in_err-cells-clause-whole
+returns-in_err-cells-clause-whole g c = never_ok c.from_residual.result _ _ c.from_residual.ensures.1
+
+pub returns-in_err-cells-clause-refusal : goal.returns-in_err-cells-clause-refusal
+returns-in_err-cells-clause-refusal g c = memory_refused c.from_residual.result (g.S.PageSpace.at_limit c.args.space.now) _ _ _ c.from_residual.ensures.1
+
+pub returns-in_err-cells-clause-follows : goal.returns-in_err-cells-clause-follows
+returns-in_err-cells-clause-follows g c = g.met.S.PageReader.follows_refl _
+
+pub returns-clause-small : goal.returns-clause-small
+returns-clause-small g c = c.write_leaf.ensures.small
+
+pub returns-clause-whole : goal.returns-clause-whole
+returns-clause-whole g c = c.write_leaf.ensures.whole
+
+pub returns-clause-rising : goal.returns-clause-rising
+returns-clause-rising g c = c.write_leaf.ensures.rising
+
+pub returns-clause-follows : goal.returns-clause-follows
+returns-clause-follows g c = c.write_leaf.ensures.follows
