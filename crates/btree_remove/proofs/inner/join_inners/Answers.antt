@@ -1,11 +1,10 @@
-use Rattle.std.proofs.Common.{◌≡◌, ◌≢◌, ◌∙◌, map, sym, ap, subst, arith, length}
-use Rattle.std.proofs.lemmas.Result.{err_from_is_err_and}
+use Rattle.btree_read.proofs.NodeLemmas.{never_ok, err_passed}
+use Rattle.std.proofs.Common.{le_trans, ◌≡◌, ◌∙◌, sym, ap, subst, arith}
 use Rattle.sqlrecord.specs.declared.kind.PageKind.TheVariants.{Inner}
 use Rattle.sqlrecord.specs.Page.{IsCell}
-use Rattle.btree_read.specs.declared.entry.Branch.{Branch}
 use Rattle.btree_read.specs.Nodes.{branch_of, IsSmallBranch}
 use Rattle.btree.proofs.CellLemmas.{branch_is}
-use Rattle.btree.proofs.RefusalLemmas.{change_refused_on, read_as_change}
+use Rattle.btree.proofs.RefusalLemmas.{memory_refused, kept_from, change_refused_on, read_as_change}
 use Rattle.btree_remove.proofs.PageSteps.{inner_read, inner_read_behind, inner_not_read, inner_is_leaf, inner_not_joined, divider_is_long, before_as, behind_as}
 use Rattle.btree_remove.proofs.inner.join_inners.Goals as goal
 
@@ -14,8 +13,8 @@ returns-then-divider-gt-MAXIMUM_KEY-clause-refusal g c = divider_is_long _ c.arg
 
 pub returns-in_err-node-clause-refusal : goal.returns-in_err-node-clause-refusal
 returns-in_err-node-clause-refusal g c =
-    let p = err_from_is_err_and c.from_residual.result c.from_residual.ensures.1 in
-    rw (p.1, p.2) (read_as_change (g.S.PageSpace.at_limit c.read_node.new.space) _ _ (g.S.PageReader.refused c.args.space.now) (g.S.PageReader.refused c.read_node.new.space) _
+    err_passed c.from_residual.result c.in_err-node.field-0.0 _ c.from_residual.ensures.1
+    (read_as_change (g.S.PageSpace.at_limit c.read_node.new.space) _ _ (g.S.PageReader.refused c.args.space.now) (g.S.PageReader.refused c.read_node.new.space) _
     (inner_not_read _ c.args.pair.now c.args.divider.now c.args.only (g.S.PageReader.is_whole c.args.space.now)) c.in_err-node.ensures.refusal)
 
 pub returns-in-Leaf-clause-refusal : goal.returns-in-Leaf-clause-refusal
@@ -51,3 +50,96 @@ returns-in_ok-cell-in-Inner-clause-refusal g c =
     (inner_not_joined _ _ c.args.pair.now c.args.divider.now c.args.only _ (branch_of c.as_slice.result.now) (g.S.PageReader.is_whole c.args.space.now) (g.S.PageReader.is_whole c.read_node.new.space)
     c.in_ok-node.ensures.same c.in_ok-node.ensures.node c.in_ok-node.ensures.whole (λ k. is ∙ (λ i. record { key = c.args.divider.now; child = c.child_between-child.ensures.before k i }))
     (λ k. is ∙ (λ i. record { key = c.args.divider.now; child = c.child_between-child.ensures.behind k i }))) c.add_child.ensures.refusal
+
+pub returns-then-divider-gt-MAXIMUM_KEY-clause-before : goal.returns-then-divider-gt-MAXIMUM_KEY-clause-before
+returns-then-divider-gt-MAXIMUM_KEY-clause-before g c = λ first bs is node used apart. tt
+
+pub returns-then-divider-gt-MAXIMUM_KEY-clause-behind : goal.returns-then-divider-gt-MAXIMUM_KEY-clause-behind
+returns-then-divider-gt-MAXIMUM_KEY-clause-behind g c = λ first bs is node used apart. tt
+
+pub returns-then-divider-gt-MAXIMUM_KEY-clause-small : goal.returns-then-divider-gt-MAXIMUM_KEY-clause-small
+returns-then-divider-gt-MAXIMUM_KEY-clause-small g c = tt
+
+pub returns-then-divider-gt-MAXIMUM_KEY-clause-whole : goal.returns-then-divider-gt-MAXIMUM_KEY-clause-whole
+returns-then-divider-gt-MAXIMUM_KEY-clause-whole g c = tt
+
+pub returns-then-divider-gt-MAXIMUM_KEY-clause-follows : goal.returns-then-divider-gt-MAXIMUM_KEY-clause-follows
+returns-then-divider-gt-MAXIMUM_KEY-clause-follows g c = g.met.S.PageReader.follows_refl _
+
+pub returns-in_err-node-clause-before : goal.returns-in_err-node-clause-before
+returns-in_err-node-clause-before g c = λ first bs is node used apart. never_ok c.from_residual.result _ _ c.from_residual.ensures.1
+
+pub returns-in_err-node-clause-behind : goal.returns-in_err-node-clause-behind
+returns-in_err-node-clause-behind g c = λ first bs is node used apart. never_ok c.from_residual.result _ _ c.from_residual.ensures.1
+
+pub returns-in_err-node-clause-small : goal.returns-in_err-node-clause-small
+returns-in_err-node-clause-small g c = never_ok c.from_residual.result _ _ c.from_residual.ensures.1
+
+pub returns-in_err-node-clause-whole : goal.returns-in_err-node-clause-whole
+returns-in_err-node-clause-whole g c = never_ok c.from_residual.result _ _ c.from_residual.ensures.1
+
+pub returns-in_err-node-clause-rising : goal.returns-in_err-node-clause-rising
+returns-in_err-node-clause-rising g c = c.read_node.ensures.rising
+
+pub returns-in_err-node-clause-follows : goal.returns-in_err-node-clause-follows
+returns-in_err-node-clause-follows g c = c.read_node.ensures.follows
+
+pub returns-in_err-cell-in-Inner-clause-before : goal.returns-in_err-cell-in-Inner-clause-before
+returns-in_err-cell-in-Inner-clause-before g c = λ first bs is node used apart. never_ok c.from_residual-in_err-cell-in-Inner.result _ _ c.from_residual-in_err-cell-in-Inner.ensures.1
+
+pub returns-in_err-cell-in-Inner-clause-behind : goal.returns-in_err-cell-in-Inner-clause-behind
+returns-in_err-cell-in-Inner-clause-behind g c = λ first bs is node used apart. never_ok c.from_residual-in_err-cell-in-Inner.result _ _ c.from_residual-in_err-cell-in-Inner.ensures.1
+
+pub returns-in_err-cell-in-Inner-clause-small : goal.returns-in_err-cell-in-Inner-clause-small
+returns-in_err-cell-in-Inner-clause-small g c = never_ok c.from_residual-in_err-cell-in-Inner.result _ _ c.from_residual-in_err-cell-in-Inner.ensures.1
+
+pub returns-in_err-cell-in-Inner-clause-whole : goal.returns-in_err-cell-in-Inner-clause-whole
+returns-in_err-cell-in-Inner-clause-whole g c = never_ok c.from_residual-in_err-cell-in-Inner.result _ _ c.from_residual-in_err-cell-in-Inner.ensures.1
+
+pub returns-in_err-cell-in-Inner-clause-refusal : goal.returns-in_err-cell-in-Inner-clause-refusal
+returns-in_err-cell-in-Inner-clause-refusal g c = memory_refused c.from_residual-in_err-cell-in-Inner.result (g.S.PageSpace.at_limit c.read_node.new.space) _ _ _ c.from_residual-in_err-cell-in-Inner.ensures.1
+
+pub returns-in_err-cell-in-Inner-clause-rising : goal.returns-in_err-cell-in-Inner-clause-rising
+returns-in_err-cell-in-Inner-clause-rising g c = c.read_node.ensures.rising
+
+pub returns-in_err-cell-in-Inner-clause-follows : goal.returns-in_err-cell-in-Inner-clause-follows
+returns-in_err-cell-in-Inner-clause-follows g c = c.read_node.ensures.follows
+
+pub returns-in_ok-cell-in-Inner-clause-small : goal.returns-in_ok-cell-in-Inner-clause-small
+returns-in_ok-cell-in-Inner-clause-small g c = c.add_child.ensures.small
+
+pub returns-in_ok-cell-in-Inner-clause-whole : goal.returns-in_ok-cell-in-Inner-clause-whole
+returns-in_ok-cell-in-Inner-clause-whole g c = kept_from c.add_child.result _ _ _ c.read_node.ensures.whole c.add_child.ensures.whole
+
+pub returns-in_ok-cell-in-Inner-clause-rising : goal.returns-in_ok-cell-in-Inner-clause-rising
+returns-in_ok-cell-in-Inner-clause-rising g c = le_trans c.read_node.ensures.rising c.add_child.ensures.rising
+
+pub returns-in_ok-cell-in-Inner-clause-follows : goal.returns-in_ok-cell-in-Inner-clause-follows
+returns-in_ok-cell-in-Inner-clause-follows g c = g.met.S.PageReader.follows_trans _ _ _ c.read_node.ensures.follows c.add_child.ensures.follows
+
+pub returns-in-Leaf-clause-before : goal.returns-in-Leaf-clause-before
+returns-in-Leaf-clause-before g c = λ first bs is node used apart. tt
+
+pub returns-in-Leaf-clause-behind : goal.returns-in-Leaf-clause-behind
+returns-in-Leaf-clause-behind g c = λ first bs is node used apart. tt
+
+pub returns-in-Leaf-clause-small : goal.returns-in-Leaf-clause-small
+returns-in-Leaf-clause-small g c = tt
+
+pub returns-in-Leaf-clause-whole : goal.returns-in-Leaf-clause-whole
+returns-in-Leaf-clause-whole g c = tt
+
+pub returns-in-Leaf-clause-rising : goal.returns-in-Leaf-clause-rising
+returns-in-Leaf-clause-rising g c = c.read_node.ensures.rising
+
+pub returns-in-Leaf-clause-follows : goal.returns-in-Leaf-clause-follows
+returns-in-Leaf-clause-follows g c = c.read_node.ensures.follows
+
+pub kind-requires : goal.kind-requires
+kind-requires g c = tt
+
+pub add_child-requires-clause-inner : goal.add_child-requires-clause-inner
+add_child-requires-clause-inner g c = sym c.in-Inner.ensures
+
+pub add_child-requires-clause-fits : goal.add_child-requires-clause-fits
+add_child-requires-clause-fits g c = c.in_ok-node.ensures.fits
