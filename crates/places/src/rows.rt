@@ -2,11 +2,12 @@
 ghost use Rattle.std.specs.Prelude.{◌≡◌, ◌++◌, ◌∷◌, [], true, IfOk, IfErr, MatchOption};
 ghost use Rattle.std.specs.Vec.Iter.{into_iter_items};
 ghost use Rattle.algebra.specs.declared.tree.Tree.{Tree};
+ghost use Rattle.places.specs.declared.place.Place.TheVariants.{Ended};
 ghost use Rattle.places.specs.Left.{Entries, before, left};
 ghost use Rattle.places.specs.Views.{is_whole};
 
 use crate::place::Place;
-use denote::{Row, Rows};
+use denote::{Fault, Row, Rows};
 use items::Items;
 use std::alloc::{AllocError, Global};
 use std::vec::IntoIter;
@@ -42,6 +43,13 @@ fn taken(
     Ok(found)
 }
 
+/// The place where no row is left.
+fn end_at(place: &mut Place, fault: Option<Fault>)
+    ensures { place.new ≡ Ended fault }
+{
+    *place = Place::Ended(fault);
+}
+
 /// The next rows of a list that is kept, at most so many and at least one where one is left; then
 /// the list has ended. Refuses for want of memory alone.
 #[tactic(auto, using(crate::proofs::Wholes::wholes))]
@@ -50,22 +58,16 @@ pub fn kept_rows(alloc: Global, place: &mut Place, most: usize) -> Result<Rows, 
         → IfOk result (λ rows. before rows (left entries place.new tree) ≡ left entries place.old tree) }
     ensures kept { is_whole place.old ≡ true → IfOk result (λ _. is_whole place.new ≡ true) }
 {
-    match std::mem::replace(place, Place::Start) {
-        Place::Kept(mut rows, fault) => match first_row(&mut rows) {
-            Some(first) => {
-                let found = taken(alloc, first, &mut rows, most)?;
-                *place = Place::Kept(rows, fault);
-                Ok(found)
-            }
+    match place {
+        Place::Kept(rows, fault) => match first_row(rows) {
+            Some(first) => taken(alloc, first, rows, most),
             None => {
-                *place = Place::Ended(fault);
+                let fault = fault.take();
+                end_at(place, fault);
                 Ok(Items::new(alloc))
             }
         },
-        Place::Ended(fault) => {
-            *place = Place::Ended(fault);
-            Ok(Items::new(alloc))
-        }
+        Place::Ended(_) => Ok(Items::new(alloc)),
         Place::Start => Ok(Items::new(alloc)),
         Place::After(_) => Ok(Items::new(alloc)),
         Place::Beyond(_) => Ok(Items::new(alloc)),
