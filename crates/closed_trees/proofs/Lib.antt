@@ -1,3 +1,4 @@
 pub mod Nodes
 pub mod Seeing
 pub mod Outwards
+mod Turns
