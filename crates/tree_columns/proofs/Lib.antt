@@ -3,3 +3,4 @@ mod PlainConditions
 mod QuietNodes
 mod RaisingAlike
 mod WidthNodes
+mod Asked

@@ -1,6 +1,6 @@
 //! How many columns a tree's rows have.
 
-ghost use Rattle.std.specs.Prelude.{◌≡◌, ◌+◌, Some, IfOk};
+ghost use Rattle.std.specs.Prelude.{◌≡◌, ℕ, ◌+◌, Option, Some, IfOk};
 ghost use Rattle.rules.specs.Width.{added, agreed, count_columns, width_of_tree};
 
 use algebra::Tree;
@@ -17,17 +17,17 @@ pub fn width_of(tree: &Tree) -> Result<Option<usize>, AllocError>
     match tree {
         Tree::Scan(table) => Ok(Some(table.width)),
         Tree::Filter(_, rows) => width_of(rows.get()),
-        Tree::Product(left, right) => sum_of(width_of(left.get())?, width_of(right.get())?),
-        Tree::Inner(_, left, right) => sum_of(width_of(left.get())?, width_of(right.get())?),
+        Tree::Product(left, right) => sum_of(width_of(left.get()), width_of(right.get())),
+        Tree::Inner(_, left, right) => sum_of(width_of(left.get()), width_of(right.get())),
         Tree::Left {
             on: _,
             left,
             right,
             width,
-        } => sum_of(
-            width_of(left.get())?,
-            same_of(width_of(right.get())?, Some(*width)),
-        ),
+        } => {
+            let padded = both_of(width_of(right.get()), Ok(Some(*width)));
+            sum_of(width_of(left.get()), padded)
+        }
         Tree::Half(_, left, _) => width_of(left.get()),
         Tree::OppositeHalf(_, left, _) => width_of(left.get()),
         Tree::Group {
@@ -37,19 +37,43 @@ pub fn width_of(tree: &Tree) -> Result<Option<usize>, AllocError>
         } => sum(number_of(columns), functions.len()),
         Tree::Project(items, _) => Ok(Some(items.len())),
         Tree::Distinct(rows) => width_of(rows.get()),
-        Tree::Set(_, left, right) => Ok(same_of(width_of(left.get())?, width_of(right.get())?)),
+        Tree::Set(_, left, right) => both_of(width_of(left.get()), width_of(right.get())),
         Tree::Sort(_, rows) => width_of(rows.get()),
         Tree::Seek { table, .. } => Ok(Some(table.width)),
         Tree::Range { table, .. } => Ok(Some(table.width)),
-        Tree::IndexLoop { left, table, .. } => sum_of(width_of(left.get())?, Some(table.width)),
+        Tree::IndexLoop { left, table, .. } => {
+            sum_of(width_of(left.get()), Ok(Some(table.width)))
+        }
         Tree::HashJoin { left, right, .. } => {
-            sum_of(width_of(left.get())?, width_of(right.get())?)
+            sum_of(width_of(left.get()), width_of(right.get()))
         }
         Tree::Member { rows, .. } => width_of(rows.get()),
     }
 }
 
-fn sum_of(left: Option<usize>, right: Option<usize>) -> Result<Option<usize>, AllocError>
+/// Of rows that are put together.
+fn sum_of(
+    left: Result<Option<usize>, AllocError>,
+    right: Result<Option<usize>, AllocError>,
+) -> Result<Option<usize>, AllocError>
+    ensures { (m n : Option ℕ) → IfOk left (λ x. x ≡ m) → IfOk right (λ y. y ≡ n)
+        → IfOk result (λ width. width ≡ added m n) }
+{
+    added(left?, right?)
+}
+
+/// Of rows that stand below one another.
+fn both_of(
+    left: Result<Option<usize>, AllocError>,
+    right: Result<Option<usize>, AllocError>,
+) -> Result<Option<usize>, AllocError>
+    ensures { (m n : Option ℕ) → IfOk left (λ x. x ≡ m) → IfOk right (λ y. y ≡ n)
+        → IfOk result (λ width. width ≡ agreed m n) }
+{
+    Ok(same_of(left?, right?))
+}
+
+fn added(left: Option<usize>, right: Option<usize>) -> Result<Option<usize>, AllocError>
     ensures { IfOk result (λ width. width ≡ added left right) }
 {
     match left {
