@@ -10,5 +10,6 @@ mod together;
 
 pub use moving::{moved, moved_all};
 pub use parting::{Division, into_conjuncts, parted};
+pub use parts::{both, boxed, three};
 pub use shift::Shift;
 pub use together::{and_of, filter_of, filtered, inner_of, joined};
