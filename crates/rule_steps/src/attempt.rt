@@ -17,6 +17,7 @@ use crate::orders::{can_drop_distinct, can_go_in_order, drop_distinct, go_in_ord
 use crate::regroup::{can_regroup, regroup};
 use crate::subqueries::{be_member, can_be_member, can_halve, halve};
 use algebra::Tree;
+use moved_conditions::both;
 use rules::Rule;
 use std::alloc::{AllocError, Global};
 
@@ -82,7 +83,18 @@ fn used(alloc: Global, rule: Rule, tree: Tree) -> Result<Tree, AllocError>
 pub fn tried(alloc: Global, calm: bool, rule: Rule, tree: Tree) -> Result<Attempt<Tree>, AllocError>
     ensures { IfOk result (λ tried. tried ≡ attempt (here calm rule tree) tree) }
 {
-    let can = can_use(alloc, calm, rule, &tree)?;
+    let can = can_use(alloc, calm, rule, &tree);
+    match both(can, Ok(tree)) {
+        Ok((can, tree)) => used_if(alloc, rule, can, tree),
+        Err(error) => Err(error),
+    }
+}
+
+/// What a rule makes of a node if it can be used there; else the node as it was.
+fn used_if(alloc: Global, rule: Rule, can: bool, tree: Tree) -> Result<Attempt<Tree>, AllocError>
+    ensures { (calm : Bool) → can ≡ is_some (here calm rule tree)
+        → IfOk result (λ tried. tried ≡ attempt (here calm rule tree) tree) }
+{
     if can {
         changed(used(alloc, rule, tree))
     } else {

@@ -11,5 +11,6 @@ mod loops;
 mod orders;
 mod regroup;
 mod subqueries;
+mod together;
 
 pub use attempt::{Attempt, can_use, tried};

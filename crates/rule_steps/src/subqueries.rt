@@ -13,7 +13,7 @@ ghost use Rattle.rules.specs.Width.{width_of_tree};
 
 use algebra::{Condition, Expression, StoredTable, Tree};
 use items::Boxed;
-use moved_conditions::{Shift, moved};
+use moved_conditions::{Shift, boxed, moved, three};
 use raising::{condition_can_raise, expression_can_raise};
 use std::alloc::{AllocError, Global};
 use tree_columns::{names_half, width_of};
@@ -123,10 +123,17 @@ fn exists_halved(alloc: Global, condition: Condition, left: Boxed<Tree>) -> Resu
         Condition::Exists(query) => query_halved(alloc, true, left, query.into_inner()),
         Condition::Not(operand) => match operand.into_inner() {
             Condition::Exists(query) => query_halved(alloc, false, left, query.into_inner()),
-            _ => Ok(left.into_inner()),
+            other => Ok(without(left, other)),
         },
-        _ => Ok(left.into_inner()),
+        other => Ok(without(left, other)),
     }
+}
+
+/// The rows; the rest is let go. A caller that lets it go by itself is slow to prove.
+fn without<T: Drop>(rows: Boxed<Tree>, _rest: T) -> Tree
+    ensures { result ≡ rows }
+{
+    rows.into_inner()
 }
 
 #[tactic(auto, using(crate::proofs::Nodes::nodes))]
@@ -202,12 +209,20 @@ fn half_of(
     ensures { (condition : Condition) → IfOk on (λ o. o ≡ condition)
         → IfOk result (λ made. made ≡ half wanted condition left right) }
 {
-    let on = Boxed::new(alloc, on?)?;
-    let right = Boxed::new(alloc, right)?;
+    let right = Boxed::new(alloc, right);
+    match three(boxed(alloc, on), Ok(left), right) {
+        Ok((on, left, right)) => Ok(half(wanted, on, left, right)),
+        Err(error) => Err(error),
+    }
+}
+
+fn half(wanted: bool, on: Boxed<Condition>, left: Boxed<Tree>, right: Boxed<Tree>) -> Tree
+    ensures { result ≡ half wanted on left right }
+{
     if wanted {
-        Ok(Tree::Half(on, left, right))
+        Tree::Half(on, left, right)
     } else {
-        Ok(Tree::OppositeHalf(on, left, right))
+        Tree::OppositeHalf(on, left, right)
     }
 }
 
@@ -274,8 +289,8 @@ fn in_as_member(condition: Condition, rows: Boxed<Tree>) -> Tree
                 members,
                 rows,
             },
-            _ => rows.into_inner(),
+            other => without(rows, other),
         },
-        _ => rows.into_inner(),
+        other => without(rows, other),
     }
 }

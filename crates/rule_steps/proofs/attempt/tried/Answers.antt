@@ -1,18 +1,15 @@
-use Rattle.std.proofs.Common.{◌≡◌, ◌∙◌, sym, subst, true, false, IfOk}
+use Rattle.std.proofs.Common.{◌≡◌, ◌∙◌, refl, ap, sym, subst, IfOk}
 use Rattle.std.specs.Prelude.{is_some}
 use Rattle.algebra.specs.declared.tree.Tree.{Tree}
 use Rattle.rules.specs.Applied.{here}
-use Rattle.rule_steps.specs.declared.attempt.Attempt.{Attempt}
-use Rattle.rule_steps.proofs.Attempts.{unused-is, used-is}
+use Rattle.rule_steps.specs.Attempted.{attempt}
 use Rattle.rule_steps.proofs.attempt.tried.Goals as goal
 
-pub returns-then-can : goal.returns-then-can
-returns-then-can c =
-    let h : is_some (here c.args.calm c.args.rule c.args.tree) ≡ true = sym c.in_ok-can.ensures ∙ c.if-can.true in
-    let u = used-is (here c.args.calm c.args.rule c.args.tree) c.args.tree h in
-    subst (λ (x : Attempt Tree). IfOk c.changed.result (λ tried. tried ≡ x)) u.2
-    (c.changed.ensures u.0 (c.used.ensures c.args.calm u.0 u.1))
-
-pub returns-else-can : goal.returns-else-can
-returns-else-can c = unused-is (here c.args.calm c.args.rule c.args.tree) c.args.tree
-    (sym c.in_ok-can.ensures ∙ c.if-can.false)
+pub returns-in-Ok : goal.returns-in-Ok
+returns-in-Ok c =
+    let calm = c.args.calm in
+    let rule = c.args.rule in
+    let same : c.in-Ok.tree ≡ c.args.tree = c.in-Ok.ensures.second c.args.tree refl in
+    let can : c.in-Ok.can ≡ is_some (here calm rule c.args.tree) = c.in-Ok.ensures.first _ c.can_use-can.ensures in
+    subst (λ (x : Tree). IfOk c.used_if.result (λ tried. tried ≡ attempt (here calm rule x) x)) same
+    (c.used_if.ensures calm (can ∙ ap (λ (x : Tree). is_some (here calm rule x)) (sym same)))

@@ -1,4 +1,4 @@
-use Rattle.std.proofs.Common.{◌≡◌, subst, Option, Some, ℕ, IfOk}
+use Rattle.std.proofs.Common.{◌≡◌, refl, subst, [], Option, Some, ℕ, IfOk}
 use Rattle.algebra.specs.declared.tree.Tree.{Tree}
 use Rattle.algebra.specs.declared.tree.Tree.TheVariants as t
 use Rattle.rules.specs.Conjuncts.{conjuncts, filtered, quiet}
@@ -15,11 +15,16 @@ returns c = λ calm condition new h e.
     let g = given-found (calm && quiet condition) (sides_filtered conditions c.args.left c.args.right) (width_of_tree c.args.left) new
     (below-opened calm condition c.args.left c.args.right new e) in
     let wide = subst (λ (x : Option ℕ). IfOk c.width_of-width.result (λ w. w ≡ x)) g.1 c.width_of-width.ensures in
-    subst (λ (x : Tree). IfOk c.product_filtered.result (λ made. made ≡ x))
-    (if-made (left_of g.0 conditions ++ right_of g.0 conditions)
-    (filtered (of_both g.0 conditions) (t.Product (filtered (left_of g.0 conditions) c.args.left)
-    (filtered (on_right g.0 (right_of g.0 conditions)) c.args.right))) new g.2)
-    (c.product_filtered.ensures (filtered (left_of g.0 conditions) c.args.left) (on_right g.0 (right_of g.0 conditions)) (of_both g.0 conditions)
-    (c.left_side-left.ensures.left (left_of g.0 conditions) (c.conjuncts_by_side-sides.ensures.left g.0 conditions wide h))
-    (c.left_side-left.ensures.right (on_right g.0 (right_of g.0 conditions)) (c.conjuncts_by_side-sides.ensures.right g.0 conditions wide h))
-    (c.left_side-left.ensures.both (of_both g.0 conditions) (c.conjuncts_by_side-sides.ensures.both g.0 conditions wide h)))
+    let lefts = left_of g.0 conditions in
+    let rights = on_right g.0 (right_of g.0 conditions) in
+    let both = of_both g.0 conditions in
+    let left = c.filtered_by-left.ensures lefts c.args.left
+    (c.sides_apart-on_left.ensures.left lefts (c.conjuncts_by_side-sides.ensures.left g.0 conditions wide h)) refl in
+    let right = c.filtered_by-right.ensures rights c.args.right
+    (c.sides_apart-on_left.ensures.right rights (c.conjuncts_by_side-sides.ensures.right g.0 conditions wide h)) refl in
+    let product = t.Product (filtered lefts c.args.left) (filtered rights c.args.right) in
+    subst (λ (x : Tree). IfOk c.filtered_by.result (λ made. made ≡ x))
+    (if-made (lefts ++ right_of g.0 conditions) (filtered both product) new g.2)
+    (c.filtered_by.ensures both product
+    (c.sides_apart-on_left.ensures.both both (c.conjuncts_by_side-sides.ensures.both g.0 conditions wide h))
+    (c.joined_by-product.ensures [] (filtered lefts c.args.left) (filtered rights c.args.right) c.new.ensures left right))
