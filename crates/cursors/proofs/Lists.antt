@@ -77,7 +77,7 @@ module _ (tables : Tables) (plan tree : Tree) (stands : IsSameTree tables plan t
 
   quiet_plan : (tree_outcome tables tree []).faults ≡ [] → (tree_outcome tables plan []).faults ≡ []
   quiet_plan = no_faults (tree_outcome tables tree []).faults (tree_outcome tables plan []).faults
-      (λ x. ((stands.outcome []).faults x).1, ((stands.outcome []).faults x).0)
+      (λ x. (((stands.outcome []).faults x).1, ((stands.outcome []).faults x).0))
 
   quiet_tree : (tree_outcome tables plan []).faults ≡ [] → (tree_outcome tables tree []).faults ≡ []
   quiet_tree = no_faults (tree_outcome tables plan []).faults (tree_outcome tables tree []).faults (stands.outcome []).faults
