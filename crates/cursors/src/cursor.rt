@@ -21,7 +21,7 @@ use algebra::Tree;
 use algebra_laws::listings_answer_outcomes;
 use denote::{Fault, Row, Rows};
 use executor::Listed;
-use items::Items;
+use items::{Boxed, Items};
 use order_laws::listings_are_sorted;
 use places::{Place, first_row};
 use query_answers::{PlannedQuery, refusal_of_fault, run_plan};
@@ -33,8 +33,8 @@ use store::Reading;
 /// how far the list of that was given.
 #[derive(Drop)]
 pub struct OpenCursor {
-    pub(crate) tree: Tree,
-    pub(crate) plan: Tree,
+    pub(crate) tree: Boxed<Tree>,
+    pub(crate) plan: Boxed<Tree>,
     pub(crate) place: Place,
 }
 
@@ -70,7 +70,7 @@ pub fn open_cursor<R: Reading>(
         → HasRisen (R.shows reading.old).refused (R.shows reading.new).refused) }
     ensures follows { R.follows reading.old reading.new }
 {
-    match run_plan(alloc, reading, &query.plan) {
+    match run_plan(alloc, reading, query.plan.get()) {
         Ok(listed) => Ok(at_beginning(query, listed)),
         Err(refusal) => Err(refusal),
     }

@@ -39,6 +39,7 @@ use algebra::Tree;
 use algebra_laws::translation_keeps_the_meaning;
 use denote::Rows;
 use executor::Listed;
+use items::Boxed;
 use known_tables::described_tables_are_known;
 use planner::choose_plan;
 use refusals::Refusal;
@@ -95,8 +96,8 @@ pub fn unordered_plan(alloc: Global, schema: &Schema, query: &Query) -> Result<T
 /// The tree of a query, and the plan that is chosen for it.
 #[derive(Drop)]
 pub struct PlannedQuery {
-    pub tree: Tree,
-    pub plan: Tree,
+    pub tree: Boxed<Tree>,
+    pub plan: Boxed<Tree>,
 }
 
 /// The tree of a query that was typed over this schema, and the plan that is chosen for it, which
@@ -117,10 +118,50 @@ pub fn plan_beside_tree(
         → IfOk result (λ p. JoinsByKeys left right p.plan) }
 {
     described_tables_are_known();
-    let tree = query_tree(alloc, schema, query)?;
-    let copy = query_tree(alloc, schema, query)?;
-    let plan = planned(alloc, copy)?;
-    Ok(PlannedQuery { tree, plan })
+    match tree_in_box(alloc, schema, query) {
+        Ok(tree) => match plan_in_box(alloc, schema, query) {
+            Ok(plan) => Ok(PlannedQuery { tree, plan }),
+            Err(error) => Err(error),
+        },
+        Err(error) => Err(error),
+    }
+}
+
+fn tree_in_box(
+    alloc: Global,
+    schema: &Schema,
+    query: &OrderedQuery,
+) -> Result<Boxed<Tree>, AllocError>
+    ensures { IfOk result (λ tree. tree ≡ tree_of_ordered (described_in schema.now) query.now) }
+{
+    match query_tree(alloc, schema, query) {
+        Ok(tree) => Boxed::new(alloc, tree),
+        Err(error) => Err(error),
+    }
+}
+
+fn plan_in_box(
+    alloc: Global,
+    schema: &Schema,
+    query: &OrderedQuery,
+) -> Result<Boxed<Tree>, AllocError>
+    ensures keeps { IfOk result (λ plan. Keeps plan (tree_of_ordered (described_in schema.now) query.now)) }
+    ensures stored { IfOk result (λ plan.
+        AreAmong (stored_in_tree plan) (stored_in_tree (tree_of_ordered (described_in schema.now) query.now))) }
+    ensures looks { (condition : Condition) (table : StoredTable)
+        → Asks condition table (tree_of_ordered (described_in schema.now) query.now)
+        → IfOk result (λ plan. LooksUp condition table plan) }
+    ensures joins { (condition : Condition) (left right : StoredTable)
+        → AsksPairs condition left right (tree_of_ordered (described_in schema.now) query.now)
+        → IfOk result (λ plan. JoinsByKeys left right plan) }
+{
+    match query_tree(alloc, schema, query) {
+        Ok(tree) => match planned(alloc, tree) {
+            Ok(chosen) => Boxed::new(alloc, chosen),
+            Err(error) => Err(error),
+        },
+        Err(error) => Err(error),
+    }
 }
 
 /// The plan that is chosen for a tree. It reads no other tables, and over tables that fit the tree

@@ -1,5 +1,12 @@
-use Rattle.std.proofs.Common.{inl}
+use Rattle.query_answers.specs.Planned.{unordered}
 use Rattle.change.proofs.query_rows.sources_of.Goals as goal
 
-pub returns-in-Ok-Ok-clause-gives : goal.returns-in-Ok-Ok-clause-gives
-returns-in-Ok-Ok-clause-gives g c = (c.in-Ok.rows, c.constants.ensures, c.in-Ok.ensures.answers)
+pub returns-in-Ok-constants-clause-gives : goal.returns-in-Ok-constants-clause-gives
+returns-in-Ok-constants-clause-gives g c = (
+  c.in-Ok.rows,
+  c.in-Ok-constants.ensures,
+  λ sound query planned. c.in-Ok.ensures.answers sound (unordered query) planned,
+)
+
+pub returns-in-Err-clause-refused : goal.returns-in-Err-clause-refused
+returns-in-Err-clause-refused g c = λ sound query planned. c.in-Err.ensures.refused sound (unordered query) planned

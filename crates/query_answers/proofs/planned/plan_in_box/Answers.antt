@@ -1,0 +1,1 @@
+use Rattle.query_answers.proofs.planned.plan_in_box.Goals as goal
