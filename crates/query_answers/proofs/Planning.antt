@@ -53,23 +53,19 @@ module _ (contents : Contents) (schema : Schema) (query : OrderedQuery) (tree : 
   }
   plan_found means indexed (Err error) stored answers = tt
 
--- beside the tree, of which the plan was chosen for another copy
-pub stands_for : (contents : Contents) (schema : Schema) (query : OrderedQuery) (tree copy : Tree)
-    → tree ≡ tree_of_ordered (described_in schema) query → copy ≡ tree_of_ordered (described_in schema) query
+-- beside the tree
+pub stands_for : (contents : Contents) (schema : Schema) (query : OrderedQuery) (tree : Tree)
+    → tree ≡ tree_of_ordered (described_in schema) query
     → Fits (rows_in (database_of contents)) (tree_of_ordered (described_in schema) query)
     → ((plan : Tree) → AreAmong (stored_in_tree plan) (stored_in_tree (tree_of_ordered (described_in schema) query))
     → HasIndexes contents plan)
-    → (plan : Tree) → AreAmong (stored_in_tree plan) (stored_in_tree copy) → Keeps plan copy → StandsFor contents plan tree
-stands_for contents schema query tree copy is same fits indexed plan stored keeps = record {
-  same = subst (λ (t : Tree). IsSameTree (rows_in (database_of contents)) plan t) (sym is) (record {
-    outcome = kept.same (rows_in (database_of contents)) fits;
-    keys = kept.keys;
-  });
-  indexed = indexed plan (subst (λ (t : Tree). AreAmong (stored_in_tree plan) (stored_in_tree t)) same stored);
+    → (plan : Tree) → AreAmong (stored_in_tree plan) (stored_in_tree (tree_of_ordered (described_in schema) query))
+    → Keeps plan (tree_of_ordered (described_in schema) query) → StandsFor contents plan tree
+stands_for contents schema query tree is fits indexed plan stored kept = record {
+  same = subst (λ (t : Tree). IsSameTree (rows_in (database_of contents)) plan t) (sym is)
+      (record { outcome = kept.same (rows_in (database_of contents)) fits; keys = kept.keys });
+  indexed = indexed plan stored;
 }
-  where
-    kept : Keeps plan (tree_of_ordered (described_in schema) query)
-    kept = subst (λ (t : Tree). Keeps plan t) same keeps
 
 -- ---- what it lists, as clauses of a call
 
