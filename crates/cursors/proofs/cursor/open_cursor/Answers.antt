@@ -1,4 +1,4 @@
 use Rattle.cursors.proofs.cursor.open_cursor.Goals as goal
 
 pub returns-in-Ok-clause-begins : goal.returns-in-Ok-clause-begins
-returns-in-Ok-clause-begins g c = λ sound stands. c.at_beginning.ensures.begins _ ((rw c.in-Ok.is at c.run_plan.ensures.lists) sound stands.indexed) stands.same
+returns-in-Ok-clause-begins g c = λ sound stands. c.at_beginning.ensures.begins _ ((rw (c.in-Ok.is, c.get.ensures) at c.run_plan.ensures.lists) sound stands.indexed) stands.same
