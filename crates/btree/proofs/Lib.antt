@@ -10,7 +10,6 @@ pub mod StepLemmas
 pub mod RootLemmas
 pub mod LawLemmas
 pub mod AppendLemmas
-pub mod AscendLemmas
 pub mod WalkLemmas
 pub mod ChangeLemmas
 pub mod OneLemmas

@@ -11,3 +11,5 @@ pub mod CountLemmas
 pub mod LeafLemmas
 pub mod BlockLemmas
 pub mod EntryLemmas
+pub mod AscendLemmas
+pub mod NearLemmas

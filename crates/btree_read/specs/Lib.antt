@@ -4,3 +4,4 @@ pub mod Sorted
 pub mod Tree
 pub mod Search
 pub mod Leaves
+pub mod Near

@@ -35,7 +35,7 @@ fn entry_in(
 }
 
 /// The child behind the one at a place, where there is one.
-fn sibling_of(page: &SlotPage<'_>, at: usize) -> Option<u32>
+pub(crate) fn sibling_of(page: &SlotPage<'_>, at: usize) -> Option<u32>
     requires inner { page.now.kind ≡ Inner }
     requires place { at ≤ length page.now.cells }
     ensures { MatchOption result (length page.now.cells ≤ at) (λ child. (at < length page.now.cells)

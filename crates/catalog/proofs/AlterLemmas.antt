@@ -21,7 +21,7 @@ use Rattle.btree_read.proofs.OrderLemmas.{not_both}
 use Rattle.btree.proofs.GrowLemmas.{has_or_not}
 use Rattle.btree.proofs.LawLemmas.{tree_used}
 use Rattle.btree_remove.proofs.LawLemmas.{own_key}
-use Rattle.btree.proofs.AscendLemmas.{root_ascends}
+use Rattle.btree_read.proofs.AscendLemmas.{root_ascends}
 use Rattle.catalog_records.specs.Keepable.{IsTable}
 use Rattle.catalog.specs.Held.{entry_of, entries_of, IsCoded, AreCoded, HoldsSchema}
 use Rattle.catalog.specs.Changed.{with_table, IsFree, SchemaWritten, MayRefuse}

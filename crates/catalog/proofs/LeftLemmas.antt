@@ -19,7 +19,7 @@ use Rattle.btree.proofs.LawLemmas.{tree_used}
 use Rattle.btree_remove.specs.Removed.{IsRemoved, IsLess}
 use Rattle.btree_remove.proofs.LawLemmas.{less_is_one, found_there}
 use Rattle.btree.specs.Kept.{LosesNoPage}
-use Rattle.btree.proofs.AscendLemmas.{root_ascends}
+use Rattle.btree_read.proofs.AscendLemmas.{root_ascends}
 use Rattle.btree.proofs.PageLossLemmas.{loses_left}
 use Rattle.catalog_records.specs.Keepable.{IsTable}
 use Rattle.catalog.specs.Held.{entry_of, entries_of, IsCoded, AreCoded, HoldsSchema}

@@ -16,7 +16,7 @@ use Rattle.btree_read.specs.Tree.{IsTree}
 use Rattle.btree_read.proofs.ListLemmas.{each_right}
 use Rattle.btree_read.proofs.OrderLemmas.{not_self}
 use Rattle.btree.specs.Written.{IsWritten}
-use Rattle.btree.proofs.AscendLemmas.{root_ascends}
+use Rattle.btree_read.proofs.AscendLemmas.{root_ascends}
 use Rattle.catalog.specs.Held.{entry_of, entries_of, IsCoded, AreCoded, HoldsSchema}
 use Rattle.catalog.specs.Changed.{with_root, SchemaWritten}
 use Rattle.catalog.proofs.PutLemmas.{entries_append}

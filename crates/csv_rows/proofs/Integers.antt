@@ -1,10 +1,10 @@
 -- Which integer is printed as a minus and a number.
-use Rattle.std.proofs.Common.{◌≡◌, ◌≢◌, ◌<◌, ◌≤◌, ◌^◌, ◌+◌, ℕ, ℤ, pos, negsuc, zero, suc, List, [], ◌∷◌, map, get_or, FitsSigned, refl, ap, drop, sym, ◌∙◌, arith}
+use Rattle.std.proofs.Common.{◌≡◌, ◌≢◌, ◌<◌, ◌≤◌, ◌^◌, ◌+◌, ℕ, ℤ, pos, negsuc, zero, suc, List, [], ◌∷◌, length, map, get_or, FitsSigned, refl, ap, drop, sym, ◌∙◌, arith}
 use Rattle.std.specs.Fmt.{decimal, signed_decimal}
 use Rattle.std.specs.Int.{w64}
 use Rattle.std.specs.Int.Digits.{digits_of, AllBelowBase}
 use Rattle.std.proofs.lemmas.Int.Digits.{all_below_base_digits_of}
-use Rattle.std.proofs.lemmas.Fmt.{decimal_digit, decimal-digits_of, decimal_injective}
+use Rattle.std.proofs.lemmas.Fmt.{decimal_digit, decimal-digits_of, decimal_injective, decimal_nonempty}
 
 no_digit : (ds rest : List ℕ) → map (λ d. 48 + d) ds ≢ 45 ∷ rest
 no_digit [] rest e = cc e
@@ -52,3 +52,8 @@ natural_begins (suc n) c rest h e =
 pub begins : (number : ℤ) (c : ℕ) (rest : List ℕ) → FitsSigned w64 number → signed_decimal number ≡ c ∷ rest → (45 ≤ c) × (c ≤ 57)
 begins (pos n) c rest fits e = let d = natural_begins n c rest (omega (arith, fits.sfits)) e in (omega (arith, d), d.1)
 begins (negsuc n) c rest fits e = let front : 45 ≡ c = ap (λ xs. get_or xs 0 0) e in (omega arith, omega arith)
+
+-- an integer's text is not empty
+pub some_digits : (number : ℤ) → FitsSigned w64 number → signed_decimal number ≢ []
+some_digits (pos n) fits e = omega (arith, decimal_nonempty n (omega (arith, fits.sfits)), ap length e)
+some_digits (negsuc n) fits e = absurd (cc e)

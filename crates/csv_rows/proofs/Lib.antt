@@ -2,3 +2,5 @@ mod Integers
 mod Codes
 mod Fields
 mod Records
+mod Paired
+mod Lengths

@@ -1,3 +1,5 @@
 pub mod Causes
+pub mod Paired
 pub mod Rows
 pub mod Undoubled
+pub mod Written

@@ -41,7 +41,7 @@ pub fn read_rows<R: Read + Drop>(alloc: Global, reader: R) -> Result<Items<Items
 }
 
 /// What a refusal of the reader of records is.
-fn cause(error: &Error) -> ReadError
+pub(crate) fn cause(error: &Error) -> ReadError
     ensures { result ≡ cause_of (error_kind error.now) }
 {
     match error.kind() {

@@ -3,3 +3,10 @@ pub mod Named
 pub mod Dumped
 pub mod Counted
 pub mod Quoted
+pub mod Batched
+pub mod Committed
+pub mod Headers
+pub mod FormedRows
+pub mod Found
+pub mod Seeing
+pub mod DumpedForms

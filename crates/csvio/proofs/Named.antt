@@ -1,9 +1,7 @@
 -- The table that a text names.
-use Rattle.std.proofs.Common.{◌≡◌, ◌≢◌, ◌∙◌, sym, ap, subst, List, [], ◌∷◌, Result, Ok, Err}
-use Rattle.std.specs.Prelude.{MatchResult}
+use Rattle.std.proofs.Common.{◌≡◌, ◌≢◌, ◌∙◌, sym, ap, subst, List, [], ◌∷◌}
 use Rattle.refusals.specs.declared.refusal.Refusal.{Refusal}
 use Rattle.refusals.specs.declared.refusal.Refusal.TheVariants.{Memory}
-use Rattle.lexer.specs.declared.kinds.Kind.{Kind}
 use Rattle.lexer.specs.declared.kinds.Kind.TheVariants as kind
 use Rattle.lexer.specs.declared.kinds.Token.{Token}
 use Rattle.lexer.specs.Token.{Bytes}
@@ -19,3 +17,8 @@ unnamed_fault text refusal ne only name is = ne (only is.tokens is.are)
 pub unnamed_tokens : (text : Bytes) (found : List Token) → ((all : List Token) → AreTokens text all → found ≡ all) → ((name : Name) → kinds_of found ≡ kind.Name name ∷ [] → ⊥)
     → (name : Name) → IsNameIn text name → ⊥
 unnamed_tokens text found only none name is = none name (subst (λ (tokens : List Token). kinds_of tokens ≡ kind.Name name ∷ []) (sym (only is.tokens is.are)) is.one)
+
+-- it is no other name
+pub one_name : (text : Bytes) (found : List Token) (name other : Name) → ((all : List Token) → AreTokens text all → found ≡ all) → kinds_of found ≡ kind.Name name ∷ [] → IsNameIn text other → other ≡ name
+one_name text found name other only is named =
+    let same : kind.Name other ∷ [] ≡ kind.Name name ∷ [] = sym named.one ∙ ap kinds_of (sym (only named.tokens named.are)) ∙ is in cc same

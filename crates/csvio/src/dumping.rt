@@ -7,10 +7,10 @@ ghost use Rattle.sessions.specs.OfCore.{StandAlike, number_of, world_of};
 ghost use Rattle.scripts.specs.Settled.{IsKept, store_of};
 ghost use Rattle.csvio.specs.Dumping.{Asks, AsksAll, Dumps, WritesRows, is_rows, width_of};
 
-use crate::put::put;
 use crate::query_text::query_text;
 use crate::record::rows_text;
 use crate::table_name::table_name;
+use crate::writing::put;
 use denote::{Row, Rows};
 use items::Text;
 use refusals::Refusal;
@@ -54,7 +54,7 @@ pub fn dump<S: Store, L: Language + Changes<S>, W: Write>(
 }
 
 /// The rows of a reply, or the reply where it has none.
-fn rows_of(reply: Reply) -> Result<Rows, Reply>
+pub(crate) fn rows_of(reply: Reply) -> Result<Rows, Reply>
     ensures rows { IfOk result (λ rows. reply ≡ Reply.Rows rows) }
     ensures other { IfErr result (λ other. (other ≡ reply) × (is_rows reply ≡ false)) }
 {
@@ -65,7 +65,7 @@ fn rows_of(reply: Reply) -> Result<Rows, Reply>
 }
 
 /// Asks for all rows of a table, ordered by all its columns.
-fn ask_all<S: Store, L: Language + Changes<S>>(
+pub(crate) fn ask_all<S: Store, L: Language + Changes<S>>(
     alloc: Global,
     core: &mut Core<S, L>,
     session: SessionId,

@@ -58,7 +58,7 @@ pub fn load<S: Store, L: Language + Changes<S>, R: Read + Drop>(
 }
 
 /// The refusal that says why a text gives no rows.
-fn refusal_of(error: ReadError) -> Refusal
+pub(crate) fn refusal_of(error: ReadError) -> Refusal
     ensures memory { error ≡ why.Memory → result ≡ Memory }
     ensures reader { error ≡ why.Reader → result ≡ Disk }
     ensures field { error ≡ why.Field → result ≡ Invalid reason.Field }
@@ -71,7 +71,7 @@ fn refusal_of(error: ReadError) -> Refusal
 }
 
 /// Puts rows into a table, and commits where that is accepted.
-fn put_in<S: Store, L: Language + Changes<S>>(
+pub(crate) fn put_in<S: Store, L: Language + Changes<S>>(
     core: &mut Core<S, L>,
     session: SessionId,
     table: &Text,

@@ -24,7 +24,7 @@ pub(crate) fn rows_text(alloc: Global, rows: &[Row]) -> Option<Vec<u8>>
 }
 
 /// The record of a row.
-fn record_of(alloc: Global, row: &[Value]) -> Result<ByteRecord, AllocError>
+pub(crate) fn record_of(alloc: Global, row: &[Value]) -> Result<ByteRecord, AllocError>
     ensures { IfOk result (λ fields. fields_of fields ≡ map printed_value row.now) }
 {
     let mut fields = ByteRecord::new(alloc);
@@ -46,7 +46,7 @@ fn field_of(alloc: Global, value: &Value) -> Result<Vec<u8>, AllocError>
     }
 }
 
-fn copied(alloc: Global, bytes: &[u8]) -> Result<Vec<u8>, AllocError>
+pub(crate) fn copied(alloc: Global, bytes: &[u8]) -> Result<Vec<u8>, AllocError>
     ensures { IfOk result (λ copy. copy.items ≡ bytes.now) }
 {
     let mut copy = Vec::new(alloc);

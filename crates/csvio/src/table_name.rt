@@ -15,6 +15,7 @@ use std::alloc::Global;
 /// `name`. Refuses for want of memory too.
 pub(crate) fn table_name(alloc: Global, text: &[u8]) -> Result<Text, Refusal>
     ensures gives { IfOk result (IsNameIn text.now) }
+    ensures only { IfOk result (λ name. (other : List ℕ) → IsNameIn text.now other → other ≡ name) }
     ensures refused { IfErr result (λ refusal. refusal ≢ Memory
         → (refusal ≡ Invalid reason.Name) × ((name : List ℕ) → IsNameIn text.now name → ⊥)) }
 {

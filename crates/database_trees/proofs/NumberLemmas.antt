@@ -13,7 +13,7 @@ use Rattle.btree_read.specs.declared.entry.Entry as tree
 use Rattle.btree_read.specs.Nodes.{precedes}
 use Rattle.btree_read.specs.Sorted.{Ascends}
 use Rattle.btree_read.proofs.ListLemmas.{each_map}
-use Rattle.btree.proofs.AscendLemmas.{root_ascends}
+use Rattle.btree_read.proofs.AscendLemmas.{root_ascends}
 use Rattle.tablestore.specs.Held.{row_entry, entries_of, IsKept, AreKept, HoldsRows}
 use Rattle.tablestore.proofs.NumberLemmas.{number_order}
 use Rattle.database_trees.specs.Named.{row_numbered, one_before, if_numbered}

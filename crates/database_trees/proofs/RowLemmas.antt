@@ -18,7 +18,7 @@ use Rattle.btree_read.specs.Nodes.{precedes}
 use Rattle.btree_read.specs.Sorted.{Ascends}
 use Rattle.btree_read.proofs.ListLemmas.{each_left, each_right}
 use Rattle.btree_read.proofs.OrderLemmas.{not_self}
-use Rattle.btree.proofs.AscendLemmas.{root_ascends}
+use Rattle.btree_read.proofs.AscendLemmas.{root_ascends}
 use Rattle.tablestore.specs.Held.{row_entry, entries_of, IsKept, AreKept, HoldsRows}
 use Rattle.tablestore.specs.Rows.{without_number, with_number}
 use Rattle.index_trees.specs.Indexed.{IsRow, AreWith}

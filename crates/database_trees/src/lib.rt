@@ -20,7 +20,7 @@ pub use dropping::drop_table;
 pub use error::DatabaseError;
 pub use indexing::create_index;
 pub use laws::{database_stays, no_database_at_first, owned_pages_are_of_trees, reads_as_tables};
-pub use numbering::row_of;
+pub use numbering::{row_near, row_of};
 pub use replacing::replace;
 pub use rows::{append, delete};
 pub use unindexing::drop_index;

@@ -17,7 +17,7 @@ use Rattle.btree_read.specs.Nodes.{precedes}
 use Rattle.btree_read.specs.Sorted.{Ascends}
 use Rattle.btree_read.proofs.ListLemmas.{each_map}
 use Rattle.btree_read.proofs.OrderLemmas.{lt_trans, not_self, not_both}
-use Rattle.btree.proofs.AscendLemmas.{root_ascends}
+use Rattle.btree_read.proofs.AscendLemmas.{root_ascends}
 use Rattle.tablestore.specs.Held.{IsKept, AreKept}
 use Rattle.index_trees.specs.Indexed.{index_entry, Stands, IsRow, IsOfRow, HoldsIndex}
 use Rattle.database_trees.proofs.NumberLemmas.{AreRising}

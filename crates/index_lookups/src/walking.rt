@@ -6,6 +6,7 @@ ghost use Rattle.sqlval.specs.Matching.{key_of};
 ghost use Rattle.store.specs.Contents as stored;
 ghost use Rattle.store.specs.View.{AreEntries, entry_of};
 ghost use Rattle.page_space.specs.Space.{ReadRefused};
+ghost use Rattle.btree_read.specs.Near.{LiesIn};
 ghost use Rattle.tablestore.specs.Held.{HoldsFitting, HoldsNoFitting, Fits};
 ghost use Rattle.index_trees.specs.Indexed.{index_entry};
 ghost use Rattle.database_trees.specs.Named.{row_numbered};
@@ -14,8 +15,8 @@ ghost use Rattle.index_lookups.specs.Walked.{HoldsIndexed, HoldsNoIndexed, Stand
 
 use crate::places::Place;
 use crate::sought::{Sought, is_past, is_wanted};
-use btree_read::{Entry, Start, entries_from};
-use database_trees::row_of;
+use btree_read::{Entry, LastLeaf, Start, entries_from};
+use database_trees::row_near;
 use index_trees::is_entry_of;
 use items::Items;
 use page_space::{PageReader, SpaceError};
@@ -39,18 +40,22 @@ pub(crate) struct Walk {
     pub(crate) ahead: Items<Entry>,
 }
 
-/// The row of a number, which the table has, of these types.
+/// The row of a number, which the table has, of these types, by the leaf in which a row was found
+/// last.
 fn row_there<R: PageReader>(
     space: &mut R,
     alloc: Global,
     rows_root: u32,
     types: &[Column],
     number: u64,
+    last: &mut LastLeaf,
 ) -> Result<NumberedRow, SpaceError>
+    requires { LiesIn (R.pages space.old) rows_root last.old }
     ensures row { (owned : List ℕ) (rows : List stored.Entry)
         → HoldsFitting (R.pages space.old) rows_root owned types.now rows
         → IfOk result (λ found. row_numbered number rows ≡ Some (entry_of found)) }
     ensures typed { IfOk result (λ found. Fits types.now (entry_of found)) }
+    ensures lies { LiesIn (R.pages space.new) rows_root last.new }
     ensures same { R.pages space.new ≡ R.pages space.old }
     ensures whole { R.is_whole space.old → R.is_whole space.new }
     ensures refusal { IfErr result (ReadRefused ((owned : List ℕ) (rows : List stored.Entry) (e : stored.Entry)
@@ -59,7 +64,7 @@ fn row_there<R: PageReader>(
     ensures rising { R.refused space.old ≤ R.refused space.new }
     ensures follows { R.follows space.old space.new }
 {
-    match row_of(space, alloc, rows_root, types, number) {
+    match row_near(space, alloc, rows_root, types, number, last) {
         Ok(Some(found)) => Ok(found),
         Ok(None) => Err(SpaceError::Damaged),
         Err(fault) => Err(fault),
@@ -72,12 +77,15 @@ fn row_named<R: PageReader>(
     alloc: Global,
     place: &Place,
     entry: &Entry,
+    last: &mut LastLeaf,
 ) -> Result<NumberedRow, SpaceError>
+    requires { LiesIn (R.pages space.old) place.now.rows_root last.old }
     ensures row { (rows left : List stored.Entry)
         → HoldsIndexed (R.pages space.old) place.now.root place.now.rows_root place.now.types place.now.columns rows
         → StandsAt place.now.columns rows (Some entry.now) left
         → IfOk result (λ found. slice_get left 0 ≡ Some (entry_of found)) }
     ensures typed { IfOk result (λ found. Fits place.now.types (entry_of found)) }
+    ensures lies { LiesIn (R.pages space.new) place.now.rows_root last.new }
     ensures same { R.pages space.new ≡ R.pages space.old }
     ensures whole { R.is_whole space.old → R.is_whole space.new }
     ensures refusal { IfErr result (ReadRefused (StandsNowhere (R.pages space.old) place.now.root place.now.rows_root place.now.types place.now.columns (Some entry.now)) (R.refused space.old) (R.refused space.new)) }
@@ -91,6 +99,7 @@ fn row_named<R: PageReader>(
             place.rows_root,
             place.types.as_slice(),
             number,
+            last,
         ),
         None => Err(SpaceError::Damaged),
     }
@@ -126,23 +135,46 @@ fn row_of_entry<R: PageReader>(
     alloc: Global,
     place: &Place,
     entry: &Entry,
+    last: &mut LastLeaf,
 ) -> Result<NumberedRow, SpaceError>
+    requires { LiesIn (R.pages space.old) place.now.rows_root last.old }
     ensures row { (rows left : List stored.Entry)
         → HoldsIndexed (R.pages space.old) place.now.root place.now.rows_root place.now.types place.now.columns rows
         → StandsAt place.now.columns rows (Some entry.now) left
         → IfOk result (λ found. slice_get left 0 ≡ Some (entry_of found)) }
     ensures typed { IfOk result (λ found. Fits place.now.types (entry_of found)) }
     ensures entry { IfOk result (λ found. entry.now ≡ index_entry place.now.columns (entry_of found)) }
+    ensures lies { LiesIn (R.pages space.new) place.now.rows_root last.new }
     ensures same { R.pages space.new ≡ R.pages space.old }
     ensures whole { R.is_whole space.old → R.is_whole space.new }
     ensures refusal { IfErr result (ReadRefused (StandsNowhere (R.pages space.old) place.now.root place.now.rows_root place.now.types place.now.columns (Some entry.now)) (R.refused space.old) (R.refused space.new)) }
     ensures rising { R.refused space.old ≤ R.refused space.new }
     ensures follows { R.follows space.old space.new }
 {
-    match row_named(space, alloc, place, entry) {
+    match row_named(space, alloc, place, entry, last) {
         Ok(found) => if_entry(alloc, place.columns.as_slice(), entry, found),
         Err(fault) => Err(fault),
     }
+}
+
+/// The row of an entry, with no leaf kept from a row before.
+fn row_alone<R: PageReader>(
+    space: &mut R,
+    alloc: Global,
+    place: &Place,
+    entry: &Entry,
+) -> Result<NumberedRow, SpaceError>
+    ensures row { (rows left : List stored.Entry)
+        → HoldsIndexed (R.pages space.old) place.now.root place.now.rows_root place.now.types place.now.columns rows
+        → StandsAt place.now.columns rows (Some entry.now) left
+        → IfOk result (λ found. slice_get left 0 ≡ Some (entry_of found)) }
+    ensures same { R.pages space.new ≡ R.pages space.old }
+    ensures whole { R.is_whole space.old → R.is_whole space.new }
+    ensures refusal { IfErr result (ReadRefused (StandsNowhere (R.pages space.old) place.now.root place.now.rows_root place.now.types place.now.columns (Some entry.now)) (R.refused space.old) (R.refused space.new)) }
+    ensures rising { R.refused space.old ≤ R.refused space.new }
+    ensures follows { R.follows space.old space.new }
+{
+    row_of_entry(space, alloc, place, entry, &mut LastLeaf::new())
 }
 
 /// The row of an entry at which a walk may stand, if it has not ended.
@@ -164,7 +196,7 @@ pub(crate) fn row_found<R: PageReader>(
 {
     match entry {
         None => Ok(None),
-        Some(entry) => match row_of_entry(space, alloc, place, entry) {
+        Some(entry) => match row_alone(space, alloc, place, entry) {
             Ok(found) => Ok(Some(found)),
             Err(fault) => Err(fault),
         },
@@ -251,19 +283,22 @@ fn go_on<R: PageReader>(
     }
 }
 
-/// One step of a walk: whether it has ended.
+/// One step of a walk, with the leaf in which a row was found last: whether it has ended.
 fn step<R: PageReader>(
     space: &mut R,
     alloc: Global,
     place: &Place,
     sought: Sought<'_>,
     walk: &mut Walk,
+    last: &mut LastLeaf,
 ) -> Result<bool, SpaceError>
+    requires { LiesIn (R.pages space.old) place.now.rows_root last.old }
     ensures stepped { (rows left list : List stored.Entry)
         → HoldsIndexed (R.pages space.old) place.now.root place.now.rows_root place.now.types place.now.columns rows
         → StandsBefore place.now.columns rows walk.old.ahead left
         → AreEntries walk.old.found list
         → IfOk result (HasStepped place.now.columns rows (is_wanted sought.entry place.now.columns) left list walk.new) }
+    ensures lies { LiesIn (R.pages space.new) place.now.rows_root last.new }
     ensures same { R.pages space.new ≡ R.pages space.old }
     ensures whole { R.is_whole space.old → R.is_whole space.new }
     ensures refusal { IfErr result (ReadRefused (NoneStandsBefore (R.pages space.old) place.now.root place.now.rows_root place.now.types place.now.columns walk.old.ahead) (R.refused space.old) (R.refused space.new)) }
@@ -272,7 +307,7 @@ fn step<R: PageReader>(
 {
     match walk.ahead.get(0) {
         None => Ok(true),
-        Some(entry) => match row_of_entry(space, alloc, place, entry) {
+        Some(entry) => match row_of_entry(space, alloc, place, entry, last) {
             Ok(row) => go_on(space, alloc, place, sought, walk, row),
             Err(fault) => Err(fault),
         },
@@ -307,8 +342,9 @@ pub(crate) fn rows_from<R: PageReader>(
         },
         ahead: first,
     };
+    let mut last = LastLeaf::new();
     'walked: for _ in 0..u64::MAX {
-        if step(space, alloc, place, sought, &mut walk)? {
+        if step(space, alloc, place, sought, &mut walk, &mut last)? {
             return Ok(walk.found);
         }
     }
@@ -358,11 +394,12 @@ pub(crate) fn some_from<R: PageReader>(
         },
         ahead: first,
     };
+    let mut last = LastLeaf::new();
     'walked: for _ in 0..u64::MAX {
         if walk.found.rows.len() >= most {
             return Ok(first_rows(walk.found, most));
         }
-        if step(space, alloc, place, sought, &mut walk)? {
+        if step(space, alloc, place, sought, &mut walk, &mut last)? {
             return Ok(first_rows(walk.found, most));
         }
     }

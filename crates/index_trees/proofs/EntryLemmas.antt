@@ -28,7 +28,7 @@ use Rattle.btree_remove.specs.Removed.{IsRemoved}
 use Rattle.btree_remove.proofs.LawLemmas.{comes_first, own_key, beside_used}
 use Rattle.btree_remove.proofs.LeafLemmas.{same_key}
 use Rattle.btree.specs.Kept.{LosesNoPage}
-use Rattle.btree.proofs.AscendLemmas.{root_ascends}
+use Rattle.btree_read.proofs.AscendLemmas.{root_ascends}
 use Rattle.btree.proofs.PageLossLemmas.{loses_left}
 use Rattle.index_trees.specs.Indexed.{index_entry, Stands, IsRow, IsOfRow, HoldsIndex, AreWith, IndexWritten}
 

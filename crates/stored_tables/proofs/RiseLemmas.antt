@@ -9,7 +9,7 @@ use Rattle.denote.specs.Database.{Name}
 use Rattle.store.specs.Contents.{Entry, StoredTable, Rises}
 use Rattle.page_space.specs.Space.{PageMap}
 use Rattle.btree_read.specs.Sorted.{Ascends}
-use Rattle.btree.proofs.AscendLemmas.{root_ascends}
+use Rattle.btree_read.proofs.AscendLemmas.{root_ascends}
 use Rattle.tablestore.specs.Held.{entries_of, AreKept, HoldsRows}
 use Rattle.tablestore.proofs.NumberLemmas.{number_order}
 use Rattle.stored_tables.specs.Held.{TableAt, HoldsIts, HoldsTables, stored_of, entry_at, contents_of}

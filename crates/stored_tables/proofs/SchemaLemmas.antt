@@ -29,7 +29,7 @@ use Rattle.btree_read.specs.Nodes.{Key, precedes}
 use Rattle.btree_read.specs.Sorted.{Ascends}
 use Rattle.btree_read.proofs.ListLemmas.{each_right}
 use Rattle.btree_read.proofs.OrderLemmas.{not_self}
-use Rattle.btree.proofs.AscendLemmas.{root_ascends}
+use Rattle.btree_read.proofs.AscendLemmas.{root_ascends}
 use Rattle.catalog.specs.Held.{entry_of, entries_of, HoldsSchema}
 use Rattle.stored_tables.specs.Held.{TableAt, declared_of, stored_of, entry_at, contents_of}
 use Rattle.stored_tables.proofs.NameLemmas.{name_from_tie, tie_itself, contents-get}

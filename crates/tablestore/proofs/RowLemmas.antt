@@ -22,7 +22,7 @@ use Rattle.btree_read.proofs.OrderLemmas.{lt_trans, not_self}
 use Rattle.btree.specs.Written.{IsWritten}
 use Rattle.btree_remove.specs.Removed.{IsLess, IsRemoved}
 use Rattle.btree.specs.Kept.{LosesNoPage}
-use Rattle.btree.proofs.AscendLemmas.{root_ascends}
+use Rattle.btree_read.proofs.AscendLemmas.{root_ascends}
 use Rattle.btree.proofs.PageLossLemmas.{loses_left}
 use Rattle.tablestore.specs.Held.{row_entry, entries_of, IsKept, AreKept, HoldsRows}
 use Rattle.tablestore.specs.Appended.{RowsWritten, MayRefuseRow}

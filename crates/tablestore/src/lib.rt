@@ -17,4 +17,4 @@ pub use error::AppendError;
 pub use fitting::{are_fitting, is_fitting};
 pub use laws::{rows_are_one, rows_stay};
 pub use number::next_number;
-pub use reading::{next, scan, some_rows};
+pub use reading::{next, next_near, scan, some_rows};

@@ -6,10 +6,11 @@ ghost use Rattle.store.specs.Contents as stored;
 ghost use Rattle.store.specs.View.{AreEntries, IsEntry, entry_of};
 ghost use Rattle.store.specs.Indexes.{entry_after, some_after};
 ghost use Rattle.page_space.specs.Space.{ReadRefused};
+ghost use Rattle.btree_read.specs.Near.{LiesIn};
 ghost use Rattle.tablestore.specs.Held.{entries_of, row_entry, HoldsRows, HoldsNoRows, HoldsFitting, HoldsNoFitting, RowFits, Fits};
 
 use crate::decoding::{row_found, rows_of_entries, rows_of_leaves};
-use btree_read::{Entry, Start, entries_from, seek};
+use btree_read::{Entry, LastLeaf, Start, entries_from, seek};
 use items::Items;
 use page_space::{PageReader, SpaceError};
 use sqlrecord::DecodeError;
@@ -105,6 +106,85 @@ pub fn next<R: PageReader>(
     ensures follows { R.follows space.old space.new }
 {
     let found = entry_behind(space, alloc, root, after)?;
+    match row_found(alloc, columns, &found) {
+        Ok(row) => Ok(row),
+        Err(DecodeError::OutOfMemory) => Err(SpaceError::Memory),
+        Err(DecodeError::Damaged) => Err(SpaceError::Damaged),
+    }
+}
+
+/// The first entry behind a row number, by the leaf in which an entry was found last.
+fn entry_near_above<R: PageReader>(
+    space: &mut R,
+    alloc: Global,
+    root: u32,
+    number: u64,
+    last: &mut LastLeaf,
+) -> Result<Option<Entry>, SpaceError>
+    requires { LiesIn (R.pages space.old) root last.old }
+    ensures found { (owned : List ℕ) (rows : List stored.Entry) → HoldsRows (R.pages space.old) root owned rows
+        → IfOk result (λ found. found ≡ option_map row_entry (entry_after (Some number) rows)) }
+    ensures lies { LiesIn (R.pages space.new) root last.new }
+    ensures same { R.pages space.new ≡ R.pages space.old }
+    ensures whole { R.is_whole space.old → R.is_whole space.new }
+    ensures refusal { IfErr result (ReadRefused (HoldsNoRows (R.pages space.old) root) (R.refused space.old) (R.refused space.new)) }
+    ensures rising { R.refused space.old ≤ R.refused space.new }
+    ensures follows { R.follows space.old space.new }
+{
+    btree_read::next_near(space, alloc, root, &number.to_be_bytes(), last)
+}
+
+/// The first entry behind a row number, or the first of all, by the leaf in which an entry was
+/// found last.
+fn entry_near<R: PageReader>(
+    space: &mut R,
+    alloc: Global,
+    root: u32,
+    after: Option<u64>,
+    last: &mut LastLeaf,
+) -> Result<Option<Entry>, SpaceError>
+    requires { LiesIn (R.pages space.old) root last.old }
+    ensures found { (owned : List ℕ) (rows : List stored.Entry) → HoldsRows (R.pages space.old) root owned rows
+        → IfOk result (λ found. found ≡ option_map row_entry (entry_after after rows)) }
+    ensures lies { LiesIn (R.pages space.new) root last.new }
+    ensures same { R.pages space.new ≡ R.pages space.old }
+    ensures whole { R.is_whole space.old → R.is_whole space.new }
+    ensures refusal { IfErr result (ReadRefused (HoldsNoRows (R.pages space.old) root) (R.refused space.old) (R.refused space.new)) }
+    ensures rising { R.refused space.old ≤ R.refused space.new }
+    ensures follows { R.follows space.old space.new }
+{
+    match after {
+        None => seek(space, alloc, root, &[]),
+        Some(number) => entry_near_above(space, alloc, root, number, last),
+    }
+}
+
+/// The first row above a number, or the first of all, of the tree at a root, as `next` gives it, by
+/// the leaf in which a row was found last: where the row lies in it behind another one, no page is
+/// read.
+///
+/// Refused as `scan` is.
+pub fn next_near<R: PageReader>(
+    space: &mut R,
+    alloc: Global,
+    root: u32,
+    columns: &[Column],
+    after: Option<u64>,
+    last: &mut LastLeaf,
+) -> Result<Option<NumberedRow>, SpaceError>
+    requires { LiesIn (R.pages space.old) root last.old }
+    ensures found { (owned : List ℕ) (rows : List stored.Entry)
+        → HoldsFitting (R.pages space.old) root owned columns.now rows
+        → IfOk result (λ found. IsEntry found (entry_after after rows)) }
+    ensures typed { IfOk result (λ found. IfSome found (λ row. Fits columns.now (entry_of row))) }
+    ensures lies { LiesIn (R.pages space.new) root last.new }
+    ensures same { R.pages space.new ≡ R.pages space.old }
+    ensures whole { R.is_whole space.old → R.is_whole space.new }
+    ensures refusal { IfErr result (ReadRefused (HoldsNoFitting (R.pages space.old) root columns.now) (R.refused space.old) (R.refused space.new)) }
+    ensures rising { R.refused space.old ≤ R.refused space.new }
+    ensures follows { R.follows space.old space.new }
+{
+    let found = entry_near(space, alloc, root, after, last)?;
     match row_found(alloc, columns, &found) {
         Ok(row) => Ok(row),
         Err(DecodeError::OutOfMemory) => Err(SpaceError::Memory),

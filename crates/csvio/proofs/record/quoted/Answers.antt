@@ -1,5 +1,4 @@
 use Rattle.std.proofs.Common.{rules}
-use Rattle.replies.specs.Printed.{quotes_doubled}
 use Rattle.csvio.proofs.Quoted.{next_spelled}
 use Rattle.csvio.proofs.record.quoted.Goals as goal
 

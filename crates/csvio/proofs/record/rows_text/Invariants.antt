@@ -1,4 +1,4 @@
-use Rattle.std.proofs.Common.{◌≡◌, [], take, false, Some}
+use Rattle.std.proofs.Common.{◌≡◌, take, false, Some}
 use Rattle.csv.specs.Writing.{default_writer, fields_written, has_written, text_written, writer_setup}
 use Rattle.csvio.specs.Dumping.{rows_text}
 use Rattle.csvio.proofs.record.rows_text.Given as goal

@@ -18,7 +18,7 @@ returns-in-Ok-None-clause-refusal g c = λ owned rows e h is.
 pub returns-in-Err-clause-refusal : goal.returns-in-Err-clause-refusal
 returns-in-Err-clause-refusal g c =
     read_harm c.in-Err.fault (HoldsNoFitting (g.R.PageReader.pages c.args.space.now) c.args.rows_root c.args.types.now) ((owned : List ℕ) (rows : List stored.Entry) (e : stored.Entry) → HoldsFitting (g.R.PageReader.pages c.args.space.now) c.args.rows_root owned c.args.types.now rows → row_numbered c.args.number rows ≡ Some e → ⊥)
-    (g.R.PageReader.refused c.args.space.now) (g.R.PageReader.refused c.row_of.new.space) (λ none owned rows e h is. none owned rows h) c.in-Err.ensures.refusal
+    (g.R.PageReader.refused c.args.space.now) (g.R.PageReader.refused c.row_near.new.space) (λ none owned rows e h is. none owned rows h) c.in-Err.ensures.refusal
 
 pub returns-in-Ok-Some-clause-typed : goal.returns-in-Ok-Some-clause-typed
 returns-in-Ok-Some-clause-typed g c = subst (λ (found : Option NumberedRow). IfSome found (λ row. Fits c.args.types.now (entry_of row))) c.in-Ok-Some.field-0-is c.in-Ok-Some.ensures.typed

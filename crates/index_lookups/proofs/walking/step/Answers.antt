@@ -1,4 +1,6 @@
-use Rattle.std.proofs.Common.{sym, Some}
+use Rattle.std.proofs.Common.{subst, sym, Some}
+use Rattle.page_space.specs.Space.{PageMap}
+use Rattle.btree_read.specs.Near.{LiesIn}
 use Rattle.std.specs.Prelude.{slice_get}
 use Rattle.stored_tables.proofs.RefusalLemmas.{reads_later, read_harm}
 use Rattle.index_lookups.specs.Sought.{is_wanted}
@@ -38,3 +40,6 @@ returns-in-Err-clause-refusal g c =
     read_harm c.in-Err.fault (StandsNowhere (g.R.PageReader.pages c.args.space.now) c.args.place.now.root c.args.place.now.rows_root c.args.place.now.types c.args.place.now.columns (Some c.in-Some.entry.now)) (NoneStandsBefore (g.R.PageReader.pages c.args.space.now) c.args.place.now.root c.args.place.now.rows_root c.args.place.now.types c.args.place.now.columns c.args.walk.now.ahead)
     (g.R.PageReader.refused c.args.space.now) (g.R.PageReader.refused c.row_of_entry.new.space)
     (λ none rows left h s. none rows left h (stands_as c.args.place.now.columns rows left (slice_get c.args.walk.now.ahead 0) (Some c.in-Some.entry.now) (sym c.in-Some.ensures.value) s.stands)) c.in-Err.ensures.refusal
+
+pub returns-in-Ok-clause-lies : goal.returns-in-Ok-clause-lies
+returns-in-Ok-clause-lies g c = subst (λ (pages : PageMap). LiesIn pages c.args.place.now.rows_root c.row_of_entry.new.last) (sym c.go_on.ensures.same) c.row_of_entry.ensures.lies

@@ -1,6 +1,6 @@
 use Rattle.std.proofs.Common.{◌≡◌, Some, None, sym, ap, ◌∙◌}
 use Rattle.sqlrecord.specs.Key.{number_code}
-use Rattle.btree.proofs.AscendLemmas.{root_ascends}
+use Rattle.btree_read.proofs.AscendLemmas.{root_ascends}
 use Rattle.tablestore.specs.Held.{entries_of}
 use Rattle.tablestore.proofs.NumberLemmas.{next_of_none, next_of_last, past_none, past_last, last_of_rows}
 use Rattle.tablestore.proofs.number.next_number.Goals as goal

@@ -6,7 +6,7 @@ use std::io::{ErrorKind, Write};
 
 /// Writes all the bytes, or a beginning of them where the writer refuses; tells whether it took
 /// all. A write that was interrupted is tried again.
-pub(crate) fn put<W: Write>(writer: &mut W, bytes: &[u8]) -> bool
+pub fn put<W: Write>(writer: &mut W, bytes: &[u8]) -> bool
     ensures writes { Writes (W.contents writer.old) (W.contents writer.new) result bytes.now }
 {
     let mut rest = bytes;

@@ -1,6 +1,6 @@
 use Rattle.replies.proofs.Written.{HasTaken-more, HasTaken-kept}
-use Rattle.csvio.proofs.put.put.Goals.{in-Ok, in-Err+else-ne}
-use Rattle.csvio.proofs.put.put.Goals as goal
+use Rattle.csvio.proofs.writing.put.Goals.{in-Ok, in-Err+else-ne}
+use Rattle.csvio.proofs.writing.put.Goals as goal
 
 pub loop-preserved : goal.loop-preserved
 loop-preserved g c = elim c.match-write.branch [

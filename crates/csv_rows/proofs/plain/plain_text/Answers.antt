@@ -1,0 +1,20 @@
+use Rattle.std.proofs.Common.{length, refl, sym, ◌∙◌, rules}
+use Rattle.sqlval.specs.declared.value.Value.TheVariants.{Null, Int, Text}
+use Rattle.std.proofs.lemmas.Bool.{eqb-true}
+use Rattle.std.proofs.lemmas.List.{nil_from_length}
+use Rattle.csv_rows.proofs.plain.plain_text.Goals as goal
+
+pub returns-then-is_empty-clause-again : goal.returns-then-is_empty-clause-again
+returns-then-is_empty-clause-again c Null s e = refl
+returns-then-is_empty-clause-again c (Int number) s e = absurd e
+returns-then-is_empty-clause-again c (Text codes) s e = absurd (e.0 (nil_from_length c.args.field.now (eqb-true (length c.args.field.now) 0 (sym c.is_empty.ensures ∙ c.if-is_empty.true))))
+
+pub returns-in-Some-clause-again : goal.returns-in-Some-clause-again
+returns-in-Some-clause-again c Null s e = search rules
+returns-in-Some-clause-again c (Int number) s e = absurd e
+returns-in-Some-clause-again c (Text codes) s e = search rules
+
+pub returns-in-None-clause-again : goal.returns-in-None-clause-again
+returns-in-None-clause-again c Null s e = search rules
+returns-in-None-clause-again c (Int number) s e = absurd e
+returns-in-None-clause-again c (Text codes) s e = search rules

@@ -1,0 +1,31 @@
+use Rattle.std.proofs.Common.{◌≡◌, inr, refl}
+use Rattle.sessions.specs.OfCore.{world_of}
+use Rattle.scripts.specs.Settled.{store_of}
+use Rattle.csvio.specs.Batches.{LoadsBatches}
+use Rattle.csvio.proofs.Counted.{of_device}
+use Rattle.csvio.proofs.Committed.{batches_unnamed, batches_without_rows}
+use Rattle.csvio.proofs.batches.load_batches.Goals as goal
+
+pub returns-in-Err-clause-loads : goal.returns-in-Err-clause-loads
+returns-in-Err-clause-loads g c = λ some rules are kept live.
+    batches_unnamed rules (world_of g.S.Store.shows c.args.core.now) c.args.session.number c.args.table.now c.args.most (g.R.Read.remaining c.args.reader) c.unloaded.result.reply c.unloaded.result.committed c.unloaded.ensures.none
+    c.in-Err.refusal c.unloaded.ensures.reply c.in-Err.ensures.refused
+
+pub returns-in-Err-clause-device : goal.returns-in-Err-clause-device
+returns-in-Err-clause-device g c = rw c.unloaded.ensures.reply (λ is. inr refl)
+
+pub returns-in-Ok-read_rows-clause-loads : goal.returns-in-Ok-read_rows-clause-loads
+returns-in-Ok-read_rows-clause-loads g c = λ some rules are kept live.
+    LoadsBatches.puts_in c.in-Ok.name c.in-Ok-read_rows.rows c.in-Ok.ensures.gives c.in-Ok-read_rows.ensures.rows (c.put_cut.ensures.puts some rules are kept live)
+
+pub returns-in-Ok-read_rows-clause-device : goal.returns-in-Ok-read_rows-clause-device
+returns-in-Ok-read_rows-clause-device g c =
+    of_device c.put_cut.result.reply (g.S.Store.refused (store_of c.args.core.now)) (g.S.Store.refused (store_of c.put_cut.new.core)) (c.put_cut.new.core ≡ c.args.core.now) c.put_cut.ensures.device
+
+pub returns-clause-loads : goal.returns-clause-loads
+returns-clause-loads g c = λ some rules are kept live.
+    batches_without_rows rules (world_of g.S.Store.shows c.args.core.now) c.args.session.number c.args.table.now c.args.most (g.R.Read.remaining c.args.reader) c.unloaded-in-Err-read_rows.result.reply c.unloaded-in-Err-read_rows.result.committed c.unloaded-in-Err-read_rows.ensures.none
+    c.in-Err-read_rows.error c.refusal_of.result c.unloaded-in-Err-read_rows.ensures.reply c.refusal_of.ensures.memory c.refusal_of.ensures.reader c.refusal_of.ensures.field c.in-Err-read_rows.ensures.field
+
+pub returns-clause-device : goal.returns-clause-device
+returns-clause-device g c = rw c.unloaded-in-Err-read_rows.ensures.reply (λ is. inr refl)
