@@ -1,7 +1,7 @@
 -- Entries put into a tree one after another.
-use Rattle.std.proofs.Common.{◌≡◌, ℕ, zero, suc, ◌+◌, ◌<◌, ◌≤◌, List, [], ◌∷◌, ◌++◌, length, take, ◌⊎◌, inl, inr, refl, sym, ap, ◌∙◌, subst, Option, Some, None, IsSome, true, arith, add-one, append_assoc}
+use Rattle.std.proofs.Common.{◌≡◌, ℕ, zero, suc, ◌+◌, ◌<◌, ◌≤◌, List, [], ◌∷◌, ◌++◌, length, take, drop, ◌⊎◌, inl, inr, refl, sym, ap, ◌∙◌, subst, Option, Some, None, IsSome, true, arith, add-one, append_assoc}
 use Rattle.std.proofs.lemmas.List.{append-nil as append_nil}
-use Rattle.std.proofs.Math.Seq.{take-nil, take-length}
+use Rattle.std.proofs.Math.Seq.{take-add, take-nil, take-length}
 use Rattle.std.specs.Prelude.{slice_index_or}
 use Rattle.std.specs.List.{AllByRecursion}
 use Rattle.page_space.specs.Space.{PageMap}
@@ -10,6 +10,7 @@ use Rattle.btree_read.specs.Lists.{Has}
 use Rattle.btree_read.specs.Nodes.{Key, precedes, IsSmall}
 use Rattle.btree_read.specs.Sorted.{put, Ascends}
 use Rattle.btree_read.specs.Tree.{IsTree}
+use Rattle.btree_read.proofs.AscendLemmas.{root_ascends}
 use Rattle.btree_read.proofs.ListLemmas.{each_left, each_right, each_append}
 use Rattle.btree_read.proofs.NodeLemmas.{not_fresh}
 use Rattle.btree.specs.Overfull.{IsNoTreeIn}
@@ -107,3 +108,38 @@ put_all_behind (e ∷ more) es h =
 
 pub appended : (old new : PageMap) (owned : List ℕ) (entries more : List Entry) (now : ℕ) → Ascends (entries ++ more) → IsWritten old new owned (put_all more entries) now → IsWritten old new owned (entries ++ more) now
 appended old new owned entries more now h w = subst (λ es. IsWritten old new owned es now) (put_all_behind more entries h) w
+
+put_all_parts : (xs ys es : List Entry) → put_all (xs ++ ys) es ≡ put_all ys (put_all xs es)
+put_all_parts [] ys es = refl
+put_all_parts (x ∷ xs) ys es = put_all_parts xs ys (put x.key x.value es)
+
+-- a run that was put behind all that the tree had
+pub stays_behind : (old mid new : PageMap) (root i n top : ℕ) (more run : List Entry) → run ≡ take n (drop i more) → StaysWritten old mid root more i top
+    → ((owned : List ℕ) (held : List Entry) → IsTree mid top owned held → IsWritten mid new owned (held ++ run) top)
+    → StaysWritten old new root more (i + n) top
+stays_behind old mid new root i n top more run r f g owned entries w =
+    let x = f owned entries w in
+    let held : List Entry = put_all (take i more) entries in
+    let y = g x.now_owned held x.stored in
+    let ascends : Ascends (held ++ run) = root_ascends new top y.now_owned (held ++ run) y.stored in
+    let all : put_all (take (i + n) more) entries ≡ held ++ run =
+    ap (λ xs. put_all xs entries) (take-add i n more ∙ ap (λ xs. take i more ++ xs) (sym r)) ∙ put_all_parts (take i more) run entries ∙ put_all_behind run held ascends in
+    subst (λ es. IsWritten old new owned es top) (sym all) (written_on old mid new owned held (held ++ run) top top x y)
+
+-- one more, and behind it as many as were put in at once
+pub stays_further : (old mid low new : PageMap) (root i n top now : ℕ) (more : List Entry) (d : Entry) (k : Key) (v : List ℕ) (rest : List Entry) → i < length more
+    → k ≡ (slice_index_or more i d).key → v ≡ (slice_index_or more i d).value → rest ≡ drop (i + 1) more
+    → StaysWritten old mid root more i top
+    → ((owned : List ℕ) (entries : List Entry) → IsTree mid top owned entries → IsWritten mid low owned (put k v entries) now)
+    → ((owned : List ℕ) (held : List Entry) → IsTree low now owned held → IsWritten low new owned (held ++ take n rest) now)
+    → StaysWritten old new root more (i + 1 + n) now
+stays_further old mid low new root i n top now more d k v rest l ek ev r f g h =
+    stays_behind old low new root (i + 1) n now more (take n rest) (ap (take n) r) (stays_on old mid low root i top now more d k v l ek ev f g) h
+
+pub kept_behind : (old mid low new : PageMap) (root i n top now : ℕ) (more : List Entry) (d : Entry) (k : Key) (v : List ℕ) → i < length more
+    → k ≡ (slice_index_or more i d).key → v ≡ (slice_index_or more i d).value
+    → StaysWritten old mid root more i top → StaysKept old mid root top
+    → ((owned : List ℕ) (entries : List Entry) → IsTree mid top owned entries → IsWritten mid low owned (put k v entries) now)
+    → StaysKept mid low top now → StaysKept low new now now → StaysKept old new root now
+kept_behind old mid low new root i n top now more d k v l ek ev f h g m q =
+    kept_further old low new root (i + 1) now now more (stays_on old mid low root i top now more d k v l ek ev f g) (kept_further old mid low root i top now more f h m) q

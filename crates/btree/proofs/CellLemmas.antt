@@ -305,3 +305,13 @@ rest_is (x ∷ xs) = ap (λ n. lent (take n xs)) (sub_one xs) ∙ ap lent (take-
 pub fits_rest : (xs : List (List ℕ)) → Fits xs → Fits (drop 1 xs)
 fits_rest [] h = h
 fits_rest (x ∷ xs) h = omega arith
+
+-- a leaf with an entry put in
+pub spliced_in : (old new : PageMap) (page next link : ℕ) (cells now : List (List ℕ)) (es : List Entry) → link ≡ next → cells ≡ now → es ≡ map entry_of now → IsStocked (LeafNode next es)
+    → (IsStocked (LeafNode link (map entry_of cells)) → HasNode new page (LeafNode link (map entry_of cells))) → SamePages old new (λ n. n ≡ page) → LeafWritten old new page next es None
+spliced_in old new page next link cells now es l c e s f same =
+    let shown : map entry_of cells ≡ es = ap (map entry_of) c ∙ sym e in (
+      subst (λ n. HasNode new page (LeafNode n es)) l (subst (λ xs. HasNode new page (LeafNode link xs)) shown
+          (f (subst (λ xs. IsStocked (LeafNode link xs)) (sym shown) (subst (λ n. IsStocked (LeafNode n es)) (sym l) s)))),
+      same,
+    )

@@ -14,3 +14,4 @@ pub mod WalkLemmas
 pub mod ChangeLemmas
 pub mod OneLemmas
 pub mod PageLossLemmas
+pub mod RunLemmas

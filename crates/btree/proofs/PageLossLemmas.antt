@@ -8,7 +8,7 @@ use Rattle.btree_read.specs.Sorted.{put}
 use Rattle.btree_read.specs.Tree.{IsTree}
 use Rattle.btree_read.proofs.NodeLemmas.{not_fresh}
 use Rattle.btree.specs.Grow.{AreKept}
-use Rattle.btree.specs.Written.{Inserts, KeepsPages}
+use Rattle.btree.specs.Written.{IsWritten, Inserts, InsertsAll, KeepsPages, put_all}
 use Rattle.btree.proofs.GrowLemmas.{has_or_not}
 use Rattle.btree.proofs.KeptLemmas.{one_owned}
 use Rattle.btree.specs.Kept.{LosesNone, TreeLeft, LosesNoPage}
@@ -66,10 +66,18 @@ pub no_page_lost_on_by : {E : Type 0} (result : Result ℕ E) (old mid new : Pag
 no_page_lost_on_by (Err e) old mid new root top first second = tt
 no_page_lost_on_by (Ok now) old mid new root top first second = no_page_lost_on old mid new root top now first second
 
+pub no_page_lost_by : (old new : PageMap) (root now : ℕ) (f : List Entry → List Entry) → ((owned : List ℕ) (entries : List Entry) → IsTree old root owned entries → IsWritten old new owned (f entries) now)
+    → KeepsPages old new root (Ok now) → LosesNoPage old new root now
+no_page_lost_by old new root now f written keeps owned entries t =
+    let w = written owned entries t in
+    record { now_owned = w.now_owned; entries = f entries; tree = w.stored; loses = loses_kept old new owned w.now_owned (keeps owned entries t w.now_owned (f entries) w.stored) }
+
 pub no_page_lost_by_insertion : (old new : PageMap) (root now : ℕ) (k : Key) (v : List ℕ) → Inserts old new root k v (Ok now) → KeepsPages old new root (Ok now) → LosesNoPage old new root now
-no_page_lost_by_insertion old new root now k v inserts keeps owned entries t =
-    let w = inserts owned entries t in
-    record { now_owned = w.now_owned; entries = put k v entries; tree = w.stored; loses = loses_kept old new owned w.now_owned (keeps owned entries t w.now_owned (put k v entries) w.stored) }
+no_page_lost_by_insertion old new root now k v inserts keeps = no_page_lost_by old new root now (put k v) inserts keeps
+
+pub no_page_lost_by_insertions : (old mid new : PageMap) (root now : ℕ) (more : List Entry) → mid ≡ old → InsertsAll mid new root more (Ok now) → KeepsPages mid new root (Ok now) → LosesNoPage old new root now
+no_page_lost_by_insertions old mid new root now more same inserts keeps =
+    subst (λ (p : PageMap). LosesNoPage p new root now) same (no_page_lost_by mid new root now (put_all more) inserts keeps)
 
 -- pages that are the same lose none
 pub no_page_lost_same : (old new : PageMap) (root : ℕ) → new ≡ old → LosesNoPage old new root root

@@ -8,12 +8,12 @@ use Rattle.btree_read.specs.declared.entry.Branch.{Branch}
 use Rattle.btree_read.specs.Lists.{Has, Apart, Leads}
 use Rattle.btree_read.specs.Nodes.{Key, Node, LeafNode, InnerNode, HasNode, IsStocked, IsSmall, IsSmallBranch, entry_of, branch_of}
 use Rattle.btree_read.specs.Sorted.{put}
-use Rattle.btree_read.specs.Tree.{Tree, page_of, branch_to, kids, entries_of, nodes_of, leaves_of, pages_in, Holds, Chain, Ordered, IsTree, IsTreeOf}
+use Rattle.btree_read.specs.Tree.{Tree, page_of, branch_to, kids, entries_of, nodes_of, leaves_of, pages_in, Holds, Chain, Ordered, IsTree, IsTreeOf, IsWithin}
 use Rattle.btree_read.proofs.OrderLemmas.{empty_lowest}
 use Rattle.btree_read.proofs.NodeLemmas.{not_fresh}
 use Rattle.btree_read.proofs.PageLemmas.{holds_used, holds_kept}
 use Rattle.btree_read.proofs.SearchLemmas.{under_root}
-use Rattle.btree.specs.Grow.{flat_nodes, flat_leaves, SamePages, GrowsBelow, AreKept}
+use Rattle.btree.specs.Grow.{flat_nodes, flat_leaves, SamePages, GrowsBelow, IsGrown, AreKept}
 use Rattle.btree.specs.Written.{IsWritten}
 use Rattle.btree.proofs.GrowLemmas.{has_or_not}
 use Rattle.btree.proofs.KeptLemmas.{one_owned}
@@ -26,31 +26,45 @@ none_more : (d : ℕ) (more : List (Key × Tree d)) → map (branch_to d) more �
 none_more d [] e = refl
 none_more d (c ∷ more) e = cc
 
+-- what is at the root of a tree that is grown and still one, and that no page is lost
+pub record RootGrown (old new : PageMap) (owned : List ℕ) (now : List Entry) (root : ℕ) : Type 0 where
+  pub written : IsWritten old new owned now root
+  pub kept : AreKept old new owned written.now_owned
+
+pub root_grown : (old new : PageMap) (r : ℕ) (owned : List ℕ) (entries : List Entry) (w : IsTreeOf old (suc r) owned entries) (Fits : Key → Option Key → Type 0) (now : List Entry)
+    → Fits [] None → IsGrown old new w.depth w.tree Fits now None → RootGrown old new owned now (suc r)
+root_grown old new r owned entries w Fits now f x =
+    let only : x.more ≡ [] = none_more w.depth x.more x.told in
+    let alone : flat_nodes w.depth x.tree x.more ≡ nodes_of w.depth x.tree = ap (flat_nodes w.depth x.tree) only ∙ append_nil (nodes_of w.depth x.tree) in
+    let leaves : flat_leaves w.depth x.tree x.more ≡ leaves_of w.depth x.tree = ap (flat_leaves w.depth x.tree) only ∙ append_nil (leaves_of w.depth x.tree) in
+    let k : AreKept old new owned (pages_in (flat_nodes w.depth x.tree x.more)) = subst (λ ps. AreKept old new ps (pages_in (flat_nodes w.depth x.tree x.more))) w.owns x.kept in
+    record {
+      written = record {
+        now_owned = pages_in (nodes_of w.depth x.tree);
+        stored = record {
+          depth = w.depth;
+          tree = x.tree;
+          at = x.same ∙ w.at;
+          holds = subst (Holds new) alone x.holds;
+          apart = subst (λ ns. Apart (pages_in ns)) alone x.apart;
+          owns = refl;
+          order = subst (Chain (Ordered w.depth) [] None x.tree) only (x.order [] None w.order f);
+          leftmost = w.leftmost;
+          links = subst (λ ls. Leads w.leftmost ls 0) leaves (x.links w.leftmost 0 w.links);
+          shows = sym (append_nil (entries_of w.depth x.tree)) ∙ ap (λ more. flat_map (entries_of w.depth) (kids x.tree more)) (sym only) ∙ x.entries;
+        };
+        own = λ n h. subst (λ ps. Has n ps ⊎ (old n ≡ None)) w.owns (x.own n (subst (λ ns. Has n (pages_in ns)) (sym alone) h));
+        others = λ n h. x.others n (λ m. h (subst (Has n) w.owns m));
+      };
+      kept = subst (λ ns. AreKept old new owned (pages_in ns)) alone k;
+    }
+
 pub root_kept : (old new : PageMap) (root : ℕ) (k : Key) (v : List ℕ) → (root ≡ 0 → ⊥) → GrowsBelow old new root k v (Ok None)
     → (owned : List ℕ) (entries : List Entry) → IsTree old root owned entries → IsWritten old new owned (put k v entries) root
 root_kept old new zero k v nz g owned entries w = absurd (nz refl)
 root_kept old new (suc r) k v nz g owned entries w =
-    let x = g w.depth w.tree [] None (under_root old (suc r) owned entries w) in
-    let only : x.more ≡ [] = none_more w.depth x.more x.told in
-    let alone : flat_nodes w.depth x.tree x.more ≡ nodes_of w.depth x.tree = ap (flat_nodes w.depth x.tree) only ∙ append_nil (nodes_of w.depth x.tree) in
-    let leaves : flat_leaves w.depth x.tree x.more ≡ leaves_of w.depth x.tree = ap (flat_leaves w.depth x.tree) only ∙ append_nil (leaves_of w.depth x.tree) in
-    record {
-      now_owned = pages_in (nodes_of w.depth x.tree);
-      stored = record {
-        depth = w.depth;
-        tree = x.tree;
-        at = x.same ∙ w.at;
-        holds = subst (Holds new) alone x.holds;
-        apart = subst (λ ns. Apart (pages_in ns)) alone x.apart;
-        owns = refl;
-        order = subst (Chain (Ordered w.depth) [] None x.tree) only (x.order [] None w.order (record { low = empty_lowest k; high = tt }));
-        leftmost = w.leftmost;
-        links = subst (λ ls. Leads w.leftmost ls 0) leaves (x.links w.leftmost 0 w.links);
-        shows = sym (append_nil (entries_of w.depth x.tree)) ∙ ap (λ more. flat_map (entries_of w.depth) (kids x.tree more)) (sym only) ∙ x.entries ∙ ap (put k v) w.shows;
-      };
-      own = λ n h. subst (λ ps. Has n ps ⊎ (old n ≡ None)) w.owns (x.own n (subst (λ ns. Has n (pages_in ns)) (sym alone) h));
-      others = λ n h. x.others n (λ m. h (subst (Has n) w.owns m));
-    }
+    subst (λ es. IsWritten old new owned (put k v es) (suc r)) w.shows
+    (root_grown old new r owned entries w (λ a b. IsWithin a b k) (put k v (entries_of w.depth w.tree)) (record { low = empty_lowest k; high = tt }) (g w.depth w.tree [] None (under_root old (suc r) owned entries w))).written
 
 pub still_fresh : (old mid : PageMap) (owned : List ℕ) (r : ℕ) → ((n : ℕ) → (Has n owned → ⊥) → IsSome (old n) → mid n ≡ old n) → mid r ≡ None → Has r owned ⊎ (old r ≡ None)
 still_fresh old mid owned r f e = by (has_or_not r owned)
@@ -142,21 +156,13 @@ pub keeps_all : (old new : PageMap) (owned : List ℕ) (entries : List Entry) (r
     → (now_owned : List ℕ) (after : List Entry) → IsTree new root now_owned after → AreKept old new owned now_owned
 keeps_all old new owned entries root w k now_owned after t = subst (AreKept old new owned) (one_owned new root w.now_owned now_owned entries after w.stored t) k
 
-kept_root : (old new : PageMap) (root : ℕ) (k : Key) (v : List ℕ) (nz : root ≡ 0 → ⊥) (g : GrowsBelow old new root k v (Ok None))
-    → (owned : List ℕ) (entries : List Entry) (w : IsTree old root owned entries) → AreKept old new owned (root_kept old new root k v nz g owned entries w).now_owned
-unfolding root_kept
-kept_root old new zero k v nz g owned entries w = absurd (nz refl)
-kept_root old new (suc r) k v nz g owned entries w =
-    let x = g w.depth w.tree [] None (under_root old (suc r) owned entries w) in
-    let only : x.more ≡ [] = none_more w.depth x.more x.told in
-    let alone : flat_nodes w.depth x.tree x.more ≡ nodes_of w.depth x.tree = ap (flat_nodes w.depth x.tree) only ∙ append_nil (nodes_of w.depth x.tree) in
-    let k : AreKept old new owned (pages_in (flat_nodes w.depth x.tree x.more)) = subst (λ ps. AreKept old new ps (pages_in (flat_nodes w.depth x.tree x.more))) w.owns x.kept in
-    subst (λ ns. AreKept old new owned (pages_in ns)) alone k
-
 pub root_kept_keeps : (old new : PageMap) (root : ℕ) (k : Key) (v : List ℕ) → (root ≡ 0 → ⊥) → GrowsBelow old new root k v (Ok None)
     → (owned : List ℕ) (entries : List Entry) → IsTree old root owned entries
     → (now_owned : List ℕ) (after : List Entry) → IsTree new root now_owned after → AreKept old new owned now_owned
-root_kept_keeps old new root k v nz g owned entries w = keeps_all old new owned (put k v entries) root (root_kept old new root k v nz g owned entries w) (kept_root old new root k v nz g owned entries w)
+root_kept_keeps old new zero k v nz g owned entries w = absurd (nz refl)
+root_kept_keeps old new (suc r) k v nz g owned entries w =
+    let x = root_grown old new r owned entries w (λ a b. IsWithin a b k) (put k v (entries_of w.depth w.tree)) (record { low = empty_lowest k; high = tt }) (g w.depth w.tree [] None (under_root old (suc r) owned entries w)) in
+    keeps_all old new owned (put k v (entries_of w.depth w.tree)) (suc r) x.written x.kept
 
 -- a new root's page beside those of the trees under it
 beside_root : (old mid low new : PageMap) (r : ℕ) (owned F : List ℕ) → AreKept old mid owned F → SamePages mid low (λ n. n ≡ r) → SamePages low new (λ n. n ≡ r) → AreKept old new owned (r ∷ F)

@@ -1,5 +1,5 @@
 -- What a change of a tree's page, of the tree under a page, and of a whole tree leaves.
-use Rattle.std.specs.Prelude.{◌≡◌, ℕ, ◌⊎◌, List, ◌∷◌, ◌++◌, map, Option, Some, None, IsSome, Result, IfOk}
+use Rattle.std.specs.Prelude.{◌≡◌, ℕ, ◌⊎◌, List, ◌∷◌, ◌++◌, map, take, Option, Some, None, IsSome, Result, IfOk}
 use Rattle.std.specs.List.{flat_map}
 use Rattle.std.specs.Option.{option_to_list}
 use Rattle.page_space.specs.declared.error.SpaceError.{SpaceError}
@@ -89,3 +89,14 @@ abbrev pub GrowsBelow : PageMap → PageMap → ℕ → Key → List ℕ → Res
 GrowsBelow old new page k v result =
     (d : ℕ) (t : Tree d) (lo : Key) (hi : Option Key) → IsUnder old page d t lo hi
     → IfOk result (IsGrown old new d t (λ a b. IsWithin a b k) (put k v (entries_of d t)))
+
+-- no bound is above the keys
+abbrev pub IsUnbounded : Key → Option Key → Type 0
+IsUnbounded lo hi = hi ≡ None
+
+-- whatever tree is under the page, with no bound above its keys: so many of these entries now stand
+-- behind all that it has
+abbrev pub GrowsAtEnd : PageMap → PageMap → ℕ → List Entry → Result ℕ SpaceError → Type 0
+GrowsAtEnd old new page more result =
+    (d : ℕ) (t : Tree d) (lo : Key) → IsUnder old page d t lo None
+    → IfOk result (λ count. IsGrown old new d t IsUnbounded (entries_of d t ++ take count more) None)

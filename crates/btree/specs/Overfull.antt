@@ -8,7 +8,7 @@ use Rattle.btree_read.specs.Nodes.{Key, precedes}
 use Rattle.btree_read.specs.Tree.{Tree, IsWithin, IsTree}
 use Rattle.btree_read.specs.Search.{IsUnder}
 use Rattle.btree_read.specs.declared.entry.Entry.{Entry}
-use Rattle.std.specs.Prelude.{Option}
+use Rattle.std.specs.Prelude.{Option, None}
 
 -- the bytes that cells take with their slots
 abbrev pub size_of : List (List ℕ) → ℕ
@@ -34,6 +34,11 @@ RisesBehind lo (b ∷ bs) = (precedes lo b.key ≡ true) × RisesBehind b.key bs
 abbrev pub HasNoTreeFor : PageMap → ℕ → ℕ → Key → Type 0 → Type 0
 HasNoTreeFor pages page levels k Whole = (d : ℕ) (t : Tree d) (lo : Key) (hi : Option Key) → d ≤ levels
     → IsUnder pages page d t lo hi → IsWithin lo hi k → Whole → ⊥
+
+-- the same of a tree with no bound above its keys
+abbrev pub HasNoLastTree : PageMap → ℕ → ℕ → Type 0 → Type 0
+HasNoLastTree pages page levels Whole = (d : ℕ) (t : Tree d) (lo : Key) → d ≤ levels
+    → IsUnder pages page d t lo None → Whole → ⊥
 
 -- no tree is at the root, or the space is not whole
 abbrev pub IsNoTreeIn : PageMap → ℕ → Type 0 → Type 0

@@ -8,13 +8,15 @@ ghost use Rattle.btree.specs.Overfull.{IsNoTreeIn};
 ghost use Rattle.btree.specs.Written.{InsertsAll, Appends, KeepsPages};
 
 use crate::insertion::insert;
+use crate::run::append_run;
 use btree_read::Entry;
 use page_space::{PageSpace, SpaceError};
 use std::alloc::Global;
 
 /// Puts entries into a tree, one after another, each in place of one with its key, and answers the
 /// root. Where they stand in order behind all that the tree has, they are then behind them, and the
-/// pages that they fill stay full. Each is as small as `insert` asks. Refused as `insert` is.
+/// pages that they fill stay full: behind each that is put in by itself, as many at once as the last
+/// leaf has room for. Each is as small as `insert` asks. Refused as `insert` is.
 pub fn insert_all<S: PageSpace>(
     space: &mut S,
     alloc: Global,
@@ -31,7 +33,9 @@ pub fn insert_all<S: PageSpace>(
     ensures follows { S.follows space.old space.new }
 {
     let mut top = root;
-    for entry in entries {
+    let mut done = 0;
+    'entries: while done < entries.len() {
+        let entry = &entries[done];
         top = insert(
             space,
             alloc,
@@ -39,6 +43,8 @@ pub fn insert_all<S: PageSpace>(
             entry.key.as_slice(),
             entry.value.as_slice(),
         )?;
+        done += 1;
+        done += append_run(space, alloc, top, &entries[done..])?;
     }
     Ok(top)
 }

@@ -12,11 +12,11 @@ ghost use Rattle.btree.specs.Grow.{LeafWritten};
 ghost use Rattle.btree.specs.Overfull.{size_of};
 
 use crate::cells::{cell_key, cells_with, cut_of, place_of};
-use crate::page::write_page;
+use crate::page::{write_page, write_sound};
 use btree_read::Branch;
 use items::Items;
-use page_space::{PageSpace, SpaceError};
-use sqlrecord::{MAXIMUM_KEY, PageKind, SlotPage, fits};
+use page_space::{PAGE_SIZE, PageSpace, SpaceError};
+use sqlrecord::{MAXIMUM_KEY, PageKind, SlotPage, fits, splice_page};
 use std::alloc::Global;
 
 /// Writes a leaf of these cells, in two pages where they are too many for one.
@@ -87,7 +87,13 @@ pub(crate) fn put_in_leaf<'a, S: PageSpace>(
     ensures follows { S.follows space.old space.new }
 {
     let (at, behind) = place_of(leaf, key);
+    let link = leaf.link();
+    let is_last = at == leaf.len() && link == 0;
+    let mut bytes = [0; PAGE_SIZE];
+    if splice_page(&mut bytes, link, leaf, at, behind, &[cell]) {
+        write_sound(space, page, PageKind::Leaf, &bytes)?;
+        return Ok(None);
+    }
     let cells = cells_with(alloc, leaf, at, behind, cell)?;
-    let is_last = leaf.link() == 0 && at == leaf.len();
-    write_leaf(space, alloc, page, leaf.link(), cells.as_slice(), is_last)
+    write_leaf(space, alloc, page, link, cells.as_slice(), is_last)
 }

@@ -35,12 +35,12 @@ not_before false h = refl
 
 -- ---- a page written
 
-pub written_without : (old new : PageMap) (page : ℕ) (kind other : PageKind) (link : ℕ) (cells now : List (List ℕ)) (r : Result ⊤ SpaceError) → other ≡ kind → now ≡ cells
-    → OnOk r (IsSome (old page) → IsStocked (node_of other link now) → HasNode new page (node_of other link now))
+pub written_without : (old new : PageMap) (page : ℕ) (kind other : PageKind) (link here : ℕ) (cells now : List (List ℕ)) (r : Result ⊤ SpaceError) → other ≡ kind → here ≡ link → now ≡ cells
+    → OnOk r (IsSome (old page) → IsStocked (node_of other here now) → HasNode new page (node_of other here now))
     → IsSome (old page) → IsStocked (node_of kind link cells) → OnOk r (HasNode new page (node_of kind link cells))
-written_without old new page kind other link cells now r e f h used stocked =
-    let same : node_of other link now ≡ node_of kind link cells = ap (λ k. node_of k link now) e ∙ ap (node_of kind link) f in
-    on_ok (IsSome (old page) → IsStocked (node_of other link now) → HasNode new page (node_of other link now)) (HasNode new page (node_of kind link cells)) r
+written_without old new page kind other link here cells now r e l f h used stocked =
+    let same : node_of other here now ≡ node_of kind link cells = ap (λ k. node_of k here now) e ∙ ap (λ n. node_of kind n now) l ∙ ap (node_of kind link) f in
+    on_ok (IsSome (old page) → IsStocked (node_of other here now) → HasNode new page (node_of other here now)) (HasNode new page (node_of kind link cells)) r
     (λ g. subst (HasNode new page) same (g used (subst IsStocked (sym same) stocked))) h
 
 pub leaf_taken : (old new : PageMap) (page link other : ℕ) (kind : PageKind) (cells : List (List ℕ)) (at : ℕ) (k : Key) → kind ≡ Leaf → other ≡ link → at < length cells

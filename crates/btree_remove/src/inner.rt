@@ -74,7 +74,6 @@ fn put_cell<'a, S: PageSpace>(
 /// branch is left as it is.
 fn leave_out<S: PageSpace>(
     space: &mut S,
-    alloc: Global,
     page: u32,
     node: &SlotPage<'_>,
     at: usize,
@@ -97,7 +96,7 @@ fn leave_out<S: PageSpace>(
     if node.len() == count {
         return Ok(Removed::Lone(node.link()));
     }
-    write_without(space, alloc, page, node.link(), node, at, behind)?;
+    write_without(space, page, node.link(), node, at, behind)?;
     Ok(Removed::Done(None))
 }
 
@@ -132,7 +131,7 @@ pub(crate) fn exchange_branches<S: PageSpace>(
         return Err(SpaceError::Damaged);
     }
     let Some(branch) = branch else {
-        return leave_out(space, alloc, page, &node, at, behind);
+        return leave_out(space, page, &node, at, behind);
     };
     let cell = inner_cell(alloc, branch.key.as_slice(), branch.child)?;
     let split = put_cell(

@@ -16,7 +16,6 @@ use crate::pair::Pair;
 use btree_read::{Start, first_place, is_before, read_node};
 use page_space::{PAGE_SIZE, PageSpace, SpaceError};
 use sqlrecord::{PageKind, SlotPage};
-use std::alloc::Global;
 
 /// The place of a key's entry in a leaf.
 fn place_in(leaf: &SlotPage<'_>, key: &[u8]) -> Option<usize>
@@ -36,7 +35,6 @@ fn place_in(leaf: &SlotPage<'_>, key: &[u8]) -> Option<usize>
 /// Takes a key's entry out of a leaf; of its last one the leaf keeps what it had.
 pub(crate) fn take_from_leaf<S: PageSpace>(
     space: &mut S,
-    alloc: Global,
     page: u32,
     leaf: &SlotPage<'_>,
     key: &[u8],
@@ -57,7 +55,7 @@ pub(crate) fn take_from_leaf<S: PageSpace>(
     if leaf.len() == 1 {
         return Ok(Removed::Emptied);
     }
-    write_without(space, alloc, page, leaf.link(), leaf, at, at + 1)?;
+    write_without(space, page, leaf.link(), leaf, at, at + 1)?;
     Ok(Removed::Done(None))
 }
 
@@ -79,11 +77,7 @@ fn next_leaf<S: PageSpace>(space: &mut S, page: u32) -> Result<u32, SpaceError>
 
 /// Joins two neighbouring leaves, of which one alone keeps entries, at the first one's page, and
 /// gives back the second one's.
-pub(crate) fn join_leaves<S: PageSpace>(
-    space: &mut S,
-    alloc: Global,
-    pair: &Pair,
-) -> Result<(), SpaceError>
+pub(crate) fn join_leaves<S: PageSpace>(space: &mut S, pair: &Pair) -> Result<(), SpaceError>
     ensures joined { (a b : ℕ) (es ys : List Entry) → HasNode (S.pages space.old) pair.now.kept (LeafNode a es)
         → HasNode (S.pages space.old) pair.now.right (LeafNode b ys)
         → IsSome (S.pages space.old pair.now.left) → pair.now.left ≢ pair.now.right
@@ -100,6 +94,6 @@ pub(crate) fn join_leaves<S: PageSpace>(
     let next = next_leaf(space, pair.right)?;
     let mut buffer = [0; PAGE_SIZE];
     let leaf = read_node(space, pair.kept, &mut buffer)?;
-    write_without(space, alloc, pair.left, next, &leaf, 0, 0)?;
+    write_without(space, pair.left, next, &leaf, 0, 0)?;
     space.free(pair.right)
 }

@@ -34,7 +34,7 @@ fn remove_below<S: PageSpace>(
     let mut buffer = [0; PAGE_SIZE];
     let node = read_node(space, page, &mut buffer)?;
     match node.kind() {
-        PageKind::Leaf => take_from_leaf(space, alloc, page, &node, key),
+        PageKind::Leaf => take_from_leaf(space, page, &node, key),
         PageKind::Inner => {
             if levels == 0 {
                 return Err(SpaceError::Damaged);

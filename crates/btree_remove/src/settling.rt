@@ -36,7 +36,7 @@ fn join_emptied<S: PageSpace>(
     ensures follows { S.follows space.old space.new }
 {
     let pair = pair_at(node, at);
-    join_leaves(space, alloc, &pair)?;
+    join_leaves(space, &pair)?;
     exchange_branches(space, alloc, page, pair.place, pair.place + 1, None)
 }
 

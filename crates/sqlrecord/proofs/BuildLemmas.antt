@@ -1,7 +1,7 @@
 -- A page that was laid out reads as its cells.
 use Rattle.std.proofs.Common.{◌≡◌, ℕ, zero, suc, ◌+◌, ◌-◌, ◌*◌, ◌<◌, ◌≤◌, List, [], ◌∷◌, ◌++◌, length, get_or, take, refl, sym, ap, ◌∙◌, arith, append_assoc, subst}
 use Rattle.std.specs.Prelude.{slice_range, replicate}
-use Rattle.std.proofs.lemmas.List.{length-append, get_or-append-add, append-nil as append_nil, length-replicate}
+use Rattle.std.proofs.lemmas.List.{length-append, get_or-append-add, append-nil as append_nil, length-replicate, take_all}
 use Rattle.std.proofs.Math.Seq.{drop-append_seam, take-append_seam}
 use Rattle.std.proofs.Math.Nat.{div-add-mod}
 use Rattle.sqlrecord.specs.declared.kind.PageKind.{PageKind}
@@ -24,7 +24,7 @@ length_slots : (at : ℕ) (cs : List (List ℕ)) → length (slots_of at cs) ≡
 length_slots at [] = refl
 length_slots at (c ∷ cs) = let w = length_slots (at + length c) cs in omega (arith, w)
 
-length_flatten : (cs : List (List ℕ)) → length (flatten cs) ≡ total_of cs
+pub length_flatten : (cs : List (List ℕ)) → length (flatten cs) ≡ total_of cs
 length_flatten [] = refl
 length_flatten (c ∷ cs) = length-append c (flatten cs) ∙ ap (λ n. length c + n) (length_flatten cs)
 
@@ -132,6 +132,10 @@ built kind start link cs mid page room whole are e m =
 
 length_head : (kind count low link : ℕ) → length (head_of kind count low link) ≡ 16
 length_head kind count low link = refl
+
+-- a page of which all is told
+pub all_put : (now rest : List ℕ) (end : ℕ) → length now ≤ end → take end now ≡ rest → now ≡ rest
+all_put now rest end l e = sym (take_all end now l) ∙ e
 
 -- the parts, one behind another
 pub put_together : (kind link : ℕ) (cs : List (List ℕ)) (p1 p2 p3 p4 : List ℕ) (start n at1 at2 : ℕ) → start ≡ 4096 - total_of cs → n ≡ length cs

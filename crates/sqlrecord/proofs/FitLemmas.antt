@@ -64,7 +64,7 @@ within page n low (suc k) behind apart =
     let next = one_more page n (low + k) apart in
     rw z (omega (arith, before, next))
 
-total_push : (cells : List (List ℕ)) (cell : List ℕ) → total_of (cells ++ cell ∷ []) ≡ total_of cells + length cell
+pub total_push : (cells : List (List ℕ)) (cell : List ℕ) → total_of (cells ++ cell ∷ []) ≡ total_of cells + length cell
 total_push [] cell = omega arith
 total_push (first ∷ cells) cell = let more = total_push cells cell in omega (arith, more)
 

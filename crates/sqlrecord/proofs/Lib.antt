@@ -7,3 +7,4 @@ pub mod BuildLemmas
 pub mod CellLemmas
 pub mod KeyLemmas
 pub mod FitLemmas
+pub mod SpliceLemmas

@@ -10,7 +10,7 @@ use Rattle.std.proofs.lemmas.Bool.{cases_lt}
 use Rattle.std.proofs.lemmas.List.{length-append, length-drop, get_or_append_left, get_or_push}
 use Rattle.sqlrecord.specs.Page.{count_of, cell_of, cells_of, cells_upto, key_of, value_of, key_length_of, kind_byte, IsCell, AreCells, IsNode, IsSound}
 
-length_upto : (page : List ℕ) (n : ℕ) → length (cells_upto page n) ≡ n
+pub length_upto : (page : List ℕ) (n : ℕ) → length (cells_upto page n) ≡ n
 length_upto page zero = refl
 length_upto page (suc n) = let more = length_upto page n in let one = length-append (cells_upto page n) (cell_of page n ∷ []) in omega (arith, one, more)
 

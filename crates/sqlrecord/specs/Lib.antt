@@ -3,4 +3,5 @@ pub mod Row
 pub mod Key
 pub mod Page
 pub mod Build
+pub mod Splice
 pub mod Cell

@@ -8,7 +8,7 @@ use crate::sound::byte_of;
 use crate::{PAGE_SIZE, PageKind};
 
 /// Puts bytes into a page from a place on, and gives the place behind them.
-fn put(page: &mut [u8], at: usize, bytes: &[u8]) -> usize
+pub(crate) fn put(page: &mut [u8], at: usize, bytes: &[u8]) -> usize
     requires { at + length bytes.now ≤ length page.old }
     ensures put { take result page.new ≡ take at page.old ++ bytes.now }
     ensures behind { result ≡ at + length bytes.now }
@@ -18,17 +18,19 @@ fn put(page: &mut [u8], at: usize, bytes: &[u8]) -> usize
 }
 
 /// Puts a number in two bytes.
-fn put_two(page: &mut [u8], at: usize, number: usize) -> usize
+pub(crate) fn put_two(page: &mut [u8], at: usize, number: usize) -> usize
     requires small { number < 65536 }
     requires room { at + 2 ≤ length page.old }
     ensures put { take result page.new ≡ take at page.old ++ two_bytes number }
     ensures behind { result ≡ at + 2 }
 {
-    put(page, at, &[(number / 256) as u8, (number % 256) as u8])
+    page[at] = (number / 256) as u8;
+    page[at + 1] = (number % 256) as u8;
+    at + 2
 }
 
 /// Puts zeros from a place up to another.
-fn put_zeros(page: &mut [u8], at: usize, end: usize)
+pub(crate) fn put_zeros(page: &mut [u8], at: usize, end: usize)
     requires order { at ≤ end }
     requires room { end ≤ length page.old }
     ensures { take end page.new ≡ take at page.old ++ replicate (end - at) 0 }
@@ -37,7 +39,13 @@ fn put_zeros(page: &mut [u8], at: usize, end: usize)
 }
 
 /// Puts the first 16 bytes.
-fn put_head(page: &mut [u8], kind: PageKind, count: usize, low: usize, link: u32) -> usize
+pub(crate) fn put_head(
+    page: &mut [u8],
+    kind: PageKind,
+    count: usize,
+    low: usize,
+    link: u32,
+) -> usize
     requires room { 16 ≤ length page.old }
     requires count { count < 65536 }
     requires low { low < 65536 }
@@ -53,7 +61,7 @@ fn put_head(page: &mut [u8], kind: PageKind, count: usize, low: usize, link: u32
 }
 
 /// Puts the slots of cells that lie one behind another from `start` on.
-fn put_slots(page: &mut [u8], at: usize, cells: &[&[u8]], start: usize) -> usize
+pub(crate) fn put_slots(page: &mut [u8], at: usize, cells: &[&[u8]], start: usize) -> usize
     requires small { start + total_of (lent cells.now) < 65536 }
     requires room { at + 4 * length cells.now ≤ length page.old }
     ensures put { take result page.new ≡ take at page.old ++ slots_of start (lent cells.now) }
@@ -69,19 +77,21 @@ fn put_slots(page: &mut [u8], at: usize, cells: &[&[u8]], start: usize) -> usize
     place
 }
 
-/// Puts the cells.
-fn put_cells(page: &mut [u8], at: usize, cells: &[&[u8]])
-    requires { at + total_of (lent cells.now) ≡ length page.old }
-    ensures { page.new ≡ take at page.old ++ flatten (lent cells.now) }
+/// Puts cells one behind another, and gives the place behind them.
+pub(crate) fn put_cells(page: &mut [u8], at: usize, cells: &[&[u8]]) -> usize
+    requires { at + total_of (lent cells.now) ≤ length page.old }
+    ensures put { take result page.new ≡ take at page.old ++ flatten (lent cells.now) }
+    ensures behind { result ≡ at + total_of (lent cells.now) }
 {
     let mut place = at;
     for cell in cells {
         place = put(page, place, cell);
     }
+    place
 }
 
 /// The bytes that cells take.
-fn total(cells: &[&[u8]]) -> usize
+pub(crate) fn total(cells: &[&[u8]]) -> usize
     requires { total_of (lent cells.now) < 65536 }
     ensures { result ≡ total_of (lent cells.now) }
 {

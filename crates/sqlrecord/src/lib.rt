@@ -14,6 +14,7 @@ mod page;
 mod row;
 mod row_check;
 mod sound;
+mod splice;
 
 pub use build::{build_page, fits};
 pub use cell::{are_cells, inner_cell, leaf_cell};
@@ -26,6 +27,7 @@ pub use laws::{
 };
 pub use page::{KeptCells, SlotPage, is_node};
 pub use row::{MAXIMUM_ROW, decode_row, encode_row};
+pub use splice::splice_page;
 
 /// The bytes of a page.
 pub const PAGE_SIZE: usize = 4096;

@@ -1,6 +1,6 @@
 ghost use Rattle.std.specs.Prelude.{◌≡◌, ◌<◌, ◌+◌, ◌↔◌, [], true, length, slice_index, slice_index_or, IfOk, IfSome, IsNone, IsTrue};
 ghost use Rattle.sqlrecord.specs.declared.kind.PageKind.TheVariants.{Inner as inner_kind};
-ghost use Rattle.sqlrecord.specs.Page.{cells_of, link_of, key_of, value_of, child_of, kind_byte, AreCells, IsNode, IsSound};
+ghost use Rattle.sqlrecord.specs.Page.{cells_of, link_of, key_of, value_of, child_of, kind_byte, AreCells, IsNode, IsReadable, IsSound};
 
 use crate::sound::{cell_in, four, is_sound, key_in, two};
 use crate::{PAGE_SIZE, PageKind};
@@ -81,6 +81,15 @@ impl<'a> SlotPage<'a> {
         }
         let kind = kind_said(bytes)?;
         Some(SlotPage { bytes, kind })
+    }
+
+    /// The bytes that it was read from.
+    pub(crate) fn bytes(&self) -> &'a [u8]
+        ensures cells { self.now.cells ≡ cells_of result.now }
+        ensures link { self.now.link ≡ link_of result.now }
+        ensures readable { IsReadable result.now self.now.kind }
+    {
+        self.bytes
     }
 
     /// Whether it is a leaf or an inner page.

@@ -84,7 +84,7 @@ fn places_of(page: &[u8]) -> Option<Places>
 }
 
 /// Where a cell begins and ends.
-fn bounds(page: &[u8], i: usize) -> (usize, usize)
+pub(crate) fn bounds(page: &[u8], i: usize) -> (usize, usize)
     requires size { length page.now ≡ 4096 }
     requires slots { HasSlots page.now }
     requires place { i < count_of page.now }
@@ -246,8 +246,8 @@ fn cell_between(page: &[u8], i: usize, begin: usize, end: usize) -> &[u8]
 }
 
 /// The lowest byte that a cell uses, where the slots lie in the page, each cell lies behind the
-/// slots and the cells before it and is formed as its kind asks, and the keys rise. So are all pages
-/// that `build_page` makes: one walk over their slots tells all.
+/// slots and the cells before it and is formed as its kind asks, and the keys rise. So are all
+/// pages that `build_page` makes: one walk over their slots tells all.
 #[tactic(auto, using(crate::proofs::PageLemmas::cell_facts))]
 fn lowest_in_order(page: &[u8], kind: PageKind) -> Option<usize>
     requires { length page.now ≡ 4096 }

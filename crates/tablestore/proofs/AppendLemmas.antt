@@ -7,14 +7,16 @@ use Rattle.sqlval.specs.Value.{Row}
 use Rattle.store.specs.Contents as stored
 use Rattle.sqlrecord.specs.Key.{number_code}
 use Rattle.sqlrecord.specs.Row.{row_code, IsCodeOf}
+use Rattle.sqlrecord.proofs.ByteLemmas.{length_be}
 use Rattle.page_space.specs.Space.{PageMap}
-use Rattle.btree_read.specs.Nodes.{precedes}
+use Rattle.btree_read.specs.declared.entry.Entry.{Entry}
+use Rattle.btree_read.specs.Nodes.{precedes, IsSmall}
 use Rattle.btree_read.specs.Sorted.{put}
 use Rattle.btree_read.specs.Tree.{IsTree}
 use Rattle.btree_read.proofs.ListLemmas.{each_append}
-use Rattle.btree.specs.Written.{IsWritten}
-use Rattle.btree.proofs.ChangeLemmas.{put_past, written_on}
-use Rattle.tablestore.specs.Held.{row_entry, entries_of, IsKept, AreKept}
+use Rattle.btree.specs.Written.{IsWritten, put_all}
+use Rattle.btree.proofs.ChangeLemmas.{put_past}
+use Rattle.tablestore.specs.Held.{row_entry, entries_of, IsKept, AreKept, HoldsRows}
 use Rattle.tablestore.specs.Appended.{RowsWritten}
 use Rattle.tablestore.proofs.NumberLemmas.{number_order}
 
@@ -49,43 +51,60 @@ enumerate_more n (y ∷ xs) x =
     let same : n + 1 + length xs ≡ n + length (y ∷ xs) = omega arith in
     ap (λ es. (n, y) ∷ es) (enumerate_more (n + 1) xs x ∙ ap (λ m. enumerate_from (n + 1) xs ++ (m, x) ∷ []) same)
 
--- ---- some of the rows are put
+-- ---- the entries of some rows, one after another
 
--- behind the held rows stand these, and the next one has this number
-pub record Appends (a b : PageMap) (owned : List ℕ) (rows : List stored.Entry) (new : List Row) (root number : ℕ) : Type 0 where
-  pub written : RowsWritten a b owned (rows ++ enumerate_from (stored.next_number rows) new) root
-  pub counted : stored.next_number (rows ++ enumerate_from (stored.next_number rows) new) ≡ number
-  pub number_is : number ≡ stored.next_number rows + length new
+pub entries_step : (first i : ℕ) (rows : List Row) (d r : Row) (number : ℕ) (old now : List Entry) (e : Entry) → i < length rows → r ≡ get_or rows i d → number ≡ first + i → e ≡ row_entry (number, r)
+    → now ≡ old ++ e ∷ [] → old ≡ entries_of (enumerate_from first (take i rows)) → now ≡ entries_of (enumerate_from first (take (i + 1) rows))
+entries_step first i rows d r number old now e l is n w p h =
+    let more : take (i + 1) rows ≡ take i rows ++ r ∷ [] = take_more rows i d l ∙ ap (λ x. take i rows ++ x ∷ []) (sym is) in
+    let long : length (take i rows) ≡ i = length-take-le i rows (omega (arith, l)) in
+    let at : number ≡ first + length (take i rows) = omega (arith, n, long) in
+    p ∙ ap (λ es. es ++ e ∷ []) h ∙ ap (λ x. entries_of (enumerate_from first (take i rows)) ++ x ∷ []) (w ∙ ap (λ m. row_entry (m, r)) at)
+    ∙ entries_more (enumerate_from first (take i rows)) (first + length (take i rows), r) ∙ ap entries_of (sym (enumerate_more first (take i rows) r)) ∙ ap (λ xs. entries_of (enumerate_from first xs)) (sym more)
 
-appended_one : (a b c : PageMap) (owned : List ℕ) (all : List stored.Entry) (r : Row) (root next number : ℕ) → number < 2 ^ 63 → IsCodeOf (row_code r) r → stored.next_number all ≡ number
-    → (w : RowsWritten a b owned all root) → IsWritten b c w.now_owned (put (number_code number) (row_code r) (entries_of all)) next → RowsWritten a c owned (all ++ (number, r) ∷ []) next
-appended_one a b c owned all r root next number small code is w one =
-    let before : IsWritten a b owned (entries_of all) root = record { now_owned = w.now_owned; stored = w.holds.tree; own = w.own; others = w.others } in
-    let both : IsWritten a c owned (put (number_code number) (row_code r) (entries_of all)) next = written_on a b c owned _ _ root next before one in
+pub kept_step : (first i : ℕ) (rows : List Row) (d r : Row) (number : ℕ) → i < length rows → r ≡ get_or rows i d → number ≡ first + i → number < 2 ^ 63 → IsCodeOf (row_code r) r
+    → AreKept (enumerate_from first (take i rows)) → AreKept (enumerate_from first (take (i + 1) rows))
+kept_step first i rows d r number l is n small code h =
+    let more : take (i + 1) rows ≡ take i rows ++ r ∷ [] = take_more rows i d l ∙ ap (λ x. take i rows ++ x ∷ []) (sym is) in
+    let long : length (take i rows) ≡ i = length-take-le i rows (omega (arith, l)) in
+    subst (λ xs. AreKept (enumerate_from first xs)) (sym more) (subst AreKept (sym (enumerate_more first (take i rows) r))
+    (each_append IsKept (enumerate_from first (take i rows)) ((first + length (take i rows), r) ∷ []) h (record { number = omega (arith, small, n, long); storable = code.storable; short = code.short }, tt)))
+
+pub all_small : (rows : List stored.Entry) → AreKept rows → AllByRecursion IsSmall (entries_of rows)
+all_small [] h = tt
+all_small (e ∷ rows) h = (let long = length_be 8 e.0 in record { key = omega (arith, long); cell = omega (arith, long, h.0.short) }, all_small rows h.1)
+
+-- ---- all of them put behind those that are held
+
+put_rows : (new : List Row) (rows : List stored.Entry) → AreKept rows → AreKept (enumerate_from (stored.next_number rows) new)
+    → put_all (entries_of (enumerate_from (stored.next_number rows) new)) (entries_of rows) ≡ entries_of (rows ++ enumerate_from (stored.next_number rows) new)
+put_rows [] rows k h = ap entries_of (sym (append-nil rows))
+put_rows (r ∷ new) rows k h =
+    let m : ℕ = stored.next_number rows in
+    let last : stored.next_number (rows ++ (m, r) ∷ []) ≡ m + 1 = next_more rows m r refl in
+    let one = put_last rows m r (omega (arith, h.0.number)) k refl in
+    let kept : AreKept (rows ++ (m, r) ∷ []) = each_append IsKept rows ((m, r) ∷ []) k (h.0, tt) in
+    let rest = put_rows new (rows ++ (m, r) ∷ []) kept (subst (λ n. AreKept (enumerate_from n new)) (sym last) h.1) in
+    ap (put_all (entries_of (enumerate_from (m + 1) new))) one
+    ∙ subst (λ n. put_all (entries_of (enumerate_from n new)) (entries_of (rows ++ (m, r) ∷ [])) ≡ entries_of ((rows ++ (m, r) ∷ []) ++ enumerate_from n new)) last rest
+    ∙ ap entries_of (append_assoc rows ((m, r) ∷ []) (enumerate_from (m + 1) new))
+
+-- so the tree has them behind those that it had
+pub rows_appended : (old mid new : PageMap) (root now first : ℕ) (new_rows : List Row) (more : List Entry) → mid ≡ old → more ≡ entries_of (enumerate_from first new_rows) → AreKept (enumerate_from first new_rows)
+    → ((owned : List ℕ) (entries : List Entry) → IsTree mid root owned entries → IsWritten mid new owned (put_all more entries) now)
+    → (owned : List ℕ) (held : List stored.Entry) → first ≡ stored.next_number held → HoldsRows old root owned held → RowsWritten old new owned (held ++ enumerate_from (stored.next_number held) new_rows) now
+rows_appended old mid new root now first new_rows more same e kept f owned held n h =
+    let behind : AreKept (enumerate_from (stored.next_number held) new_rows) = subst (λ m. AreKept (enumerate_from m new_rows)) n kept in
+    let w : IsWritten old new owned (put_all more (entries_of held)) now =
+    subst (λ m. IsWritten m new owned (put_all more (entries_of held)) now) same (f owned (entries_of held) (subst (λ m. IsTree m root owned (entries_of held)) (sym same) h.tree)) in
+    let all : put_all more (entries_of held) ≡ entries_of (held ++ enumerate_from (stored.next_number held) new_rows) =
+    ap (λ es. put_all es (entries_of held)) (e ∙ ap (λ m. entries_of (enumerate_from m new_rows)) n) ∙ put_rows new_rows held h.kept behind in
     record {
-      now_owned = both.now_owned;
+      now_owned = w.now_owned;
       holds = record {
-        tree = subst (IsTree c next both.now_owned) (put_last all number r (omega (arith, small)) w.holds.kept is) both.stored;
-        kept = each_append IsKept all ((number, r) ∷ []) w.holds.kept (record { number = small; storable = code.storable; short = code.short }, tt);
+        tree = subst (IsTree new now w.now_owned) all w.stored;
+        kept = each_append IsKept held (enumerate_from (stored.next_number held) new_rows) h.kept behind;
       };
-      own = both.own;
-      others = both.others;
-    }
-
-pub appends_next : (a b c : PageMap) (owned : List ℕ) (rows : List stored.Entry) (new : List Row) (i : ℕ) (r : Row) (root next number : ℕ) → i < length new → r ≡ get_or new i r → number < 2 ^ 63 → IsCodeOf (row_code r) r
-    → (w : Appends a b owned rows (take i new) root number)
-    → IsWritten b c w.written.now_owned (put (number_code number) (row_code r) (entries_of (rows ++ enumerate_from (stored.next_number rows) (take i new)))) next
-    → Appends a c owned rows (take (i + 1) new) next (number + 1)
-appends_next a b c owned rows new i r root next number below is small code w one =
-    let more : take (i + 1) new ≡ take i new ++ r ∷ [] = take_more new i r below ∙ ap (λ x. take i new ++ x ∷ []) (sym is) in
-    let all : rows ++ enumerate_from (stored.next_number rows) (take i new ++ r ∷ []) ≡ (rows ++ enumerate_from (stored.next_number rows) (take i new)) ++ (number, r) ∷ [] =
-    ap (λ es. rows ++ es) (enumerate_more (stored.next_number rows) (take i new) r ∙ ap (λ m. enumerate_from (stored.next_number rows) (take i new) ++ (m, r) ∷ []) (sym w.number_is))
-    ∙ sym (append_assoc rows (enumerate_from (stored.next_number rows) (take i new)) ((number, r) ∷ [])) in
-    let long : length (take i new) ≡ i = length-take-le i new (omega (arith, below)) in
-    let longer : length (take (i + 1) new) ≡ i + 1 = length-take-le (i + 1) new (omega (arith, below)) in
-    record {
-      written = subst (λ (es : List stored.Entry). RowsWritten a c owned es next) (sym (ap (λ xs. rows ++ enumerate_from (stored.next_number rows) xs) more ∙ all))
-          (appended_one a b c owned _ r root next number small code w.counted w.written one);
-      counted = ap stored.next_number (ap (λ xs. rows ++ enumerate_from (stored.next_number rows) xs) more ∙ all) ∙ next_more _ number r w.counted;
-      number_is = omega (arith, w.number_is, long, longer);
+      own = w.own;
+      others = w.others;
     }

@@ -1,5 +1,5 @@
 -- What rows put behind others leave of the pages, and why they may be refused. Our own choice.
-use Rattle.std.specs.Prelude.{◌≡◌, ℕ, ◌+◌, ◌^◌, ◌<◌, ◌⊎◌, List, None, IsSome, ⊤}
+use Rattle.std.specs.Prelude.{◌≡◌, ℕ, ◌+◌, ◌^◌, ◌<◌, ◌⊎◌, List, length, None, IsSome, ⊤}
 use Rattle.sqlval.specs.Value.{Row}
 use Rattle.sqlval.specs.CodedLength.{row_length}
 use Rattle.store.specs.Contents as stored
@@ -43,6 +43,13 @@ abbrev pub IsOfRow : Row → AppendError → Type 0
 IsOfRow row (Space fault) = fault ≡ Memory
 IsOfRow row Record = 1000 < row_length row
 IsOfRow row Number = ⊥
+
+-- a refusal of rows that are numbered from `first` on: want of memory, the length of one, or that
+-- the numbers end
+abbrev pub IsOfRows : ℕ → List Row → AppendError → Type 0
+IsOfRows first rows (Space fault) = fault ≡ Memory
+IsOfRows first rows Record = HasLongRow rows
+IsOfRows first rows Number = 2 ^ 63 < first + length rows
 
 -- a refusal of one row that is put into a tree
 abbrev pub MayRefuseRow : (SpaceError → Type 0) → Type 0 → ℕ → ℕ → Row → AppendError → Type 0

@@ -3,20 +3,15 @@ ghost use Rattle.std.specs.Prelude.{◌≡◌, ◌++◌, ◌≤◌, ◌<◌, ℕ
 ghost use Rattle.std.specs.List.{enumerate_from};
 ghost use Rattle.sqlval.specs.CodedLength.{row_length};
 ghost use Rattle.store.specs.Contents as stored;
-ghost use Rattle.sqlrecord.specs.Key.{number_code};
 ghost use Rattle.sqlrecord.specs.Row.{row_code, IsCodeOf};
-ghost use Rattle.btree_read.specs.declared.entry.Entry.{Entry as AnyEntry};
-ghost use Rattle.btree_read.specs.Sorted.{put};
-ghost use Rattle.btree_read.specs.Tree.{IsTree};
-ghost use Rattle.btree.specs.Overfull.{IsNoTreeIn};
-ghost use Rattle.btree.specs.Written.{IsWritten};
 ghost use Rattle.btree.specs.Kept.{LosesNoPage};
-ghost use Rattle.tablestore.specs.Held.{HoldsRows};
-ghost use Rattle.tablestore.specs.Appended.{RowsWritten, HoldsNoRowsIn, MayRefuse, MayRefuseRow, NumbersEnd, IsOfRow};
+ghost use Rattle.tablestore.specs.Held.{row_entry, entries_of, AreKept, HoldsRows};
+ghost use Rattle.tablestore.specs.Appended.{RowsWritten, HoldsNoRowsIn, MayRefuse, NumbersEnd, IsOfRow, IsOfRows};
 
 use crate::AppendError;
 use crate::number::{NUMBERS, next_number};
-use btree::insert;
+use btree::insert_all;
+use btree_read::Entry;
 use denote::Row;
 use items::Items;
 use page_space::{PageSpace, SpaceError};
@@ -36,28 +31,35 @@ fn code_of(alloc: Global, row: &Row) -> Result<Items<u8>, AppendError>
     }
 }
 
-/// Puts a row into the tree at a root, and answers the root.
-fn put_row<S: PageSpace>(
-    space: &mut S,
-    alloc: Global,
-    root: u32,
-    number: u64,
-    row: &Row,
-) -> Result<u32, AppendError>
-    ensures put { (owned : List ℕ) (entries : List AnyEntry) → IsTree (S.pages space.old) root owned entries
-        → IfOk result (IsWritten (S.pages space.old) (S.pages space.new) owned (put (number_code number) (row_code row.now) entries)) }
+/// The entry of a row with this number.
+fn numbered_entry(alloc: Global, number: u64, row: &Row) -> Result<Entry, AppendError>
+    ensures entry { IfOk result (λ entry. entry ≡ row_entry (number, row.now)) }
     ensures coded { OnOk result (IsCodeOf (row_code row.now) row.now) }
-    ensures keeps { IfOk result (LosesNoPage (S.pages space.old) (S.pages space.new) root) }
-    ensures whole { OnOk result (S.is_whole space.old → S.is_whole space.new) }
-    ensures refusal { IfErr result (MayRefuseRow (S.at_limit space.new) (IsNoTreeIn (S.pages space.old) root (S.is_whole space.old)) (S.refused space.old) (S.refused space.new) row.now) }
-    ensures rising { S.refused space.old ≤ S.refused space.new }
-    ensures follows { S.follows space.old space.new }
+    ensures refusal { IfErr result (IsOfRow row.now) }
 {
-    let code = code_of(alloc, row)?;
-    match insert(space, alloc, root, &number.to_be_bytes(), code.as_slice()) {
-        Ok(root) => Ok(root),
-        Err(fault) => Err(AppendError::Space(fault)),
+    let value = code_of(alloc, row)?;
+    let key = Items::from_slice(alloc, &number.to_be_bytes())?;
+    Ok(Entry { key, value })
+}
+
+/// The entries of rows that are numbered from this number on. Refused for want of memory, where a
+/// row's code takes more than 1,000 bytes, and where the row numbers end, at 2^63.
+fn numbered_entries(alloc: Global, first: u64, rows: &[Row]) -> Result<Items<Entry>, AppendError>
+    ensures entries { IfOk result (λ entries. entries ≡ entries_of (enumerate_from first rows.now)) }
+    ensures kept { OnOk result (AreKept (enumerate_from first rows.now)) }
+    ensures refusal { IfErr result (IsOfRows first rows.now) }
+{
+    let mut entries = Items::new(alloc);
+    let mut number = first;
+    for row in rows {
+        if number >= NUMBERS {
+            return Err(AppendError::Number);
+        }
+        let entry = numbered_entry(alloc, number, row)?;
+        entries.push(entry)?;
+        number += 1;
     }
+    Ok(entries)
 }
 
 /// Puts rows behind those of the tree at a root, numbered on, and answers the root; root 0 is the
@@ -83,14 +85,10 @@ pub fn append<S: PageSpace>(
     ensures rising { S.refused space.old ≤ S.refused space.new }
     ensures follows { S.follows space.old space.new }
 {
-    let mut number = next_number(space, alloc, root)?;
-    let mut top = root;
-    for row in rows {
-        if number >= NUMBERS {
-            return Err(AppendError::Number);
-        }
-        top = put_row(space, alloc, top, number, row)?;
-        number += 1;
+    let first = next_number(space, alloc, root)?;
+    let entries = numbered_entries(alloc, first, rows)?;
+    match insert_all(space, alloc, root, entries.as_slice()) {
+        Ok(top) => Ok(top),
+        Err(fault) => Err(AppendError::Space(fault)),
     }
-    Ok(top)
 }

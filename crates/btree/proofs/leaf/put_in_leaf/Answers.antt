@@ -2,7 +2,7 @@ use Rattle.btree_read.proofs.NodeLemmas.{never_ok}
 use Rattle.std.proofs.Common.{◌≡◌, ◌∙◌, sym, ap, subst, map, IsSome}
 use Rattle.sqlrecord.specs.Build.{lent}
 use Rattle.btree_read.specs.Nodes.{entry_of}
-use Rattle.btree.proofs.CellLemmas.{stocked_put, put_in_written, entry_is}
+use Rattle.btree.proofs.CellLemmas.{stocked_put, spliced_in, put_in_written, entry_is}
 use Rattle.std.proofs.Common.{true}
 use Rattle.sqlrecord.specs.declared.kind.PageKind.TheVariants.{Leaf}
 use Rattle.sqlrecord.specs.Page.{AreCells}
@@ -15,8 +15,21 @@ use Rattle.btree.proofs.leaf.put_in_leaf.Goals as goal
 pub returns-clause-written : goal.returns-clause-written
 returns-clause-written g c =
     λ value cell small used stocked.
-    put_in_written _ _ _ _ _ _ _ _ c.link-2.ensures (c.place_of-at.ensures.put value _ (entry_is _ _ _ cell) ∙ ap (map entry_of) (sym (ap lent c.as_slice.ensures.value ∙ c.in_ok-cells.ensures.with)))
+    put_in_written _ _ _ _ _ _ _ _ c.link-link.ensures (c.place_of-at.ensures.put value _ (entry_is _ _ _ cell) ∙ ap (map entry_of) (sym (ap lent c.as_slice.ensures.value ∙ c.in_ok-cells.ensures.with)))
     (stocked_put c.args.leaf.now.link _ _ _ small stocked) (c.write_leaf.ensures.written used)
+
+pub splice_page-requires-clause-cells : goal.splice_page-requires-clause-cells
+splice_page-requires-clause-cells g c =
+    rw c.requires.leaf (are_with Leaf c.args.leaf.now.cells _ _ c.args.cell.now c.place_of-at.ensures.order c.place_of-at.ensures.within
+    (subst (λ k. AreCells k c.args.leaf.now.cells) c.requires.leaf c.len.ensures.cells) c.requires.cell
+    (λ i h. subst (λ k. precedes (key_at c.args.leaf.now.cells i) k ≡ true) (sym c.requires.key) (c.place_of-at.ensures.before i h))
+    (λ i h l. subst (λ k. precedes k (key_at c.args.leaf.now.cells i) ≡ true) (sym c.requires.key) (c.place_of-at.ensures.behind i h l)))
+
+pub returns-then-splice_page-clause-written : goal.returns-then-splice_page-clause-written
+returns-then-splice_page-clause-written g c =
+    λ value cell small used stocked.
+    spliced_in _ _ _ _ _ _ _ _ (c.splice_page.ensures.link c.if-splice_page.true ∙ c.link-link.ensures) (c.splice_page.ensures.cells c.if-splice_page.true) (c.place_of-at.ensures.put value _ (entry_is _ _ _ cell))
+    (stocked_put c.args.leaf.now.link _ _ _ small stocked) (c.in_ok-write_sound.ensures.node used) c.in_ok-write_sound.ensures.others
 
 pub write_leaf-requires : goal.write_leaf-requires
 write_leaf-requires g c =
@@ -33,16 +46,16 @@ returns-clause-refusal g c =
     c.write_leaf.ensures.refusal
 
 pub returns-in_err-cells-clause-written : goal.returns-in_err-cells-clause-written
-returns-in_err-cells-clause-written g c = λ value cell small used stocked. never_ok c.from_residual.result _ _ c.from_residual.ensures.1
+returns-in_err-cells-clause-written g c = λ value cell small used stocked. never_ok c.from_residual-in_err-cells.result _ _ c.from_residual-in_err-cells.ensures.1
 
 pub returns-in_err-cells-clause-small : goal.returns-in_err-cells-clause-small
-returns-in_err-cells-clause-small g c = never_ok c.from_residual.result _ _ c.from_residual.ensures.1
+returns-in_err-cells-clause-small g c = never_ok c.from_residual-in_err-cells.result _ _ c.from_residual-in_err-cells.ensures.1
 
 pub returns-in_err-cells-clause-whole : goal.returns-in_err-cells-clause-whole
-returns-in_err-cells-clause-whole g c = never_ok c.from_residual.result _ _ c.from_residual.ensures.1
+returns-in_err-cells-clause-whole g c = never_ok c.from_residual-in_err-cells.result _ _ c.from_residual-in_err-cells.ensures.1
 
 pub returns-in_err-cells-clause-refusal : goal.returns-in_err-cells-clause-refusal
-returns-in_err-cells-clause-refusal g c = memory_refused c.from_residual.result (g.S.PageSpace.at_limit c.args.space.now) _ _ _ c.from_residual.ensures.1
+returns-in_err-cells-clause-refusal g c = memory_refused c.from_residual-in_err-cells.result (g.S.PageSpace.at_limit c.args.space.now) _ _ _ c.from_residual-in_err-cells.ensures.1
 
 pub returns-in_err-cells-clause-follows : goal.returns-in_err-cells-clause-follows
 returns-in_err-cells-clause-follows g c = g.met.S.PageReader.follows_refl _
