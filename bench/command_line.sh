@@ -88,6 +88,39 @@ if ! cmp wanted.csv again.csv; then echo "a load: other rows"; failed=1; fi
 cp wanted.csv in
 check "a load of standard input" 0 "^00000 2$" "" load rows T -
 : > in
+printf "1,'a'\n2,'b'\n3,'c'\n" > three.csv
+printf "4,'d'\n5,'e'\n6,'a long text'\n" > long.csv
+check "a load by batches" 0 "^00000 3$" "" load --batch 2 rows T three.csv
+check "a load by batches that is refused" 1 "^ERROR 22001$" "^stopped behind 2 records$" load --batch=2 rows T long.csv
+check "what it left" 0 "^00000 9$" "" dump rows T nine.csv
+check "batches of no records" 2 "" "." load --batch 0 rows T three.csv
+# With a header, and fields that are written plainly.
+echo "CREATE TABLE P (A INTEGER, V VARCHAR(5), B INTEGER); COMMIT;" > in
+check "a table for plain fields" 0 "^00000$" "" run rows
+: > in
+printf 'V,A\nx,1\n,2\n"q""r",-3\n' > plain.csv
+check "a load with a header" 0 "^00000 3$" "" load --header --plain rows P plain.csv
+check "a dump with a header" 0 "^00000 3$" "" dump --header --plain rows P again.csv
+printf 'A,V,B\n-3,"q""r",\n1,x,\n2,,\n' > wanted.csv
+if ! cmp wanted.csv again.csv; then echo "a dump with a header: wrote something else"; failed=1; fi
+check "a load of what it wrote" 1 "^ERROR 22001$" "^stopped behind 2 records$" load --header --plain --batch 2 rows P <(cat wanted.csv; echo "4,too long,")
+check "a dump of plain fields" 0 "^00000 5$" "" dump --plain rows P again.csv
+printf 'V,Z\nx,1\n' > wrong.csv
+check "a header that names no column" 1 "^ERROR 42000 name$" "" load --header rows P wrong.csv
+printf 'V,v\nx,y\n' > wrong.csv
+check "a header that names one twice" 1 "^ERROR 42000 duplicate$" "" load --header rows P wrong.csv
+printf 'V,V,Z\nx,y,1\n' > wrong.csv
+check "a header with both faults" 1 "^ERROR 42000 name$" "" load --header rows P wrong.csv
+printf '1,x,y\n' > wrong.csv
+check "a plain field that is no integer" 1 "^ERROR 42000 field$" "" load --plain rows P wrong.csv
+printf '1,x,2,\n' > wrong.csv
+check "a field behind the last column" 1 "^ERROR 42000 columns$" "" load --plain rows P wrong.csv
+echo "INSERT INTO P VALUES (9, '', 9); COMMIT;" > in
+check "an empty text" 0 "^00000 1$" "" run rows
+: > in
+check "a dump that would lose it" 1 "^ERROR 42000 field$" "" dump --header --plain rows P lost.csv
+if [ -s lost.csv ]; then echo "a dump that would lose it: wrote something"; failed=1; fi
+check "options in another order" 2 "" "in this order" load --plain --header rows P plain.csv
 check "a load of no table" 1 "^ERROR 42000 name$" "" load rows U rows.csv
 check "a load of nothing" 0 "^02000 0$" "" load rows T in
 check "a load of no file" 3 "^ERROR X0002$" "" load rows T none/rows.csv

@@ -1,6 +1,6 @@
 -- What `sqlsh load` and `sqlsh dump` do over a store that was opened. All of this is our own
 -- choice.
-use Rattle.std.specs.Prelude.{◌≡◌, ◌≤◌, ℕ, Bool, true, false, List, Option, Some, None, IfSome, Result, Ok, Err}
+use Rattle.std.specs.Prelude.{◌≡◌, ◌≤◌, ◌++◌, ℕ, Bool, true, false, List, codes, decimal, Option, Some, None, IfSome, Result, Ok, Err}
 use Rattle.refusals.specs.declared.refusal.Refusal.{Refusal}
 use Rattle.refusals.specs.declared.refusal.Refusal.TheVariants.{Disk}
 use Rattle.lexer.specs.Token.{Bytes}
@@ -15,6 +15,7 @@ use Rattle.session_definitions.specs.Run.{MakesSession}
 use Rattle.session_definitions.specs.World.{World}
 use Rattle.shell.specs.Runs.{HasRefused, TellsBehind}
 use Rattle.shell.specs.Tells.{Tells}
+use Rattle.csvio.specs.Batches.{LoadsBatches}
 use Rattle.csvio.specs.Dumping.{Dumps}
 use Rattle.csvio.specs.Loading.{Loads}
 
@@ -27,6 +28,31 @@ pub data LoadsAlone (rules : Rules) (table : Bytes) (input : Option (List ℕ)) 
       → LoadsAlone rules table input old reply new
   loads : (s : ℕ) (begun : World) → MakesSession old (Ok s) begun → Loads rules begun s table input reply new
       → LoadsAlone rules table input old reply new
+
+-- A session is made, and in it the rows of the input are loaded by batches; or none is made, and
+-- the refusal of that is answered. So many rows stand committed.
+pub data LoadsBatchesAlone (rules : Rules) (table : Bytes) (most : ℕ) (input : Option (List ℕ)) (old : World) (reply : Reply) (committed : ℕ) (new : World) : Type 0 where
+  unmade : (refusal : Refusal) → MakesSession old (Err refusal) new → reply ≡ says.Refused refusal → committed ≡ 0
+      → LoadsBatchesAlone rules table most input old reply committed new
+  loads : (s : ℕ) (begun : World) → MakesSession old (Ok s) begun
+      → LoadsBatches rules begun s table most input reply committed new
+      → LoadsBatchesAlone rules table most input old reply committed new
+
+-- the line that says behind how many records a load by batches stopped
+abbrev pub note_text : ℕ → List ℕ
+note_text committed = codes "stopped behind " ++ (decimal committed ++ codes " records\n")
+
+-- nothing is said of a load that was not refused; of another that line, or a beginning of it
+pub data Notes (reply : Reply) (committed : ℕ) (held holds : Option (List ℕ)) : Type 0 where
+  silent : is_refusal reply ≡ false → holds ≡ held → Notes reply committed held holds
+  stopped : (whole : Bool) → is_refusal reply ≡ true → Writes held holds whole (note_text committed)
+      → Notes reply committed held holds
+
+-- It is loaded by batches, and a note says where that stopped.
+pub record LoadsNoted (rules : Rules) (table : Bytes) (most : ℕ) (input noted notes : Option (List ℕ)) (old : World) (reply : Reply) (new : World) : Type 0 where
+  pub committed : ℕ
+  pub loads : LoadsBatchesAlone rules table most input old reply committed new
+  pub says : Notes reply committed noted notes
 
 -- A session is made, and in it the table is dumped; or none is made, and the refusal of that is
 -- answered.

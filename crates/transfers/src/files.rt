@@ -4,21 +4,24 @@ ghost use Rattle.shell.specs.Status.{IsStatus};
 ghost use Rattle.transfers.specs.Transfers.{IsRefused};
 
 use crate::closing::without_csv;
+use crate::formed_files::formed_over_files;
 use crate::opening::opened_core;
-use crate::over_core::{dump_to_end, load_to_end};
+use crate::over_core::{dump_to_end, load_batches_to_end, load_to_end};
 use crate::words::{Transfer, Way};
 use disk::{Disk, DiskError, FileDisk};
 use paged_store::Paged;
 use refusals::Refusal;
+use remarks::{RecordReader, RecordWriter};
 use shell::{EndedRun, FAILED, is_output, is_same_file, opened_file, tell};
 use sqlcore::Core;
 use std::alloc::Global;
 use std::fs::{File, Files};
 use std::io;
 use std::io::{ErrorKind, Read, Write};
+use std::time::Clock;
 
 /// The word that stands for standard input.
-const INPUT: &str = "-";
+pub(crate) const INPUT: &str = "-";
 
 /// Does what the words of `sqlsh load` or `sqlsh dump` ask for, and answers the exit status. FILE
 /// is made where there is none; the CSV of a dump is made or emptied. FILE is opened first, and
@@ -27,13 +30,22 @@ const INPUT: &str = "-";
 /// anything is opened. Where FILE is standard output, nothing is said.
 ///
 /// What a command does over a store, `load_to_end` and `dump_to_end` say. That these files are
-/// opened and no other is tested: what a file is, no contract of the runtime says.
-pub fn run_transfer<P: Files<File = File> + AllocGlobal, R: Read + Drop, W: Write>(
+/// opened and no other is tested: what a file is, no contract of the runtime says. Behind how many
+/// records a load by batches stopped goes to the notes. Where it is asked for (`is_verbose`), the
+/// runtime's errors tell once a second how many records were read or written.
+pub fn run_transfer<
+    P: Files<File = File> + Eprint + Clock + AllocGlobal,
+    R: Read + Drop,
+    W: Write,
+    V: Write,
+>(
     rt: &P,
     asked: &Transfer<'_>,
+    is_verbose: bool,
     are_open: bool,
     input: R,
     writer: &mut W,
+    notes: &mut V,
 ) -> u8
     ensures status { IsStatus result }
     ensures closed { are_open ≡ false → IsRefused (W.contents writer.old) (W.contents writer.new) result }
@@ -45,7 +57,10 @@ pub fn run_transfer<P: Files<File = File> + AllocGlobal, R: Read + Drop, W: Writ
         return FAILED;
     }
     match opened_pages(rt.alloc(), opened_file(rt, asked.file), writer) {
-        Ok(core) => over_files(rt, asked, core, input, writer),
+        Ok(core) => {
+            let input = RecordReader::new(input, rt, is_verbose);
+            over_files(rt, asked, is_verbose, core, input, writer, notes)
+        }
         Err(status) => status,
     }
 }
@@ -77,25 +92,45 @@ fn opened_pages<D: Disk + Drop, W: Write>(
 }
 
 /// Opens the CSV, and does what is asked over the store of FILE.
-fn over_files<P: Files<File = File> + AllocGlobal, D: Disk + Drop, R: Read + Drop, W: Write>(
+fn over_files<
+    P: Files<File = File> + Eprint + Clock + AllocGlobal,
+    D: Disk + Drop,
+    R: Read + Drop,
+    W: Write,
+    V: Write,
+>(
     rt: &P,
     asked: &Transfer<'_>,
+    is_verbose: bool,
     core: Core<Paged<D>>,
     input: R,
     writer: &mut W,
+    notes: &mut V,
 ) -> u8
     ensures { IsStatus result }
 {
+    if asked.form.header || asked.form.plain {
+        return formed_over_files(rt, asked, is_verbose, core, input, writer, notes);
+    }
     match asked.way {
-        Way::Load => load_over_files(rt, asked, core, input, writer),
-        Way::Dump => dump_over_files(rt, asked, core, writer),
+        Way::Load => load_over_files(rt, asked, is_verbose, core, input, writer),
+        Way::LoadBatches(most) => batches_over_files(
+            rt, asked, is_verbose, most, core, input, writer, notes,
+        ),
+        Way::Dump => dump_over_files(rt, asked, is_verbose, core, writer),
     }
 }
 
 /// Loads from the CSV, or from standard input.
-fn load_over_files<P: Files<File = File> + AllocGlobal, D: Disk + Drop, R: Read + Drop, W: Write>(
+fn load_over_files<
+    P: Files<File = File> + Eprint + Clock + AllocGlobal,
+    D: Disk + Drop,
+    R: Read + Drop,
+    W: Write,
+>(
     rt: &P,
     asked: &Transfer<'_>,
+    is_verbose: bool,
     core: Core<Paged<D>>,
     input: R,
     writer: &mut W,
@@ -106,23 +141,54 @@ fn load_over_files<P: Files<File = File> + AllocGlobal, D: Disk + Drop, R: Read 
     if asked.csv == INPUT {
         return status_of(load_to_end(rt.alloc(), core, table, input, writer));
     }
-    match csv_to_read(rt, asked) {
+    match csv_to_read(rt, asked, is_verbose) {
         Ok(csv) => status_of(load_to_end(rt.alloc(), core, table, csv, writer)),
         Err(_) => status_of(without_csv(core, writer)),
     }
 }
 
-/// Dumps into the CSV.
-fn dump_over_files<P: Files<File = File> + AllocGlobal, D: Disk + Drop, W: Write>(
+/// Loads from the CSV, or from standard input, by batches.
+fn batches_over_files<
+    P: Files<File = File> + Eprint + Clock + AllocGlobal,
+    D: Disk + Drop,
+    R: Read + Drop,
+    W: Write,
+    V: Write,
+>(
     rt: &P,
     asked: &Transfer<'_>,
+    is_verbose: bool,
+    most: u32,
+    core: Core<Paged<D>>,
+    input: R,
+    writer: &mut W,
+    notes: &mut V,
+) -> u8
+    ensures { IsStatus result }
+{
+    let alloc = rt.alloc();
+    let table = asked.table.as_bytes();
+    if asked.csv == INPUT {
+        return status_of(load_batches_to_end(alloc, core, table, most, input, writer, notes));
+    }
+    match csv_to_read(rt, asked, is_verbose) {
+        Ok(csv) => status_of(load_batches_to_end(alloc, core, table, most, csv, writer, notes)),
+        Err(_) => status_of(without_csv(core, writer)),
+    }
+}
+
+/// Dumps into the CSV.
+fn dump_over_files<P: Files<File = File> + Eprint + Clock + AllocGlobal, D: Disk + Drop, W: Write>(
+    rt: &P,
+    asked: &Transfer<'_>,
+    is_verbose: bool,
     core: Core<Paged<D>>,
     writer: &mut W,
 ) -> u8
     ensures { IsStatus result }
 {
     let table = asked.table.as_bytes();
-    match csv_to_write(rt, asked) {
+    match csv_to_write(rt, asked, is_verbose) {
         Ok(csv) => {
             let mut csv = csv;
             status_of(dump_to_end(rt.alloc(), core, table, &mut csv, writer))
@@ -131,24 +197,40 @@ fn dump_over_files<P: Files<File = File> + AllocGlobal, D: Disk + Drop, W: Write
     }
 }
 
-/// The CSV, opened to be read; refused where it is FILE.
-fn csv_to_read<P: Files<File = File>>(rt: &P, asked: &Transfer<'_>) -> io::Result<File> {
+/// The CSV, opened to be read; refused where it is FILE. Where it is asked for, the records that were
+/// read are told.
+pub(crate) fn csv_to_read<'a, P: Files<File = File> + Eprint + Clock>(
+    rt: &'a P,
+    asked: &Transfer<'_>,
+    is_verbose: bool,
+) -> io::Result<RecordReader<File, &'a P>> {
     if is_same_file(rt, asked.file, asked.csv) {
         return Err(ErrorKind::InvalidInput.into());
     }
-    File::open(rt, asked.csv)
+    match File::open(rt, asked.csv) {
+        Ok(csv) => Ok(RecordReader::new(csv, rt, is_verbose)),
+        Err(error) => Err(error),
+    }
 }
 
-/// The CSV, made or emptied; refused where it is FILE.
-fn csv_to_write<P: Files<File = File>>(rt: &P, asked: &Transfer<'_>) -> io::Result<File> {
+/// The CSV, made or emptied; refused where it is FILE. Where it is asked for, the records that were
+/// written are told.
+pub(crate) fn csv_to_write<'a, P: Files<File = File> + Eprint + Clock>(
+    rt: &'a P,
+    asked: &Transfer<'_>,
+    is_verbose: bool,
+) -> io::Result<RecordWriter<File, &'a P>> {
     if is_same_file(rt, asked.file, asked.csv) {
         return Err(ErrorKind::InvalidInput.into());
     }
-    File::create(rt, asked.csv)
+    match File::create(rt, asked.csv) {
+        Ok(csv) => Ok(RecordWriter::new(csv, rt, is_verbose)),
+        Err(error) => Err(error),
+    }
 }
 
 /// The status of a command. What it hands back of its device ends here.
-fn status_of<D: Disk + Drop>(ended: EndedRun<Paged<D>>) -> u8
+pub(crate) fn status_of<D: Disk + Drop>(ended: EndedRun<Paged<D>>) -> u8
     ensures { result ≡ ended.status }
 {
     ended.status

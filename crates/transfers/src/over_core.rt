@@ -4,10 +4,11 @@ ghost use Rattle.session_definitions.specs.Rules.{Rules, AreRules};
 ghost use Rattle.sessions.specs.OfCore.{world_of};
 ghost use Rattle.scripts.specs.Settled.{IsKept, store_of};
 ghost use Rattle.shell.specs.Status.{IsStatus};
-ghost use Rattle.transfers.specs.Transfers.{Answers, DumpsAlone, HandsBack, LoadsAlone, Transfers, status_with};
+ghost use Rattle.transfers.specs.Transfers.{Answers, DumpsAlone, HandsBack, LoadsAlone, LoadsBatchesAlone, LoadsNoted, Transfers, status_with};
 
 use crate::closing::{Said, close_behind};
-use csvio::{dump, load};
+use crate::note::note;
+use csvio::{LoadedBatches, dump, load, load_batches};
 use replies::Reply;
 use shell::{EndedRun, FAILED, REFUSED, say};
 use sqlcore::Core;
@@ -35,6 +36,30 @@ pub fn load_to_end<S: Store, R: Read + Drop, W: Write>(
     let mut core = core;
     let reply = load_alone(alloc, &mut core, table, csv);
     let said = answer(&reply, writer);
+    close_behind(core, said, writer)
+}
+
+/// Does what `sqlsh load --batch` does over the store of a core in which no session stands: as
+/// where a table is loaded, but by batches of so many records; and where it was refused, says in a
+/// note behind how many records it stopped, which stay. A note that is refused changes nothing.
+pub fn load_batches_to_end<S: Store, R: Read + Drop, W: Write, V: Write>(
+    alloc: Global,
+    core: Core<S>,
+    table: &[u8],
+    most: u32,
+    csv: R,
+    writer: &mut W,
+    notes: &mut V,
+) -> EndedRun<S>
+    ensures status { IsStatus result.status }
+    ensures loads { 1 ≤ most → (rules : Rules) → AreRules rules → IsKept S.is_sound S.shows rules.check core
+        → Transfers (LoadsNoted rules table.now most (R.remaining csv) (V.contents notes.old) (V.contents notes.new)) S.saved rules.check (world_of S.shows core) (W.contents writer.old) (W.contents writer.new) result.status result.is_told result.device result.unclosed }
+    ensures handed { HandsBack S.settled S.calls_refused (λ core. S.refused (store_of core)) (S.refused (store_of core)) result.device result.unclosed }
+{
+    let mut core = core;
+    let loaded = load_batches_alone(alloc, &mut core, table, most, csv);
+    note(alloc, &loaded, notes);
+    let said = answer(&loaded.reply, writer);
     close_behind(core, said, writer)
 }
 
@@ -78,6 +103,29 @@ fn load_alone<S: Store, R: Read + Drop>(
     }
 }
 
+/// Loads a CSV into a table by batches, in a session that is made for it.
+fn load_batches_alone<S: Store, R: Read + Drop>(
+    alloc: Global,
+    core: &mut Core<S>,
+    table: &[u8],
+    most: u32,
+    csv: R,
+) -> LoadedBatches
+    ensures loads { 1 ≤ most → (rules : Rules) → AreRules rules → IsKept S.is_sound S.shows rules.check core.old
+        → LoadsBatchesAlone rules table.now most (R.remaining csv) (world_of S.shows core.old) result.reply result.committed (world_of S.shows core.new) }
+    ensures kept { (rules : Rules) → AreRules rules → IsKept S.is_sound S.shows rules.check core.old
+        → IsKept S.is_sound S.shows rules.check core.new }
+    ensures counts { S.refused (store_of core.old) ≤ S.refused (store_of core.new) }
+{
+    match core.new_session() {
+        Ok(session) => load_batches(alloc, core, session, table, most as usize, csv),
+        Err(refusal) => LoadedBatches {
+            reply: Reply::Refused(refusal),
+            committed: 0,
+        },
+    }
+}
+
 /// Dumps a table into a CSV, in a session that is made for it.
 fn dump_alone<S: Store, V: Write>(
     alloc: Global,
@@ -98,7 +146,7 @@ fn dump_alone<S: Store, V: Write>(
 }
 
 /// Prints a reply, and says what the exit status is by it.
-fn answer<W: Write>(reply: &Reply, writer: &mut W) -> Said
+pub(crate) fn answer<W: Write>(reply: &Reply, writer: &mut W) -> Said
     ensures answers { Answers reply.now result.status result.is_told (W.contents writer.old) (W.contents writer.new) }
     ensures status { IsStatus result.status }
 {

@@ -1,0 +1,19 @@
+use Rattle.std.proofs.Common.{refl}
+use Rattle.sessions.specs.OfCore.{world_of}
+use Rattle.scripts.proofs.Keeping.{kept_made}
+use Rattle.transfers.specs.Formed.{DumpsFormedAlone}
+use Rattle.transfers.proofs.over_core_formed.dump_alone.Goals as goal
+
+pub returns-in-Ok-clause-dumps : goal.returns-in-Ok-clause-dumps
+returns-in-Ok-clause-dumps g c = λ rules are kept.
+    let begun = c.new_session.new.self in
+    let kept_mid = kept_made g.S.Store.is_sound g.S.Store.shows rules c.in-Ok.session c.args.core.now begun (λ sound. c.in-Ok.ensures.makes sound) c.new_session.ensures.sound kept in
+    DumpsFormedAlone.dumps c.in-Ok.session.number (world_of g.S.Store.shows begun) (c.in-Ok.ensures.makes kept.sound) (c.dump_formed.ensures.dumps rules are kept_mid c.in-Ok.ensures.live.0)
+
+pub returns-in-Ok-clause-kept : goal.returns-in-Ok-clause-kept
+returns-in-Ok-clause-kept g c = λ rules are kept.
+    c.dump_formed.ensures.kept rules are
+    (kept_made g.S.Store.is_sound g.S.Store.shows rules c.in-Ok.session c.args.core.now c.new_session.new.self (λ sound. c.in-Ok.ensures.makes sound) c.new_session.ensures.sound kept)
+
+pub returns-in-Err-clause-dumps : goal.returns-in-Err-clause-dumps
+returns-in-Err-clause-dumps g c = λ rules are kept. DumpsFormedAlone.unmade c.in-Err.refusal (c.in-Err.ensures.makes kept.sound) refl refl

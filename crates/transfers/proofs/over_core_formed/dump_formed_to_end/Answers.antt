@@ -1,0 +1,25 @@
+use Rattle.sessions.specs.OfCore.{world_of}
+use Rattle.transfers.proofs.Closed.{closed_status, handed_since}
+use Rattle.transfers.proofs.over_core_formed.dump_formed_to_end.Goals as goal
+
+pub returns-clause-status : goal.returns-clause-status
+returns-clause-status g c = closed_status _ _ _ _ _ _ _ _ c.answer-said.ensures.status c.close_behind.ensures.closes
+
+pub returns-clause-dumps : goal.returns-clause-dumps
+returns-clause-dumps g c = λ rules are kept.
+    let end = c.dump_alone-reply.ensures.kept rules are kept in
+    record {
+      reply = c.dump_alone-reply.result;
+      end = world_of g.S.Store.shows c.dump_alone-reply.new.core;
+      was = _;
+      was_told = _;
+      mid = _;
+      done = c.dump_alone-reply.ensures.dumps rules are kept;
+      answers = c.answer-said.ensures.answers;
+      closes = c.close_behind.ensures.closes;
+      left = c.close_behind.ensures.saved end.sound;
+      good = end.good.last;
+    }
+
+pub returns-clause-handed : goal.returns-clause-handed
+returns-clause-handed g c = handed_since _ _ _ _ _ c.dump_alone-reply.ensures.counts _ _ c.close_behind.ensures.handed

@@ -1,0 +1,19 @@
+use Rattle.std.proofs.Common.{refl}
+use Rattle.sessions.specs.OfCore.{world_of}
+use Rattle.scripts.proofs.Keeping.{kept_made}
+use Rattle.transfers.specs.Formed.{LoadsFormedAlone}
+use Rattle.transfers.proofs.over_core_formed.load_alone.Goals as goal
+
+pub returns-in-Ok-clause-loads : goal.returns-in-Ok-clause-loads
+returns-in-Ok-clause-loads g c = λ rules are kept.
+    let begun = c.new_session.new.self in
+    let kept_mid = kept_made g.S.Store.is_sound g.S.Store.shows rules c.in-Ok.session c.args.core.now begun (λ sound. c.in-Ok.ensures.makes sound) c.new_session.ensures.sound kept in
+    LoadsFormedAlone.loads c.in-Ok.session.number (world_of g.S.Store.shows begun) (c.in-Ok.ensures.makes kept.sound) (c.load_formed.ensures.loads rules are kept_mid c.in-Ok.ensures.live.0)
+
+pub returns-in-Ok-clause-kept : goal.returns-in-Ok-clause-kept
+returns-in-Ok-clause-kept g c = λ rules are kept.
+    c.load_formed.ensures.kept rules are
+    (kept_made g.S.Store.is_sound g.S.Store.shows rules c.in-Ok.session c.args.core.now c.new_session.new.self (λ sound. c.in-Ok.ensures.makes sound) c.new_session.ensures.sound kept)
+
+pub returns-in-Err-clause-loads : goal.returns-in-Err-clause-loads
+returns-in-Err-clause-loads g c = λ rules are kept. LoadsFormedAlone.unmade c.in-Err.refusal (c.in-Err.ensures.makes kept.sound) refl
