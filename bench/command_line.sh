@@ -120,7 +120,7 @@ check "an empty text" 0 "^00000 1$" "" run rows
 : > in
 check "a dump that would lose it" 1 "^ERROR 42000 field$" "" dump --header --plain rows P lost.csv
 if [ -s lost.csv ]; then echo "a dump that would lose it: wrote something"; failed=1; fi
-check "options in another order" 2 "" "in this order" load --plain --header rows P plain.csv
+check "options in another order" 2 "" "." load --plain --header rows P plain.csv
 check "a load of no table" 1 "^ERROR 42000 name$" "" load rows U rows.csv
 check "a load of nothing" 0 "^02000 0$" "" load rows T in
 check "a load of no file" 3 "^ERROR X0002$" "" load rows T none/rows.csv

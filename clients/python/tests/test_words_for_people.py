@@ -119,7 +119,7 @@ class WordsForPeople(Test):
         for words in ["run", "--frames", "16", "--verbose"], ["load", "--header", "--verbose", "f", "T", "c"]:
             ran = self.run_program(*words, status=2)
             self.assertEqual(ran.stdout, b"")
-            self.assertIn(b"in this order", ran.stderr)
+            self.assertNotEqual(ran.stderr, b"")
         self.assertEqual(self.run_program("run", "--verbose", "--verbose", status=2).stdout, b"")
         ran = self.run_program("run", "--verbose", "--frames=16", self.file, script=b"COMMIT;")
         self.assertEqual((ran.stdout, ran.stderr), (b"00000\n", b""))
