@@ -4,7 +4,7 @@ use Rattle.sqlval.specs.declared.schema.Schema.{Schema}
 use Rattle.sqlval.specs.declared.schema.Table.{Table}
 use Rattle.sqlval.specs.declared.schema.Constraint.{Constraint}
 use Rattle.sqlval.specs.declared.schema.Rule.{Rule}
-use Rattle.sqlval.specs.declared.schema.Rule.TheVariants.{NotNull, PrimaryKey, Unique, Check}
+use Rattle.sqlval.specs.declared.schema.Rule.TheVariants.{NotNull, PrimaryKey, Unique, Check, ForeignKey}
 use Rattle.sqlval.specs.Schema.{table_place}
 use Rattle.algebra.specs.declared.tree.StoredTable.{StoredTable}
 
@@ -13,6 +13,7 @@ key_or (PrimaryKey columns) others = Some columns
 key_or (NotNull column) others = others
 key_or (Unique columns) others = others
 key_or (Check text) others = others
+key_or (ForeignKey reference) others = others
 
 -- the columns of the first PRIMARY KEY among these constraints
 abbrev pub primary_key : List Constraint → Option (List ℕ)

@@ -1,6 +1,6 @@
 -- The grammar of statements.
--- ISO/IEC 9075:1992, 6.1 <data type>, 11.3 <table definition>, 11.4 <column definition>, 11.6, 11.7
--- and 11.9 constraints, 11.18 <drop table statement>, 13.1 to 13.4 cursors and <order by clause>,
+-- ISO/IEC 9075:1992, 6.1 <data type>, 11.3 <table definition>, 11.4 <column definition>, 11.6 to
+-- 11.9 constraints, 11.18 <drop table statement>, 13.1 to 13.4 cursors and <order by clause>,
 -- 13.7 <delete>, 13.8 <insert>, 13.10 <update>, 14.1 <set transaction>, 14.3 <commit>, 14.4
 -- <rollback>. Our own choices: the types are INTEGER and VARCHAR, a source of VALUES and SET is an
 -- expression or NULL, SET TRANSACTION says READ ONLY or READ WRITE alone, DROP has no behaviour,
@@ -20,10 +20,12 @@ use Rattle.ast.specs.declared.statement.CreateIndex.{CreateIndex}
 use Rattle.ast.specs.declared.statement.CreateTable.{CreateTable}
 use Rattle.ast.specs.declared.statement.DeclareCursor.{DeclareCursor}
 use Rattle.ast.specs.declared.statement.Delete.{Delete}
+use Rattle.ast.specs.declared.statement.ForeignKey.{ForeignKey}
 use Rattle.ast.specs.declared.statement.Insert.{Insert}
 use Rattle.ast.specs.declared.statement.InsertRows.{InsertRows}
 use Rattle.ast.specs.declared.statement.InsertRows.TheVariants as rows
 use Rattle.ast.specs.declared.statement.OrderedQuery.{OrderedQuery}
+use Rattle.ast.specs.declared.statement.References.{References}
 use Rattle.ast.specs.declared.statement.SortColumn.{SortColumn}
 use Rattle.ast.specs.declared.statement.SortColumn.TheVariants as sort_column
 use Rattle.ast.specs.declared.statement.SortKey.{SortKey}
@@ -42,7 +44,7 @@ use Rattle.ast.specs.declared.statement.Update.{Update}
 use Rattle.ast.specs.Expressions.{Nested}
 use Rattle.ast.specs.Notation.{Rule, ◌⨾◌, ◌⊳◌, Parenthesized, Maybe, Written, Many, Listed, MaybeListed}
 use Rattle.ast.specs.Terminals.{IsName, IsNumber}
-use Rattle.ast.specs.Words.{ASC, BY, CHARACTER, CHECK, CLOSE, COMMIT, CONSTRAINT, CREATE, CURSOR, DECLARE, DELETE, DESC, DROP, EQUAL, EXPLAIN, FETCH, FOR, FROM, INDEX, INSERT, INT, INTEGER, INTO, KEY, NOT, NULL, ON, ONLY, OPEN, ORDER, PRIMARY, READ, ROLLBACK, SET, TABLE, TRANSACTION, UNIQUE, UPDATE, VALUES, VARCHAR, VARYING, WHERE, WORK, WRITE}
+use Rattle.ast.specs.Words.{ASC, BY, CHARACTER, CHECK, CLOSE, COMMIT, CONSTRAINT, CREATE, CURSOR, DECLARE, DELETE, DESC, DROP, EQUAL, EXPLAIN, FETCH, FOR, FOREIGN, FROM, INDEX, INSERT, INT, INTEGER, INTO, KEY, NOT, NULL, ON, ONLY, OPEN, ORDER, PRIMARY, READ, REFERENCES, ROLLBACK, SET, TABLE, TRANSACTION, UNIQUE, UPDATE, VALUES, VARCHAR, VARYING, WHERE, WORK, WRITE}
 
 -- names = name {, name}
 abbrev pub AreNames : Rule (List (List ℕ))
@@ -81,6 +83,14 @@ IsTypeName ts (type_name.CharacterVarying n) rest = (CHARACTER ⊳ VARYING ⊳ P
 abbrev pub IsConstraintName : Rule (Option (List ℕ))
 IsConstraintName = Maybe (CONSTRAINT ⊳ IsName)
 
+-- REFERENCES name [( names )]
+abbrev pub AreReferences : Rule References
+AreReferences ts x rest = (REFERENCES ⊳ IsName ⨾ MaybeListed (Parenthesized AreNames)) ts (x.table, x.columns) rest
+
+-- FOREIGN KEY ( names ) REFERENCES name [( names )]
+abbrev pub IsForeignKey : Rule ForeignKey
+IsForeignKey ts x rest = (FOREIGN ⊳ KEY ⊳ Parenthesized AreNames ⨾ AreReferences) ts (x.columns, x.references) rest
+
 -- over the rules of expressions, conditions and queries
 module _ (inner : Nested) where
   -- query [order]
@@ -91,12 +101,13 @@ module _ (inner : Nested) where
   abbrev pub IsFilter : Rule (Option Condition)
   IsFilter = Maybe (WHERE ⊳ inner.condition)
 
-  -- colrule = NOT NULL | PRIMARY KEY | UNIQUE | CHECK ( cond )
+  -- colrule = NOT NULL | PRIMARY KEY | UNIQUE | CHECK ( cond ) | REFERENCES name [( names )]
   abbrev pub IsColumnRule : Rule ColumnRule
   IsColumnRule ts column_rule.NotNull rest = ts ≡ NOT ∷ NULL ∷ rest
   IsColumnRule ts column_rule.PrimaryKey rest = ts ≡ PRIMARY ∷ KEY ∷ rest
   IsColumnRule ts column_rule.Unique rest = ts ≡ UNIQUE ∷ rest
   IsColumnRule ts (column_rule.Check x) rest = (CHECK ⊳ Parenthesized inner.condition) ts x rest
+  IsColumnRule ts (column_rule.References x) rest = AreReferences ts x rest
 
   -- [CONSTRAINT name] colrule
   abbrev pub IsColumnConstraint : Rule ColumnConstraint
@@ -106,11 +117,13 @@ module _ (inner : Nested) where
   abbrev pub IsColumnDefinition : Rule ColumnDefinition
   IsColumnDefinition ts x rest = (IsName ⨾ IsTypeName ⨾ Many IsColumnConstraint) ts (x.column, (x.type_name, x.constraints)) rest
 
-  -- tabrule = PRIMARY KEY ( names ) | UNIQUE ( names ) | CHECK ( cond )
+  -- tabrule = PRIMARY KEY ( names ) | UNIQUE ( names ) | CHECK ( cond ) | FOREIGN KEY ( names )
+  -- REFERENCES name [( names )]
   abbrev pub IsTableRule : Rule TableRule
   IsTableRule ts (table_rule.PrimaryKey x) rest = (PRIMARY ⊳ KEY ⊳ Parenthesized AreNames) ts x rest
   IsTableRule ts (table_rule.Unique x) rest = (UNIQUE ⊳ Parenthesized AreNames) ts x rest
   IsTableRule ts (table_rule.Check x) rest = (CHECK ⊳ Parenthesized inner.condition) ts x rest
+  IsTableRule ts (table_rule.ForeignKey x) rest = IsForeignKey ts x rest
 
   -- [CONSTRAINT name] tabrule
   abbrev pub IsTableConstraint : Rule TableConstraint

@@ -15,8 +15,9 @@ pub use operator::{
 };
 pub use statement::{
     AccessMode, Assignment, ColumnConstraint, ColumnDefinition, ColumnRule, CreateIndex,
-    CreateTable, DeclareCursor, Delete, Insert, InsertRows, OrderedQuery, SortColumn, SortKey,
-    Statement, StoredSource, TableConstraint, TableElement, TableRule, TypeName, Update,
+    CreateTable, DeclareCursor, Delete, ForeignKey, Insert, InsertRows, OrderedQuery, References,
+    SortColumn, SortKey, Statement, StoredSource, TableConstraint, TableElement, TableRule,
+    TypeName, Update,
 };
 pub use tree::{
     Addend, Condition, Conjunction, Expression, Factor, Join, Negation, Operand, Predicate,

@@ -98,6 +98,15 @@ pub enum ColumnRule {
     PrimaryKey,
     Unique,
     Check(Condition),
+    References(References),
+}
+
+/// REFERENCES: the table, and the columns that are listed behind it.
+#[derive(Drop)]
+pub struct References {
+    pub table: Name,
+    /// The columns listed; empty where none are written.
+    pub columns: Items<Name>,
 }
 
 /// A rule of the table, with a name where that is written.
@@ -114,6 +123,14 @@ pub enum TableRule {
     PrimaryKey(Items<Name>),
     Unique(Items<Name>),
     Check(Condition),
+    ForeignKey(ForeignKey),
+}
+
+/// FOREIGN KEY: columns of the table itself, at least one, and what they reference.
+#[derive(Drop)]
+pub struct ForeignKey {
+    pub columns: Items<Name>,
+    pub references: References,
 }
 
 /// CREATE INDEX: the index's name, its table and its columns.

@@ -8,8 +8,9 @@ use crate::parts::{Part, both, three};
 use crate::queries::copy_query;
 use ast::{
     Assignment, ColumnConstraint, ColumnDefinition, ColumnRule, Condition, CreateIndex,
-    CreateTable, DeclareCursor, Delete, Expression, Insert, InsertRows, OrderedQuery, Query,
-    SortColumn, SortKey, Statement, StoredSource, TableConstraint, TableElement, TableRule, Update,
+    CreateTable, DeclareCursor, Delete, Expression, ForeignKey, Insert, InsertRows, OrderedQuery,
+    Query, References, SortColumn, SortKey, Statement, StoredSource, TableConstraint, TableElement,
+    TableRule, Update,
 };
 use std::alloc::{AllocError, Global};
 
@@ -124,7 +125,17 @@ impl Part for ColumnRule {
             ColumnRule::PrimaryKey => Ok(ColumnRule::PrimaryKey),
             ColumnRule::Unique => Ok(ColumnRule::Unique),
             ColumnRule::Check(condition) => Ok(ColumnRule::Check(condition.copy(alloc)?)),
+            ColumnRule::References(references) => {
+                Ok(ColumnRule::References(references.copy(alloc)?))
+            }
         }
+    }
+}
+
+impl Part for References {
+    fn copy(&self, alloc: Global) -> Result<References, AllocError> {
+        let (table, columns) = both(self.table.copy(alloc), self.columns.copy(alloc))?;
+        Ok(References { table, columns })
     }
 }
 
@@ -141,7 +152,18 @@ impl Part for TableRule {
             TableRule::PrimaryKey(columns) => Ok(TableRule::PrimaryKey(columns.copy(alloc)?)),
             TableRule::Unique(columns) => Ok(TableRule::Unique(columns.copy(alloc)?)),
             TableRule::Check(condition) => Ok(TableRule::Check(condition.copy(alloc)?)),
+            TableRule::ForeignKey(key) => Ok(TableRule::ForeignKey(key.copy(alloc)?)),
         }
+    }
+}
+
+impl Part for ForeignKey {
+    fn copy(&self, alloc: Global) -> Result<ForeignKey, AllocError> {
+        let (columns, references) = both(self.columns.copy(alloc), self.references.copy(alloc))?;
+        Ok(ForeignKey {
+            columns,
+            references,
+        })
     }
 }
 

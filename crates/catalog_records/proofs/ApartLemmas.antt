@@ -10,13 +10,14 @@ use Rattle.sqlval.specs.declared.storing.ColumnType.TheVariants.{Integer, Varcha
 use Rattle.sqlval.specs.declared.schema.Table.{Table}
 use Rattle.sqlval.specs.declared.schema.Column.{Column}
 use Rattle.sqlval.specs.declared.schema.Constraint.{Constraint}
+use Rattle.sqlval.specs.declared.schema.Reference.{Reference}
 use Rattle.sqlval.specs.declared.schema.Rule.{Rule}
-use Rattle.sqlval.specs.declared.schema.Rule.TheVariants.{NotNull, PrimaryKey, Unique, Check}
+use Rattle.sqlval.specs.declared.schema.Rule.TheVariants.{NotNull, PrimaryKey, Unique, Check, ForeignKey}
 use Rattle.sqlval.specs.declared.schema.Index.{Index}
 use Rattle.catalog_records.specs.declared.record.Record.{Record}
 use Rattle.catalog_records.specs.Places.{next_place, places_text}
-use Rattle.catalog_records.specs.Records.{key_of, width_of, sort_of, detail_of, name_value, owner_number, table_record, column_record, constraint_record, index_record, table_records, schema_records}
-use Rattle.catalog_records.specs.Keepable.{ArePlaces, IsType, IsColumn, IsRule, IsConstraint, IsIndex, IsTable, AreTables}
+use Rattle.catalog_records.specs.Records.{key_of, width_of, sort_of, detail_of, others_of, referenced_values, name_value, owner_number, table_record, column_record, constraint_record, index_record, table_records, schema_records}
+use Rattle.catalog_records.specs.Keepable.{ArePlaces, IsType, IsColumn, IsReference, IsRule, IsConstraint, IsIndex, IsTable, AreTables}
 use Rattle.catalog_records.specs.Rows.{column_row, constraint_row, index_row, EndsAt, EndsTable}
 use Rattle.catalog_records.proofs.PlaceLemmas.{decimal_none, cut_same, at_comma}
 use Rattle.catalog_records.proofs.TableLemmas.{schema_ends, table_front, table_parts, table_is}
@@ -64,30 +65,48 @@ column_same c d h g e =
 one_place : (x y : ℕ) → x ∷ [] ≡ y ∷ [] → x ≡ y
 one_place x y e = cc
 
-rule_same : (r s : Rule) → IsRule r → IsRule s → sort_of r ≡ sort_of s → detail_of r ≡ detail_of s → r ≡ s
-rule_same (NotNull c) (NotNull d) h g sort e = ap NotNull (one_place c d (places_same (c ∷ []) (d ∷ []) (h, tt) (g, tt) e))
-rule_same (NotNull c) (PrimaryKey d) h g sort e = absurd (omega (arith, sort))
-rule_same (NotNull c) (Unique d) h g sort e = absurd (omega (arith, sort))
-rule_same (NotNull c) (Check d) h g sort e = absurd (omega (arith, sort))
-rule_same (PrimaryKey c) (NotNull d) h g sort e = absurd (omega (arith, sort))
-rule_same (PrimaryKey c) (PrimaryKey d) h g sort e = ap PrimaryKey (places_same c d h g e)
-rule_same (PrimaryKey c) (Unique d) h g sort e = absurd (omega (arith, sort))
-rule_same (PrimaryKey c) (Check d) h g sort e = absurd (omega (arith, sort))
-rule_same (Unique c) (NotNull d) h g sort e = absurd (omega (arith, sort))
-rule_same (Unique c) (PrimaryKey d) h g sort e = absurd (omega (arith, sort))
-rule_same (Unique c) (Unique d) h g sort e = ap Unique (places_same c d h g e)
-rule_same (Unique c) (Check d) h g sort e = absurd (omega (arith, sort))
-rule_same (Check c) (NotNull d) h g sort e = absurd (omega (arith, sort))
-rule_same (Check c) (PrimaryKey d) h g sort e = absurd (omega (arith, sort))
-rule_same (Check c) (Unique d) h g sort e = absurd (omega (arith, sort))
-rule_same (Check c) (Check d) h g sort e = ap Check e
+reference_same : (r s : Reference) → IsReference r → IsReference s → places_text r.columns ≡ places_text s.columns → referenced_values r ≡ referenced_values s → r ≡ s
+reference_same r s h g e f =
+    let columns = places_same r.columns s.columns h.columns g.columns e in
+    let names : r.table ≡ s.table = cc in
+    let placed : places_text r.referenced ≡ places_text s.referenced = cc in
+    let places = places_same r.referenced s.referenced h.referenced g.referenced placed in
+    λ i. record { columns = columns i; table = names i; referenced = places i }
+
+rule_same : (r s : Rule) → IsRule r → IsRule s → sort_of r ≡ sort_of s → detail_of r ≡ detail_of s → others_of r ≡ others_of s → r ≡ s
+rule_same (NotNull c) (NotNull d) h g sort e f = ap NotNull (one_place c d (places_same (c ∷ []) (d ∷ []) (h, tt) (g, tt) e))
+rule_same (NotNull c) (PrimaryKey d) h g sort e f = absurd (omega (arith, sort))
+rule_same (NotNull c) (Unique d) h g sort e f = absurd (omega (arith, sort))
+rule_same (NotNull c) (Check d) h g sort e f = absurd (omega (arith, sort))
+rule_same (PrimaryKey c) (NotNull d) h g sort e f = absurd (omega (arith, sort))
+rule_same (PrimaryKey c) (PrimaryKey d) h g sort e f = ap PrimaryKey (places_same c d h g e)
+rule_same (PrimaryKey c) (Unique d) h g sort e f = absurd (omega (arith, sort))
+rule_same (PrimaryKey c) (Check d) h g sort e f = absurd (omega (arith, sort))
+rule_same (Unique c) (NotNull d) h g sort e f = absurd (omega (arith, sort))
+rule_same (Unique c) (PrimaryKey d) h g sort e f = absurd (omega (arith, sort))
+rule_same (Unique c) (Unique d) h g sort e f = ap Unique (places_same c d h g e)
+rule_same (Unique c) (Check d) h g sort e f = absurd (omega (arith, sort))
+rule_same (Check c) (NotNull d) h g sort e f = absurd (omega (arith, sort))
+rule_same (Check c) (PrimaryKey d) h g sort e f = absurd (omega (arith, sort))
+rule_same (Check c) (Unique d) h g sort e f = absurd (omega (arith, sort))
+rule_same (Check c) (Check d) h g sort e f = ap Check e
+rule_same (ForeignKey c) (NotNull d) h g sort e f = absurd (omega (arith, sort))
+rule_same (ForeignKey c) (PrimaryKey d) h g sort e f = absurd (omega (arith, sort))
+rule_same (ForeignKey c) (Unique d) h g sort e f = absurd (omega (arith, sort))
+rule_same (ForeignKey c) (Check d) h g sort e f = absurd (omega (arith, sort))
+rule_same (ForeignKey c) (ForeignKey d) h g sort e f = ap ForeignKey (reference_same c d h g e f)
+rule_same (NotNull c) (ForeignKey d) h g sort e f = absurd (omega (arith, sort))
+rule_same (PrimaryKey c) (ForeignKey d) h g sort e f = absurd (omega (arith, sort))
+rule_same (Unique c) (ForeignKey d) h g sort e f = absurd (omega (arith, sort))
+rule_same (Check c) (ForeignKey d) h g sort e f = absurd (omega (arith, sort))
 
 constraint_same : (c d : Constraint) → IsConstraint c → IsConstraint d → constraint_row c ≡ constraint_row d → c ≡ d
 constraint_same c d h g e =
     let names : c.name ≡ d.name = cc in
     let sorts : sort_of c.rule ≡ sort_of d.rule = cc in
     let details : detail_of c.rule ≡ detail_of d.rule = cc in
-    let rules = rule_same c.rule d.rule h g sorts details in
+    let others : others_of c.rule ≡ others_of d.rule = cc in
+    let rules = rule_same c.rule d.rule h g sorts details others in
     λ i. record { name = names i; rule = rules i }
 
 name_same : (a b : Option (List ℕ)) → name_value a ≡ name_value b → a ≡ b

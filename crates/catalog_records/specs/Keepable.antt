@@ -8,8 +8,9 @@ use Rattle.sqlval.specs.declared.storing.ColumnType.TheVariants.{Integer, Varcha
 use Rattle.sqlval.specs.declared.schema.Table.{Table}
 use Rattle.sqlval.specs.declared.schema.Column.{Column}
 use Rattle.sqlval.specs.declared.schema.Constraint.{Constraint}
+use Rattle.sqlval.specs.declared.schema.Reference.{Reference}
 use Rattle.sqlval.specs.declared.schema.Rule.{Rule}
-use Rattle.sqlval.specs.declared.schema.Rule.TheVariants.{NotNull, PrimaryKey, Unique, Check}
+use Rattle.sqlval.specs.declared.schema.Rule.TheVariants.{NotNull, PrimaryKey, Unique, Check, ForeignKey}
 use Rattle.sqlval.specs.declared.schema.Index.{Index}
 
 -- a place is a number of 64 bits
@@ -24,11 +25,16 @@ IsType (Varchar n) = (0 < n) × (n < 256)
 abbrev pub IsColumn : Column → Type 0
 IsColumn column = IsType column.column_type
 
+pub record IsReference (reference : Reference) : Type 0 where
+  pub columns : ArePlaces reference.columns
+  pub referenced : ArePlaces reference.referenced
+
 abbrev pub IsRule : Rule → Type 0
 IsRule (NotNull column) = column < 2 ^ 64
 IsRule (PrimaryKey columns) = ArePlaces columns
 IsRule (Unique columns) = ArePlaces columns
 IsRule (Check text) = Unit {0}
+IsRule (ForeignKey reference) = IsReference reference
 
 abbrev pub IsConstraint : Constraint → Type 0
 IsConstraint constraint = IsRule constraint.rule
@@ -37,16 +43,18 @@ IsConstraint constraint = IsRule constraint.rule
 abbrev pub AreAmong : ℕ → List ℕ → Type 0
 AreAmong count places = AllByRecursion (λ place. place < count) places
 
--- the columns that a rule names by their places
-abbrev pub places_of : Rule → List ℕ
-places_of (NotNull column) = column ∷ []
-places_of (PrimaryKey columns) = columns
-places_of (Unique columns) = columns
-places_of (Check text) = []
+-- Whether a rule names by their places only columns of a table that has so many. A foreign key,
+-- which no text declares yet, is not kept.
+abbrev pub IsRuleOver : ℕ → Rule → Type 0
+IsRuleOver count (NotNull column) = column < count
+IsRuleOver count (PrimaryKey columns) = AreAmong count columns
+IsRuleOver count (Unique columns) = AreAmong count columns
+IsRuleOver count (Check text) = Unit {0}
+IsRuleOver count (ForeignKey reference) = ⊥
 
 -- a constraint and an index of a table with so many columns
 abbrev pub IsConstraintOver : ℕ → Constraint → Type 0
-IsConstraintOver count constraint = AreAmong count (places_of constraint.rule)
+IsConstraintOver count constraint = IsRuleOver count constraint.rule
 
 abbrev pub IsIndexOver : ℕ → Index → Type 0
 IsIndexOver count index = AreAmong count index.columns

@@ -9,8 +9,9 @@ use Rattle.sqlval.specs.declared.schema.Schema.{Schema}
 use Rattle.sqlval.specs.declared.schema.Table.{Table}
 use Rattle.sqlval.specs.declared.schema.Column.{Column}
 use Rattle.sqlval.specs.declared.schema.Constraint.{Constraint}
+use Rattle.sqlval.specs.declared.schema.Reference.{Reference}
 use Rattle.sqlval.specs.declared.schema.Rule.{Rule}
-use Rattle.sqlval.specs.declared.schema.Rule.TheVariants.{NotNull, PrimaryKey, Unique, Check}
+use Rattle.sqlval.specs.declared.schema.Rule.TheVariants.{NotNull, PrimaryKey, Unique, Check, ForeignKey}
 use Rattle.sqlval.specs.declared.schema.Index.{Index}
 use Rattle.catalog_records.specs.declared.record.Record.{Record}
 use Rattle.catalog_records.specs.Places.{places_text}
@@ -41,17 +42,31 @@ sort_of (NotNull column) = 1
 sort_of (PrimaryKey columns) = 2
 sort_of (Unique columns) = 3
 sort_of (Check text) = 4
+sort_of (ForeignKey reference) = 5
 
--- the columns' places, or the text of a CHECK's condition
+-- the places of its own columns, or the text of a CHECK's condition
 abbrev pub detail_of : Rule → List ℕ
 detail_of (NotNull column) = places_text (column ∷ [])
 detail_of (PrimaryKey columns) = places_text columns
 detail_of (Unique columns) = places_text columns
 detail_of (Check text) = text
+detail_of (ForeignKey reference) = places_text reference.columns
+
+-- behind that nothing, but of a foreign key the name of the table that it references, and the
+-- places of that table's columns
+abbrev pub referenced_values : Reference → List Value
+referenced_values reference = Text reference.table ∷ Text (places_text reference.referenced) ∷ []
+
+abbrev pub others_of : Rule → List Value
+others_of (NotNull column) = []
+others_of (PrimaryKey columns) = []
+others_of (Unique columns) = []
+others_of (Check text) = []
+others_of (ForeignKey reference) = referenced_values reference
 
 -- kind 2: a constraint, by its place from 1
 abbrev pub constraint_record : List ℕ → ℕ → Constraint → Record
-constraint_record name place c = record { key = key_of name 2 place; row = Text c.name ∷ counted (sort_of c.rule) ∷ Text (detail_of c.rule) ∷ [] }
+constraint_record name place c = record { key = key_of name 2 place; row = Text c.name ∷ counted (sort_of c.rule) ∷ Text (detail_of c.rule) ∷ others_of c.rule }
 
 -- an index that a constraint owns has no name
 abbrev pub name_value : Option (List ℕ) → Value

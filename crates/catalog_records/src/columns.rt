@@ -1,7 +1,7 @@
 //! Whether the places of constraints and indexes are those of columns.
 ghost use Rattle.std.specs.Prelude.{◌≡◌, ◌↔◌, IsTrue};
 ghost use Rattle.std.specs.List.{AllByRecursion};
-ghost use Rattle.catalog_records.specs.Keepable.{AreAmong, IsConstraintOver, IsIndexOver, places_of};
+ghost use Rattle.catalog_records.specs.Keepable.{AreAmong, IsConstraintOver, IsIndexOver, IsRuleOver};
 
 use sqlval::{Constraint, Index, Rule};
 
@@ -17,19 +17,20 @@ pub fn are_among(count: usize, places: &[usize]) -> bool
     true
 }
 
-/// Whether a rule names only places of so many columns.
+/// Whether a rule names only places of so many columns, and is no foreign key.
 fn is_rule_over(count: usize, rule: &Rule) -> bool
-    ensures { IsTrue result ↔ AreAmong count (places_of rule.now) }
+    ensures { IsTrue result ↔ IsRuleOver count rule.now }
 {
     match rule {
         Rule::NotNull(column) => *column < count,
         Rule::PrimaryKey(columns) => are_among(count, columns.as_slice()),
         Rule::Unique(columns) => are_among(count, columns.as_slice()),
         Rule::Check(_) => true,
+        Rule::ForeignKey(_) => false,
     }
 }
 
-/// Whether constraints name only places of so many columns.
+/// Whether constraints name only places of so many columns, and none is a foreign key.
 pub fn are_constraints_over(count: usize, constraints: &[Constraint]) -> bool
     ensures { IsTrue result ↔ AllByRecursion (IsConstraintOver count) constraints.now }
 {

@@ -1,21 +1,23 @@
 //! The parts of a table, each read from the row of its record.
-ghost use Rattle.std.specs.Prelude.{◌≡◌, ◌∷◌, ◌<◌, ◌^◌, ℕ, List, Option, IfOk, IsOk};
+ghost use Rattle.std.specs.Prelude.{◌≡◌, [], ◌∷◌, ◌<◌, ◌^◌, ℕ, List, Option, IfOk, IsOk};
 ghost use Rattle.sqlval.specs.declared.value.Value.{Value as AnyValue};
 ghost use Rattle.sqlval.specs.declared.storing.ColumnType.{ColumnType as AnyType};
 ghost use Rattle.sqlval.specs.declared.schema.Column.{Column as AnyColumn};
+ghost use Rattle.sqlval.specs.declared.schema.Reference.{Reference as AnyReference};
 ghost use Rattle.sqlval.specs.declared.schema.Rule.{Rule as AnyRule};
 ghost use Rattle.sqlval.specs.declared.schema.Constraint.{Constraint as AnyConstraint};
 ghost use Rattle.sqlval.specs.declared.schema.Index.{Index as AnyIndex};
-ghost use Rattle.catalog_records.specs.Records.{width_of, sort_of, detail_of, owner_number, name_value};
+ghost use Rattle.catalog_records.specs.Records.{width_of, sort_of, detail_of, others_of, referenced_values, owner_number, name_value};
 ghost use Rattle.catalog_records.specs.Given.{Gives, GivesFront};
-ghost use Rattle.catalog_records.specs.Keepable.{IsType, IsColumn, IsRule, IsConstraint, IsIndex};
+ghost use Rattle.catalog_records.specs.Places.{places_text};
+ghost use Rattle.catalog_records.specs.Keepable.{IsType, IsColumn, IsReference, IsRule, IsConstraint, IsIndex};
 ghost use Rattle.catalog_records.specs.Rows.{column_row, constraint_row, index_row};
 
 use crate::read_error::ReadError;
 use crate::read_places::places_of_text;
 use crate::values::{nothing_left, number_first, text_first};
 use items::Text;
-use sqlval::{Column, ColumnType, Constraint, Index, Rule, Value};
+use sqlval::{Column, ColumnType, Constraint, Index, Reference, Rule, Value};
 use std::alloc::Global;
 
 /// The type of a column: 0 is INTEGER, any other number up to 255 the n of VARCHAR(n).
@@ -49,13 +51,68 @@ pub(crate) fn column_in(alloc: Global, row: &[Value]) -> Result<Column, ReadErro
     Ok(Column { name, column_type })
 }
 
-/// The rule of this sort, with this text of its columns or its condition.
-fn rule_in(alloc: Global, sort: usize, detail: &Text) -> Result<Rule, ReadError>
+/// The rule of this sort, with this text of its columns or its condition, and these values behind
+/// it.
+#[tactic(auto, using(crate::proofs::RuleLemmas::no_others))]
+fn rule_in(alloc: Global, sort: usize, detail: &Text, others: &[Value]) -> Result<Rule, ReadError>
     ensures sort { IfOk result (λ rule. sort_of rule ≡ sort) }
     ensures detail { IfOk result (λ rule. detail_of rule ≡ detail.now) }
+    ensures others { IfOk result (λ rule. others_of rule ≡ others.now) }
     ensures kept { IfOk result IsRule }
     ensures again { (rule : AnyRule) → IsRule rule → sort_of rule ≡ sort → detail_of rule ≡ detail.now
-        → Gives result rule }
+        → others_of rule ≡ others.now → Gives result rule }
+{
+    if sort == 5 {
+        return foreign_key_in(alloc, detail, others);
+    }
+    nothing_left(others)?;
+    own_rule_in(alloc, sort, detail)
+}
+
+/// The foreign key with this text of its columns, and these values behind it.
+fn foreign_key_in(alloc: Global, detail: &Text, others: &[Value]) -> Result<Rule, ReadError>
+    ensures sort { IfOk result (λ rule. sort_of rule ≡ 5) }
+    ensures detail { IfOk result (λ rule. detail_of rule ≡ detail.now) }
+    ensures others { IfOk result (λ rule. others_of rule ≡ others.now) }
+    ensures kept { IfOk result IsRule }
+    ensures again { (reference : AnyReference) → IsReference reference → places_text reference.columns ≡ detail.now
+        → referenced_values reference ≡ others.now
+        → Gives result (AnyRule.ForeignKey reference) }
+{
+    let reference = reference_in(alloc, detail, others)?;
+    Ok(Rule::ForeignKey(reference))
+}
+
+/// What a foreign key with this text of its own columns references, by the values behind it: the
+/// name of a table, and the places of that table's columns.
+fn reference_in(alloc: Global, detail: &Text, others: &[Value]) -> Result<Reference, ReadError>
+    ensures detail { IfOk result (λ reference. places_text reference.columns ≡ detail.now) }
+    ensures others { IfOk result (λ reference. referenced_values reference ≡ others.now) }
+    ensures kept { IfOk result IsReference }
+    ensures again { (reference : AnyReference) → IsReference reference → places_text reference.columns ≡ detail.now
+        → referenced_values reference ≡ others.now → Gives result reference }
+{
+    let (table, rest) = text_first(others)?;
+    let (places, rest) = text_first(rest)?;
+    nothing_left(rest)?;
+    let columns = places_of_text(alloc, detail.as_slice())?;
+    let referenced = places_of_text(alloc, places.as_slice())?;
+    let table = table.copy(alloc)?;
+    Ok(Reference {
+        columns,
+        table,
+        referenced,
+    })
+}
+
+/// The rule of this sort, behind whose text of its columns or its condition nothing stands.
+fn own_rule_in(alloc: Global, sort: usize, detail: &Text) -> Result<Rule, ReadError>
+    ensures sort { IfOk result (λ rule. sort_of rule ≡ sort) }
+    ensures detail { IfOk result (λ rule. detail_of rule ≡ detail.now) }
+    ensures others { IfOk result (λ rule. others_of rule ≡ []) }
+    ensures kept { IfOk result IsRule }
+    ensures again { (rule : AnyRule) → IsRule rule → sort_of rule ≡ sort → detail_of rule ≡ detail.now
+        → others_of rule ≡ [] → Gives result rule }
 {
     match sort {
         1 => not_null_in(alloc, detail),
@@ -79,6 +136,7 @@ fn rule_in(alloc: Global, sort: usize, detail: &Text) -> Result<Rule, ReadError>
 fn not_null_in(alloc: Global, detail: &Text) -> Result<Rule, ReadError>
     ensures sort { IfOk result (λ rule. sort_of rule ≡ 1) }
     ensures detail { IfOk result (λ rule. detail_of rule ≡ detail.now) }
+    ensures others { IfOk result (λ rule. others_of rule ≡ []) }
     ensures kept { IfOk result IsRule }
     ensures again { (rule : AnyRule) → IsRule rule → sort_of rule ≡ 1 → detail_of rule ≡ detail.now
         → Gives result rule }
@@ -101,10 +159,9 @@ pub(crate) fn constraint_in(alloc: Global, row: &[Value]) -> Result<Constraint, 
 {
     let (name, rest) = text_first(row)?;
     let (sort, rest) = number_first(rest)?;
-    let (detail, rest) = text_first(rest)?;
-    nothing_left(rest)?;
+    let (detail, others) = text_first(rest)?;
+    let rule = rule_in(alloc, sort, detail, others)?;
     let name = name.copy(alloc)?;
-    let rule = rule_in(alloc, sort, detail)?;
     Ok(Constraint { name, rule })
 }
 

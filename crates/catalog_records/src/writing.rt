@@ -6,7 +6,7 @@ use crate::error::WriteError;
 use crate::places::text_of_places;
 use crate::record::Record;
 use items::{Items, Text};
-use sqlval::{Column, ColumnType, Constraint, Index, Rule, Table, Value};
+use sqlval::{Column, ColumnType, Constraint, Index, Reference, Rule, Table, Value};
 use std::alloc::{AllocError, Global};
 
 /// A number as a value.
@@ -88,10 +88,11 @@ fn sort_of(rule: &Rule) -> i64
         Rule::PrimaryKey(_) => 2,
         Rule::Unique(_) => 3,
         Rule::Check(_) => 4,
+        Rule::ForeignKey(_) => 5,
     }
 }
 
-/// And its columns, or the text of its condition.
+/// Behind its sort: its own columns, or the text of its condition.
 fn detail_of(alloc: Global, rule: &Rule) -> Result<Text, WriteError>
     ensures { IfOk result (λ text. text ≡ kept.detail_of rule.now) }
 {
@@ -100,7 +101,34 @@ fn detail_of(alloc: Global, rule: &Rule) -> Result<Text, WriteError>
         Rule::PrimaryKey(columns) => text_of_places(alloc, columns.as_slice()),
         Rule::Unique(columns) => text_of_places(alloc, columns.as_slice()),
         Rule::Check(text) => Ok(text.copy(alloc)?),
+        Rule::ForeignKey(reference) => text_of_places(alloc, reference.columns.as_slice()),
     }
+}
+
+/// Behind that: of a foreign key the table that it references, and that table's columns.
+fn put_others(alloc: Global, row: &mut Items<Value>, rule: &Rule) -> Result<(), WriteError>
+    ensures { OnOk result (row.new ≡ row.old ++ kept.others_of rule.now) }
+{
+    match rule {
+        Rule::NotNull(_) => Ok(()),
+        Rule::PrimaryKey(_) => Ok(()),
+        Rule::Unique(_) => Ok(()),
+        Rule::Check(_) => Ok(()),
+        Rule::ForeignKey(reference) => put_referenced(alloc, row, reference),
+    }
+}
+
+fn put_referenced(
+    alloc: Global,
+    row: &mut Items<Value>,
+    reference: &Reference,
+) -> Result<(), WriteError>
+    ensures { OnOk result (row.new ≡ row.old ++ kept.referenced_values reference.now) }
+{
+    row.push(Value::Text(reference.table.copy(alloc)?))?;
+    let places = text_of_places(alloc, reference.referenced.as_slice())?;
+    row.push(Value::Text(places))?;
+    Ok(())
 }
 
 /// The record of a constraint at this place of a table, from 1.
@@ -119,6 +147,7 @@ pub fn constraint_record(
     let sort = Value::Int(sort_of(&constraint.rule));
     let mut row = list_of(alloc, Value::Text(constraint.name.copy(alloc)?), sort)?;
     row.push(Value::Text(detail_of(alloc, &constraint.rule)?))?;
+    put_others(alloc, &mut row, &constraint.rule)?;
     Ok(Record { key, row })
 }
 

@@ -19,7 +19,8 @@ use Rattle.typing.specs.declared.typed.Expression.{Expression}
 use Rattle.typing.specs.declared.typed.Expression.TheVariants as typed
 use Rattle.typing.specs.Finding.{Finding, ◌>>=◌, before, each, reasons_in}
 use Rattle.typing.specs.Insert.{Target, stored_as, targets_from}
-use Rattle.typing.specs.Known.{Known, KnownTable}
+use Rattle.typing.specs.Known.{Known}
+use Rattle.typing.specs.declared.known.KnownTable.{KnownTable}
 use Rattle.typing.specs.Table.{table_found, type_in}
 use Rattle.denote.specs.Database.{Name}
 use Rattle.session_definitions.specs.InsertedRows.{insert_of_rows, source_of, values_in_row}

@@ -1,6 +1,8 @@
 -- What follows from the parts of a change that are found.
-use Rattle.std.specs.Prelude.{ℕ, List, [], ◌∷◌, map, Option, Some, None, Ok}
+use Rattle.std.specs.Prelude.{ℕ, Bool, not, ◌&&◌, List, [], ◌∷◌, map, Option, Some, None, Ok}
 use Rattle.sqlval.specs.declared.schema.Column.{Column}
+use Rattle.sqlval.specs.declared.schema.Table.{Table}
+use Rattle.sqlval.specs.Schema.{same_name}
 use Rattle.sqlval.specs.declared.value.ValueType.{ValueType}
 use Rattle.ast.specs.declared.statement.Delete.{Delete as DeleteTree}
 use Rattle.ast.specs.declared.statement.StoredSource.{StoredSource}
@@ -22,7 +24,8 @@ use Rattle.typing.specs.declared.statement.Update.{Update}
 use Rattle.typing.specs.Finding.{Finding, ◌>>=◌, also}
 use Rattle.typing.specs.Index.{room_for_one}
 use Rattle.typing.specs.Insert.{Target, source_found, stored_as, targets_found}
-use Rattle.typing.specs.Known.{Known, KnownTable, place_in}
+use Rattle.typing.specs.Known.{Known, place_in, references}
+use Rattle.typing.specs.declared.known.KnownTable.{KnownTable}
 use Rattle.typing.specs.Scope.{Scope}
 use Rattle.typing.specs.SetOperator.{agreeing, types_of}
 use Rattle.typing.specs.Table.{as_found, frame_of, places_named, table_found}
@@ -31,6 +34,12 @@ use Rattle.typing.specs.Update.{changes_found, filter_found}
 -- what is written and found
 abbrev pub written : {A : Type 0} → Finding A → Finding (Option A)
 written found = found >>= (λ x. Ok (Some x))
+
+-- ---- tables
+
+-- whether this is another table, with a foreign key that references the one of this name
+abbrev pub is_referring : List ℕ → Table → Bool
+is_referring name table = not (same_name table.name name) && references name table.constraints
 
 -- ---- indexes
 

@@ -78,6 +78,7 @@ module _ (shows : TruthsShow) (described : List ℕ → StoredTable) (names : (n
       by n (rule.NotNull column) h = h
       by n (rule.PrimaryKey columns) h = h
       by n (rule.Unique columns) h = h
+      by n (rule.ForeignKey reference) h = h
       by n (rule.Check text) h =
           (λ i. named_if (at_rows (reading name u.columns text) i) n (h i))
           ∙ split (list_any (λ (row : Row). is_false (check_at (reading name u.columns text) row)) u.rows) (record { name = n; rule = rule.Check text })

@@ -22,6 +22,7 @@ module _ (P : List ℕ → Type 0) (k : Constraint) (ks : List Constraint) where
       at (rule.PrimaryKey columns) e = rest
       at (rule.Unique columns) e = rest
       at (rule.Check text) e = All-cons P text (kept_texts ks) (h text e) rest
+      at (rule.ForeignKey reference) e = rest
 
   pub kept_rest : All P (kept_texts (k ∷ ks)) → All P (kept_texts ks)
   kept_rest all = at k.rule all
@@ -31,6 +32,7 @@ module _ (P : List ℕ → Type 0) (k : Constraint) (ks : List Constraint) where
       at (rule.PrimaryKey columns) h = h
       at (rule.Unique columns) h = h
       at (rule.Check text) h = All-tail P text (kept_texts ks) h
+      at (rule.ForeignKey reference) h = h
 
   pub kept_here : (text : List ℕ) → k.rule ≡ rule.Check text → All P (kept_texts (k ∷ ks)) → P text
   kept_here text e all = All-head P text (kept_texts ks) (subst (λ (r : Rule). All P (text_in r ++ kept_texts ks)) e all)
@@ -79,3 +81,4 @@ module _ (reading : CheckReading) (name : Name) (columns : List Column) (ks : Li
       at (rule.PrimaryKey places) e = refl
       at (rule.Unique places) e = refl
       at (rule.Check text) e = absurd (none text e)
+      at (rule.ForeignKey reference) e = refl

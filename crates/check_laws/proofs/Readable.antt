@@ -39,11 +39,13 @@ column_parts column_rule.NotNull = refl
 column_parts column_rule.PrimaryKey = refl
 column_parts column_rule.Unique = refl
 column_parts (column_rule.Check x) = refl
+column_parts (column_rule.References x) = refl
 
 table_parts : (x : TableRule) → part.table_rule_parts x ≡ map part.condition (table_checks x)
 table_parts (table_rule.PrimaryKey x) = refl
 table_parts (table_rule.Unique x) = refl
 table_parts (table_rule.Check x) = refl
+table_parts (table_rule.ForeignKey x) = refl
 
 columns_parts : (xs : List ColumnConstraint) → flat_map (λ c. part.column_rule_parts c.rule) xs ≡ map part.condition (flat_map (λ c. column_checks c.rule) xs)
 columns_parts [] = refl

@@ -11,7 +11,7 @@ use Rattle.std.specs.declared.cmp.Ordering.TheVariants.{Less, Equal, Greater}
 use Rattle.std.proofs.lemmas.Cmp.{int_eq_equiv}
 use Rattle.std.proofs.lemmas.List.Folds.{list_any-append}
 use Rattle.sqlval.specs.declared.schema.Rule.{Rule}
-use Rattle.sqlval.specs.declared.schema.Rule.TheVariants.{NotNull, PrimaryKey, Unique, Check}
+use Rattle.sqlval.specs.declared.schema.Rule.TheVariants.{NotNull, PrimaryKey, Unique, Check, ForeignKey}
 use Rattle.sqlval.specs.declared.schema.Table as declared
 use Rattle.sqlval.specs.declared.truth.Truth.TheVariants.{True}
 use Rattle.sqlval.specs.declared.value.Value.{Value}
@@ -141,6 +141,7 @@ meets_rule (NotNull column) old new = false
 meets_rule (PrimaryKey columns) old new = meets columns old new
 meets_rule (Unique columns) old new = meets columns old new
 meets_rule (Check text) old new = false
+meets_rule (ForeignKey reference) old new = false
 
 six : (a b c d e : Bool) → ((a || b) || (c || (d || e))) ≡ ((a || c) || ((b || d) || e))
 six true b c d e = refl
@@ -162,6 +163,7 @@ module _ (reading : CheckReading) (name : Name) (d : declared.Table) (old new : 
       list_any-append (λ (row : Row). is_false (check_at (reading name d.columns text) row)) old new
       ∙ ap (λ b. list_any (λ (row : Row). is_false (check_at (reading name d.columns text) row)) old || b)
       (or-false (list_any (λ (row : Row). is_false (check_at (reading name d.columns text) row)) new))
+  rule-behind (ForeignKey reference) = refl
 
 -- of a rule that asks for a key, and of one that asks for none
 pub asked-met : (r : Rule) (columns : List ℕ) (old new : List Row) → columns_of_key r ≡ Some columns → meets_rule r old new ≡ meets columns old new
@@ -169,9 +171,11 @@ asked-met (NotNull column) columns old new e = absurd (cc e)
 asked-met (PrimaryKey own) columns old new e = let same : own ≡ columns = same_some own columns e in ap (λ c. meets c old new) same
 asked-met (Unique own) columns old new e = let same : own ≡ columns = same_some own columns e in ap (λ c. meets c old new) same
 asked-met (Check text) columns old new e = absurd (cc e)
+asked-met (ForeignKey reference) columns old new e = absurd (cc e)
 
 pub unasked-met : (r : Rule) (old new : List Row) → columns_of_key r ≡ None → meets_rule r old new ≡ false
 unasked-met (NotNull column) old new e = refl
 unasked-met (PrimaryKey own) old new e = absurd (cc e)
 unasked-met (Unique own) old new e = absurd (cc e)
 unasked-met (Check text) old new e = refl
+unasked-met (ForeignKey reference) old new e = refl

@@ -3,7 +3,7 @@ use Rattle.std.proofs.Common.{◌≡◌, refl, ℕ, zero, suc, ◌<◌, Bool, tr
 use Rattle.std.specs.Prelude.{Contains, filter}
 use Rattle.sqlval.specs.declared.schema.Constraint.{Constraint}
 use Rattle.sqlval.specs.declared.schema.Rule.{Rule}
-use Rattle.sqlval.specs.declared.schema.Rule.TheVariants.{NotNull, PrimaryKey, Unique, Check}
+use Rattle.sqlval.specs.declared.schema.Rule.TheVariants.{NotNull, PrimaryKey, Unique, Check, ForeignKey}
 use Rattle.denote.specs.Database.{Name, Table, CheckReading, is_violated, violated_by}
 use Rattle.constraints.specs.Rules.{breaks_rule, broken, is_check_rule, has_checks, broken_checks}
 
@@ -34,6 +34,7 @@ broken_too reading name u (NotNull column) e = e
 broken_too reading name u (PrimaryKey columns) e = e
 broken_too reading name u (Unique columns) e = e
 broken_too reading name u (Check text) e = absurd (cc e)
+broken_too reading name u (ForeignKey reference) e = absurd (cc e)
 
 pub is_broken_too : (reading : CheckReading) (name : Name) (u : Table) (n : Name) → Contains (broken u.constraints u.rows) n → Contains (violated_by reading name u) n
 is_broken_too reading name u n h =
@@ -44,6 +45,7 @@ check_too reading name u (NotNull column) e = absurd (cc e)
 check_too reading name u (PrimaryKey columns) e = absurd (cc e)
 check_too reading name u (Unique columns) e = absurd (cc e)
 check_too reading name u (Check text) e = e
+check_too reading name u (ForeignKey reference) e = absurd (cc e)
 
 pub is_check_broken_too : (reading : CheckReading) (name : Name) (u : Table) (n : Name) → Contains (broken_checks reading name u) n → Contains (violated_by reading name u) n
 is_check_broken_too reading name u n h =
@@ -55,6 +57,7 @@ either_rule : (reading : CheckReading) (name : Name) (u : Table) (r : Rule) → 
 either_rule reading name u (NotNull column) = refl
 either_rule reading name u (PrimaryKey columns) = refl
 either_rule reading name u (Unique columns) = refl
+either_rule reading name u (ForeignKey reference) = refl
 either_rule reading name u (Check text) = or_false (is_violated reading name u (Check text))
   where
     or_false : (b : Bool) → b ≡ (b || false)

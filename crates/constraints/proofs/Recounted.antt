@@ -7,7 +7,7 @@ use Rattle.std.specs.Option.{option_map}
 use Rattle.std.specs.Cmp.Lexicographic.{pointwise}
 use Rattle.sqlval.specs.declared.schema.Constraint.{Constraint}
 use Rattle.sqlval.specs.declared.schema.Rule.{Rule}
-use Rattle.sqlval.specs.declared.schema.Rule.TheVariants.{NotNull, PrimaryKey, Unique, Check}
+use Rattle.sqlval.specs.declared.schema.Rule.TheVariants.{NotNull, PrimaryKey, Unique, Check, ForeignKey}
 use Rattle.sqlval.specs.declared.schema.Table as declared
 use Rattle.sqlval.specs.declared.value.Value.{Value}
 use Rattle.sqlval.specs.Matching.{is_equal, key_of, matches}
@@ -68,6 +68,7 @@ rule-permutes reading name d xs ys h (PrimaryKey columns) =
     rw (any-permutes (λ (row : Row). list_any is_null (key_of columns row)) xs ys h, twins-permutes columns xs ys h) refl
 rule-permutes reading name d xs ys h (Unique columns) = twins-permutes columns xs ys h
 rule-permutes reading name d xs ys h (Check text) = any-permutes (λ (row : Row). is_false (check_at (reading name d.columns text) row)) xs ys h
+rule-permutes reading name d xs ys h (ForeignKey reference) = refl
 
 -- ---- how many are found
 
@@ -202,6 +203,7 @@ twins-violate reading name d rows (PrimaryKey own) columns asked e =
     either-true (has_null own rows) (has_twins own rows) (ap (λ cs. has_twins cs rows) same ∙ e)
 twins-violate reading name d rows (Unique own) columns asked e = let same : own ≡ columns = some_one own columns asked in ap (λ cs. has_twins cs rows) same ∙ e
 twins-violate reading name d rows (Check text) columns asked e = absurd (cc asked)
+twins-violate reading name d rows (ForeignKey reference) columns asked e = absurd (cc asked)
 
 module _ (reading : CheckReading) (name : Name) (d : declared.Table) (table : StoredTable) (others new : List Row) (indexes : map index_of d.indexes ≡ table.indexes)
     (order : Permutes (others ++ new) (rows_of table.entries)) where

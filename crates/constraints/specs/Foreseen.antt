@@ -9,7 +9,7 @@ use Rattle.std.specs.Cmp.Lexicographic.{pointwise}
 use Rattle.sqlval.specs.declared.schema.Constraint.{Constraint}
 use Rattle.sqlval.specs.declared.schema.Index.{Index}
 use Rattle.sqlval.specs.declared.schema.Rule.{Rule}
-use Rattle.sqlval.specs.declared.schema.Rule.TheVariants.{NotNull, PrimaryKey, Unique, Check}
+use Rattle.sqlval.specs.declared.schema.Rule.TheVariants.{NotNull, PrimaryKey, Unique, Check, ForeignKey}
 use Rattle.sqlval.specs.Matching.{key_of, matches}
 use Rattle.sqlval.specs.Value.{Row}
 use Rattle.denote.specs.Bag.{Permutes}
@@ -40,6 +40,7 @@ columns_of_key (NotNull column) = None
 columns_of_key (PrimaryKey columns) = Some columns
 columns_of_key (Unique columns) = Some columns
 columns_of_key (Check text) = None
+columns_of_key (ForeignKey reference) = None
 
 abbrev pub same_columns : List ℕ → List ℕ → Bool
 same_columns = pointwise nat_eq

@@ -4,16 +4,17 @@ use Rattle.std.specs.Prelude.{Bool, true, false, ◌&&◌, ◌||◌, List, [], �
 use Rattle.std.specs.List.{list_any}
 use Rattle.sqlval.specs.declared.schema.Constraint.{Constraint}
 use Rattle.sqlval.specs.declared.schema.Rule.{Rule}
-use Rattle.sqlval.specs.declared.schema.Rule.TheVariants.{NotNull, PrimaryKey, Unique, Check}
+use Rattle.sqlval.specs.declared.schema.Rule.TheVariants.{NotNull, PrimaryKey, Unique, Check, ForeignKey}
 use Rattle.sqlval.specs.Value.{Row}
 use Rattle.denote.specs.Database.{Name, Table, CheckReading, has_null, has_twins, is_violated}
 
--- whether these rows violate a rule that is no CHECK
+-- whether these rows violate a rule that a table decides alone and that is no CHECK
 abbrev pub breaks_rule : List Row → Rule → Bool
 breaks_rule rows (NotNull column) = has_null (column ∷ []) rows
 breaks_rule rows (PrimaryKey columns) = has_null columns rows || has_twins columns rows
 breaks_rule rows (Unique columns) = has_twins columns rows
 breaks_rule rows (Check text) = false
+breaks_rule rows (ForeignKey reference) = false
 
 -- the names of the constraints that these rows violate, but for CHECKs
 abbrev pub broken : List Constraint → List Row → List Name
@@ -24,6 +25,7 @@ is_check_rule (NotNull column) = false
 is_check_rule (PrimaryKey columns) = false
 is_check_rule (Unique columns) = false
 is_check_rule (Check text) = true
+is_check_rule (ForeignKey reference) = false
 
 abbrev pub has_checks : List Constraint → Bool
 has_checks = list_any (λ c. is_check_rule c.rule)

@@ -46,6 +46,7 @@ fn is_check(rule: &Rule) -> bool
         Rule::PrimaryKey(_) => false,
         Rule::Unique(_) => false,
         Rule::Check(_) => true,
+        Rule::ForeignKey(_) => false,
     }
 }
 
@@ -78,6 +79,7 @@ fn is_broken(alloc: Global, rule: &Rule, rows: &[Row]) -> Result<bool, AllocErro
         }
         Rule::Unique(columns) => any_twins(alloc, columns.as_slice(), rows),
         Rule::Check(_) => Ok(false),
+        Rule::ForeignKey(_) => Ok(false),
     }
 }
 

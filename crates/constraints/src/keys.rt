@@ -46,6 +46,7 @@ pub fn key_columns(rule: &Rule) -> Option<&[usize]>
         Rule::PrimaryKey(columns) => Some(columns.as_slice()),
         Rule::Unique(columns) => Some(columns.as_slice()),
         Rule::Check(_) => None,
+        Rule::ForeignKey(_) => None,
     }
 }
 

@@ -7,7 +7,7 @@ use Rattle.std.specs.List.{filter_map}
 use Rattle.std.specs.FinMap.{get, insert, remove, entries, from_entries}
 use Rattle.sqlval.specs.declared.truth.Truth.TheVariants.{True}
 use Rattle.sqlval.specs.declared.schema.Rule.{Rule}
-use Rattle.sqlval.specs.declared.schema.Rule.TheVariants.{NotNull, PrimaryKey, Unique, Check}
+use Rattle.sqlval.specs.declared.schema.Rule.TheVariants.{NotNull, PrimaryKey, Unique, Check, ForeignKey}
 use Rattle.sqlval.specs.Schema.{is_named}
 use Rattle.sqlval.specs.Truth.{same_truth}
 use Rattle.sqlval.specs.Value.{Row}
@@ -105,6 +105,7 @@ owned_index (NotNull column) = None
 owned_index (PrimaryKey columns) = Some (record { name = None; columns = columns })
 owned_index (Unique columns) = Some (record { name = None; columns = columns })
 owned_index (Check text) = None
+owned_index (ForeignKey reference) = None
 
 abbrev pub created : CreateTable → Table
 created c = record { columns = c.columns; constraints = c.constraints; indexes = filter_map (λ k. owned_index k.rule) c.constraints; rows = [] }

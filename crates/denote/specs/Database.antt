@@ -6,7 +6,7 @@ use Rattle.std.specs.FinMap.{FinMap, get}
 use Rattle.sqlval.specs.declared.schema.Column.{Column}
 use Rattle.sqlval.specs.declared.schema.Constraint.{Constraint}
 use Rattle.sqlval.specs.declared.schema.Rule.{Rule}
-use Rattle.sqlval.specs.declared.schema.Rule.TheVariants.{NotNull, PrimaryKey, Unique, Check}
+use Rattle.sqlval.specs.declared.schema.Rule.TheVariants.{NotNull, PrimaryKey, Unique, Check, ForeignKey}
 use Rattle.sqlval.specs.declared.schema.Table as schema
 use Rattle.sqlval.specs.declared.truth.Truth.{Truth}
 use Rattle.sqlval.specs.declared.truth.Truth.TheVariants.{False, Unknown, True}
@@ -71,6 +71,7 @@ is_check (NotNull column) = None
 is_check (PrimaryKey columns) = None
 is_check (Unique columns) = None
 is_check (Check text) = Some text
+is_check (ForeignKey reference) = None
 
 -- the conditions of a table's CHECKs
 abbrev pub checks_of : CheckReading → Name → Table → List Condition
@@ -91,15 +92,17 @@ abbrev pub has_twins : List ℕ → List Row → Bool
 has_twins columns [] = false
 has_twins columns (row ∷ rows) = list_any (matches columns (key_of columns row)) rows || has_twins columns rows
 
--- Whether a table violates a rule. A CHECK is violated only where it is false (4.10.2). PRIMARY KEY
--- is UNIQUE and NOT NULL in one: our own choice.
+-- Whether a table violates a rule by its own rows. A CHECK is violated only where it is false
+-- (4.10.2). PRIMARY KEY is UNIQUE and NOT NULL in one: our own choice. A foreign key, which no text
+-- declares yet, asks for the rows of a table: no table violates it by itself.
 abbrev pub is_violated : CheckReading → Name → Table → Rule → Bool
 is_violated reading name table (NotNull column) = has_null (column ∷ []) table.rows
 is_violated reading name table (PrimaryKey columns) = has_null columns table.rows || has_twins columns table.rows
 is_violated reading name table (Unique columns) = has_twins columns table.rows
 is_violated reading name table (Check text) = list_any (λ row. is_false (check_at (reading name table.columns text) row)) table.rows
+is_violated reading name table (ForeignKey reference) = false
 
--- the names of the constraints that a table violates
+-- the names of the constraints that a table violates by its own rows
 abbrev pub violated_by : CheckReading → Name → Table → List Name
 violated_by reading name table = map (λ c. c.name) (filter (λ c. is_violated reading name table c.rule) table.constraints)
 
@@ -120,12 +123,14 @@ pub record IsReadable (name : Name) (columns : List Column) (text : List ℕ) : 
 abbrev pub AreReadable : Name → List Column → List Constraint → Type 0
 AreReadable name columns constraints = All (IsReadable name columns) (kept_texts constraints)
 
--- the columns that a rule names by their places; a CHECK names its columns in its text
+-- the columns of its own table that a rule names by their places; a CHECK names its columns in its
+-- text
 abbrev pub columns_named : Rule → List ℕ
 columns_named (NotNull column) = column ∷ []
 columns_named (PrimaryKey columns) = columns
 columns_named (Unique columns) = columns
 columns_named (Check text) = []
+columns_named (ForeignKey reference) = reference.columns
 
 abbrev pub constraint_columns : List Constraint → List ℕ
 constraint_columns constraints = flat_map (λ c. columns_named c.rule) constraints

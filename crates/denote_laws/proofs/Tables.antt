@@ -11,7 +11,7 @@ use Rattle.sqlval.specs.declared.truth.Truth.TheVariants.{True}
 use Rattle.sqlval.specs.declared.schema.Column.{Column}
 use Rattle.sqlval.specs.declared.schema.Constraint.{Constraint}
 use Rattle.sqlval.specs.declared.schema.Rule.{Rule}
-use Rattle.sqlval.specs.declared.schema.Rule.TheVariants.{NotNull, PrimaryKey, Unique, Check}
+use Rattle.sqlval.specs.declared.schema.Rule.TheVariants.{NotNull, PrimaryKey, Unique, Check, ForeignKey}
 use Rattle.sqlval.specs.Matching.{key_of, is_equal, matches}
 use Rattle.sqlval.specs.Truth.{truth_of, same_truth}
 use Rattle.sqlval.specs.Value.{Row, is_null}
@@ -65,6 +65,7 @@ is_violated-same reading name t u (Unique columns) e p = has_twins-permutes colu
 is_violated-same reading name t u (Check text) e p =
     list_any-permutes (λ row. is_false (check_at (reading name t.columns text) row)) t.rows u.rows p
     ∙ ap (λ (columns : List Column). list_any (λ row. is_false (check_at (reading name columns text) row)) u.rows) e
+is_violated-same reading name t u (ForeignKey reference) e p = refl
 
 pub filter-same : {X : Type 0} (p q : X → Bool) (xs : List X) → ((x : X) → p x ≡ q x) → filter p xs ≡ filter q xs
 filter-same p q [] h = refl
@@ -85,6 +86,7 @@ not_violated reading name t (NotNull column) e = ap (has_null (column ∷ [])) e
 not_violated reading name t (PrimaryKey columns) e = ap (λ rows. has_null columns rows || has_twins columns rows) e
 not_violated reading name t (Unique columns) e = ap (has_twins columns) e
 not_violated reading name t (Check text) e = ap (list_any (λ row. is_false (check_at (reading name t.columns text) row))) e
+not_violated reading name t (ForeignKey reference) e = refl
 
 filter-none : {X : Type 0} (p : X → Bool) (xs : List X) → ((x : X) → p x ≡ false) → filter p xs ≡ []
 filter-none p [] h = refl

@@ -47,6 +47,10 @@ fn is_rule(rule: &Rule)
         Rule::PrimaryKey(columns) => are_places(columns.as_slice()),
         Rule::Unique(columns) => are_places(columns.as_slice()),
         Rule::Check(_) => {}
+        Rule::ForeignKey(reference) => {
+            are_places(reference.columns.as_slice());
+            are_places(reference.referenced.as_slice());
+        }
     }
 }
 

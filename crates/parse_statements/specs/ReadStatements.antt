@@ -9,9 +9,11 @@ use Rattle.ast.specs.declared.statement.ColumnConstraint.{ColumnConstraint}
 use Rattle.ast.specs.declared.statement.ColumnDefinition.{ColumnDefinition}
 use Rattle.ast.specs.declared.statement.ColumnRule.{ColumnRule}
 use Rattle.ast.specs.declared.statement.ColumnRule.TheVariants as column_rule_of
+use Rattle.ast.specs.declared.statement.ForeignKey.{ForeignKey}
 use Rattle.ast.specs.declared.statement.InsertRows.{InsertRows}
 use Rattle.ast.specs.declared.statement.InsertRows.TheVariants as rows_of
 use Rattle.ast.specs.declared.statement.OrderedQuery.{OrderedQuery}
+use Rattle.ast.specs.declared.statement.References.{References}
 use Rattle.ast.specs.declared.statement.SortKey.{SortKey}
 use Rattle.ast.specs.declared.statement.Statement.{Statement}
 use Rattle.ast.specs.declared.statement.Statement.TheVariants as statement_of
@@ -61,10 +63,23 @@ constraint_name = maybe (word w.Constraint) (λ _. name)
 -- whether a column's constraint comes next
 abbrev pub begins_constraint : Tokens → Bool
 begins_constraint ts = next_is (is_word w.Constraint) ts || (next_is (is_word w.Not) ts || (next_is (is_word w.Primary) ts
-    || (next_is (is_word w.Unique) ts || next_is (is_word w.Check) ts)))
+    || (next_is (is_word w.Unique) ts || (next_is (is_word w.References) ts || next_is (is_word w.Check) ts))))
 
 abbrev pub constraint_ahead : Reader (Unit {0})
 constraint_ahead ts = if begins_constraint ts then Some (tt, ts) else None
+
+-- [( names )], where no other parenthesis can stand
+unfoldable pub listed_names : Reader (List (List ℕ))
+listed_names ts = if next_is (is_symbol s.LeftParenthesis) ts then parenthesized names ts else Some ([], ts)
+
+-- name [( names )], behind REFERENCES
+unfoldable pub referenced : Reader References
+referenced = made (λ x. record { table = x.0; columns = x.1 }) (both name listed_names)
+
+-- KEY ( names ) REFERENCES name [( names )], behind FOREIGN
+unfoldable pub foreign_key : Reader ForeignKey
+foreign_key = made (λ x. record { columns = x.0; references = x.1 })
+    (after (word w.Key) (both (parenthesized names) (after (word w.References) referenced)))
 
 -- name ( names )
 unfoldable pub indexed_columns : Reader (List ℕ × List (List ℕ))
@@ -134,7 +149,9 @@ module _ (inner : Inner) where
   unfoldable pub column_rule : Reader ColumnRule
   column_rule ts = if_next (word w.Not ts)
       (if_next (word w.Primary ts)
-      (if_next (word w.Unique ts) (made column_rule_of.Check check ts) (λ o. Some (column_rule_of.Unique, o.1)))
+      (if_next (word w.Unique ts)
+      (if_next (word w.References ts) (made column_rule_of.Check check ts) (λ o. made column_rule_of.References referenced o.1))
+      (λ o. Some (column_rule_of.Unique, o.1)))
       (λ o. word w.Key o.1 >>= (λ x. Some (column_rule_of.PrimaryKey, x.1))))
       (λ o. word w.Null o.1 >>= (λ x. Some (column_rule_of.NotNull, x.1)))
 
@@ -147,7 +164,9 @@ module _ (inner : Inner) where
 
   unfoldable pub table_rule : Reader TableRule
   table_rule ts = if_next (word w.Primary ts)
-      (if_next (word w.Unique ts) (made table_rule_of.Check check ts) (λ o. made table_rule_of.Unique (parenthesized names) o.1))
+      (if_next (word w.Unique ts)
+      (if_next (word w.Foreign ts) (made table_rule_of.Check check ts) (λ o. made table_rule_of.ForeignKey foreign_key o.1))
+      (λ o. made table_rule_of.Unique (parenthesized names) o.1))
       (λ o. made table_rule_of.PrimaryKey (after (word w.Key) (parenthesized names)) o.1)
 
   unfoldable pub table_constraint : Reader TableConstraint

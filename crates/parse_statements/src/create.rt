@@ -1,6 +1,7 @@
 //! CREATE and DROP.
 
 ghost use Rattle.std.specs.Prelude.{◌≡◌, None, []};
+ghost use Rattle.lexer.specs.declared.words.Word.TheVariants as w;
 ghost use Rattle.parse_terminals.specs.Readers.{kinds, Finds, Gives};
 ghost use Rattle.parse_terminals.specs.Readers as read;
 ghost use Rattle.parse_statements.specs.ReadStatements as statements;
@@ -8,14 +9,14 @@ ghost use Rattle.parse_expressions.specs.Levels.{inner_at};
 
 use crate::statement::Statements;
 use ast::{
-    ColumnConstraint, ColumnDefinition, ColumnRule, Condition, CreateIndex, CreateTable, Statement,
-    TableConstraint, TableElement, TableRule, TypeName,
+    ColumnConstraint, ColumnDefinition, ColumnRule, Condition, CreateIndex, CreateTable,
+    ForeignKey, References, Statement, TableConstraint, TableElement, TableRule, TypeName,
 };
 use items::{Boxed, Items};
-use lexer::{Name, Token, Word};
+use lexer::{Name, Symbol, Token, Word};
 use parse_terminals::{
-    ParseError, after_word, listed, many, name, names, next_is_name, next_is_word, number,
-    parenthesized, word,
+    ParseError, after_word, listed, many, name, names, next_is_name, next_is_symbol, next_is_word,
+    number, parenthesized, word,
 };
 use std::alloc::Global;
 
@@ -81,6 +82,7 @@ fn begins_constraint(tokens: &[Token]) -> bool
         || next_is_word(Word::Not, tokens)
         || next_is_word(Word::Primary, tokens)
         || next_is_word(Word::Unique, tokens)
+        || next_is_word(Word::References, tokens)
         || next_is_word(Word::Check, tokens)
 }
 
@@ -91,6 +93,64 @@ fn constraint_ahead(tokens: &[Token]) -> Option<((), &[Token])>
         Some(((), tokens))
     } else {
         None
+    }
+}
+
+/// `[( names )]`, where no other parenthesis can stand
+#[tactic(auto, unfolding(crate::specs::ReadStatements::listed_names))]
+fn listed_names(alloc: Global, tokens: &[Token]) -> Result<(Items<Name>, &[Token]), ParseError>
+    ensures { Gives result (statements.listed_names (kinds tokens.now)) }
+{
+    if next_is_symbol(Symbol::LeftParenthesis, tokens) {
+        parenthesized(|at| names(alloc, at), tokens)
+    } else {
+        Ok((Items::new(alloc), tokens))
+    }
+}
+
+/// What follows REFERENCES: `name [( names )]`
+#[tactic(auto, unfolding(crate::specs::ReadStatements::referenced))]
+fn referenced(alloc: Global, tokens: &[Token]) -> Result<(References, &[Token]), ParseError>
+    ensures { Gives result (statements.referenced (kinds tokens.now)) }
+{
+    let (table, rest) = name(alloc, tokens)?;
+    match listed_names(alloc, rest) {
+        Ok((columns, rest)) => Ok((References { table, columns }, rest)),
+        Err(error) => Err(error),
+    }
+}
+
+/// `REFERENCES name [( names )]`
+fn referencing(alloc: Global, tokens: &[Token]) -> Result<(References, &[Token]), ParseError>
+    ensures { Gives result (read.after (read.word w.References) statements.referenced (kinds tokens.now)) }
+{
+    let rest = word(Word::References, tokens)?;
+    referenced(alloc, rest)
+}
+
+/// `( names )`
+fn names_inside(alloc: Global, tokens: &[Token]) -> Result<(Items<Name>, &[Token]), ParseError>
+    ensures { Gives result (read.parenthesized statements.names (kinds tokens.now)) }
+{
+    parenthesized(|at| names(alloc, at), tokens)
+}
+
+/// What follows FOREIGN: `KEY ( names ) REFERENCES name [( names )]`
+#[tactic(auto, unfolding(crate::specs::ReadStatements::foreign_key))]
+fn foreign_key(alloc: Global, tokens: &[Token]) -> Result<(ForeignKey, &[Token]), ParseError>
+    ensures { Gives result (statements.foreign_key (kinds tokens.now)) }
+{
+    let rest = word(Word::Key, tokens)?;
+    let (columns, rest) = names_inside(alloc, rest)?;
+    match referencing(alloc, rest) {
+        Ok((references, rest)) => Ok((
+            ForeignKey {
+                columns,
+                references,
+            },
+            rest,
+        )),
+        Err(error) => Err(error),
     }
 }
 
@@ -119,6 +179,10 @@ impl Statements {
         }
         if let Some(rest) = after_word(Word::Unique, tokens) {
             return Ok((ColumnRule::Unique, rest));
+        }
+        if let Some(rest) = after_word(Word::References, tokens) {
+            let (references, rest) = referenced(self.alloc, rest)?;
+            return Ok((ColumnRule::References(references), rest));
         }
         let (condition, rest) = self.check(tokens)?;
         Ok((ColumnRule::Check(condition), rest))
@@ -189,6 +253,10 @@ impl Statements {
         if let Some(rest) = after_word(Word::Unique, tokens) {
             let (columns, rest) = parenthesized(|at| names(self.alloc, at), rest)?;
             return Ok((TableRule::Unique(columns), rest));
+        }
+        if let Some(rest) = after_word(Word::Foreign, tokens) {
+            let (key, rest) = foreign_key(self.alloc, rest)?;
+            return Ok((TableRule::ForeignKey(key), rest));
         }
         let (condition, rest) = self.check(tokens)?;
         Ok((TableRule::Check(condition), rest))

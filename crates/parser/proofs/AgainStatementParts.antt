@@ -12,9 +12,11 @@ use Rattle.ast.specs.declared.statement.ColumnConstraint.{ColumnConstraint}
 use Rattle.ast.specs.declared.statement.ColumnDefinition.{ColumnDefinition}
 use Rattle.ast.specs.declared.statement.ColumnRule.{ColumnRule}
 use Rattle.ast.specs.declared.statement.ColumnRule.TheVariants as column_rule_of
+use Rattle.ast.specs.declared.statement.ForeignKey.{ForeignKey}
 use Rattle.ast.specs.declared.statement.InsertRows.{InsertRows}
 use Rattle.ast.specs.declared.statement.InsertRows.TheVariants as rows_of
 use Rattle.ast.specs.declared.statement.OrderedQuery.{OrderedQuery}
+use Rattle.ast.specs.declared.statement.References.{References}
 use Rattle.ast.specs.declared.statement.SortColumn.{SortColumn}
 use Rattle.ast.specs.declared.statement.SortColumn.TheVariants as sort_column_of
 use Rattle.ast.specs.declared.statement.SortKey.{SortKey}
@@ -31,12 +33,12 @@ use Rattle.ast.specs.declared.tree.Condition.{Condition}
 use Rattle.ast.specs.Notation.{Tokens, Rule, ◌⨾◌, ◌⊳◌, Parenthesized, Maybe, Listed, MaybeListed}
 use Rattle.ast.specs.Expressions.{Nested}
 use Rattle.ast.specs.Terminals.{IsName, IsNumber}
-use Rattle.ast.specs.Statements.{AreNames, IsSortColumn, IsDirection, IsSortKey, IsOrder, IsTypeName, IsConstraintName, IsOrderedQuery, IsFilter, IsColumnRule, IsColumnConstraint, IsColumnDefinition, IsTableRule, IsTableConstraint, IsTableElement, IsStoredSource, IsRow, AreInsertRows, IsAssignment}
-use Rattle.ast.specs.Words.{CHECK, CONSTRAINT, KEY, NOT, ORDER, PRIMARY, UNIQUE, WHERE}
+use Rattle.ast.specs.Statements.{AreNames, IsSortColumn, IsDirection, IsSortKey, IsOrder, IsTypeName, IsConstraintName, AreReferences, IsForeignKey, IsOrderedQuery, IsFilter, IsColumnRule, IsColumnConstraint, IsColumnDefinition, IsTableRule, IsTableConstraint, IsTableElement, IsStoredSource, IsRow, AreInsertRows, IsAssignment}
+use Rattle.ast.specs.Words.{CHECK, CONSTRAINT, FOREIGN, KEY, NOT, ORDER, PRIMARY, REFERENCES, UNIQUE, WHERE}
 use Rattle.parse_terminals.specs.Readers.{Reader, next_is, is_word, is_symbol, word, symbol, number, both, after, made, listed, parenthesized}
 use Rattle.parse_terminals.specs.ReadTerminals.{is_name, sort_column, direction, sort_key}
 use Rattle.parse_expressions.specs.ReadExpressions.{Inner}
-use Rattle.parse_statements.specs.ReadStatements.{names, order, varying, text_type, type_name, constraint_name, constraint_ahead, begins_constraint, ordered_query, filter, check, column_rule, column_constraint, column_definition, table_rule, table_constraint, element, indexed_columns, stored_source, stored_sources, row_of_sources, insert_rows, opens_names, insert_columns, assignment}
+use Rattle.parse_statements.specs.ReadStatements.{names, order, varying, text_type, type_name, constraint_name, constraint_ahead, begins_constraint, listed_names, referenced, foreign_key, ordered_query, filter, check, column_rule, column_constraint, column_definition, table_rule, table_constraint, element, indexed_columns, stored_source, stored_sources, row_of_sources, insert_rows, opens_names, insert_columns, assignment}
 use Rattle.parser.specs.Shallow.{is_shallow}
 use Rattle.parser.proofs.Steps.{word_again, no_word}
 use Rattle.parser.proofs.Passes.{Passes, here, past, onward, one, same, no_longer, shallow_after}
@@ -104,22 +106,31 @@ direction_at ts direction_of.Descending rest h = rw h refl
 no_direction : (rest : Tokens) → Stops is_direction rest → direction rest ≡ None
 no_direction rest h = rw (no_word is_direction w.Asc refl rest h, no_word is_direction w.Desc refl rest h) refl
 
-table_rule_begins : (N : Nested) (p : Kind → Bool) → p PRIMARY ≡ false → p UNIQUE ≡ false → p CHECK ≡ false
+table_rule_begins : (N : Nested) (p : Kind → Bool) → p PRIMARY ≡ false → p UNIQUE ≡ false → p CHECK ≡ false → p FOREIGN ≡ false
     → (ts : Tokens) (x : TableRule) (rest : Tokens) → IsTableRule N ts x rest → Stops p ts
-table_rule_begins N p a b c ts (table_rule_of.PrimaryKey x) rest h = rw h.1 a
-table_rule_begins N p a b c ts (table_rule_of.Unique x) rest h = rw h.1 b
-table_rule_begins N p a b c ts (table_rule_of.Check x) rest h = rw h.1 c
+table_rule_begins N p a b c d ts (table_rule_of.PrimaryKey x) rest h = rw h.1 a
+table_rule_begins N p a b c d ts (table_rule_of.Unique x) rest h = rw h.1 b
+table_rule_begins N p a b c d ts (table_rule_of.Check x) rest h = rw h.1 c
+table_rule_begins N p a b c d ts (table_rule_of.ForeignKey x) rest h = rw h.1.1 d
 
-column_rule_begins : (N : Nested) (p : Kind → Bool) → p NOT ≡ false → p PRIMARY ≡ false → p UNIQUE ≡ false → p CHECK ≡ false
+column_rule_begins : (N : Nested) (p : Kind → Bool) → p NOT ≡ false → p PRIMARY ≡ false → p UNIQUE ≡ false → p CHECK ≡ false → p REFERENCES ≡ false
     → (ts : Tokens) (x : ColumnRule) (rest : Tokens) → IsColumnRule N ts x rest → Stops p ts
-column_rule_begins N p a b c d ts column_rule_of.NotNull rest h = rw h a
-column_rule_begins N p a b c d ts column_rule_of.PrimaryKey rest h = rw h b
-column_rule_begins N p a b c d ts column_rule_of.Unique rest h = rw h c
-column_rule_begins N p a b c d ts (column_rule_of.Check x) rest h = rw h.1 d
+column_rule_begins N p a b c d e ts column_rule_of.NotNull rest h = rw h a
+column_rule_begins N p a b c d e ts column_rule_of.PrimaryKey rest h = rw h b
+column_rule_begins N p a b c d e ts column_rule_of.Unique rest h = rw h c
+column_rule_begins N p a b c d e ts (column_rule_of.Check x) rest h = rw h.1 d
+column_rule_begins N p a b c d e ts (column_rule_of.References x) rest h = rw h.1.1 e
 
 -- the words that begin a column's constraint
 abbrev constrains : Kind → Bool
-constrains = or (is_word w.Constraint) (or (is_word w.Not) (or (is_word w.Primary) (or (is_word w.Unique) (is_word w.Check))))
+constrains = or (is_word w.Constraint) (or (is_word w.Not) (or (is_word w.Primary) (or (is_word w.Unique) (or (is_word w.References) (is_word w.Check)))))
+
+-- what goes on with the columns that a foreign key may list, and with the definition of a column
+abbrev opens : Kind → Bool
+opens = is_symbol s.LeftParenthesis
+
+abbrev definition_goes_on : Kind → Bool
+definition_goes_on = or opens constrains
 
 no_constraint : (rest : Tokens) → Stops constrains rest → constraint_ahead rest ≡ None
 no_constraint [] h = refl
@@ -130,11 +141,27 @@ rule_ahead N ts column_rule_of.NotNull rest h = rw h refl
 rule_ahead N ts column_rule_of.PrimaryKey rest h = rw h refl
 rule_ahead N ts column_rule_of.Unique rest h = rw h refl
 rule_ahead N ts (column_rule_of.Check x) rest h = rw h.1 refl
+rule_ahead N ts (column_rule_of.References x) rest h = rw h.1.1 refl
 
 name_or_rule_ahead : (N : Nested) (ts : Tokens) (x : Option (List ℕ)) (mid : Tokens) (y : ColumnRule) (rest : Tokens) → IsConstraintName ts x mid
     → IsColumnRule N mid y rest → begins_constraint ts ≡ true
 name_or_rule_ahead N ts None mid y rest h k = rw h (rule_ahead N mid y rest k)
 name_or_rule_ahead N ts (Some x) mid y rest h k = rw h.1 refl
+
+-- the same tree by another rule
+ruled : {A : Type 0} {d : ℕ} {p : Kind → Bool} {r : Reader A} {R : Rule A} (S : Rule A) → Again A d p r R
+    → ((ts : Tokens) (x : A) (rest : Tokens) → S ts x rest → R ts x rest) → Again A d p r S
+ruled S l from = record {
+  passes = λ ts x rest h. l.passes ts x rest (from ts x rest h);
+  at = λ ts x rest h shallow stops. l.at ts x rest (from ts x rest h) shallow stops;
+}
+
+-- what stands behind REFERENCES, and behind FOREIGN
+abbrev IsReferenced : Rule References
+IsReferenced ts x rest = (IsName ⨾ MaybeListed (Parenthesized AreNames)) ts (x.table, x.columns) rest
+
+abbrev IsKeyed : Rule ForeignKey
+IsKeyed ts x rest = (KEY ⊳ (Parenthesized AreNames ⨾ AreReferences)) ts (x.columns, x.references) rest
 
 module _ {d : ℕ} where
   names_again : Again (List (List ℕ)) d (is_symbol s.Comma) names AreNames
@@ -168,6 +195,39 @@ module _ {d : ℕ} where
   constraint_name_again : Again (Option (List ℕ)) d (is_word w.Constraint) constraint_name IsConstraintName
   unfolding constraint_name
   constraint_name_again = maybe_again (opened_by_word w.Constraint (is_word w.Constraint) name_again refl refl (λ rest h. nothing_stops rest))
+
+-- [( names )]
+listed_names_passes : (ts : Tokens) (x : List (List ℕ)) (rest : Tokens) → MaybeListed (Parenthesized AreNames) ts x rest → Passes ts rest
+listed_names_passes ts [] rest h = same h
+listed_names_passes ts (x ∷ xs) rest h = (names_in_parentheses {d = zero}).passes ts (x ∷ xs) rest h
+
+listed_names_at : (d : ℕ) (ts : Tokens) (x : List (List ℕ)) (rest : Tokens) → MaybeListed (Parenthesized AreNames) ts x rest → is_shallow ts d ≡ true
+    → Stops opens rest → listed_names ts ≡ Some (x, rest)
+unfolding listed_names
+listed_names_at d ts [] rest h shallow stops = rw (h, stops) refl
+listed_names_at d ts (x ∷ xs) rest h shallow stops =
+    let begins : next_is opens ts ≡ true = rw h.1 refl in
+    rw begins ((names_in_parentheses {d = d}).at ts (x ∷ xs) rest h shallow (nothing_stops rest))
+
+module _ {d : ℕ} where
+  listed_names_again : Again (List (List ℕ)) d opens listed_names (MaybeListed (Parenthesized AreNames))
+  listed_names_again = record { passes = listed_names_passes; at = listed_names_at d }
+
+  -- name [( names )]
+  referenced_again : Again References d opens referenced IsReferenced
+  unfolding referenced
+  referenced_again = made_again (λ x. record { table = x.0; columns = x.1 }) (λ x. (x.table, x.columns))
+      (both_again name_again listed_names_again (λ ts x rest h stops. nothing_stops ts)) (λ ts x rest h. h) (λ x. refl)
+
+  -- REFERENCES name [( names )]
+  references_again : Again References d opens (after (word w.References) referenced) AreReferences
+  references_again = ruled AreReferences (after_word_again w.References referenced_again) (λ ts x rest h. (h.1.0, h.1.1, (h.0, h.1.2, h.2)))
+
+  -- KEY ( names ) REFERENCES name [( names )]
+  foreign_key_again : Again ForeignKey d opens foreign_key IsKeyed
+  unfolding foreign_key
+  foreign_key_again = made_again (λ x. record { columns = x.0; references = x.1 }) (λ x. (x.columns, x.references))
+      (after_word_again w.Key (both_again names_in_parentheses references_again (λ ts x rest h stops. nothing_stops ts))) (λ ts x rest h. h) (λ x. refl)
 
   -- name ( names )
   pub columns_again : Again (List ℕ × List (List ℕ)) d never indexed_columns (IsName ⨾ Parenthesized AreNames)
@@ -239,50 +299,58 @@ module _ {d : ℕ} {I : Inner} {N : Nested} (ready : Ready d I N) where
   column_rule_passes ts column_rule_of.PrimaryKey rest h = onward (one refl refl h) (past refl refl here)
   column_rule_passes ts column_rule_of.Unique rest h = one refl refl h
   column_rule_passes ts (column_rule_of.Check x) rest h = check_again.passes ts x rest h
+  column_rule_passes ts (column_rule_of.References x) rest h = (references_again {d = d}).passes ts x rest h
 
-  column_rule_at : (ts : Tokens) (x : ColumnRule) (rest : Tokens) → IsColumnRule N ts x rest → is_shallow ts d ≡ true → column_rule I ts ≡ Some (x, rest)
+  column_rule_at : (ts : Tokens) (x : ColumnRule) (rest : Tokens) → IsColumnRule N ts x rest → is_shallow ts d ≡ true → Stops opens rest
+      → column_rule I ts ≡ Some (x, rest)
   unfolding column_rule word
-  column_rule_at ts column_rule_of.NotNull rest h shallow = rw h refl
-  column_rule_at ts column_rule_of.PrimaryKey rest h shallow = rw h refl
-  column_rule_at ts column_rule_of.Unique rest h shallow = rw h refl
-  column_rule_at ts (column_rule_of.Check x) rest h shallow =
+  column_rule_at ts column_rule_of.NotNull rest h shallow stops = rw h refl
+  column_rule_at ts column_rule_of.PrimaryKey rest h shallow stops = rw h refl
+  column_rule_at ts column_rule_of.Unique rest h shallow stops = rw h refl
+  column_rule_at ts (column_rule_of.Check x) rest h shallow stops =
       let read = made_read column_rule_of.Check (check I) ts x rest (check_again.at ts x rest h shallow (nothing_stops rest)) in
       let e : column_rule I ts ≡ made column_rule_of.Check (check I) ts = rw h.1 refl in
       e ∙ read
+  column_rule_at ts (column_rule_of.References x) rest h shallow stops =
+      let read = referenced_again.at h.1.0 x rest (h.0, h.1.2, h.2) (shallow_after (one refl refl h.1.1) d shallow) stops in
+      let e : column_rule I ts ≡ made column_rule_of.References referenced h.1.0 = rw h.1.1 refl in
+      e ∙ made_read column_rule_of.References referenced h.1.0 x rest read
 
-  column_rule_again : Again ColumnRule d never (column_rule I) (IsColumnRule N)
-  column_rule_again = record { passes = column_rule_passes; at = λ ts x rest h shallow stops. column_rule_at ts x rest h shallow }
+  column_rule_again : Again ColumnRule d opens (column_rule I) (IsColumnRule N)
+  column_rule_again = record { passes = column_rule_passes; at = column_rule_at }
 
   column_rule_shorter : (ts : Tokens) (x : ColumnRule) (rest : Tokens) → IsColumnRule N ts x rest → length rest < length ts
   column_rule_shorter ts column_rule_of.NotNull rest h = behind_first h (past refl refl here)
   column_rule_shorter ts column_rule_of.PrimaryKey rest h = behind_first h (past refl refl here)
   column_rule_shorter ts column_rule_of.Unique rest h = behind_first h here
   column_rule_shorter ts (column_rule_of.Check x) rest h = behind_first h.1 (condition_in_parentheses.passes h.0 x rest h.2)
+  column_rule_shorter ts (column_rule_of.References x) rest h = behind_first h.1.1 ((referenced_again {d = d}).passes h.1.0 x rest (h.0, h.1.2, h.2))
 
   -- [CONSTRAINT name] colrule
-  column_constraint_again : Again ColumnConstraint d never (column_constraint I) (IsColumnConstraint N)
+  column_constraint_again : Again ColumnConstraint d opens (column_constraint I) (IsColumnConstraint N)
   unfolding column_constraint
   column_constraint_again = made_again (λ x. record { name = x.0; rule = x.1 }) (λ x. (x.name, x.rule))
-      (both_again constraint_name_again column_rule_again (λ ts x rest h stops. column_rule_begins N (is_word w.Constraint) refl refl refl refl ts x rest h))
+      (both_again constraint_name_again column_rule_again (λ ts x rest h stops. column_rule_begins N (is_word w.Constraint) refl refl refl refl refl ts x rest h))
       (λ ts x rest h. h) (λ x. refl)
 
-  column_constraint_opened : Opened (Unit {0}) ColumnConstraint d never constrains constraint_ahead (λ _. column_constraint I) (IsColumnConstraint N)
+  column_constraint_opened : Opened (Unit {0}) ColumnConstraint d opens definition_goes_on constraint_ahead (λ _. column_constraint I) (IsColumnConstraint N)
   column_constraint_opened = record {
     passes = column_constraint_again.passes;
     at = λ ts x rest h shallow stops.
         let ahead = name_or_rule_ahead N ts x.name h.0 x.rule rest h.1 h.2 in
         ((tt, ts), rw ahead refl, column_constraint_again.at ts x rest h shallow stops);
-    begins = λ ts x rest h. nothing_stops ts;
+    begins = λ ts x rest h.
+        maybe_begins IsName CONSTRAINT opens refl ts x.name h.0 h.1 (column_rule_begins N opens refl refl refl refl refl h.0 x.rule rest h.2);
     shorter = λ ts x rest h.
         let a = no_longer ((constraint_name_again {d = d}).passes ts x.name h.0 h.1) in
         let b = column_rule_shorter h.0 x.rule rest h.2 in
         omega arith;
-    absent = no_constraint;
-    weaker = λ rest h. nothing_stops rest;
+    absent = λ rest h. no_constraint rest (stops_right opens constrains rest h);
+    weaker = stops_left opens constrains;
   }
 
   -- name type {[CONSTRAINT name] colrule}
-  column_definition_again : Again ColumnDefinition d constrains (column_definition I) (IsColumnDefinition N)
+  column_definition_again : Again ColumnDefinition d definition_goes_on (column_definition I) (IsColumnDefinition N)
   unfolding column_definition
   column_definition_again = made_again (λ x. record { column = x.0; type_name = x.1.0; constraints = x.1.1 }) (λ x. (x.column, (x.type_name, x.constraints)))
       (both_again name_again (both_again type_name_again (many_again column_constraint_opened) (λ ts x rest h stops. nothing_stops ts)) (λ ts x rest h stops. nothing_stops ts))
@@ -297,48 +365,54 @@ module _ {d : ℕ} {I : Inner} {N : Nested} (ready : Ready d I N) where
   table_rule_passes ts (table_rule_of.PrimaryKey x) rest h = onward (one refl refl h.1) (key_columns_again.passes h.0 x rest h.2)
   table_rule_passes ts (table_rule_of.Unique x) rest h = onward (one refl refl h.1) ((names_in_parentheses {d = d}).passes h.0 x rest h.2)
   table_rule_passes ts (table_rule_of.Check x) rest h = check_again.passes ts x rest h
+  table_rule_passes ts (table_rule_of.ForeignKey x) rest h =
+      onward (one refl refl h.1.1) ((foreign_key_again {d = d}).passes h.1.0 x rest (h.1.2.0, h.1.2.1, (h.0, h.1.2.2, h.2)))
 
-  table_rule_at : (ts : Tokens) (x : TableRule) (rest : Tokens) → IsTableRule N ts x rest → is_shallow ts d ≡ true → table_rule I ts ≡ Some (x, rest)
+  table_rule_at : (ts : Tokens) (x : TableRule) (rest : Tokens) → IsTableRule N ts x rest → is_shallow ts d ≡ true → Stops opens rest
+      → table_rule I ts ≡ Some (x, rest)
   unfolding table_rule
-  table_rule_at ts (table_rule_of.PrimaryKey x) rest h shallow =
+  table_rule_at ts (table_rule_of.PrimaryKey x) rest h shallow stops =
       let read = key_columns_again.at h.0 x rest h.2 (shallow_after (one refl refl h.1) d shallow) (nothing_stops rest) in
       rw (this_word w.Primary h.1) (made_read table_rule_of.PrimaryKey (after (word w.Key) (parenthesized names)) h.0 x rest read)
-  table_rule_at ts (table_rule_of.Unique x) rest h shallow =
+  table_rule_at ts (table_rule_of.Unique x) rest h shallow stops =
       let read = (names_in_parentheses {d = d}).at h.0 x rest h.2 (shallow_after (one refl refl h.1) d shallow) (nothing_stops rest) in
       rw (other_word w.Primary refl h.1, this_word w.Unique h.1) (made_read table_rule_of.Unique (parenthesized names) h.0 x rest read)
-  table_rule_at ts (table_rule_of.Check x) rest h shallow =
+  table_rule_at ts (table_rule_of.Check x) rest h shallow stops =
       let read = check_again.at ts x rest h shallow (nothing_stops rest) in
-      rw (other_word w.Primary refl h.1, other_word w.Unique refl h.1) (made_read table_rule_of.Check (check I) ts x rest read)
+      rw (other_word w.Primary refl h.1, other_word w.Unique refl h.1, other_word w.Foreign refl h.1) (made_read table_rule_of.Check (check I) ts x rest read)
+  table_rule_at ts (table_rule_of.ForeignKey x) rest h shallow stops =
+      let read = foreign_key_again.at h.1.0 x rest (h.1.2.0, h.1.2.1, (h.0, h.1.2.2, h.2)) (shallow_after (one refl refl h.1.1) d shallow) stops in
+      rw (other_word w.Primary refl h.1.1, other_word w.Unique refl h.1.1, this_word w.Foreign h.1.1) (made_read table_rule_of.ForeignKey foreign_key h.1.0 x rest read)
 
-  table_rule_again : Again TableRule d never (table_rule I) (IsTableRule N)
-  table_rule_again = record { passes = table_rule_passes; at = λ ts x rest h shallow stops. table_rule_at ts x rest h shallow }
+  table_rule_again : Again TableRule d opens (table_rule I) (IsTableRule N)
+  table_rule_again = record { passes = table_rule_passes; at = table_rule_at }
 
   -- [CONSTRAINT name] tabrule
-  table_constraint_again : Again TableConstraint d never (table_constraint I) (IsTableConstraint N)
+  table_constraint_again : Again TableConstraint d opens (table_constraint I) (IsTableConstraint N)
   unfolding table_constraint
   table_constraint_again = made_again (λ x. record { name = x.0; rule = x.1 }) (λ x. (x.name, x.rule))
-      (both_again constraint_name_again table_rule_again (λ ts x rest h stops. table_rule_begins N (is_word w.Constraint) refl refl refl ts x rest h))
+      (both_again constraint_name_again table_rule_again (λ ts x rest h stops. table_rule_begins N (is_word w.Constraint) refl refl refl refl ts x rest h))
       (λ ts x rest h. h) (λ x. refl)
 
   element_passes : (ts : Tokens) (x : TableElement) (rest : Tokens) → IsTableElement N ts x rest → Passes ts rest
   element_passes ts (element_of.Column x) rest h = column_definition_again.passes ts x rest h
   element_passes ts (element_of.Constraint x) rest h = table_constraint_again.passes ts x rest h
 
-  element_at : (ts : Tokens) (x : TableElement) (rest : Tokens) → IsTableElement N ts x rest → is_shallow ts d ≡ true → Stops constrains rest
+  element_at : (ts : Tokens) (x : TableElement) (rest : Tokens) → IsTableElement N ts x rest → is_shallow ts d ≡ true → Stops definition_goes_on rest
       → element I ts ≡ Some (x, rest)
   unfolding element
   element_at ts (element_of.Column x) rest h shallow stops =
       let begins : next_is is_name ts ≡ true = rw h.1 refl in
       rw begins (made_read element_of.Column (column_definition I) ts x rest (column_definition_again.at ts x rest h shallow stops))
   element_at ts (element_of.Constraint x) rest h shallow stops =
-      let begins = maybe_begins IsName CONSTRAINT is_name refl ts x.name h.0 h.1 (table_rule_begins N is_name refl refl refl h.0 x.rule rest h.2) in
-      rw begins (made_read element_of.Constraint (table_constraint I) ts x rest (table_constraint_again.at ts x rest h shallow (nothing_stops rest)))
+      let begins = maybe_begins IsName CONSTRAINT is_name refl ts x.name h.0 h.1 (table_rule_begins N is_name refl refl refl refl h.0 x.rule rest h.2) in
+      rw begins (made_read element_of.Constraint (table_constraint I) ts x rest (table_constraint_again.at ts x rest h shallow (stops_left opens constrains rest stops)))
 
-  element_again : Again TableElement d constrains (element I) (IsTableElement N)
+  element_again : Again TableElement d definition_goes_on (element I) (IsTableElement N)
   element_again = record { passes = element_passes; at = element_at }
 
-  pub elements_again : Again (List TableElement) d (or (is_symbol s.Comma) constrains) (listed (element I)) (Listed (IsTableElement N))
-  elements_again = listed_again (or (is_symbol s.Comma) constrains) element_again refl refl (stops_right (is_symbol s.Comma) constrains)
+  pub elements_again : Again (List TableElement) d (or (is_symbol s.Comma) definition_goes_on) (listed (element I)) (Listed (IsTableElement N))
+  elements_again = listed_again (or (is_symbol s.Comma) definition_goes_on) element_again refl refl (stops_right (is_symbol s.Comma) definition_goes_on)
 
   -- ---- what is stored
 
@@ -385,10 +459,6 @@ module _ {d : ℕ} {I : Inner} {N : Nested} (ready : Ready d I N) where
   no_names_ahead ts (rows_of.Values x) rest h = rw h.1 refl
   no_names_ahead ts (rows_of.Query x) rest h = ready.query_names ts x rest h
 
-  insert_columns_passes : (ts : Tokens) (x : List (List ℕ)) (rest : Tokens) → MaybeListed (Parenthesized AreNames) ts x rest → Passes ts rest
-  insert_columns_passes ts [] rest h = same h
-  insert_columns_passes ts (x ∷ xs) rest h = (names_in_parentheses {d = d}).passes ts (x ∷ xs) rest h
-
   insert_columns_at : (ts : Tokens) (x : List (List ℕ)) (rest : Tokens) → MaybeListed (Parenthesized AreNames) ts x rest → is_shallow ts d ≡ true
       → opens_names rest ≡ false
       → insert_columns ts ≡ Some (x, rest)
@@ -401,10 +471,10 @@ module _ {d : ℕ} {I : Inner} {N : Nested} (ready : Ready d I N) where
   -- [( names )] and what is inserted
   pub columns_and_rows_again : Again (List (List ℕ) × InsertRows) d rows_go_on (both insert_columns (insert_rows I)) (MaybeListed (Parenthesized AreNames) ⨾ AreInsertRows N)
   columns_and_rows_again = record {
-    passes = λ ts x rest h. onward (insert_columns_passes ts x.0 h.0 h.1) (insert_rows_passes h.0 x.1 rest h.2);
+    passes = λ ts x rest h. onward (listed_names_passes ts x.0 h.0 h.1) (insert_rows_passes h.0 x.1 rest h.2);
     at = λ ts x rest h shallow stops.
         let a = insert_columns_at ts x.0 h.0 h.1 shallow (no_names_ahead h.0 x.1 rest h.2) in
-        let b = insert_rows_at h.0 x.1 rest h.2 (shallow_after (insert_columns_passes ts x.0 h.0 h.1) d shallow) stops in
+        let b = insert_rows_at h.0 x.1 rest h.2 (shallow_after (listed_names_passes ts x.0 h.0 h.1) d shallow) stops in
         rw (a, b) refl;
   }
 

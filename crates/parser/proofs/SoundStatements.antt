@@ -12,9 +12,11 @@ use Rattle.ast.specs.declared.statement.ColumnConstraint.{ColumnConstraint}
 use Rattle.ast.specs.declared.statement.ColumnDefinition.{ColumnDefinition}
 use Rattle.ast.specs.declared.statement.ColumnRule.{ColumnRule}
 use Rattle.ast.specs.declared.statement.ColumnRule.TheVariants as column_rule_of
+use Rattle.ast.specs.declared.statement.ForeignKey.{ForeignKey}
 use Rattle.ast.specs.declared.statement.InsertRows.{InsertRows}
 use Rattle.ast.specs.declared.statement.InsertRows.TheVariants as rows_of
 use Rattle.ast.specs.declared.statement.OrderedQuery.{OrderedQuery}
+use Rattle.ast.specs.declared.statement.References.{References}
 use Rattle.ast.specs.declared.statement.SortColumn.{SortColumn}
 use Rattle.ast.specs.declared.statement.SortColumn.TheVariants as sort_column_of
 use Rattle.ast.specs.declared.statement.SortKey.{SortKey}
@@ -35,12 +37,12 @@ use Rattle.ast.specs.declared.tree.Query.{Query}
 use Rattle.ast.specs.Notation.{Tokens, Rule, ◌⨾◌, ◌⊳◌, Parenthesized, Listed, MaybeListed}
 use Rattle.ast.specs.Expressions.{Nested}
 use Rattle.ast.specs.Terminals.{IsName}
-use Rattle.ast.specs.Statements.{AreNames, IsSortColumn, IsDirection, IsSortKey, IsOrder, IsTypeName, IsConstraintName, IsOrderedQuery, IsFilter, IsColumnRule, IsColumnConstraint, IsColumnDefinition, IsTableRule, IsTableConstraint, IsTableElement, IsStoredSource, IsRow, AreInsertRows, IsAssignment, IsAccessMode, IsStatement}
-use Rattle.ast.specs.Words.{CHARACTER, CHECK, CREATE, CURSOR, DECLARE, DELETE, DROP, FOR, INDEX, INSERT, NOT, ON, PRIMARY, READ, SET, TABLE, UNIQUE, UPDATE, VALUES}
-use Rattle.parse_terminals.specs.Readers.{Reader, next_is, word, made}
+use Rattle.ast.specs.Statements.{AreNames, IsSortColumn, IsDirection, IsSortKey, IsOrder, IsTypeName, IsConstraintName, AreReferences, IsForeignKey, IsOrderedQuery, IsFilter, IsColumnRule, IsColumnConstraint, IsColumnDefinition, IsTableRule, IsTableConstraint, IsTableElement, IsStoredSource, IsRow, AreInsertRows, IsAssignment, IsAccessMode, IsStatement}
+use Rattle.ast.specs.Words.{CHARACTER, CHECK, CREATE, CURSOR, DECLARE, DELETE, DROP, FOR, FOREIGN, INDEX, INSERT, NOT, ON, PRIMARY, READ, REFERENCES, SET, TABLE, UNIQUE, UPDATE, VALUES}
+use Rattle.parse_terminals.specs.Readers.{Reader, next_is, is_symbol, word, after, made}
 use Rattle.parse_terminals.specs.ReadTerminals.{is_name, is_number, sort_column, direction, sort_key}
 use Rattle.parse_expressions.specs.ReadExpressions.{Inner}
-use Rattle.parse_statements.specs.ReadStatements.{names, order, varying, text_type, type_name, constraint_name, constraint_ahead, begins_constraint, ordered_query, filter, check, column_rule, column_constraint, column_definition, table_rule, table_constraint, element, create_table, indexed_columns, indexed, create_index, create, drop, stored_source, stored_sources, row_of_sources, insert_rows, opens_names, insert_columns, insert, assignment, assigned, update, delete, access_mode, set_transaction, cursor_query, declare_cursor, data_change, schema_change, transaction_control, cursor_control, begins_data_change, begins_schema_change, begins_transaction_control, begins_cursor_control, query_statement, statement}
+use Rattle.parse_statements.specs.ReadStatements.{names, order, varying, text_type, type_name, constraint_name, constraint_ahead, begins_constraint, listed_names, referenced, foreign_key, ordered_query, filter, check, column_rule, column_constraint, column_definition, table_rule, table_constraint, element, create_table, indexed_columns, indexed, create_index, create, drop, stored_source, stored_sources, row_of_sources, insert_rows, opens_names, insert_columns, insert, assignment, assigned, update, delete, access_mode, set_transaction, cursor_query, declare_cursor, data_change, schema_change, transaction_control, cursor_control, begins_data_change, begins_schema_change, begins_transaction_control, begins_cursor_control, query_statement, statement}
 use Rattle.parser.proofs.Steps.{bind_some, found, word_found}
 use Rattle.parser.proofs.Sound.{Sound, both_sound, after_word_sound, after_symbol_sound, parenthesized_sound, made_sound, written_sound, optional_sound, maybe_sound, maybe_listed_sound, by_word, by_look, many_sound, listed_sound, either_sound, next_sound, none_sound, word_is, word_then, sound_to, filled_sound, empty_sound}
 use Rattle.parser.proofs.SoundTerminals.{name_sound, number_sound}
@@ -94,6 +96,22 @@ insert_columns_sound : Sound (List (List ℕ)) insert_columns (MaybeListed (Pare
 unfolding insert_columns
 insert_columns_sound = either_sound opens_names (filled_sound (parenthesized_sound names_sound) (λ ts rest h. h.2)) (empty_sound (Parenthesized AreNames))
 
+listed_names_sound : Sound (List (List ℕ)) listed_names (MaybeListed (Parenthesized AreNames))
+unfolding listed_names
+listed_names_sound = either_sound (next_is (is_symbol s.LeftParenthesis)) (filled_sound (parenthesized_sound names_sound) (λ ts rest h. h.2)) (empty_sound (Parenthesized AreNames))
+
+referenced_sound : Sound References referenced (λ ts x rest. (t : Tokens) → t ≡ REFERENCES ∷ ts → AreReferences t x rest)
+unfolding referenced
+referenced_sound = made_sound _ (λ x. record { table = x.0; columns = x.1 }) (both_sound name_sound listed_names_sound) (λ ts x rest h t o. (h.0, (ts, o, h.1), h.2))
+
+references_sound : Sound References (after (word w.References) referenced) AreReferences
+references_sound = sound_to AreReferences (after_word_sound w.References referenced_sound) (λ ts x rest h. h.2 ts h.1)
+
+foreign_key_sound : Sound ForeignKey foreign_key (λ ts x rest. (t : Tokens) → t ≡ FOREIGN ∷ ts → IsForeignKey t x rest)
+unfolding foreign_key
+foreign_key_sound = made_sound _ (λ x. record { columns = x.0; references = x.1 }) (after_word_sound w.Key (both_sound (parenthesized_sound names_sound) references_sound))
+    (λ ts x rest h t o. (h.2.0, (ts, o, (h.0, h.1, h.2.1)), h.2.2))
+
 indexed_sound : Sound (List ℕ × List (List ℕ)) indexed (ON ⊳ (IsName ⨾ Parenthesized AreNames))
 unfolding indexed indexed_columns
 indexed_sound = after_word_sound w.On (both_sound name_sound (parenthesized_sound names_sound))
@@ -125,7 +143,9 @@ module _ (I : Inner) (N : Nested) (e : Sound Expression I.expression N.expressio
       let a = bind_some (word w.Key ts) (λ y. Some (column_rule_of.PrimaryKey, y.1)) x f in
       found (λ y. IsColumnRule N (PRIMARY ∷ ts) y.0 y.1) (column_rule_of.PrimaryKey, a.0.1) x a.2 (ap (λ b. PRIMARY ∷ b) (word_found w.Key ts a.0 a.1))))
       (next_sound (word_is w.Unique column_rule_of.Unique (IsColumnRule N) (λ rest. refl))
-      (made_sound (IsColumnRule N) column_rule_of.Check check_sound (λ ts x rest h. h))))
+      (next_sound (word_then w.References (IsColumnRule N) (λ ts x f. (made_sound (λ ts x rest. IsColumnRule N (REFERENCES ∷ ts) x rest) column_rule_of.References
+      referenced_sound (λ ts x rest h. h (REFERENCES ∷ ts) refl)).at ts x f))
+      (made_sound (IsColumnRule N) column_rule_of.Check check_sound (λ ts x rest h. h)))))
 
   column_constraint_sound : Sound ColumnConstraint (column_constraint I) (IsColumnConstraint N)
   unfolding column_constraint
@@ -143,7 +163,9 @@ module _ (I : Inner) (N : Nested) (e : Sound Expression I.expression N.expressio
       (after_word_sound w.Key (parenthesized_sound names_sound)) (λ ts x rest h. (ts, refl, h))).at ts x f))
       (next_sound (word_then w.Unique (IsTableRule N) (λ ts x f. (made_sound (λ ts x rest. IsTableRule N (UNIQUE ∷ ts) x rest) table_rule_of.Unique
       (parenthesized_sound names_sound) (λ ts x rest h. (ts, refl, h))).at ts x f))
-      (made_sound (IsTableRule N) table_rule_of.Check check_sound (λ ts x rest h. h)))
+      (next_sound (word_then w.Foreign (IsTableRule N) (λ ts x f. (made_sound (λ ts x rest. IsTableRule N (FOREIGN ∷ ts) x rest) table_rule_of.ForeignKey
+      foreign_key_sound (λ ts x rest h. h (FOREIGN ∷ ts) refl)).at ts x f))
+      (made_sound (IsTableRule N) table_rule_of.Check check_sound (λ ts x rest h. h))))
 
   table_constraint_sound : Sound TableConstraint (table_constraint I) (IsTableConstraint N)
   unfolding table_constraint

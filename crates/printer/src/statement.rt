@@ -11,8 +11,9 @@ ghost use Rattle.printer.specs.Writing.{IsWrittenAs, Prints};
 use crate::writer::{Part, Writer};
 use ast::{
     AccessMode, Assignment, ColumnConstraint, ColumnDefinition, ColumnRule, Condition, CreateIndex,
-    CreateTable, DeclareCursor, Delete, Direction, Insert, InsertRows, OrderedQuery, SortColumn,
-    SortKey, Statement, StoredSource, TableConstraint, TableElement, TableRule, TypeName, Update,
+    CreateTable, DeclareCursor, Delete, Direction, ForeignKey, Insert, InsertRows, OrderedQuery,
+    References, SortColumn, SortKey, Statement, StoredSource, TableConstraint, TableElement,
+    TableRule, TypeName, Update,
 };
 use items::Items;
 use lexer::{Kind, Name, Number, Symbol, Word};
@@ -189,6 +190,30 @@ impl Part for TypeName {
     }
 }
 
+impl Part for References {
+    ghost use Rattle.ast.specs.Statements.{AreReferences};
+
+    ghost rule = { λ _ _. AreReferences };
+
+    fn write(&self, writer: &mut Writer) -> Result<(), AllocError> {
+        writer.named(Word::References, &self.table)?;
+        writer.column_names(self.columns.as_slice())
+    }
+}
+
+impl Part for ForeignKey {
+    ghost use Rattle.ast.specs.Statements.{IsForeignKey};
+
+    ghost rule = { λ _ _. IsForeignKey };
+
+    fn write(&self, writer: &mut Writer) -> Result<(), AllocError> {
+        writer.word(Word::Foreign)?;
+        writer.word(Word::Key)?;
+        writer.list_in_parentheses(self.columns.as_slice())?;
+        self.references.write(writer)
+    }
+}
+
 impl Part for ColumnRule {
     ghost use Rattle.ast.specs.Statements.{IsColumnRule};
 
@@ -206,6 +231,7 @@ impl Part for ColumnRule {
             }
             ColumnRule::Unique => writer.word(Word::Unique),
             ColumnRule::Check(condition) => writer.check(condition),
+            ColumnRule::References(references) => references.write(writer),
         }
     }
 }
@@ -250,6 +276,7 @@ impl Part for TableRule {
                 writer.list_in_parentheses(columns.as_slice())
             }
             TableRule::Check(condition) => writer.check(condition),
+            TableRule::ForeignKey(key) => key.write(writer),
         }
     }
 }

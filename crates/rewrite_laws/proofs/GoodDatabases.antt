@@ -14,7 +14,7 @@ use Rattle.sqlval.specs.Value.{Row, is_null}
 use Rattle.sqlval.specs.declared.schema.Column.{Column}
 use Rattle.sqlval.specs.declared.schema.Constraint.{Constraint}
 use Rattle.sqlval.specs.declared.schema.Rule.{Rule}
-use Rattle.sqlval.specs.declared.schema.Rule.TheVariants.{NotNull, PrimaryKey, Unique, Check}
+use Rattle.sqlval.specs.declared.schema.Rule.TheVariants.{NotNull, PrimaryKey, Unique, Check, ForeignKey}
 use Rattle.sqlval.specs.declared.truth.Truth.TheVariants.{True}
 use Rattle.sqlval.specs.declared.value.Value.{Value}
 use Rattle.sqlval.specs.declared.value.Value.TheVariants.{Null, Int, Text}
@@ -68,6 +68,7 @@ not-violated reading name table (c ∷ constraints) columns e k =
     here (NotNull column) v g rest = rest g
     here (Unique others) v g rest = rest g
     here (Check text) v g rest = rest g
+    here (ForeignKey reference) v g rest = rest g
 
     at : (b : Bool) → is_violated reading name table c.rule ≡ b
         → map (λ (c : Constraint). c.name)

@@ -25,9 +25,9 @@ use Rattle.ast.specs.declared.statement.TypeName.{TypeName}
 use Rattle.ast.specs.declared.statement.TypeName.TheVariants as type_of
 use Rattle.ast.specs.Expressions.{Nested}
 use Rattle.ast.specs.Notation.{Tokens, MaybeListed, Parenthesized}
-use Rattle.ast.specs.Statements.{AreInsertRows, AreNames, IsAccessMode, IsAssignment, IsColumnConstraint, IsColumnDefinition, IsColumnRule, IsConstraintName, IsDirection, IsFilter, IsOrder, IsOrderedQuery, IsSortColumn, IsSortKey, IsStatement, IsStoredSource, IsTableElement, IsTableRule, IsTypeName}
+use Rattle.ast.specs.Statements.{AreInsertRows, AreNames, IsAccessMode, IsAssignment, IsColumnConstraint, IsColumnDefinition, IsColumnRule, IsConstraintName, IsDirection, IsFilter, IsOrder, IsOrderedQuery, IsSortColumn, IsSortKey, IsStatement, IsStoredSource, IsTableElement, IsTableRule, IsTypeName, AreReferences}
 use Rattle.ast.specs.Terminals.{IsName, IsNumber}
-use Rattle.ast.specs.Words.{BY, CHARACTER, CHECK, CLOSE, COMMIT, CREATE, CURSOR, DECLARE, DELETE, DROP, EQUAL, EXPLAIN, FETCH, FOR, FROM, INDEX, INSERT, INTO, KEY, ON, OPEN, ORDER, PRIMARY, ROLLBACK, SET, TABLE, TRANSACTION, UNIQUE, UPDATE, VALUES, VARCHAR, VARYING, WHERE}
+use Rattle.ast.specs.Words.{BY, CHARACTER, CHECK, CLOSE, COMMIT, CREATE, CURSOR, DECLARE, DELETE, DROP, EQUAL, EXPLAIN, FETCH, FOR, FOREIGN, FROM, INDEX, INSERT, INTO, KEY, ON, OPEN, ORDER, PRIMARY, REFERENCES, ROLLBACK, SET, TABLE, TRANSACTION, UNIQUE, UPDATE, VALUES, VARCHAR, VARYING, WHERE}
 use Rattle.parser.proofs.Again.{maybe_passes}
 use Rattle.parser.proofs.AgainTerminals.{name_again, number_again}
 use Rattle.parser.proofs.Passes.{Passes, here, past, onward, one}
@@ -48,6 +48,10 @@ length_in_parentheses = parenthesized (nothing (number_again {d = zero}).passes)
 
 constraint_name : {limit : Option ℕ} → Holds limit IsConstraintName (λ _. [])
 constraint_name = nothing (maybe_passes _ (λ ts x rest h. onward (one refl refl h.1) (one refl refl h.2)))
+
+-- REFERENCES name [( names )]
+references : {limit : Option ℕ} → Holds limit AreReferences (λ _. [])
+references = of AreReferences (λ x. (x.table, x.columns)) (λ ts x rest h. h) (both (after REFERENCES refl refl name) (maybe_listed names_in_parentheses))
 
 sort_column_passes : (ts : Tokens) (x : SortColumn) (rest : Tokens) → IsSortColumn ts x rest → Passes ts rest
 sort_column_passes ts (sort_column_of.Named x) rest h = one refl refl h
@@ -89,6 +93,7 @@ module _ (limit : Option ℕ) where
     column_rule_holds ts column_rule_of.PrimaryKey rest h = no_node (onward (one refl refl h) (past refl refl here))
     column_rule_holds ts column_rule_of.Unique rest h = no_node (one refl refl h)
     column_rule_holds ts (column_rule_of.Check x) rest h = (after CHECK refl refl (parenthesized inner.condition)).at ts x rest h
+    column_rule_holds ts (column_rule_of.References x) rest h = references.at ts x rest h
 
     column_constraint : Holds limit (IsColumnConstraint N) (λ x. column_rule_parts x.rule)
     column_constraint = of (IsColumnConstraint N) (λ x. (x.name, x.rule)) (λ ts x rest h. h) (both constraint_name (record { at = column_rule_holds }))
@@ -101,6 +106,8 @@ module _ (limit : Option ℕ) where
     table_rule_holds ts (table_rule_of.PrimaryKey x) rest h = (after PRIMARY refl refl (after KEY refl refl names_in_parentheses)).at ts x rest h
     table_rule_holds ts (table_rule_of.Unique x) rest h = (after UNIQUE refl refl names_in_parentheses).at ts x rest h
     table_rule_holds ts (table_rule_of.Check x) rest h = (after CHECK refl refl (parenthesized inner.condition)).at ts x rest h
+    table_rule_holds ts (table_rule_of.ForeignKey x) rest h =
+        (both (after FOREIGN refl refl (after KEY refl refl names_in_parentheses)) references).at ts (x.columns, x.references) rest h
 
     element_holds : (ts : Tokens) (x : TableElement) (rest : Tokens) → IsTableElement N ts x rest → Holding limit ts (element_parts x) rest
     element_holds ts (element_of.Column x) rest h = column_definition.at ts x rest h

@@ -27,6 +27,7 @@ module _ (reading other : CheckReading) (reads : IsCheckReading reading) (also :
   others_read (rule.PrimaryKey columns) texts h = h
   others_read (rule.Unique columns) texts h = h
   others_read (rule.Check text) texts h = All-tail (IsReadable name table.columns) text texts h
+  others_read (rule.ForeignKey reference) texts h = h
 
   -- ---- the conditions of CHECKs
 
@@ -36,6 +37,7 @@ module _ (reading other : CheckReading) (reads : IsCheckReading reading) (also :
   one_more (rule.PrimaryKey columns) texts read h k = k
   one_more (rule.Unique columns) texts read h k = k
   one_more (rule.Check text) texts read h k = rw (same_text text texts h, k) refl
+  one_more (rule.ForeignKey reference) texts read h k = k
 
   same_conditions : (constraints : List Constraint) → AreRead (kept_texts constraints)
       → map (other name table.columns) (filter_map (λ c. is_check c.rule) constraints) ≡ map (reading name table.columns) (filter_map (λ c. is_check c.rule) constraints)
@@ -52,6 +54,7 @@ module _ (reading other : CheckReading) (reads : IsCheckReading reading) (also :
   same_violated (rule.NotNull column) texts h = refl
   same_violated (rule.PrimaryKey columns) texts h = refl
   same_violated (rule.Unique columns) texts h = refl
+  same_violated (rule.ForeignKey reference) texts h = refl
   same_violated (rule.Check text) texts h = ap (λ (c : Condition). list_any (λ row. is_false (check_at c row)) table.rows) (same_text text texts h)
 
   same_among : (constraints : List Constraint) → AreRead (kept_texts constraints)

@@ -3,7 +3,7 @@ ghost use Rattle.std.specs.Prelude.{◌≡◌, IfOk};
 
 use crate::indexes::copied_places;
 use items::Items;
-use sqlval::{Constraint, Rule};
+use sqlval::{Constraint, Reference, Rule};
 use std::alloc::{AllocError, Global};
 
 pub(crate) fn copied_constraints(
@@ -36,5 +36,18 @@ fn copied_rule(alloc: Global, rule: &Rule) -> Result<Rule, AllocError>
         Rule::PrimaryKey(columns) => Ok(Rule::PrimaryKey(copied_places(alloc, columns)?)),
         Rule::Unique(columns) => Ok(Rule::Unique(copied_places(alloc, columns)?)),
         Rule::Check(text) => Ok(Rule::Check(text.copy(alloc)?)),
+        Rule::ForeignKey(reference) => Ok(Rule::ForeignKey(copied_reference(alloc, reference)?)),
     }
+}
+
+fn copied_reference(alloc: Global, reference: &Reference) -> Result<Reference, AllocError>
+    ensures { IfOk result (λ copied. copied ≡ reference.now) }
+{
+    let columns = copied_places(alloc, &reference.columns)?;
+    let table = reference.table.copy(alloc)?;
+    Ok(Reference {
+        columns,
+        table,
+        referenced: copied_places(alloc, &reference.referenced)?,
+    })
 }

@@ -3,17 +3,18 @@ use Rattle.std.proofs.Common.{◌≡◌, ℕ, ◌+◌, ◌-◌, cond, List, [], 
 use Rattle.std.specs.Prelude.{slice_index_or, pos}
 use Rattle.std.specs.List.{AllByRecursion}
 use Rattle.std.proofs.lemmas.List.{map-append}
-use Rattle.sqlval.specs.declared.value.Value.TheVariants.{Int}
+use Rattle.sqlval.specs.declared.value.Value.{Value}
+use Rattle.sqlval.specs.declared.value.Value.TheVariants.{Int, Text}
 use Rattle.sqlval.specs.declared.storing.ColumnType.{ColumnType}
 use Rattle.sqlval.specs.declared.storing.ColumnType.TheVariants.{Integer, Varchar}
 use Rattle.sqlval.specs.declared.schema.Table.{Table}
 use Rattle.sqlval.specs.declared.schema.Column.{Column}
 use Rattle.sqlval.specs.declared.schema.Constraint.{Constraint}
 use Rattle.sqlval.specs.declared.schema.Rule.{Rule}
-use Rattle.sqlval.specs.declared.schema.Rule.TheVariants.{NotNull, PrimaryKey, Unique, Check}
+use Rattle.sqlval.specs.declared.schema.Rule.TheVariants.{NotNull, PrimaryKey, Unique, Check, ForeignKey}
 use Rattle.sqlval.specs.declared.schema.Index.{Index}
 use Rattle.catalog_records.specs.declared.record.Record.{Record}
-use Rattle.catalog_records.specs.Records.{table_record, width_of, column_record, sort_of, detail_of, constraint_record, name_value, owner_number, index_record, column_records, constraint_records, index_records, table_records, schema_records}
+use Rattle.catalog_records.specs.Records.{counted, others_of, table_record, width_of, column_record, sort_of, detail_of, constraint_record, name_value, owner_number, index_record, column_records, constraint_records, index_records, table_records, schema_records}
 use Rattle.catalog_records.specs.Keepable.{IsType, IsColumn, IsRule, IsConstraint, IsIndex, IsTable, AreTables}
 use Rattle.btree_read.specs.declared.entry.Entry.{Entry}
 use Rattle.btree_read.proofs.ListLemmas.{each_left, each_right}
@@ -35,14 +36,19 @@ type_back (Varchar n) h = ap (λ b. cond b Integer (Varchar n)) (ne_eqb n 0 (λ 
 column_back : (name : List ℕ) (place : ℕ) (c : Column) → IsColumn c → column_of (column_record name place c).row ≡ c
 column_back name place c h = ap (λ (t : ColumnType). record { name = c.name; column_type = t }) (type_back c.column_type h)
 
-rule_back : (r : Rule) → IsRule r → rule_of (sort_of r) (detail_of r) ≡ r
-rule_back (NotNull column) h = ap (λ ps. NotNull (slice_index_or ps 0 0)) (places_back (column ∷ []) (h, tt))
-rule_back (PrimaryKey columns) h = ap PrimaryKey (places_back columns h)
-rule_back (Unique columns) h = ap Unique (places_back columns h)
-rule_back (Check text) h = refl
+-- a rule behind these two values
+rule_back : (x y : Value) (r : Rule) → IsRule r → rule_of (sort_of r) (detail_of r) (x ∷ y ∷ Text (detail_of r) ∷ others_of r) ≡ r
+rule_back x y (NotNull column) h = ap (λ ps. NotNull (slice_index_or ps 0 0)) (places_back (column ∷ []) (h, tt))
+rule_back x y (PrimaryKey columns) h = ap PrimaryKey (places_back columns h)
+rule_back x y (Unique columns) h = ap Unique (places_back columns h)
+rule_back x y (Check text) h = refl
+rule_back x y (ForeignKey reference) h =
+    let columns = places_back reference.columns h.columns in
+    let referenced = places_back reference.referenced h.referenced in
+    λ i. ForeignKey (record { columns = columns i; table = reference.table; referenced = referenced i })
 
 constraint_back : (name : List ℕ) (place : ℕ) (c : Constraint) → IsConstraint c → constraint_of (constraint_record name place c).row ≡ c
-constraint_back name place c h = ap (λ (r : Rule). record { name = c.name; rule = r }) (rule_back c.rule h)
+constraint_back name place c h = ap (λ (r : Rule). record { name = c.name; rule = r }) (rule_back (Text c.name) (counted (sort_of c.rule)) c.rule h)
 
 name_again : (name : Option (List ℕ)) → name_of (name_value name) ≡ name
 name_again None = refl
@@ -70,6 +76,15 @@ with_columns columns p = record { columns = columns ++ p.columns; constraints = 
 abbrev with_constraints : List Constraint → Parts → Parts
 with_constraints constraints p = record { columns = p.columns; constraints = constraints ++ p.constraints; indexes = p.indexes; tables = p.tables }
 
+-- a record of three values, or of five, is that of a constraint
+constraint_values : (name : List ℕ) (x y z : Value) (r : Rule) (p : Parts)
+    → with_record name (x ∷ y ∷ z ∷ others_of r) p ≡ with_constraints (constraint_of (x ∷ y ∷ z ∷ others_of r) ∷ []) p
+constraint_values name x y z (NotNull column) p = refl
+constraint_values name x y z (PrimaryKey columns) p = refl
+constraint_values name x y z (Unique columns) p = refl
+constraint_values name x y z (Check text) p = refl
+constraint_values name x y z (ForeignKey reference) p = refl
+
 abbrev with_indexes : List Index → Parts → Parts
 with_indexes indexes p = record { columns = p.columns; constraints = p.constraints; indexes = indexes ++ p.indexes; tables = p.tables }
 
@@ -87,6 +102,8 @@ constraints_back name from [] more h coded = refl
 constraints_back name from (c ∷ constraints) more h coded =
     record_read (constraint_record name from c) (entries_of (constraint_records name (from + 1) constraints) ++ more) coded.0
     ∙ ap (with_record (name_in (entry_of (constraint_record name from c)).key) (constraint_record name from c).row) (constraints_back name (from + 1) constraints more h.1 coded.1)
+    ∙ constraint_values (name_in (entry_of (constraint_record name from c)).key) (Text c.name) (counted (sort_of c.rule)) (Text (detail_of c.rule)) c.rule
+    (with_constraints constraints (parts_of more))
     ∙ ap (λ (d : Constraint). with_constraints (d ∷ constraints) (parts_of more)) (constraint_back name from c h.0)
 
 indexes_back : (name : List ℕ) (from : ℕ) (indexes : List Index) (more : List Entry) → AllByRecursion IsIndex indexes → AreCoded (index_records name from indexes)

@@ -7,8 +7,9 @@ use Rattle.sqlval.specs.declared.storing.ColumnType.TheVariants.{Integer, Varcha
 use Rattle.sqlval.specs.declared.schema.Table.{Table}
 use Rattle.sqlval.specs.declared.schema.Column.{Column}
 use Rattle.sqlval.specs.declared.schema.Constraint.{Constraint}
+use Rattle.sqlval.specs.declared.schema.Reference.{Reference}
 use Rattle.sqlval.specs.declared.schema.Rule.{Rule}
-use Rattle.sqlval.specs.declared.schema.Rule.TheVariants.{NotNull, PrimaryKey, Unique, Check}
+use Rattle.sqlval.specs.declared.schema.Rule.TheVariants.{NotNull, PrimaryKey, Unique, Check, ForeignKey}
 use Rattle.sqlval.specs.declared.schema.Index.{Index}
 use Rattle.btree_read.specs.declared.entry.Entry.{Entry}
 use Rattle.stored_tables.specs.Values.{row_in, name_in}
@@ -43,13 +44,18 @@ type_of width = if width == 0 then Integer else Varchar width
 abbrev pub column_of : List Value → Column
 column_of row = record { name = text_of (at row 0); column_type = type_of (number_of (at row 1)) }
 
-abbrev pub rule_of : ℕ → List ℕ → Rule
-rule_of sort detail =
+-- its own columns, the table that it references, and that table's columns
+abbrev pub reference_of : List Value → Reference
+reference_of row = record { columns = places_in (text_of (at row 2)); table = text_of (at row 3); referenced = places_in (text_of (at row 4)) }
+
+abbrev pub rule_of : ℕ → List ℕ → List Value → Rule
+rule_of sort detail row =
     if sort == 1 then NotNull (slice_index_or (places_in detail) 0 0)
-    else if sort == 2 then PrimaryKey (places_in detail) else if sort == 3 then Unique (places_in detail) else Check detail
+    else if sort == 2 then PrimaryKey (places_in detail) else if sort == 3 then Unique (places_in detail)
+    else if sort == 5 then ForeignKey (reference_of row) else Check detail
 
 abbrev pub constraint_of : List Value → Constraint
-constraint_of row = record { name = text_of (at row 0); rule = rule_of (number_of (at row 1)) (text_of (at row 2)) }
+constraint_of row = record { name = text_of (at row 0); rule = rule_of (number_of (at row 1)) (text_of (at row 2)) row }
 
 abbrev pub owner_of : ℕ → Option ℕ
 owner_of number = if number == 0 then None else Some (number - 1)
@@ -77,12 +83,13 @@ with_its_table name root p = record {
 }
 
 -- Before them what one record says. A record of a table has one value, of a column two, of a
--- constraint three, and of an index four.
+-- constraint three, five if it is a foreign key, and of an index four.
 abbrev pub with_record : List ℕ → List Value → Parts → Parts
 with_record name row p =
     if length row == 1 then with_its_table name (number_of (at row 0)) p
     else if length row == 2 then record { columns = column_of row ∷ p.columns; constraints = p.constraints; indexes = p.indexes; tables = p.tables }
     else if length row == 3 then record { columns = p.columns; constraints = constraint_of row ∷ p.constraints; indexes = p.indexes; tables = p.tables }
+    else if length row == 5 then record { columns = p.columns; constraints = constraint_of row ∷ p.constraints; indexes = p.indexes; tables = p.tables }
     else record { columns = p.columns; constraints = p.constraints; indexes = index_of row ∷ p.indexes; tables = p.tables }
 
 abbrev pub parts_of : List Entry → Parts

@@ -1,6 +1,6 @@
 -- The parts of a CREATE TABLE as they are read, and the definitions.
 use Rattle.std.proofs.Common.{◌≡◌, refl, sym, ap, ◌∙◌, ℕ, suc, ◌+◌, List, [], ◌∷◌, ◌++◌, append_assoc, map, length, true, false, Bool, Option, Ok, Err}
-use Rattle.std.specs.Prelude.{filter}
+use Rattle.std.specs.Prelude.{filter, flat_map}
 use Rattle.std.specs.List.{position_from, zip}
 use Rattle.std.proofs.lemmas.List.{append-nil, length-map, map-append}
 use Rattle.sqlval.specs.declared.schema.Column.{Column}
@@ -19,15 +19,19 @@ use Rattle.ast.specs.declared.statement.TableElement.TheVariants as element
 use Rattle.ast.specs.declared.statement.TableRule.{TableRule}
 use Rattle.ast.specs.declared.statement.TableRule.TheVariants as table_rule
 use Rattle.typing.specs.declared.scope.Frame.{Frame}
-use Rattle.typing.specs.Constraint.{Declared, are_allowed, column_rule_at, constraint_name, constraints_found, declared_from, defined_place, key_places, named, names_from, one_primary_key, table_rule_of}
-use Rattle.typing.specs.CreateTable.{columns_found, column_found, create_found, defined_frame, definitions}
+use Rattle.typing.specs.Constraint.{Declared, Referencing, are_allowed, column_keys, column_rule_at, constraint_name, constraints_found, declared_from, defined_place, key_found, key_places, keys_from, named, names_from, one_primary_key, table_keys, table_rule_of}
+use Rattle.typing.specs.CreateTable.{columns_found, column_found, create_found, defined_frame, definitions, own_table}
+use Rattle.typing.specs.References.{reference_found}
 use Rattle.typing.specs.Finding.{Finding, reasons_in, ◌>>=◌, also, each}
 use Rattle.typing.specs.Known.{Known}
+use Rattle.typing.specs.declared.known.KnownTable.{KnownTable}
 use Rattle.typing.specs.Table.{as_found, at_most, distinct_found, is_new}
 use Rattle.table_types.specs.declared.columns.Definition.{Definition}
 use Rattle.table_types.specs.declared.headings.Heading.{Heading}
+use Rattle.table_types.specs.ForeignKeys as foreign
+use Rattle.table_types.specs.ForeignKeys.{element_keys, own_table_of, referencing_of}
 use Rattle.table_types.specs.Tables as own
-use Rattle.table_types.specs.Tables.{Counts, column_heading, column_of, columns_of, constraints_in, constraints_of, counts_found, defined, definition_of, frame_over, has_table, headings_from, key_of, made_table, named_by, names_allowed, names_found, names_of, offer_of, place_of, rules_from, table_heading}
+use Rattle.table_types.specs.Tables.{Counts, column_heading, column_of, columns_of, constraints_in, constraints_of, counts_found, defined, definition_of, frame_over, has_table, headings_from, key_of, made_table, named_by, names_allowed, names_found, names_of, offer_of, parts_from, place_of, rules_from, table_heading}
 
 -- ---- columns
 
@@ -53,61 +57,65 @@ place-is ds name = sym (position-defined (λ d. same_name d.name name) 0 ds)
 key-is : (ds : List ColumnDefinition) (names : List (List ℕ)) → key_places ds names ≡ key_of (map definition_of ds) names
 key-is ds names = λ i. also (also (at_most 4 limit.KeyColumns (length names)) (distinct_found names)) (each (map (λ name. as_found (place-is ds name i)) names)) >>= (λ p. Ok p.1)
 
-column-rule-is : (frame : Frame) (place : ℕ) (name : Option (List ℕ)) (r : ColumnRule) → (column_rule_at frame place name r).rule ≡ own.column_rule_of frame place r
-column-rule-is frame place name column_rule.NotNull = refl
-column-rule-is frame place name column_rule.PrimaryKey = refl
-column-rule-is frame place name column_rule.Unique = refl
-column-rule-is frame place name (column_rule.Check condition) = refl
+column-rule-is : (frame : Frame) (referencing : Referencing) (place : ℕ) (name : Option (List ℕ)) (r : ColumnRule) → (column_rule_at frame referencing place name r).rule ≡ own.column_rule_of frame referencing place r
+column-rule-is frame referencing place name column_rule.NotNull = refl
+column-rule-is frame referencing place name column_rule.PrimaryKey = refl
+column-rule-is frame referencing place name column_rule.Unique = refl
+column-rule-is frame referencing place name (column_rule.Check condition) = refl
+column-rule-is frame referencing place name (column_rule.References x) = refl
 
-table-rule-is : (frame : Frame) (ds : List ColumnDefinition) (name : Option (List ℕ)) (r : TableRule) → (table_rule_of frame ds name r).rule ≡ own.table_rule_of frame (map definition_of ds) r
-table-rule-is frame ds name (table_rule.PrimaryKey names) = rw (key-is ds names) refl
-table-rule-is frame ds name (table_rule.Unique names) = rw (key-is ds names) refl
-table-rule-is frame ds name (table_rule.Check condition) = refl
+table-rule-is : (frame : Frame) (referencing : Referencing) (ds : List ColumnDefinition) (name : Option (List ℕ)) (r : TableRule) → (table_rule_of frame referencing ds name r).rule ≡ own.table_rule_of frame referencing (map definition_of ds) r
+table-rule-is frame referencing ds name (table_rule.PrimaryKey names) = rw (key-is ds names) refl
+table-rule-is frame referencing ds name (table_rule.Unique names) = rw (key-is ds names) refl
+table-rule-is frame referencing ds name (table_rule.Check condition) = refl
+table-rule-is frame referencing ds name (table_rule.ForeignKey x) = rw (key-is ds x.columns) refl
 
 abbrev rule_of : Declared → Finding Rule
 rule_of c = c.rule
 
-column-rules-are : (frame : Frame) (place : ℕ) (cs : List ColumnConstraint) →
-    map rule_of (map (λ c. column_rule_at frame place c.name c.rule) cs) ≡ map (λ c. own.column_rule_of frame place c.rule) cs
-column-rules-are frame place [] = refl
-column-rules-are frame place (c ∷ cs) = rw (column-rule-is frame place c.name c.rule, column-rules-are frame place cs) refl
+column-rules-are : (frame : Frame) (referencing : Referencing) (place : ℕ) (cs : List ColumnConstraint) →
+    map rule_of (map (λ c. column_rule_at frame referencing place c.name c.rule) cs) ≡ map (λ c. own.column_rule_of frame referencing place c.rule) cs
+column-rules-are frame referencing place [] = refl
+column-rules-are frame referencing place (c ∷ cs) = rw (column-rule-is frame referencing place c.name c.rule, column-rules-are frame referencing place cs) refl
 
-rules-are : (frame : Frame) (ds : List ColumnDefinition) (place : ℕ) (elements : List TableElement) →
-    map rule_of (declared_from frame ds place elements) ≡ rules_from frame (map definition_of ds) place elements
-rules-are frame ds place [] = refl
-rules-are frame ds place (element.Column d ∷ elements) =
-    map-append rule_of (map (λ c. column_rule_at frame place c.name c.rule) d.constraints) (declared_from frame ds (place + 1) elements)
-    ∙ rw (column-rules-are frame place d.constraints, rules-are frame ds (place + 1) elements) refl
-rules-are frame ds place (element.Constraint c ∷ elements) = rw (table-rule-is frame ds c.name c.rule, rules-are frame ds place elements) refl
+rules-are : (frame : Frame) (referencing : Referencing) (ds : List ColumnDefinition) (place : ℕ) (elements : List TableElement) →
+    map rule_of (declared_from frame referencing ds place elements) ≡ rules_from frame referencing (map definition_of ds) place elements
+rules-are frame referencing ds place [] = refl
+rules-are frame referencing ds place (element.Column d ∷ elements) =
+    map-append rule_of (map (λ c. column_rule_at frame referencing place c.name c.rule) d.constraints) (declared_from frame referencing ds (place + 1) elements)
+    ∙ rw (column-rules-are frame referencing place d.constraints, rules-are frame referencing ds (place + 1) elements) refl
+rules-are frame referencing ds place (element.Constraint c ∷ elements) = rw (table-rule-is frame referencing ds c.name c.rule, rules-are frame referencing ds place elements) refl
 
 -- ---- headings
 
 abbrev heading_of : Declared → Heading
 heading_of c = record { name = c.name; is_primary_key = c.is_primary_key; owns_index = c.owns_index }
 
-column-heading-is : (frame : Frame) (place : ℕ) (name : Option (List ℕ)) (r : ColumnRule) → heading_of (column_rule_at frame place name r) ≡ column_heading name r
-column-heading-is frame place name column_rule.NotNull = refl
-column-heading-is frame place name column_rule.PrimaryKey = refl
-column-heading-is frame place name column_rule.Unique = refl
-column-heading-is frame place name (column_rule.Check condition) = refl
+column-heading-is : (frame : Frame) (referencing : Referencing) (place : ℕ) (name : Option (List ℕ)) (r : ColumnRule) → heading_of (column_rule_at frame referencing place name r) ≡ column_heading name r
+column-heading-is frame referencing place name column_rule.NotNull = refl
+column-heading-is frame referencing place name column_rule.PrimaryKey = refl
+column-heading-is frame referencing place name column_rule.Unique = refl
+column-heading-is frame referencing place name (column_rule.Check condition) = refl
+column-heading-is frame referencing place name (column_rule.References x) = refl
 
-table-heading-is : (frame : Frame) (ds : List ColumnDefinition) (name : Option (List ℕ)) (r : TableRule) → heading_of (table_rule_of frame ds name r) ≡ table_heading name r
-table-heading-is frame ds name (table_rule.PrimaryKey names) = refl
-table-heading-is frame ds name (table_rule.Unique names) = refl
-table-heading-is frame ds name (table_rule.Check condition) = refl
+table-heading-is : (frame : Frame) (referencing : Referencing) (ds : List ColumnDefinition) (name : Option (List ℕ)) (r : TableRule) → heading_of (table_rule_of frame referencing ds name r) ≡ table_heading name r
+table-heading-is frame referencing ds name (table_rule.PrimaryKey names) = refl
+table-heading-is frame referencing ds name (table_rule.Unique names) = refl
+table-heading-is frame referencing ds name (table_rule.Check condition) = refl
+table-heading-is frame referencing ds name (table_rule.ForeignKey x) = refl
 
-column-headings-are : (frame : Frame) (place : ℕ) (cs : List ColumnConstraint) →
-    map heading_of (map (λ c. column_rule_at frame place c.name c.rule) cs) ≡ map (λ c. column_heading c.name c.rule) cs
-column-headings-are frame place [] = refl
-column-headings-are frame place (c ∷ cs) = rw (column-heading-is frame place c.name c.rule, column-headings-are frame place cs) refl
+column-headings-are : (frame : Frame) (referencing : Referencing) (place : ℕ) (cs : List ColumnConstraint) →
+    map heading_of (map (λ c. column_rule_at frame referencing place c.name c.rule) cs) ≡ map (λ c. column_heading c.name c.rule) cs
+column-headings-are frame referencing place [] = refl
+column-headings-are frame referencing place (c ∷ cs) = rw (column-heading-is frame referencing place c.name c.rule, column-headings-are frame referencing place cs) refl
 
-headings-are : (frame : Frame) (ds : List ColumnDefinition) (place : ℕ) (elements : List TableElement) →
-    map heading_of (declared_from frame ds place elements) ≡ headings_from elements
-headings-are frame ds place [] = refl
-headings-are frame ds place (element.Column d ∷ elements) =
-    map-append heading_of (map (λ c. column_rule_at frame place c.name c.rule) d.constraints) (declared_from frame ds (place + 1) elements)
-    ∙ rw (column-headings-are frame place d.constraints, headings-are frame ds (place + 1) elements) refl
-headings-are frame ds place (element.Constraint c ∷ elements) = rw (table-heading-is frame ds c.name c.rule, headings-are frame ds place elements) refl
+headings-are : (frame : Frame) (referencing : Referencing) (ds : List ColumnDefinition) (place : ℕ) (elements : List TableElement) →
+    map heading_of (declared_from frame referencing ds place elements) ≡ headings_from elements
+headings-are frame referencing ds place [] = refl
+headings-are frame referencing ds place (element.Column d ∷ elements) =
+    map-append heading_of (map (λ c. column_rule_at frame referencing place c.name c.rule) d.constraints) (declared_from frame referencing ds (place + 1) elements)
+    ∙ rw (column-headings-are frame referencing place d.constraints, headings-are frame referencing ds (place + 1) elements) refl
+headings-are frame referencing ds place (element.Constraint c ∷ elements) = rw (table-heading-is frame referencing ds c.name c.rule, headings-are frame referencing ds place elements) refl
 
 names-are : (number : ℕ) (cs : List Declared) → names_from number cs ≡ names_of number (map heading_of cs)
 names-are number [] = refl
@@ -172,17 +180,41 @@ defined-are [] = refl
 defined-are (element.Column d ∷ elements) = ap (λ rest. definition_of d ∷ rest) (defined-are elements)
 defined-are (element.Constraint c ∷ elements) = defined-are elements
 
+-- ---- the keys of the table that is being made
+
+table-keys-are : (ds : List ColumnDefinition) (r : TableRule) → table_keys ds r ≡ foreign.table_keys (map definition_of ds) r
+table-keys-are ds (table_rule.PrimaryKey names) = ap (λ places. key_found true places ∷ []) (key-is ds names)
+table-keys-are ds (table_rule.Unique names) = ap (λ places. key_found false places ∷ []) (key-is ds names)
+table-keys-are ds (table_rule.Check condition) = refl
+table-keys-are ds (table_rule.ForeignKey x) = refl
+
+keys-are : (ds : List ColumnDefinition) (place : ℕ) (elements : List TableElement) → keys_from ds place elements ≡ parts_from (element_keys (map definition_of ds)) place elements
+keys-are ds place [] = refl
+keys-are ds place (element.Column d ∷ elements) = ap (λ rest. flat_map (λ c. column_keys place c.rule) d.constraints ++ rest) (keys-are ds (place + 1) elements)
+keys-are ds place (element.Constraint c ∷ elements) =
+    rw (table-keys-are ds c.rule, keys-are ds place elements) refl
+
+own-is : (ds : List ColumnDefinition) (elements : List TableElement) → own_table ds elements ≡ own_table_of (map definition_of ds) elements
+own-is ds elements = rw (columns-are ds, keys-are ds 0 elements) refl
+
 module _ (k : Known) (tree : Tree) where
   abbrev ds : List ColumnDefinition
   ds = definitions tree.elements
 
-  abbrev declared : List Declared
-  declared = declared_from (defined_frame tree.table ds) ds 0 tree.elements
+  abbrev referencing : Referencing
+  referencing = reference_found k tree.table (own_table ds tree.elements)
 
-  all-constraints : constraints_found declared ≡ constraints_in tree
+  abbrev declared : List Declared
+  declared = declared_from (defined_frame tree.table ds) referencing ds 0 tree.elements
+
+  referencing-is : referencing ≡ referencing_of k tree (defined tree.elements)
+  referencing-is = ap (reference_found k tree.table) (own-is ds tree.elements ∙ ap (λ all. own_table_of all tree.elements) (sym (defined-are tree.elements)))
+
+  all-constraints : constraints_found declared ≡ constraints_in referencing tree
   all-constraints =
       constraints-are declared
-      ∙ rw (headings-are (defined_frame tree.table ds) ds 0 tree.elements, rules-are (defined_frame tree.table ds) ds 0 tree.elements, frame-is tree.table ds, ← defined-are tree.elements) refl
+      ∙ rw (headings-are (defined_frame tree.table ds) referencing ds 0 tree.elements, rules-are (defined_frame tree.table ds) referencing ds 0 tree.elements, frame-is tree.table ds, ← defined-are tree.elements) refl
 
-  pub create-is : create_found k tree ≡ made_table tree.table (also (is_new (has_table k tree.table)) (also (columns_of (defined tree.elements)) (constraints_in tree)))
-  create-is = rw (columns-are ds, ← defined-are tree.elements, all-constraints) refl
+  pub create-is : create_found k tree
+      ≡ made_table tree.table (also (is_new (has_table k tree.table)) (also (columns_of (defined tree.elements)) (constraints_in (referencing_of k tree (defined tree.elements)) tree)))
+  create-is = rw (all-constraints, referencing-is, columns-are ds, ← defined-are tree.elements) refl

@@ -22,7 +22,7 @@ use Rattle.typing.specs.declared.scope.Frame.{Frame}
 use Rattle.typing.specs.declared.scope.Offer.{Offer}
 use Rattle.typing.specs.declared.statement.CreateTable.{CreateTable}
 use Rattle.typing.specs.Check.{check_rule}
-use Rattle.typing.specs.Constraint.{constraint_name, named}
+use Rattle.typing.specs.Constraint.{Referencing, constraint_name, named}
 use Rattle.typing.specs.CreateTable.{type_found, written_type}
 use Rattle.typing.specs.Finding.{Finding, ◌>>=◌, also, each, invalid}
 use Rattle.typing.specs.Known.{Known}
@@ -70,11 +70,12 @@ place_of ds name = position_from (λ d. same_name d.name name) 0 ds
 abbrev pub key_of : List Definition → List (List ℕ) → Finding (List ℕ)
 key_of ds names = second_of (also (also (at_most 4 limit.KeyColumns (length names)) (distinct_found names)) (each (map (λ name. as_found (place_of ds name)) names)))
 
-abbrev pub column_rule_of : Frame → ℕ → ColumnRule → Finding Rule
-column_rule_of frame place column_rule.NotNull = Ok (rule.NotNull place)
-column_rule_of frame place column_rule.PrimaryKey = Ok (rule.PrimaryKey (place ∷ []))
-column_rule_of frame place column_rule.Unique = Ok (rule.Unique (place ∷ []))
-column_rule_of frame place (column_rule.Check condition) = check_rule frame condition
+abbrev pub column_rule_of : Frame → Referencing → ℕ → ColumnRule → Finding Rule
+column_rule_of frame referencing place column_rule.NotNull = Ok (rule.NotNull place)
+column_rule_of frame referencing place column_rule.PrimaryKey = Ok (rule.PrimaryKey (place ∷ []))
+column_rule_of frame referencing place column_rule.Unique = Ok (rule.Unique (place ∷ []))
+column_rule_of frame referencing place (column_rule.Check condition) = check_rule frame condition
+column_rule_of frame referencing place (column_rule.References x) = referencing (Ok (place ∷ [])) x
 
 abbrev pub primary_key_of : Finding (List ℕ) → Finding Rule
 primary_key_of key = key >>= (λ places. Ok (rule.PrimaryKey places))
@@ -82,29 +83,33 @@ primary_key_of key = key >>= (λ places. Ok (rule.PrimaryKey places))
 abbrev pub unique_of : Finding (List ℕ) → Finding Rule
 unique_of key = key >>= (λ places. Ok (rule.Unique places))
 
-abbrev pub table_rule_of : Frame → List Definition → TableRule → Finding Rule
-table_rule_of frame ds (table_rule.PrimaryKey names) = primary_key_of (key_of ds names)
-table_rule_of frame ds (table_rule.Unique names) = unique_of (key_of ds names)
-table_rule_of frame ds (table_rule.Check condition) = check_rule frame condition
+abbrev pub table_rule_of : Frame → Referencing → List Definition → TableRule → Finding Rule
+table_rule_of frame referencing ds (table_rule.PrimaryKey names) = primary_key_of (key_of ds names)
+table_rule_of frame referencing ds (table_rule.Unique names) = unique_of (key_of ds names)
+table_rule_of frame referencing ds (table_rule.Check condition) = check_rule frame condition
+table_rule_of frame referencing ds (table_rule.ForeignKey x) = referencing (key_of ds x.columns) x.references
 
 -- alone in a list
 abbrev pub alone_of : Finding Rule → Finding (List Rule)
 alone_of found = found >>= (λ x. Ok (x ∷ []))
 
 -- of an element, the next column from which on has this place
-abbrev pub element_rules : Frame → List Definition → ℕ → TableElement → List (Finding Rule)
-element_rules frame ds place (element.Column d) = map (λ c. column_rule_of frame place c.rule) d.constraints
-element_rules frame ds place (element.Constraint c) = table_rule_of frame ds c.rule ∷ []
+abbrev pub element_rules : Frame → Referencing → List Definition → ℕ → TableElement → List (Finding Rule)
+element_rules frame referencing ds place (element.Column d) = map (λ c. column_rule_of frame referencing place c.rule) d.constraints
+element_rules frame referencing ds place (element.Constraint c) = table_rule_of frame referencing ds c.rule ∷ []
 
 -- the place of the column after an element
 abbrev pub next_place : ℕ → TableElement → ℕ
 next_place place (element.Column d) = place + 1
 next_place place (element.Constraint c) = place
 
--- of these elements, the first column of which has this place
-abbrev pub rules_from : Frame → List Definition → ℕ → List TableElement → List (Finding Rule)
-rules_from frame ds place [] = []
-rules_from frame ds place (e ∷ elements) = element_rules frame ds place e ++ rules_from frame ds (next_place place e) elements
+-- what each of these elements has, one after the other; the first column has this place
+abbrev pub parts_from : {A : Type 0} → (ℕ → TableElement → List A) → ℕ → List TableElement → List A
+parts_from part place [] = []
+parts_from part place (e ∷ elements) = part place e ++ parts_from part (next_place place e) elements
+
+abbrev pub rules_from : Frame → Referencing → List Definition → ℕ → List TableElement → List (Finding Rule)
+rules_from frame referencing ds place elements = parts_from (element_rules frame referencing ds) place elements
 
 -- the text of a CHECK, and what its condition is found to be
 abbrev pub kept : List ℕ → Finding (Unit {0} × Condition) → Finding Rule
@@ -120,11 +125,13 @@ column_heading name column_rule.NotNull = headed name false false
 column_heading name column_rule.PrimaryKey = headed name true true
 column_heading name column_rule.Unique = headed name false true
 column_heading name (column_rule.Check condition) = headed name false false
+column_heading name (column_rule.References x) = headed name false false
 
 abbrev pub table_heading : Option (List ℕ) → TableRule → Heading
 table_heading name (table_rule.PrimaryKey names) = headed name true true
 table_heading name (table_rule.Unique names) = headed name false true
 table_heading name (table_rule.Check condition) = headed name false false
+table_heading name (table_rule.ForeignKey x) = headed name false false
 
 abbrev pub element_headings : TableElement → List Heading
 element_headings (element.Column d) = map (λ c. column_heading c.name c.rule) d.constraints
@@ -167,8 +174,8 @@ named_by (name ∷ names) (r ∷ rules) = named (name, r) ∷ named_by names rul
 abbrev pub constraints_of : Finding (List (List ℕ) × List Rule) → Finding (List Constraint)
 constraints_of found = found >>= (λ p. Ok (named_by p.0 p.1))
 
--- the constraints of a CREATE TABLE
-abbrev pub constraints_in : CreateTableTree → Finding (List Constraint)
-constraints_in tree =
+-- the constraints of a CREATE TABLE, where foreign keys are found so
+abbrev pub constraints_in : Referencing → CreateTableTree → Finding (List Constraint)
+constraints_in referencing tree =
     let ds = defined tree.elements in
-    constraints_of (also (names_found (headings_from tree.elements)) (each (rules_from (frame_over tree.table ds) ds 0 tree.elements)))
+    constraints_of (also (names_found (headings_from tree.elements)) (each (rules_from (frame_over tree.table ds) referencing ds 0 tree.elements)))

@@ -96,6 +96,7 @@ fn column_heading(name: Option<Text>, rule: &ColumnRule) -> Heading
         ColumnRule::PrimaryKey => headed(name, true, true),
         ColumnRule::Unique => headed(name, false, true),
         ColumnRule::Check(_) => headed(name, false, false),
+        ColumnRule::References(_) => headed(name, false, false),
     }
 }
 
@@ -106,6 +107,7 @@ fn table_heading(name: Option<Text>, rule: &TableRule) -> Heading
         TableRule::PrimaryKey(_) => headed(name, true, true),
         TableRule::Unique(_) => headed(name, false, true),
         TableRule::Check(_) => headed(name, false, false),
+        TableRule::ForeignKey(_) => headed(name, false, false),
     }
 }
 

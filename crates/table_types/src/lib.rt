@@ -5,7 +5,9 @@ mod checks;
 mod columns;
 mod constraints;
 mod headings;
+mod known_tables;
 mod names;
+mod references;
 mod rules;
 mod tables;
 

@@ -1,24 +1,27 @@
 //! What each constraint of a CREATE TABLE asks.
 
-ghost use Rattle.std.specs.Prelude.{◌≡◌, ◌∷◌, ◌+◌, ◌<◌, ◌^◌, ℕ, List, [], length, map, IfOk};
+ghost use Rattle.std.specs.Prelude.{◌≡◌, ◌∷◌, ◌+◌, ◌<◌, ◌^◌, ℕ, List, [], Ok, length, map, IfOk};
 ghost use Rattle.refusals.specs.declared.limit.Limit.TheVariants as limit;
 ghost use Rattle.typing.specs.declared.typed.Condition.{Condition as Typed};
 ghost use Rattle.typing.specs.Check.{check_rule};
 ghost use Rattle.typing.specs.Finding.{Finding, each};
 ghost use Rattle.typing.specs.Finds.{Finds};
+ghost use Rattle.typing.specs.Known.{known};
 ghost use Rattle.typing.specs.Table.{as_found, at_most};
 ghost use Rattle.table_types.specs.Checks.{without_key};
+ghost use Rattle.table_types.specs.ForeignKeys.{referencing_of};
 ghost use Rattle.table_types.specs.Tables.{alone_of, column_rule_of, element_rules, kept, key_of, next_place, place_of, primary_key_of, rules_from, table_rule_of, unique_of};
 
 use crate::checks::typed_check;
 use crate::columns::Definition;
 use crate::names::distinct_names;
-use ast::{ColumnConstraint, ColumnRule, TableElement, TableRule};
+use crate::references::reference_rule;
+use ast::{ColumnConstraint, ColumnRule, CreateTable, TableElement, TableRule};
 use condition_printer::text_of_condition;
 use items::{Items, Text};
 use lexer::Name;
 use refusals::{Limit, Reason, Refusal};
-use sqlval::Rule;
+use sqlval::{Rule, Schema};
 use std::alloc::{AllocError, Global};
 use type_rules::{both, second};
 use typing::{Condition, Frame};
@@ -32,23 +35,24 @@ const MAXIMUM_CHECK_LENGTH: usize = 800;
 /// The rules of the constraints, in the order of the text. `frame` is what a CHECK sees.
 pub fn rules_in(
     alloc: Global,
+    schema: &Schema,
+    tree: &CreateTable,
     frame: &Frame,
     definitions: &[Definition],
-    elements: &[TableElement],
 ) -> Result<Items<Rule>, Refusal>
-    ensures { Finds result (each (rules_from (without_key frame.now) definitions.now 0 elements.now)) }
+    ensures { Finds result (each (rules_from (without_key frame.now) (referencing_of (known schema.now) tree.now definitions.now) definitions.now 0 tree.now.elements)) }
 {
     let mut rules = Items::new(alloc);
     let mut place = 0;
-    for element in elements {
-        rules.append(element_rules(alloc, frame, definitions, place, element)?)?;
+    for element in tree.elements.as_slice() {
+        rules.append(element_rules(alloc, schema, tree, frame, definitions, place, element)?)?;
         place = next_place(place, element);
     }
     Ok(rules)
 }
 
 /// The place of the next column, after an element before which the next one had this place.
-fn next_place(place: usize, element: &TableElement) -> usize
+pub(crate) fn next_place(place: usize, element: &TableElement) -> usize
     requires small { place + 1 < 2 ^ 64 }
     ensures { result ≡ next_place place element.now }
 {
@@ -60,21 +64,25 @@ fn next_place(place: usize, element: &TableElement) -> usize
 
 fn element_rules(
     alloc: Global,
+    schema: &Schema,
+    tree: &CreateTable,
     frame: &Frame,
     definitions: &[Definition],
     place: usize,
     element: &TableElement,
 ) -> Result<Items<Rule>, Refusal>
-    ensures { Finds result (each (element_rules (without_key frame.now) definitions.now place element.now)) }
+    ensures { Finds result (each (element_rules (without_key frame.now) (referencing_of (known schema.now) tree.now definitions.now) definitions.now place element.now)) }
 {
     match element {
         TableElement::Column(column) => {
-            column_rules(alloc, frame, place, column.constraints.as_slice())
+            let constraints = column.constraints.as_slice();
+            column_rules(alloc, schema, tree, frame, definitions, place, constraints)
         }
         TableElement::Constraint(constraint) => {
+            let rule = &constraint.rule;
             alone(
                 alloc,
-                table_rule(alloc, frame, definitions, &constraint.rule),
+                table_rule(alloc, schema, tree, frame, definitions, rule),
             )
         }
     }
@@ -90,36 +98,54 @@ fn alone(alloc: Global, rule: Result<Rule, Refusal>) -> Result<Items<Rule>, Refu
 
 fn column_rules(
     alloc: Global,
+    schema: &Schema,
+    tree: &CreateTable,
     frame: &Frame,
+    definitions: &[Definition],
     place: usize,
     constraints: &[ColumnConstraint],
 ) -> Result<Items<Rule>, Refusal>
-    ensures { Finds result (each (map (λ c. column_rule_of (without_key frame.now) place c.rule) constraints.now)) }
+    ensures { Finds result (each (map (λ c. column_rule_of (without_key frame.now) (referencing_of (known schema.now) tree.now definitions.now) place c.rule) constraints.now)) }
 {
     let mut rules = Items::new(alloc);
     for constraint in constraints {
-        rules.push(column_rule(alloc, frame, place, &constraint.rule)?)?;
+        let rule = &constraint.rule;
+        rules.push(column_rule(alloc, schema, tree, frame, definitions, place, rule)?)?;
     }
     Ok(rules)
 }
 
 fn column_rule(
     alloc: Global,
+    schema: &Schema,
+    tree: &CreateTable,
     frame: &Frame,
+    definitions: &[Definition],
     place: usize,
     rule: &ColumnRule,
 ) -> Result<Rule, Refusal>
-    ensures { Finds result (column_rule_of (without_key frame.now) place rule.now) }
+    ensures { Finds result (column_rule_of (without_key frame.now) (referencing_of (known schema.now) tree.now definitions.now) place rule.now) }
 {
     match rule {
         ColumnRule::NotNull => Ok(Rule::NotNull(place)),
         ColumnRule::PrimaryKey => Ok(Rule::PrimaryKey(only(alloc, place)?)),
         ColumnRule::Unique => Ok(Rule::Unique(only(alloc, place)?)),
         ColumnRule::Check(condition) => check_rule(alloc, frame, condition),
+        ColumnRule::References(references) => {
+            let own = lone(alloc, place);
+            reference_rule(alloc, schema, tree, definitions, own, references)
+        }
     }
 }
 
-fn only<T: Drop>(alloc: Global, item: T) -> Result<Items<T>, AllocError>
+/// One place, as a list of places is found.
+fn lone(alloc: Global, place: usize) -> Result<Items<usize>, Refusal>
+    ensures { Finds result (Ok (place ∷ [])) }
+{
+    Ok(only(alloc, place)?)
+}
+
+pub(crate) fn only<T: Drop>(alloc: Global, item: T) -> Result<Items<T>, AllocError>
     ensures { IfOk result (λ items. items ≡ item ∷ []) }
 {
     let mut items = Items::with_capacity(alloc, 1)?;
@@ -129,16 +155,22 @@ fn only<T: Drop>(alloc: Global, item: T) -> Result<Items<T>, AllocError>
 
 fn table_rule(
     alloc: Global,
+    schema: &Schema,
+    tree: &CreateTable,
     frame: &Frame,
     definitions: &[Definition],
     rule: &TableRule,
 ) -> Result<Rule, Refusal>
-    ensures { Finds result (table_rule_of (without_key frame.now) definitions.now rule.now) }
+    ensures { Finds result (table_rule_of (without_key frame.now) (referencing_of (known schema.now) tree.now definitions.now) definitions.now rule.now) }
 {
     match rule {
         TableRule::PrimaryKey(names) => primary_key(key_of(alloc, definitions, names.as_slice())),
         TableRule::Unique(names) => unique(key_of(alloc, definitions, names.as_slice())),
         TableRule::Check(condition) => check_rule(alloc, frame, condition),
+        TableRule::ForeignKey(key) => {
+            let own = key_of(alloc, definitions, key.columns.as_slice());
+            reference_rule(alloc, schema, tree, definitions, own, &key.references)
+        }
     }
 }
 
@@ -159,7 +191,7 @@ fn unique(key: Result<Items<usize>, Refusal>) -> Result<Rule, Refusal>
 // ---- keys
 
 /// The places of a key's columns: at most 4, and no column twice.
-fn key_of(
+pub(crate) fn key_of(
     alloc: Global,
     definitions: &[Definition],
     names: &[Name],

@@ -33,7 +33,7 @@ pub fn typed_create_table(
 {
     let definitions = definitions_of(alloc, tree.elements.as_slice())?;
     let columns = typed_columns(alloc, definitions.as_slice());
-    let constraints = typed_constraints(alloc, tree, definitions.as_slice());
+    let constraints = typed_constraints(alloc, schema, tree, definitions.as_slice());
     let name = new_table(schema, tree.table.as_text());
     let parts = both(columns, constraints);
     made_table(alloc, &tree.table, both(name, parts))

@@ -33,11 +33,14 @@ use Rattle.typing.specs.declared.scope.Frame.{Frame}
 use Rattle.typing.specs.declared.statement.CreateTable.{CreateTable}
 use Rattle.typing.specs.declared.typed.Condition.{Condition as Typed}
 use Rattle.typing.specs.Check.{check_found, check_rule}
-use Rattle.typing.specs.Constraint.{Declared, column_rule_at, table_rule_of, declared_from, names_from, named, constraints_found, are_allowed, key_places}
-use Rattle.typing.specs.CreateTable.{column_found, columns_found, create_found, defined_frame, defined_offer, definitions, type_found, written_type}
+use Rattle.typing.specs.Constraint.{Declared, Referencing, column_rule_at, table_rule_of, declared_from, names_from, named, constraints_found, are_allowed, key_places}
+use Rattle.typing.specs.CreateTable.{column_found, columns_found, own_table, create_found, defined_frame, defined_offer, definitions, type_found, written_type}
 use Rattle.typing.specs.Finding.{Finding, ◌>>=◌, also, before, each, invalid}
 use Rattle.typing.specs.Kept.{AreChecksKept, IsKept, checks_of, column_checks, element_checks, kept_texts, table_checks, text_in}
-use Rattle.typing.specs.Known.{Known}
+use Rattle.typing.specs.Known.{Known, KnownTable}
+use Rattle.typing.specs.declared.known.Meant.{Meant}
+use Rattle.typing.specs.References.{meant_by, reference_found, referenced_table, matched}
+use Rattle.ast.specs.declared.statement.References.{References}
 use Rattle.typing.specs.Printed.{printed}
 use Rattle.typing.specs.Table.{at_most, distinct_found, frame_of, is_new, offer_of, type_in}
 use Rattle.typing.proofs.ChecksStand.{Stands, table_checks_stand}
@@ -122,43 +125,63 @@ check_kept frame x r e =
     subst (λ k. Keep frame (x ∷ []) (k ∷ [])) (same_ok (rule.Check (printed x)) r t.2)
     (record { texts = refl; found = All-cons (IsFound frame) x [] (record { condition = t.0.1; found = parts.1 }) (All-nil (IsFound frame)) })
 
-column_rule_kept : (frame : Frame) (place : ℕ) (c : ColumnConstraint) (x : ColumnRule) (r : Rule) → (column_rule_at frame place c.name x).rule ≡ Ok r → Keep frame (column_checks x) (r ∷ [])
-column_rule_kept frame place c column_rule.NotNull r e = no_check frame (rule.NotNull place) r refl e
-column_rule_kept frame place c column_rule.PrimaryKey r e = no_check frame (rule.PrimaryKey (place ∷ [])) r refl e
-column_rule_kept frame place c column_rule.Unique r e = no_check frame (rule.Unique (place ∷ [])) r refl e
-column_rule_kept frame place c (column_rule.Check x) r e = check_kept frame x r e
+-- foreign keys keep no text
+abbrev KeepsNoText : Referencing → Type 0
+KeepsNoText referencing = (places : Finding (List ℕ)) (x : References) (r : Rule) → referencing places x ≡ Ok r → text_in r ≡ []
 
-column_rules_kept : (frame : Frame) (place : ℕ) (cs : List ColumnConstraint) (rules : List Rule)
-    → each (map (λ d. d.rule) (map (λ c. column_rule_at frame place c.name c.rule) cs)) ≡ Ok rules → Keep frame (flat_map (λ c. column_checks c.rule) cs) rules
-column_rules_kept frame place [] rules e = subst (Keep frame []) (same_ok [] rules e) (no_checks frame)
-column_rules_kept frame place (c ∷ cs) rules e =
-    let f = ok_before (column_rule_at frame place c.name c.rule).rule (each (map (λ d. d.rule) (map (λ c. column_rule_at frame place c.name c.rule) cs))) rules e in
-    subst (Keep frame (column_checks c.rule ++ flat_map (λ c. column_checks c.rule) cs)) f.all
-    (keep_both frame (column_checks c.rule) (flat_map (λ c. column_checks c.rule) cs) (f.first ∷ []) f.rest
-    (column_rule_kept frame place c c.rule f.first f.first_is) (column_rules_kept frame place cs f.rest f.rest_is))
+no_text : (frame : Frame) (r : Rule) → text_in r ≡ [] → Keep frame [] (r ∷ [])
+no_text frame r e = record { texts = ap (λ k. k ++ []) e; found = All-nil (IsFound frame) }
 
-table_rule_kept : (frame : Frame) (columns : List ColumnDefinition) (name : _) (x : TableRule) (r : Rule) → (table_rule_of frame columns name x).rule ≡ Ok r → Keep frame (table_checks x) (r ∷ [])
-table_rule_kept frame columns name (table_rule.PrimaryKey names) r e =
-    let t = ok_then (key_places columns names) (λ places. Ok (rule.PrimaryKey places)) r e in no_check frame (rule.PrimaryKey t.0) r refl t.2
-table_rule_kept frame columns name (table_rule.Unique names) r e =
-    let t = ok_then (key_places columns names) (λ places. Ok (rule.Unique places)) r e in no_check frame (rule.Unique t.0) r refl t.2
-table_rule_kept frame columns name (table_rule.Check x) r e = check_kept frame x r e
+module _ (referencing : Referencing) (textless : KeepsNoText referencing) where
+  column_rule_kept : (frame : Frame) (place : ℕ) (c : ColumnConstraint) (x : ColumnRule) (r : Rule) → (column_rule_at frame referencing place c.name x).rule ≡ Ok r → Keep frame (column_checks x) (r ∷ [])
+  column_rule_kept frame place c column_rule.NotNull r e = no_check frame (rule.NotNull place) r refl e
+  column_rule_kept frame place c column_rule.PrimaryKey r e = no_check frame (rule.PrimaryKey (place ∷ [])) r refl e
+  column_rule_kept frame place c column_rule.Unique r e = no_check frame (rule.Unique (place ∷ [])) r refl e
+  column_rule_kept frame place c (column_rule.Check x) r e = check_kept frame x r e
+  column_rule_kept frame place c (column_rule.References x) r e = no_text frame r (textless (Ok (place ∷ [])) x r e)
 
-rules_kept : (frame : Frame) (columns : List ColumnDefinition) (place : ℕ) (elements : List TableElement) (rules : List Rule)
-    → each (map (λ d. d.rule) (declared_from frame columns place elements)) ≡ Ok rules → Keep frame (checks_of elements) rules
-rules_kept frame columns place [] rules e = subst (Keep frame []) (same_ok [] rules e) (no_checks frame)
-rules_kept frame columns place (element.Column x ∷ elements) rules e =
-    let own : List Declared = map (λ c. column_rule_at frame place c.name c.rule) x.constraints in
-    let others : List Declared = declared_from frame columns (place + 1) elements in
-    let h = ok_append (map (λ d. d.rule) own) (map (λ d. d.rule) others) rules (ap each (flip (map-append (λ d. d.rule) own others)) ∙ e) in
-    subst (Keep frame (element_checks (element.Column x) ++ checks_of elements)) h.all
-    (keep_both frame (element_checks (element.Column x)) (checks_of elements) h.left h.right
-    (column_rules_kept frame place x.constraints h.left h.left_is) (rules_kept frame columns (place + 1) elements h.right h.right_is))
-rules_kept frame columns place (element.Constraint x ∷ elements) rules e =
-    let f = ok_before (table_rule_of frame columns x.name x.rule).rule (each (map (λ d. d.rule) (declared_from frame columns place elements))) rules e in
-    subst (Keep frame (table_checks x.rule ++ checks_of elements)) f.all
-    (keep_both frame (table_checks x.rule) (checks_of elements) (f.first ∷ []) f.rest
-    (table_rule_kept frame columns x.name x.rule f.first f.first_is) (rules_kept frame columns place elements f.rest f.rest_is))
+  column_rules_kept : (frame : Frame) (place : ℕ) (cs : List ColumnConstraint) (rules : List Rule)
+      → each (map (λ d. d.rule) (map (λ c. column_rule_at frame referencing place c.name c.rule) cs)) ≡ Ok rules → Keep frame (flat_map (λ c. column_checks c.rule) cs) rules
+  column_rules_kept frame place [] rules e = subst (Keep frame []) (same_ok [] rules e) (no_checks frame)
+  column_rules_kept frame place (c ∷ cs) rules e =
+      let f = ok_before (column_rule_at frame referencing place c.name c.rule).rule (each (map (λ d. d.rule) (map (λ c. column_rule_at frame referencing place c.name c.rule) cs))) rules e in
+      subst (Keep frame (column_checks c.rule ++ flat_map (λ c. column_checks c.rule) cs)) f.all
+      (keep_both frame (column_checks c.rule) (flat_map (λ c. column_checks c.rule) cs) (f.first ∷ []) f.rest
+      (column_rule_kept frame place c c.rule f.first f.first_is) (column_rules_kept frame place cs f.rest f.rest_is))
+
+  table_rule_kept : (frame : Frame) (columns : List ColumnDefinition) (name : _) (x : TableRule) (r : Rule) → (table_rule_of frame referencing columns name x).rule ≡ Ok r → Keep frame (table_checks x) (r ∷ [])
+  table_rule_kept frame columns name (table_rule.PrimaryKey names) r e =
+      let t = ok_then (key_places columns names) (λ places. Ok (rule.PrimaryKey places)) r e in no_check frame (rule.PrimaryKey t.0) r refl t.2
+  table_rule_kept frame columns name (table_rule.Unique names) r e =
+      let t = ok_then (key_places columns names) (λ places. Ok (rule.Unique places)) r e in no_check frame (rule.Unique t.0) r refl t.2
+  table_rule_kept frame columns name (table_rule.Check x) r e = check_kept frame x r e
+  table_rule_kept frame columns name (table_rule.ForeignKey x) r e = no_text frame r (textless (key_places columns x.columns) x.references r e)
+
+  rules_kept : (frame : Frame) (columns : List ColumnDefinition) (place : ℕ) (elements : List TableElement) (rules : List Rule)
+      → each (map (λ d. d.rule) (declared_from frame referencing columns place elements)) ≡ Ok rules → Keep frame (checks_of elements) rules
+  rules_kept frame columns place [] rules e = subst (Keep frame []) (same_ok [] rules e) (no_checks frame)
+  rules_kept frame columns place (element.Column x ∷ elements) rules e =
+      let own : List Declared = map (λ c. column_rule_at frame referencing place c.name c.rule) x.constraints in
+      let others : List Declared = declared_from frame referencing columns (place + 1) elements in
+      let h = ok_append (map (λ d. d.rule) own) (map (λ d. d.rule) others) rules (ap each (flip (map-append (λ d. d.rule) own others)) ∙ e) in
+      subst (Keep frame (element_checks (element.Column x) ++ checks_of elements)) h.all
+      (keep_both frame (element_checks (element.Column x)) (checks_of elements) h.left h.right
+      (column_rules_kept frame place x.constraints h.left h.left_is) (rules_kept frame columns (place + 1) elements h.right h.right_is))
+  rules_kept frame columns place (element.Constraint x ∷ elements) rules e =
+      let f = ok_before (table_rule_of frame referencing columns x.name x.rule).rule (each (map (λ d. d.rule) (declared_from frame referencing columns place elements))) rules e in
+      subst (Keep frame (table_checks x.rule ++ checks_of elements)) f.all
+      (keep_both frame (table_checks x.rule) (checks_of elements) (f.first ∷ []) f.rest
+      (table_rule_kept frame columns x.name x.rule f.first f.first_is) (rules_kept frame columns place elements f.rest f.rest_is))
+
+-- a foreign key that is found has no text
+references_textless : (known : Known) (name : List ℕ) (own : Finding KnownTable) → KeepsNoText (reference_found known name own)
+references_textless known name own places x r e =
+    let meant : Finding Meant = meant_by (referenced_table known name own x.table) x.columns in
+    let t = ok_then (also (also own places) meant) (λ p. matched ((p.0).0).columns (p.0).1 (p.1).table (p.1).columns >>= (λ u.
+    Ok (rule.ForeignKey (record { columns = (p.0).1; table = x.table; referenced = (p.1).columns })))) r e in
+    let u = ok_then (matched ((t.0.0).0).columns (t.0.0).1 (t.0.1).table (t.0.1).columns)
+    (λ u. Ok (rule.ForeignKey (record { columns = (t.0.0).1; table = x.table; referenced = (t.0.1).columns }))) r t.2 in
+    ap text_in (flip (same_ok (rule.ForeignKey (record { columns = (t.0.0).1; table = x.table; referenced = (t.0.1).columns })) r u.2))
 
 -- ---- the table
 
@@ -211,7 +234,8 @@ made : (known : Known) (tree : Tree) (table : CreateTable) → create_found know
 made known tree table e =
     let columns : List ColumnDefinition = definitions tree.elements in
     let frame : Frame = defined_frame tree.table columns in
-    let declared : List Declared = declared_from frame columns 0 tree.elements in
+    let referencing : Referencing = reference_found known tree.table (own_table columns tree.elements) in
+    let declared : List Declared = declared_from frame referencing columns 0 tree.elements in
     let free : Finding (Unit {0}) = is_new (not (is_none (known.table tree.table))) in
     let t = ok_then (also free (also (columns_found columns) (constraints_found declared)))
     (λ p. Ok (record { name = tree.table; columns = p.1.0; constraints = p.1.1 })) table e in
@@ -220,7 +244,7 @@ made known tree table e =
     let found : Finding (List Rule) = each (map (λ d. d.rule) declared) in
     let c = ok_then (also (are_allowed declared) found) (λ p. Ok (map named (zip (names_from 1 declared) p.1))) t.0.1.1 inner.1 in
     let rules = ok_also (are_allowed declared) found c.0 c.1 in
-    let keep = rules_kept frame columns 0 tree.elements c.0.1 rules.1 in
+    let keep = rules_kept referencing (references_textless known tree.table (own_table columns tree.elements)) frame columns 0 tree.elements c.0.1 rules.1 in
     let made_of : CreateTable = record { name = tree.table; columns = t.0.1.0; constraints = t.0.1.1 } in
     subst (Made tree) (same_ok made_of table t.2) (record {
       texts = subst (λ k. kept_texts k ≡ map printed (checks_of tree.elements)) (same_ok (map named (zip (names_from 1 declared) c.0.1)) t.0.1.1 c.2) (texts_named 1 declared c.0.1 rules.1 ∙ keep.texts);

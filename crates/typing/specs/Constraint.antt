@@ -1,6 +1,6 @@
--- The constraints of a CREATE TABLE (ISO/IEC 9075:1992, 11.4, 11.6, 11.7, 11.9), in the order of
--- the text, those of columns among them.
-use Rattle.std.specs.Prelude.{ℕ, ◌+◌, Bool, true, false, nat_le, List, [], ◌∷◌, ◌++◌, map, filter, length, Option, Some, None, Ok, if◌then◌else◌}
+-- The constraints of a CREATE TABLE (ISO/IEC 9075:1992, 11.4, 11.6 to 11.9), in the order of the
+-- text, those of columns among them.
+use Rattle.std.specs.Prelude.{ℕ, ◌+◌, Bool, true, false, nat_le, List, [], ◌∷◌, ◌++◌, map, filter, flat_map, length, Option, Some, None, Ok, if◌then◌else◌}
 use Rattle.std.specs.List.{position_from, zip}
 use Rattle.std.specs.Fmt.{decimal}
 use Rattle.sqlval.specs.declared.schema.Constraint.{Constraint}
@@ -12,6 +12,7 @@ use Rattle.refusals.specs.declared.reason.Reason.TheVariants.{Duplicate}
 use Rattle.ast.specs.declared.statement.ColumnDefinition.{ColumnDefinition}
 use Rattle.ast.specs.declared.statement.ColumnRule.{ColumnRule}
 use Rattle.ast.specs.declared.statement.ColumnRule.TheVariants as column_rule
+use Rattle.ast.specs.declared.statement.References.{References}
 use Rattle.ast.specs.declared.statement.TableElement.{TableElement}
 use Rattle.ast.specs.declared.statement.TableElement.TheVariants as element
 use Rattle.ast.specs.declared.statement.TableRule.{TableRule}
@@ -20,6 +21,7 @@ use Rattle.typing.specs.declared.scope.Frame.{Frame}
 use Rattle.typing.specs.Finding.{Finding, ◌>>=◌, also, each, invalid}
 use Rattle.typing.specs.Table.{at_most, as_found, distinct_found}
 use Rattle.typing.specs.Check.{check_rule}
+use Rattle.typing.specs.Known.{KnownKey}
 
 -- a constraint as it is written: its name, whether it is a PRIMARY KEY, whether it owns an index,
 -- and what its rule is found to be
@@ -40,12 +42,17 @@ unique name key = record { name = name; is_primary_key = false; owns_index = tru
 
 -- ---- what each is
 
+-- what a foreign key of these columns is found to be
+abbrev pub Referencing : Type 0
+Referencing = Finding (List ℕ) → References → Finding Rule
+
 -- a constraint of the column at this place
-abbrev pub column_rule_at : Frame → ℕ → Option (List ℕ) → ColumnRule → Declared
-column_rule_at frame place name column_rule.NotNull = plain name (Ok (rule.NotNull place))
-column_rule_at frame place name column_rule.PrimaryKey = primary_key name (Ok (place ∷ []))
-column_rule_at frame place name column_rule.Unique = unique name (Ok (place ∷ []))
-column_rule_at frame place name (column_rule.Check condition) = plain name (check_rule frame condition)
+abbrev pub column_rule_at : Frame → Referencing → ℕ → Option (List ℕ) → ColumnRule → Declared
+column_rule_at frame referencing place name column_rule.NotNull = plain name (Ok (rule.NotNull place))
+column_rule_at frame referencing place name column_rule.PrimaryKey = primary_key name (Ok (place ∷ []))
+column_rule_at frame referencing place name column_rule.Unique = unique name (Ok (place ∷ []))
+column_rule_at frame referencing place name (column_rule.Check condition) = plain name (check_rule frame condition)
+column_rule_at frame referencing place name (column_rule.References x) = plain name (referencing (Ok (place ∷ [])) x)
 
 -- the place of a column that is defined
 abbrev pub defined_place : List ColumnDefinition → List ℕ → Option ℕ
@@ -56,18 +63,41 @@ abbrev pub key_places : List ColumnDefinition → List (List ℕ) → Finding (L
 key_places definitions names =
     also (also (at_most 4 limit.KeyColumns (length names)) (distinct_found names)) (each (map (λ name. as_found (defined_place definitions name)) names)) >>= (λ p. Ok p.1)
 
-abbrev pub table_rule_of : Frame → List ColumnDefinition → Option (List ℕ) → TableRule → Declared
-table_rule_of frame definitions name (table_rule.PrimaryKey names) = primary_key name (key_places definitions names)
-table_rule_of frame definitions name (table_rule.Unique names) = unique name (key_places definitions names)
-table_rule_of frame definitions name (table_rule.Check condition) = plain name (check_rule frame condition)
+abbrev pub table_rule_of : Frame → Referencing → List ColumnDefinition → Option (List ℕ) → TableRule → Declared
+table_rule_of frame referencing definitions name (table_rule.PrimaryKey names) = primary_key name (key_places definitions names)
+table_rule_of frame referencing definitions name (table_rule.Unique names) = unique name (key_places definitions names)
+table_rule_of frame referencing definitions name (table_rule.Check condition) = plain name (check_rule frame condition)
+table_rule_of frame referencing definitions name (table_rule.ForeignKey x) = plain name (referencing (key_places definitions x.columns) x.references)
 
 -- the constraints of these elements, the first column of which has this place
-abbrev pub declared_from : Frame → List ColumnDefinition → ℕ → List TableElement → List Declared
-declared_from frame definitions place [] = []
-declared_from frame definitions place (element.Column definition ∷ elements) =
-    map (λ c. column_rule_at frame place c.name c.rule) definition.constraints ++ declared_from frame definitions (place + 1) elements
-declared_from frame definitions place (element.Constraint c ∷ elements) =
-    table_rule_of frame definitions c.name c.rule ∷ declared_from frame definitions place elements
+abbrev pub declared_from : Frame → Referencing → List ColumnDefinition → ℕ → List TableElement → List Declared
+declared_from frame referencing definitions place [] = []
+declared_from frame referencing definitions place (element.Column definition ∷ elements) =
+    map (λ c. column_rule_at frame referencing place c.name c.rule) definition.constraints ++ declared_from frame referencing definitions (place + 1) elements
+declared_from frame referencing definitions place (element.Constraint c ∷ elements) =
+    table_rule_of frame referencing definitions c.name c.rule ∷ declared_from frame referencing definitions place elements
+
+-- ---- its own keys, which its own foreign keys may reference
+
+abbrev pub key_found : Bool → Finding (List ℕ) → Finding KnownKey
+key_found is_primary places = places >>= (λ p. Ok (record { is_primary = is_primary; columns = p }))
+
+abbrev pub column_keys : ℕ → ColumnRule → List (Finding KnownKey)
+column_keys place column_rule.PrimaryKey = key_found true (Ok (place ∷ [])) ∷ []
+column_keys place column_rule.Unique = key_found false (Ok (place ∷ [])) ∷ []
+column_keys place _ = []
+
+abbrev pub table_keys : List ColumnDefinition → TableRule → List (Finding KnownKey)
+table_keys definitions (table_rule.PrimaryKey names) = key_found true (key_places definitions names) ∷ []
+table_keys definitions (table_rule.Unique names) = key_found false (key_places definitions names) ∷ []
+table_keys definitions _ = []
+
+-- the keys of these elements, in the order of the text; the first column has this place
+abbrev pub keys_from : List ColumnDefinition → ℕ → List TableElement → List (Finding KnownKey)
+keys_from definitions place [] = []
+keys_from definitions place (element.Column definition ∷ elements) =
+    flat_map (λ c. column_keys place c.rule) definition.constraints ++ keys_from definitions (place + 1) elements
+keys_from definitions place (element.Constraint c ∷ elements) = table_keys definitions c.rule ++ keys_from definitions place elements
 
 -- ---- all of them
 

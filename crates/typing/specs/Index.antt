@@ -3,7 +3,7 @@
 use Rattle.std.specs.Prelude.{ℕ, List, length, Ok, if◌then◌else◌}
 use Rattle.typing.specs.Known.{Known, KnownTable}
 use Rattle.refusals.specs.declared.limit.Limit.TheVariants as limit
-use Rattle.refusals.specs.declared.reason.Reason.TheVariants.{Name}
+use Rattle.refusals.specs.declared.reason.Reason.TheVariants.{Name, Reference}
 use Rattle.ast.specs.declared.statement.CreateIndex.{CreateIndex as Tree}
 use Rattle.typing.specs.declared.statement.CreateIndex.{CreateIndex}
 use Rattle.typing.specs.Finding.{Finding, ◌>>=◌, also, invalid}
@@ -23,6 +23,10 @@ index_found known tree =
 abbrev pub dropped_index : Known → List ℕ → Finding (List ℕ)
 dropped_index known name = if known.has_index name then Ok name else invalid Name
 
+-- no other table references the one of this name
+abbrev pub unreferenced : Known → List ℕ → Finding (List ℕ)
+unreferenced known name = if known.is_referenced name then invalid Reference else Ok name
+
 -- DROP TABLE (11.18)
 abbrev pub dropped_table : Known → List ℕ → Finding (List ℕ)
-dropped_table known name = table_found known name >>= (λ table. Ok name)
+dropped_table known name = table_found known name >>= (λ table. unreferenced known name)

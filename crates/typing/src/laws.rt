@@ -19,7 +19,7 @@ ghost use Rattle.typing.specs.declared.typed.Condition.{Condition as TypedCondit
 ghost use Rattle.typing.specs.Built.{is_built};
 ghost use Rattle.typing.specs.Condition.{conjuncts, disjuncts, and_of, or_of};
 ghost use Rattle.typing.specs.Flat.{has_flat_and, has_flat_or};
-ghost use Rattle.typing.specs.Known.{Known, table_of, has_index};
+ghost use Rattle.typing.specs.Known.{Known, table_of, has_index, is_referenced};
 ghost use Rattle.typing.specs.CreateTable.{create_found};
 ghost use Rattle.typing.specs.Check.{ReadsCheck, check_found};
 ghost use Rattle.typing.specs.Kept.{AreChecksKept, IsConditionIn};
@@ -27,11 +27,13 @@ ghost use Rattle.typing.specs.Printed.{condition_tokens, printed};
 ghost use Rattle.typing.specs.Table.{frame_of};
 ghost use Rattle.typing.specs.Statement.{statement_found, answered_found};
 
-/// Two schemas in which each name means the same, a table of these columns and so many indexes, or
-/// an index, give a statement the same names and types, whatever else they differ in.
+/// Two schemas in which each name means the same, a table of these columns and keys and so many
+/// indexes, or an index, and in which the same tables are referenced by others, give a statement
+/// the same names and types, whatever else they differ in.
 pub fn names_decide()
     ensures { (one other : Schema) → ((name : List ℕ) → table_of one name ≡ table_of other name)
         → ((name : List ℕ) → has_index one name ≡ has_index other name)
+        → ((name : List ℕ) → is_referenced one name ≡ is_referenced other name)
         → (tree : Statement) → statement_found tree one ≡ statement_found tree other }
 {}
 

@@ -5,11 +5,13 @@
 //! does anything.
 #![tactic(auto)]
 
+mod known;
 pub mod laws;
 mod scope;
 mod statement;
 mod typed;
 
+pub use known::{KnownKey, KnownTable, Meant};
 pub use scope::{
     Found, Frame, Groups, Matches, Offer, ResultColumn, Settled, ShownItem, Sides, TypedExpression,
     TypedFrom, TypedQuery,

@@ -43,7 +43,8 @@ use Rattle.typing.specs.CreateTable.{create_found}
 use Rattle.typing.specs.Finding.{Finding, ◌>>=◌, also, before, each, invalid, misplaced}
 use Rattle.typing.specs.Index.{dropped_index, dropped_table, index_found}
 use Rattle.typing.specs.Insert.{Target, insert_found, query_stored, row_stored, rows_stored, source_found, sources_found, stored_as, target_at, target_named, targets_found, targets_from, values_stored}
-use Rattle.typing.specs.Known.{Known, KnownTable, known, nothing_known, place_in}
+use Rattle.typing.specs.Known.{Known, known, nothing_known, place_in}
+use Rattle.typing.specs.declared.known.KnownTable.{KnownTable}
 use Rattle.typing.specs.Order.{is_descending, key_found, named_from, only_place, ordered_found, place_of_position, sort_place}
 use Rattle.typing.specs.Part.{Checked, Plain}
 use Rattle.typing.specs.Scope.{Scope}

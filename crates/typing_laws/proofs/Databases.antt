@@ -17,7 +17,8 @@ use Rattle.sqlval.specs.declared.value.Value.TheVariants.{Null, Int, Text}
 use Rattle.sqlval.specs.Schema.{same_name, table_place}
 use Rattle.sqlval.specs.Storing.{fits_column}
 use Rattle.sqlval.specs.Value.{Row}
-use Rattle.typing.specs.Known.{KnownTable, known, known_table, table_at, table_of}
+use Rattle.typing.specs.Known.{known, known_table, table_at, table_of}
+use Rattle.typing.specs.declared.known.KnownTable.{KnownTable}
 use Rattle.typing.specs.Table.{type_in}
 use Rattle.denote.specs.Database.{CheckReading, Database, IsGood, Table, fits_columns, rows_in, rows_of}
 use Rattle.denote.specs.SchemaOf.{IsSchemaOf}

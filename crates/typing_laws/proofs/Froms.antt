@@ -11,7 +11,8 @@ use Rattle.typing.specs.declared.scope.Sides.{Sides}
 use Rattle.typing.specs.declared.scope.TypedQuery.{TypedQuery}
 use Rattle.typing.specs.Finding.{Finding, ◌>>=◌, also}
 use Rattle.typing.specs.From.{From, all_crossed, crossed, derived_table, from_of, frame_over, inner_join, joined_by, joined_on, left_join, result_offer, stored_table}
-use Rattle.typing.specs.Known.{Known, KnownTable}
+use Rattle.typing.specs.Known.{Known}
+use Rattle.typing.specs.declared.known.KnownTable.{KnownTable}
 use Rattle.typing.specs.Part.{Part, Plain}
 use Rattle.typing.specs.Scope.{Scope}
 use Rattle.typing.specs.SetOperator.{types_of}

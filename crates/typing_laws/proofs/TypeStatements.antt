@@ -1,10 +1,12 @@
 -- Every statement finds with reasons.
 use Rattle.std.proofs.Common.{refl, ℕ, List, [], ◌∷◌, map, length, Ok, Err, Option, Some, None}
-use Rattle.std.specs.Prelude.{◌==◌, ◌+◌, ◌&&◌, nat_le, is_none, not, filter}
-use Rattle.std.specs.List.{AllByRecursion, zip}
+use Rattle.std.specs.Prelude.{◌==◌, ◌+◌, ◌&&◌, nat_eq, nat_le, is_none, not, filter, flat_map, slice_get}
+use Rattle.std.specs.List.{AllByRecursion, list_any, zip}
 use Rattle.sqlval.specs.declared.schema.Column.{Column}
+use Rattle.sqlval.specs.declared.schema.Rule.{Rule}
 use Rattle.sqlval.specs.declared.schema.Schema.{Schema}
 use Rattle.sqlval.specs.declared.value.ValueType.{ValueType}
+use Rattle.sqlval.specs.Schema.{same_name}
 use Rattle.refusals.specs.declared.limit.Limit.TheVariants as limit
 use Rattle.ast.specs.declared.statement.Assignment.{Assignment}
 use Rattle.ast.specs.declared.statement.ColumnConstraint.{ColumnConstraint}
@@ -18,6 +20,7 @@ use Rattle.ast.specs.declared.statement.Insert.{Insert}
 use Rattle.ast.specs.declared.statement.InsertRows.{InsertRows}
 use Rattle.ast.specs.declared.statement.InsertRows.TheVariants as rows
 use Rattle.ast.specs.declared.statement.OrderedQuery.{OrderedQuery}
+use Rattle.ast.specs.declared.statement.References.{References}
 use Rattle.ast.specs.declared.statement.StoredSource.{StoredSource}
 use Rattle.ast.specs.declared.statement.StoredSource.TheVariants as written
 use Rattle.ast.specs.declared.statement.Statement.{Statement}
@@ -34,15 +37,18 @@ use Rattle.typing.specs.declared.scope.Frame.{Frame}
 use Rattle.typing.specs.declared.scope.TypedExpression.{TypedExpression}
 use Rattle.typing.specs.declared.scope.TypedQuery.{TypedQuery}
 use Rattle.typing.specs.Check.{check_rule}
-use Rattle.typing.specs.Constraint.{Declared, are_allowed, column_rule_at, constraints_found, declared_from, key_places, names_from, one_primary_key, table_rule_of}
-use Rattle.typing.specs.CreateTable.{column_found, columns_found, create_found, defined_frame, definitions, type_found, varchar}
+use Rattle.typing.specs.Constraint.{Declared, Referencing, are_allowed, column_keys, column_rule_at, constraints_found, declared_from, key_found, key_places, keys_from, names_from, one_primary_key, table_keys, table_rule_of}
+use Rattle.typing.specs.CreateTable.{column_found, columns_found, create_found, defined_frame, definitions, own_table, type_found, varchar}
 use Rattle.typing.specs.Finding.{Finding, each}
 use Rattle.typing.specs.Index.{dropped_index, dropped_table, index_found}
 use Rattle.typing.specs.Insert.{Target, insert_found, query_stored, row_stored, rows_stored, source_found, sources_found, stored_as, target_at, target_named, targets_found, values_stored}
-use Rattle.typing.specs.Known.{Known, KnownTable, known, nothing_known, place_in}
+use Rattle.typing.specs.Known.{Known, known, nothing_known, place_in}
+use Rattle.typing.specs.declared.known.KnownKey.{KnownKey}
+use Rattle.typing.specs.declared.known.KnownTable.{KnownTable}
 use Rattle.typing.specs.Order.{ordered_found}
 use Rattle.typing.specs.Part.{Checked, Plain}
 use Rattle.typing.specs.Printed.{printed}
+use Rattle.typing.specs.References.{are_same_places, columns_referenced, count_matches, is_same_column, key_listed, matched, meant_by, primary_columns, reference_found, referenced_table, types_match}
 use Rattle.typing.specs.Scope.{Scope}
 use Rattle.typing.specs.SetOperator.{types_of}
 use Rattle.typing.specs.Statement.{found_over, statement_found}
@@ -50,7 +56,7 @@ use Rattle.typing.specs.Table.{frame_of, table_found}
 use Rattle.typing.specs.Typing.{query_found}
 use Rattle.typing.specs.Update.{assignment_found, changes_found, delete_found, filter_found, update_found}
 use Rattle.typing_laws.specs.Reasons.{IsReasoned}
-use Rattle.typing_laws.proofs.TypeFindings.{found, faulty, goes_on, beside, mapped, mapped_any, counted, displaced, distinct, either, more, new, there}
+use Rattle.typing_laws.proofs.TypeFindings.{found, faulty, goes_on, beside, all, mapped, mapped_any, counted, displaced, distinct, either, more, new, there}
 use Rattle.typing_laws.proofs.TypeParts.{appended}
 use Rattle.typing_laws.proofs.Expressions.{must}
 use Rattle.typing_laws.proofs.TypeSelects.{agreeing-safe, sort_key-safe}
@@ -134,7 +140,7 @@ module _ (k : Known) where
   dropped_index-safe name = either (k.has_index name) found faulty
 
   dropped_table-safe : (name : List ℕ) → IsReasoned (dropped_table k name)
-  dropped_table-safe name = goes_on (table-safe name) (λ table. found)
+  dropped_table-safe name = goes_on (table-safe name) (λ table. either (k.is_referenced name) faulty found)
 
 -- ---- CREATE TABLE
 
@@ -160,29 +166,93 @@ check-safe frame tree =
 abbrev IsSafeRule : Declared → Type 0
 IsSafeRule declared = IsReasoned declared.rule
 
-column_rule-safe : (frame : Frame) (place : ℕ) (name : Option (List ℕ)) (r : ColumnRule) → IsSafeRule (column_rule_at frame place name r)
-column_rule-safe frame place name column_rule.NotNull = found
-column_rule-safe frame place name column_rule.PrimaryKey = found
-column_rule-safe frame place name column_rule.Unique = found
-column_rule-safe frame place name (column_rule.Check condition) = check-safe frame condition
+-- whatever columns it is given, if these are found with reasons
+abbrev IsSafeReferencing : Referencing → Type 0
+IsSafeReferencing referencing = (places : Finding (List ℕ)) → IsReasoned places → (x : References) → IsReasoned (referencing places x)
 
 key_places-safe : (columns : List ColumnDefinition) (names : List (List ℕ)) → IsReasoned (key_places columns names)
 key_places-safe columns names = goes_on (beside (beside (counted 4 limit.KeyColumns refl (length names)) (distinct names)) (mapped_any _ (λ name. there _) names)) (λ p. found)
 
-table_rule-safe : (frame : Frame) (columns : List ColumnDefinition) (name : Option (List ℕ)) (r : TableRule) → IsSafeRule (table_rule_of frame columns name r)
-table_rule-safe frame columns name (table_rule.PrimaryKey names) = goes_on (key_places-safe columns names) (λ places. found)
-table_rule-safe frame columns name (table_rule.Unique names) = goes_on (key_places-safe columns names) (λ places. found)
-table_rule-safe frame columns name (table_rule.Check condition) = check-safe frame condition
+module _ (frame : Frame) (referencing : Referencing) (safe : IsSafeReferencing referencing) where
+  column_rule-safe : (place : ℕ) (name : Option (List ℕ)) (r : ColumnRule) → IsSafeRule (column_rule_at frame referencing place name r)
+  column_rule-safe place name column_rule.NotNull = found
+  column_rule-safe place name column_rule.PrimaryKey = found
+  column_rule-safe place name column_rule.Unique = found
+  column_rule-safe place name (column_rule.Check condition) = check-safe frame condition
+  column_rule-safe place name (column_rule.References x) = safe (Ok (place ∷ [])) found x
 
-column_rules-safe : (frame : Frame) (place : ℕ) (constraints : List ColumnConstraint) → AllByRecursion IsSafeRule (map (λ c. column_rule_at frame place c.name c.rule) constraints)
-column_rules-safe frame place [] = tt
-column_rules-safe frame place (c ∷ others) = (column_rule-safe frame place c.name c.rule, column_rules-safe frame place others)
+  table_rule-safe : (columns : List ColumnDefinition) (name : Option (List ℕ)) (r : TableRule) → IsSafeRule (table_rule_of frame referencing columns name r)
+  table_rule-safe columns name (table_rule.PrimaryKey names) = goes_on (key_places-safe columns names) (λ places. found)
+  table_rule-safe columns name (table_rule.Unique names) = goes_on (key_places-safe columns names) (λ places. found)
+  table_rule-safe columns name (table_rule.Check condition) = check-safe frame condition
+  table_rule-safe columns name (table_rule.ForeignKey x) = safe (key_places columns x.columns) (key_places-safe columns x.columns) x.references
 
-declared-safe : (frame : Frame) (columns : List ColumnDefinition) (elements : List TableElement) (place : ℕ) → AllByRecursion IsSafeRule (declared_from frame columns place elements)
-declared-safe frame columns [] place = tt
-declared-safe frame columns (element.Column definition ∷ elements) place =
-    appended IsSafeRule (map (λ c. column_rule_at frame place c.name c.rule) definition.constraints) _ (column_rules-safe frame place definition.constraints) (declared-safe frame columns elements (place + 1))
-declared-safe frame columns (element.Constraint c ∷ elements) place = (table_rule-safe frame columns c.name c.rule, declared-safe frame columns elements place)
+  column_rules-safe : (place : ℕ) (constraints : List ColumnConstraint) → AllByRecursion IsSafeRule (map (λ c. column_rule_at frame referencing place c.name c.rule) constraints)
+  column_rules-safe place [] = tt
+  column_rules-safe place (c ∷ others) = (column_rule-safe place c.name c.rule, column_rules-safe place others)
+
+  declared-safe : (columns : List ColumnDefinition) (elements : List TableElement) (place : ℕ) → AllByRecursion IsSafeRule (declared_from frame referencing columns place elements)
+  declared-safe columns [] place = tt
+  declared-safe columns (element.Column definition ∷ elements) place =
+      appended IsSafeRule (map (λ c. column_rule_at frame referencing place c.name c.rule) definition.constraints) _ (column_rules-safe place definition.constraints) (declared-safe columns elements (place + 1))
+  declared-safe columns (element.Constraint c ∷ elements) place = (table_rule-safe columns c.name c.rule, declared-safe columns elements place)
+
+-- ---- foreign keys
+
+column_keys-safe : (place : ℕ) (r : ColumnRule) → AllByRecursion IsReasoned (column_keys place r)
+column_keys-safe place column_rule.NotNull = tt
+column_keys-safe place column_rule.PrimaryKey = (found, tt)
+column_keys-safe place column_rule.Unique = (found, tt)
+column_keys-safe place (column_rule.Check condition) = tt
+column_keys-safe place (column_rule.References x) = tt
+
+column_keys_all-safe : (place : ℕ) (constraints : List ColumnConstraint) → AllByRecursion IsReasoned (flat_map (λ c. column_keys place c.rule) constraints)
+column_keys_all-safe place [] = tt
+column_keys_all-safe place (c ∷ others) = appended IsReasoned (column_keys place c.rule) _ (column_keys-safe place c.rule) (column_keys_all-safe place others)
+
+table_keys-safe : (columns : List ColumnDefinition) (r : TableRule) → AllByRecursion IsReasoned (table_keys columns r)
+table_keys-safe columns (table_rule.PrimaryKey names) = (goes_on (key_places-safe columns names) (λ places. found), tt)
+table_keys-safe columns (table_rule.Unique names) = (goes_on (key_places-safe columns names) (λ places. found), tt)
+table_keys-safe columns (table_rule.Check condition) = tt
+table_keys-safe columns (table_rule.ForeignKey x) = tt
+
+keys-safe : (columns : List ColumnDefinition) (elements : List TableElement) (place : ℕ) → AllByRecursion IsReasoned (keys_from columns place elements)
+keys-safe columns [] place = tt
+keys-safe columns (element.Column definition ∷ elements) place =
+    appended IsReasoned (flat_map (λ c. column_keys place c.rule) definition.constraints) _ (column_keys_all-safe place definition.constraints) (keys-safe columns elements (place + 1))
+keys-safe columns (element.Constraint c ∷ elements) place = appended IsReasoned (table_keys columns c.rule) _ (table_keys-safe columns c.rule) (keys-safe columns elements place)
+
+own_table-safe : (columns : List ColumnDefinition) (elements : List TableElement) → IsReasoned (own_table columns elements)
+own_table-safe columns elements = goes_on (beside (columns-safe columns) (all (keys_from columns 0 elements) (keys-safe columns elements 0))) (λ p. found)
+
+primary-safe : (keys : List KnownKey) → IsReasoned (primary_columns keys)
+primary-safe [] = faulty
+primary-safe (key ∷ keys) = either key.is_primary found (primary-safe keys)
+
+listed-safe : (table : KnownTable) (names : List (List ℕ)) → IsReasoned (columns_referenced table names)
+listed-safe table [] = primary-safe table.keys
+listed-safe table (name ∷ names) =
+    goes_on (beside (distinct (name ∷ names)) (mapped_any _ (λ n. there (place_in table.columns n)) (name ∷ names))) (λ p. found)
+
+meant-safe : (table : Finding KnownTable) (names : List (List ℕ)) → IsReasoned table → IsReasoned (meant_by table names)
+meant-safe table names h = goes_on h (λ t. goes_on (listed-safe t names) (λ places. found))
+
+types-safe : (columns others : List Column) (places referenced : List ℕ) → IsReasoned (types_match columns others places referenced)
+types-safe columns others [] referenced = found
+types-safe columns others (one ∷ places) [] = found
+types-safe columns others (one ∷ places) (other ∷ referenced) =
+    goes_on (beside (either (is_same_column (slice_get columns one) (slice_get others other)) found faulty) (types-safe columns others places referenced)) (λ p. found)
+
+matched-safe : (columns : List Column) (places : List ℕ) (table : KnownTable) (others : List ℕ) → IsReasoned (matched columns places table others)
+matched-safe columns places table others =
+    goes_on (beside (either (list_any (λ key. are_same_places key.columns others) table.keys) found faulty)
+    (beside (either (nat_eq (length places) (length others)) found faulty)
+    (types-safe columns table.columns places others))) (λ p. found)
+
+referencing-safe : (k : Known) (name : List ℕ) (own : Finding KnownTable) → IsReasoned own → IsSafeReferencing (reference_found k name own)
+referencing-safe k name own h places g x =
+    goes_on (beside (beside h g) (meant-safe (referenced_table k name own x.table) x.columns (either (same_name x.table name) h (table-safe k x.table))))
+    (λ p. goes_on (matched-safe ((p.0).0).columns (p.0).1 (p.1).table (p.1).columns) (λ u. found))
 
 one_key-safe : (declared : List Declared) → IsReasoned (one_primary_key declared)
 one_key-safe declared = either (nat_le (length (filter (λ c. c.is_primary_key) declared)) 1) found faulty
@@ -198,7 +268,9 @@ constraints-safe declared h = goes_on (beside (allowed-safe declared) (mapped Is
 create-safe : (k : Known) (tree : CreateTable) → IsReasoned (create_found k tree)
 create-safe k tree =
     let columns = definitions tree.elements in
-    goes_on (beside (new (not (is_none (k.table tree.table)))) (beside (columns-safe columns) (constraints-safe _ (declared-safe (defined_frame tree.table columns) columns tree.elements 0)))) (λ p. found)
+    goes_on (beside (new (not (is_none (k.table tree.table)))) (beside (columns-safe columns) (constraints-safe _ (declared-safe (defined_frame tree.table columns)
+    (reference_found k tree.table (own_table columns tree.elements)) (referencing-safe k tree.table (own_table columns tree.elements) (own_table-safe columns tree.elements))
+    columns tree.elements 0)))) (λ p. found)
 
 -- ---- all of them
 

@@ -15,7 +15,8 @@ use Rattle.typing.specs.declared.typed.Condition.{Condition}
 use Rattle.typing.specs.declared.typed.Expression.{Expression}
 use Rattle.typing.specs.declared.typed.OrderKey.{OrderKey}
 use Rattle.typing.specs.declared.typed.OrderedQuery.{OrderedQuery}
-use Rattle.typing.specs.Known.{Known, KnownTable}
+use Rattle.typing.specs.Known.{Known}
+use Rattle.typing.specs.declared.known.KnownTable.{KnownTable}
 use Rattle.typing_laws.specs.WellTyped.{HasResult, HasType, HaveTypes, IsWellTyped, Rows, column_types}
 
 -- a query that stands in no other; the keys of its ORDER BY are columns of its result

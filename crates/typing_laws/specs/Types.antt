@@ -5,7 +5,8 @@ use Rattle.sqlval.specs.declared.value.Value.{Value}
 use Rattle.sqlval.specs.declared.value.Value.TheVariants.{Null}
 use Rattle.sqlval.specs.declared.value.ValueType.{ValueType}
 use Rattle.sqlval.specs.Value.{Row, type_of}
-use Rattle.typing.specs.Known.{Known, KnownTable}
+use Rattle.typing.specs.Known.{Known}
+use Rattle.typing.specs.declared.known.KnownTable.{KnownTable}
 use Rattle.denote.specs.Evaluation.{Env}
 use Rattle.denote.specs.Meaning.{Tables}
 use Rattle.typing_laws.specs.WellTyped.{Rows, column_types}

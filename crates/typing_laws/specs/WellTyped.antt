@@ -26,7 +26,8 @@ use Rattle.typing.specs.declared.typed.SetFunctionType.TheVariants.{Count, Sum, 
 use Rattle.typing.specs.declared.typed.SetOperation.{SetOperation}
 use Rattle.typing.specs.declared.typed.Source.{Source}
 use Rattle.typing.specs.declared.typed.Source.TheVariants as source
-use Rattle.typing.specs.Known.{Known, KnownTable}
+use Rattle.typing.specs.Known.{Known}
+use Rattle.typing.specs.declared.known.KnownTable.{KnownTable}
 use Rattle.typing.specs.Table.{type_in}
 
 -- the types of the rows that a place sees: that of its own SELECT first, then those of the SELECTs

@@ -4,7 +4,7 @@ use Rattle.std.specs.Prelude.{filter}
 use Rattle.std.specs.List.{list_any}
 use Rattle.sqlval.specs.declared.schema.Constraint.{Constraint}
 use Rattle.sqlval.specs.declared.schema.Rule.{Rule}
-use Rattle.sqlval.specs.declared.schema.Rule.TheVariants.{NotNull, PrimaryKey, Unique, Check}
+use Rattle.sqlval.specs.declared.schema.Rule.TheVariants.{NotNull, PrimaryKey, Unique, Check, ForeignKey}
 use Rattle.sqlval.specs.Matching.{key_of, matches}
 use Rattle.sqlval.specs.Value.{Row, is_null}
 use Rattle.denote.specs.Database.{Name, Table, CheckReading, check_at, is_false, has_null, has_twins, is_violated, violated_by}
@@ -50,6 +50,7 @@ module _ (p : Bool × Row → Bool) where
         (λ i. any-fewer (λ (row : Row). list_any is_null (key_of columns row)) found none.0 i || twins-fewer columns found none.1 i)
     rule-fewer (Unique columns) e = twins-fewer columns found e
     rule-fewer (Check text) e = any-fewer (λ (row : Row). is_false (check_at (reading name t.columns text) row)) found e
+    rule-fewer (ForeignKey reference) e = refl
 
     names-fewer : (cs : List Constraint)
         → map (λ (c : Constraint). c.name) (filter (λ (c : Constraint). is_violated reading name (record t { rows = all_rows found }) c.rule) cs) ≡ []

@@ -11,7 +11,7 @@ use Rattle.std.specs.declared.cmp.Ordering.{Ordering}
 use Rattle.std.specs.declared.cmp.Ordering.TheVariants.{Less, Equal, Greater}
 use Rattle.sqlval.specs.declared.schema.Constraint.{Constraint}
 use Rattle.sqlval.specs.declared.schema.Rule.{Rule}
-use Rattle.sqlval.specs.declared.schema.Rule.TheVariants.{NotNull, PrimaryKey, Unique, Check}
+use Rattle.sqlval.specs.declared.schema.Rule.TheVariants.{NotNull, PrimaryKey, Unique, Check, ForeignKey}
 use Rattle.sqlval.specs.declared.schema.Table as declared
 use Rattle.sqlval.specs.declared.value.Value.{Value}
 use Rattle.sqlval.proofs.ValueOrderLaws.{value_order-level}
@@ -104,6 +104,7 @@ module _ (reading : CheckReading) (name : Name) (t : Table) where
         (λ row new p _. first-none (list_any is_null (key_of columns new)) (neither (has_null columns (new ∷ [])) (has_twins columns (new ∷ [])) (alone row new p)).0) rows changes h none.0)
         (twins-left columns P (keys columns refl) rows changes h none.1)
     rule-left (Unique columns) alone keys e = twins-left columns P (keys columns refl) rows changes h e
+    rule-left (ForeignKey reference) alone keys e = refl
     rule-left (Check text) alone keys e =
         any-left (λ (row : Row). is_false (check_at (reading name t.columns text) row)) P (λ row new p _. first-none (is_false (check_at (reading name t.columns text) new)) (alone row new p)) rows changes h e
 
@@ -162,6 +163,7 @@ same-keys (NotNull column) row new e columns asked = absurd (cc asked)
 same-keys (PrimaryKey own) row new e columns asked = one-key own columns row new e (same_some own columns asked)
 same-keys (Unique own) row new e columns asked = one-key own columns row new e (same_some own columns asked)
 same-keys (Check text) row new e columns asked = absurd (cc asked)
+same-keys (ForeignKey reference) row new e columns asked = absurd (cc asked)
 
 module _ (reading : CheckReading) (name : Name) (d : declared.Table) (whole : List Row) (row new : Row) where
   tested : (cs : List Constraint) → keep_keys cs row new ≡ true

@@ -5,7 +5,7 @@ use Rattle.std.specs.List.{list_all}
 use Rattle.std.specs.Ordering.{is_eq}
 use Rattle.sqlval.specs.declared.schema.Constraint.{Constraint}
 use Rattle.sqlval.specs.declared.schema.Rule.{Rule}
-use Rattle.sqlval.specs.declared.schema.Rule.TheVariants.{NotNull, PrimaryKey, Unique, Check}
+use Rattle.sqlval.specs.declared.schema.Rule.TheVariants.{NotNull, PrimaryKey, Unique, Check, ForeignKey}
 use Rattle.sqlval.specs.Matching.{key_of}
 use Rattle.sqlval.specs.Value.{Row}
 use Rattle.denote.specs.Database.{Name, Table, CheckReading, is_violated}
@@ -41,6 +41,7 @@ keeps_key (NotNull column) row new = true
 keeps_key (PrimaryKey columns) row new = is_eq (by_key columns row new)
 keeps_key (Unique columns) row new = is_eq (by_key columns row new)
 keeps_key (Check text) row new = true
+keeps_key (ForeignKey reference) row new = true
 
 abbrev pub keep_keys : List Constraint → Row → Row → Bool
 keep_keys constraints row new = list_all (λ (constraint : Constraint). keeps_key constraint.rule row new) constraints

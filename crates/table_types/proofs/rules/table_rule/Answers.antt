@@ -8,3 +8,6 @@ returns-in-Unique c = rw c.in-Unique.is (c.unique.ensures _ (rw c.as_slice-in-Un
 
 pub returns-in-Check : goal.returns-in-Check
 returns-in-Check c = rw c.in-Check.is c.check_rule.ensures
+
+pub returns-in-ForeignKey : goal.returns-in-ForeignKey
+returns-in-ForeignKey c = rw c.in-ForeignKey.is (c.reference_rule.ensures _ (rw c.as_slice-in-ForeignKey.ensures at c.key_of-own.ensures))

@@ -11,5 +11,6 @@ typed_constraints-constraints-requires c = record { defined = c.as_slice-3.ensur
 pub returns : goal.returns
 returns c =
     let columns = rw (c.as_slice-2.ensures, c.in_ok-definitions.ensures, c.as_slice.ensures) at c.typed_columns-columns.ensures in
+    let constraints = rw (c.as_slice-3.ensures, c.in_ok-definitions.ensures, c.as_slice.ensures) at c.typed_constraints-constraints.ensures in
     rw (create-is (known c.args.schema.now) c.args.tree.now)
-    (c.made_table.ensures _ (c.both.ensures _ _ (rw c.as_text.ensures.text at c.new_table-name.ensures) (c.both-parts.ensures _ _ columns c.typed_constraints-constraints.ensures)))
+    (c.made_table.ensures _ (c.both.ensures _ _ (rw c.as_text.ensures.text at c.new_table-name.ensures) (c.both-parts.ensures _ _ columns constraints)))

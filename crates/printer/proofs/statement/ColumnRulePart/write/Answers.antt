@@ -12,3 +12,6 @@ returns-in-Unique c = rw c.in-Unique.is c.word-in-Unique.ensures
 
 pub returns-in-Check : goal.returns-in-Check
 returns-in-Check c = rw c.in-Check.is c.check.ensures
+
+pub returns-in-References : goal.returns-in-References
+returns-in-References c = rw c.in-References.is c.write.ensures

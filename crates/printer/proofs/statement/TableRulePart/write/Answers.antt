@@ -9,3 +9,6 @@ returns-in_ok-word-in-Unique c = rw c.in-Unique.is (done c.list_in_parentheses-i
 
 pub returns-in-Check : goal.returns-in-Check
 returns-in-Check c = rw c.in-Check.is c.check.ensures
+
+pub returns-in-ForeignKey : goal.returns-in-ForeignKey
+returns-in-ForeignKey c = rw c.in-ForeignKey.is c.write.ensures
