@@ -10,6 +10,7 @@ pub mod Planning
 pub mod Made
 pub mod Sparse
 pub mod Selecting
+pub mod Ranging
 pub mod Keeping
 pub mod Fewer
 pub mod KeptChangeLemmas

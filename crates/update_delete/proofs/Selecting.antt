@@ -35,7 +35,7 @@ use Rattle.update_delete.specs.Given.{touched_given}
 use Rattle.update_delete.proofs.Sparse.{all-pass}
 
 -- a condition that is not true touches nothing
-not_true : (x y : Evaluation Truth) (t : Truth) (b : Bool) → Shows x y → y ≡ Ok t → (y ≡ Ok True → b ≡ true) → b ≡ false → (x >>= (λ t. Ok (same_truth t True))) ≡ Ok false
+pub not_true : (x y : Evaluation Truth) (t : Truth) (b : Bool) → Shows x y → y ≡ Ok t → (y ≡ Ok True → b ≡ true) → b ≡ false → (x >>= (λ t. Ok (same_truth t True))) ≡ Ok false
 not_true (Ok True) (Ok y) t b shown is only none =
     let passes : b ≡ true = only (ap (λ (t : Truth). Ok t) (sym shown)) in absurd (cc (passes, none))
 not_true (Ok False) (Ok y) t b shown is only none = refl
@@ -59,7 +59,7 @@ untouched quiet match condition columns key asked tables row none =
     not_true (truth_listing tables condition (row ∷ [])) (tree_truth tables condition (row ∷ [])) value.0 (matches columns key row) (conditions-show tables condition (row ∷ [])) value.1
     (λ h. match tables condition columns key row [] asked h) none
 
-index_over : (columns : List ℕ) (indexes : List Index) (table : StoredTable) (place : ℕ) → option_map (λ (index : Index). index.columns) (slice_get indexes place) ≡ Some columns
+pub index_over : (columns : List ℕ) (indexes : List Index) (table : StoredTable) (place : ℕ) → option_map (λ (index : Index). index.columns) (slice_get indexes place) ≡ Some columns
     → map index_of indexes ≡ table.indexes → columns_at (Some table) place ≡ Some columns
 index_over columns indexes table place e declares =
     ap (λ (is : List IndexDeclaration). option_map (λ (i : IndexDeclaration). i.columns) (slice_get is place)) (sym declares)

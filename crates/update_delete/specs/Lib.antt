@@ -5,6 +5,7 @@ pub mod Made
 pub mod Checked
 pub mod Plans
 pub mod Candidates
+pub mod Ranges
 pub mod Kept
 pub mod KeptChanges
 pub mod Reached

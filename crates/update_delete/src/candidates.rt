@@ -10,6 +10,7 @@ ghost use Rattle.store.specs.Going.{Going};
 ghost use Rattle.transactions.specs.Refused.{TellsNoLimit};
 ghost use Rattle.update_delete.specs.Candidates.{AreCandidates, Asks, AsksIn};
 
+use crate::ranges::ranged_candidates;
 use algebra::Condition;
 use constraints::table_named;
 use denote::Row;
@@ -29,8 +30,8 @@ pub(crate) struct LookUp {
 }
 
 /// The rows of the table of this name that its first index finds for whose columns the condition
-/// asks for a key; without such an index all rows. At no other row is the condition true, nor does
-/// it raise a fault there.
+/// asks for a key; without such an index those in a range of one, or all rows. At no other row is
+/// the condition true, nor does it raise a fault there.
 pub(crate) fn candidates<S: Store>(
     alloc: Global,
     store: &mut S,
@@ -55,10 +56,7 @@ pub(crate) fn candidates<S: Store>(
                 Err(error) => Err(refusal_of(error)),
             }
         }
-        Ok(None) => match store.scan(alloc, View::Working, name) {
-            Ok(found) => Ok(found),
-            Err(error) => Err(refusal_of(error)),
-        },
+        Ok(None) => ranged_candidates(alloc, store, name, filter),
         Err(_) => Err(Refusal::Memory),
     }
 }

@@ -14,6 +14,7 @@ mod listed;
 mod making;
 mod new_rows;
 mod planned;
+mod ranges;
 mod reading;
 mod reply;
 mod touched;
