@@ -6,4 +6,4 @@ mod laws;
 mod pairs;
 
 pub use laws::matching_rows_suffice;
-pub use pairs::{conjuncts, join_pairs, left_places, right_places};
+pub use pairs::{conjuncts, join_pairs, left_places, pair_in, right_places};
