@@ -1,11 +1,10 @@
 -- Rules by their sorts.
 use Rattle.std.proofs.Common.{◌≡◌, ℕ, ◌^◌, ◌<◌, List, [], ◌∷◌, length, get_or, refl, arith}
-use Rattle.sqlval.specs.declared.schema.Reference.{Reference}
 use Rattle.sqlval.specs.declared.schema.Rule.{Rule}
 use Rattle.sqlval.specs.declared.schema.Rule.TheVariants.{NotNull, PrimaryKey, Unique, Check, ForeignKey}
 use Rattle.catalog_records.specs.Places.{places_text}
 use Rattle.catalog_records.specs.Records.{sort_of, detail_of, others_of}
-use Rattle.catalog_records.specs.Keepable.{IsReference, IsRule}
+use Rattle.catalog_records.specs.Keepable.{IsRule}
 
 -- the first sort is NOT NULL
 pub not_null : (rule : Rule) (detail : List ℕ) (P : Type 0) → IsRule rule → sort_of rule ≡ 1 → detail_of rule ≡ detail
@@ -15,14 +14,6 @@ not_null (PrimaryKey columns) detail P small sort e use_it = absurd (omega (arit
 not_null (Unique columns) detail P small sort e use_it = absurd (omega (arith, sort))
 not_null (Check text) detail P small sort e use_it = absurd (omega (arith, sort))
 not_null (ForeignKey reference) detail P small sort e use_it = absurd (omega (arith, sort))
-
--- the fifth sort is a foreign key
-pub foreign_key : (rule : Rule) (P : Type 0) → IsRule rule → sort_of rule ≡ 5 → ((reference : Reference) → IsReference reference → rule ≡ ForeignKey reference → P) → P
-foreign_key (NotNull column) P h sort use_it = absurd (omega (arith, sort))
-foreign_key (PrimaryKey columns) P h sort use_it = absurd (omega (arith, sort))
-foreign_key (Unique columns) P h sort use_it = absurd (omega (arith, sort))
-foreign_key (Check text) P h sort use_it = absurd (omega (arith, sort))
-foreign_key (ForeignKey reference) P h sort use_it = use_it reference h refl
 
 -- behind the columns or the text of any other rule stands nothing
 pub no_others : (rule : Rule) → (sort_of rule ≡ 5 → ⊥) → others_of rule ≡ []
