@@ -88,7 +88,22 @@ NUMBERED = [
     ("SELECT A FROM T;", listed("3")),
     ("ROLLBACK;", DONE),
 ]
-SCRIPTS = {"numbered": NUMBERED, "plain": PLAIN, "deep": DEEP, "indexed": INDEXED, "empty": EMPTY, "large": LARGE, "first_format": PLAIN, "open": PLAIN}
+F = "ERROR 23000 F"
+REFERRING = [
+    ("SELECT X FROM C;", listed("2", "NULL")),
+    ("INSERT INTO C VALUES (NULL);", ONE),
+    ("INSERT INTO C VALUES (9);", F),
+    ("UPDATE P SET K = K + 5 WHERE K = 1;", ONE),
+    ("DELETE FROM P WHERE K = 2;", F),
+    ("DROP TABLE P;", "ERROR 42000 reference"),
+    ("DELETE FROM C;", "00000 3"),
+    ("DELETE FROM P WHERE K = 2;", ONE),
+    ("DROP TABLE C;", DONE),
+    ("DROP TABLE P;", DONE),
+    ("ROLLBACK;", DONE),
+    ("SELECT X FROM C;", listed("2", "NULL")),
+]
+SCRIPTS = {"numbered": NUMBERED, "plain": PLAIN, "deep": DEEP, "indexed": INDEXED, "referring": REFERRING, "empty": EMPTY, "large": LARGE, "first_format": PLAIN, "open": PLAIN}
 
 # A line of replies below has one for each statement of its file: the good one where it says GOOD, any of several in a tuple, and for ANSWERED any answer that is no want of memory.
 GOOD = None
@@ -119,6 +134,8 @@ MISSED = [MAYBE, MAYBE, (GOOD, D_BEFORE, X), GOOD, GOOD, MAYBE, GOOD, GOOD, MAYB
 
 # Over "indexed": damage in the catalogue, or in one of the three indexes: INDEX_1 of the key A, INDEX_2 of B and C, INDEX_3 of C. In INDEX_2 and INDEX_3 an INSERT, an UPDATE, a DELETE
 # and a DROP TABLE meet the damage after their first write: the rows are the same before and after.
+# A foreign key that says what no table has.
+REFERENCE = [X, X, X, X, X, X, X, X, X, X, GOOD, X]
 SCHEMA = [X, X, X, X, X, X, X, X, X, X, GOOD, X]
 INDEX_1 = [GOOD, X, X, X, X, K_BEFORE, X, GOOD, X, GOOD, GOOD, GOOD]
 INDEX_2 = [GOOD, GOOD, X, X, X, K_BEFORE, X, GOOD, X, GOOD, GOOD, GOOD]
@@ -291,6 +308,17 @@ REPLIES = {
     "not_null_of_two_columns": SCHEMA,
     "constraint_without_a_name": SCHEMA,
     "constraint_left_out": SCHEMA,
+    # Foreign keys.
+    "reference_to_no_table": REFERENCE,
+    "reference_past_the_end": REFERENCE,
+    "reference_of_a_column_past_the_end": REFERENCE,
+    "reference_of_one_column_to_two": REFERENCE,
+    "reference_to_no_columns": REFERENCE,
+    "reference_without_a_table": REFERENCE,
+    "reference_to_a_table_in_lower_case": REFERENCE,
+    "reference_of_three_values": REFERENCE,
+    "not_null_of_five_values": REFERENCE,
+    # Conditions of CHECKs.
     "check_with_two_spaces": UNUSED,
     "check_in_lower_case": UNUSED,
     "check_without_spaces": UNUSED,

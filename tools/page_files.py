@@ -2,7 +2,7 @@
 
 PAGE = 4096
 LEAF, INNER, FREE = 1, 2, 3
-NOT_NULL, PRIMARY_KEY, UNIQUE, CHECK = 1, 2, 3, 4
+NOT_NULL, PRIMARY_KEY, UNIQUE, CHECK, FOREIGN_KEY = 1, 2, 3, 4, 5
 
 
 def two(value):
@@ -91,7 +91,7 @@ def journaled(old, new):
 
 
 class Table:
-    """A table to be written. Constraints are (name, sort, detail), the detail a text or places; indexes are (name or None, place of the owner or 0, places); rows stand by their numbers."""
+    """A table to be written. Constraints are (name, sort, detail), the detail a text, places, or of a foreign key its places, the table and the places there; indexes are (name or None, place of the owner or 0, places); rows stand by their numbers."""
 
     def __init__(self, name, columns, rows=None, constraints=(), indexes=()):
         self.name, self.columns, self.rows = name, columns, rows or {}
@@ -101,13 +101,21 @@ class Table:
         """The entries of the catalogue for this table, whose trees are at these roots."""
         rows = [(0, 0, [root])]
         rows += [(1, place, [name, width]) for place, (name, width) in enumerate(self.columns)]
-        rows += [(2, place, [name, sort, detail if sort == CHECK else places_of(detail)]) for place, (name, sort, detail) in enumerate(self.constraints, 1)]
+        rows += [(2, place, [name, sort, *details_of(sort, detail)]) for place, (name, sort, detail) in enumerate(self.constraints, 1)]
         rows += [(3, place, [name, owner, root, places_of(columns)]) for place, ((name, owner, columns), root) in enumerate(zip(self.indexes, index_roots), 1)]
         return [(key_of([self.name, kind, place]), row_of(row)) for kind, place, row in rows]
 
 
 def places_of(columns):
     return ",".join(map(str, columns))
+
+
+def details_of(sort, detail):
+    """The values behind the sort in a constraint's record."""
+    if sort == FOREIGN_KEY:
+        own, table, there = detail
+        return [places_of(own), table, places_of(there)]
+    return [detail if sort == CHECK else places_of(detail)]
 
 
 class Writer:

@@ -23,15 +23,23 @@ use Rattle.btree.proofs.LawLemmas.{tree_used}
 use Rattle.btree_remove.proofs.LawLemmas.{own_key}
 use Rattle.btree_read.proofs.AscendLemmas.{root_ascends}
 use Rattle.catalog_records.specs.Keepable.{IsTable}
+use Rattle.catalog_records.specs.References.{AreReferencesOver, is_referenced}
+use Rattle.catalog_records.proofs.ReferenceLemmas.{references_left}
 use Rattle.catalog.specs.Held.{entry_of, entries_of, IsCoded, AreCoded, HoldsSchema}
-use Rattle.catalog.specs.Changed.{with_table, IsFree, SchemaWritten, MayRefuse}
+use Rattle.catalog.specs.Changed.{with_table, IsFree, put_all, SchemaWritten, MayRefuse}
 use Rattle.catalog.specs.declared.error.ChangeError.{ChangeError}
 use Rattle.catalog.specs.declared.error.ChangeError.TheVariants.{Space, Record, Key as LongKey}
 use Rattle.page_space.specs.declared.error.SpaceError.{SpaceError}
 use Rattle.btree.proofs.RefusalLemmas.{change_refused}
 use Rattle.catalog.proofs.OrderLemmas.{less_bytes, named_less, name_greater}
-use Rattle.catalog.proofs.PutLemmas.{entries_append}
-use Rattle.catalog.specs.Left.{SchemaLeft}
+use Rattle.catalog.proofs.PutLemmas.{entries_append, schema_put, with_each, coded_with}
+use Rattle.catalog.proofs.LeftLemmas.{entries_with, entries_without, coded_without, range_without}
+use Rattle.catalog.specs.Left.{EntriesLeft}
+use Rattle.btree_read.specs.Tree.{IsTree}
+use Rattle.btree.specs.Written.{IsWritten}
+use Rattle.std.specs.Cmp.Lexicographic.{same_text}
+use Rattle.std.specs.Prelude.{OnOk}
+use Rattle.sqlval.specs.Schema.{same_name}
 
 -- ---- names
 
@@ -126,10 +134,10 @@ names_held pages root owned tables h = names_rise tables h.coded (root_ascends p
 
 -- ---- two changes, one after the other
 
-written_behind : (old mid new : PageMap) (owned : List ℕ) (left tables : List Table) (root next : ℕ) (w : SchemaLeft old mid owned left root) → SchemaWritten mid new w.now_owned tables next → SchemaWritten old new owned tables next
-written_behind old mid new owned left tables root next w v = record {
+written_behind : (old mid new : PageMap) (owned : List ℕ) (left all : List Entry) (root next : ℕ) (w : EntriesLeft old mid owned left root) → IsWritten mid new w.now_owned all next → IsWritten old new owned all next
+written_behind old mid new owned left all root next w v = record {
   now_owned = v.now_owned;
-  holds = v.holds;
+  stored = v.stored;
   own = λ n h. own n (v.own n h);
   others = λ n h u. v.others n (λ g. foreign n h u (w.own n g)) (subst IsSome (sym (same n h u)) u) ∙ same n h u;
 }
@@ -142,7 +150,7 @@ written_behind old mid new owned left tables root next w v = record {
     same n h u = w.others n h (λ g. foreign n h u (w.own n g))
 
     free_by : (n : ℕ) → mid n ≡ None → (Has n owned → ⊥) → Has n w.now_owned ⊎ (Has n w.now_owned → ⊥) → old n ≡ None
-    free_by n m h (inl g) = absurd (not_fresh mid n (tree_used mid root w.now_owned _ w.holds.tree n g) m)
+    free_by n m h (inl g) = absurd (not_fresh mid n (tree_used mid root w.now_owned left w.stored n g) m)
     free_by n m h (inr g) = sym (w.others n h g) ∙ m
 
     free : (n : ℕ) → mid n ≡ None → Has n owned ⊎ (Has n owned → ⊥) → Has n owned ⊎ (old n ≡ None)
@@ -153,15 +161,49 @@ written_behind old mid new owned left tables root next w v = record {
     own n (inl h) = w.own n h
     own n (inr m) = free n m (has_or_not n owned)
 
-pub altered : {E : Type 0} (result : Result ℕ E) (old mid new : PageMap) (root top : ℕ) (owned : List ℕ) (before behind : List Table) (was now : Table) → now.name ≡ was.name → IsTable now
-    → HoldsSchema old root owned (before ++ was ∷ behind) → SchemaLeft old mid owned (before ++ behind) top
-    → ((owned : List ℕ) (tables : List Table) → HoldsSchema mid top owned tables → IsTable now → IsFree now.name tables → IfOk result (SchemaWritten mid new owned (with_table now tables)))
+pub altered : {E : Type 0} (result : Result ℕ E) (old mid new : PageMap) (root top : ℕ) (owned : List ℕ) (before behind : List Table) (was now : Table) → now.name ≡ was.name → AreReferencesOver (before ++ now ∷ behind) → IsTable now
+    → HoldsSchema old root owned (before ++ was ∷ behind)
+    → ((owned : List ℕ) (b a : List Entry) → IsTree old root owned (b ++ (entries_of (table_records was) ++ a)) → EntriesLeft old mid owned (b ++ a) top)
+    → OnOk result (AreCoded (table_records now))
+    → ((owned : List ℕ) (entries : List Entry) → IsTree mid top owned entries → IfOk result (IsWritten mid new owned (put_all (table_records now) entries)))
     → IfOk result (SchemaWritten old new owned (before ++ now ∷ behind))
-altered (Err e) old mid new root top owned before behind was now same good held w f = tt
-altered (Ok next) old mid new root top owned before behind was now same good held w f =
+altered (Err e) old mid new root top owned before behind was now same references good held taken coded put = tt
+altered (Ok next) old mid new root top owned before behind was now same references good held taken coded put =
     let rise = names_held old root owned (before ++ was ∷ behind) held in
-    let v : SchemaWritten mid new w.now_owned (with_table now (before ++ behind)) next = f w.now_owned (before ++ behind) w.holds good (name_is_free before behind was now rise same) in
-    subst (λ (ts : List Table). SchemaWritten old new owned ts next) (in_place before behind was now rise same) (written_behind old mid new owned (before ++ behind) (with_table now (before ++ behind)) top next w v)
+    let place : with_table now (before ++ behind) ≡ before ++ now ∷ behind = in_place before behind was now rise same in
+    let others : AreCoded (schema_records (before ++ behind)) = coded_without before behind was held.coded in
+    let w : EntriesLeft old mid owned (entries_of (schema_records before) ++ entries_of (schema_records behind)) top =
+    taken owned (entries_of (schema_records before)) (entries_of (schema_records behind)) (subst (IsTree old root owned) (entries_with before behind was) held.tree) in
+    let v : IsWritten mid new w.now_owned (put_all (table_records now) (entries_of (schema_records (before ++ behind)))) next =
+    put w.now_owned (entries_of (schema_records (before ++ behind))) (subst (IsTree mid top w.now_owned) (entries_without before behind) w.stored) in
+    let all : IsWritten old new owned (put_all (table_records now) (entries_of (schema_records (before ++ behind)))) next =
+    written_behind old mid new owned (entries_of (schema_records before) ++ entries_of (schema_records behind)) (put_all (table_records now) (entries_of (schema_records (before ++ behind)))) top next w v in
+    record {
+      now_owned = all.now_owned;
+      holds = record {
+        tree = subst (IsTree new next all.now_owned) (schema_put now (before ++ behind) coded others (name_is_free before behind was now rise same) ∙ ap (λ (ts : List Table). entries_of (schema_records ts)) place) all.stored;
+        range = subst (AllByRecursion IsTable) place (with_each IsTable now (before ++ behind) good (range_without before behind was held.range));
+        coded = subst (λ (ts : List Table). AreCoded (schema_records ts)) place (coded_with now (before ++ behind) coded others);
+        references = references;
+      };
+      own = all.own;
+      others = all.others;
+    }
+
+-- ---- a table that no other one references
+
+apart : (tables : List Table) (name : List ℕ) → IsFree name tables → AllByRecursion (λ (u : Table). same_name u.name name ≡ false) tables
+apart [] name free = tt
+apart (u ∷ tables) name free = (by (same_name u.name name) refl, apart tables name free.1)
+  where
+    by : (b : Bool) → b ≡ same_name u.name name → same_name u.name name ≡ false
+    by true e = absurd (free.0 (same_text u.name name e))
+    by false e = sym e
+
+pub references_without : (pages : PageMap) (root : ℕ) (owned : List ℕ) (before behind : List Table) (t : Table) → HoldsSchema pages root owned (before ++ t ∷ behind) → is_referenced t.name (before ++ t ∷ behind) ≡ false
+    → AreReferencesOver (before ++ behind)
+references_without pages root owned before behind t held free =
+    references_left before behind t (apart (before ++ behind) t.name (name_is_free before behind t t (names_held pages root owned (before ++ t ∷ behind) held) refl)) free held.references
 
 -- ---- refusals
 

@@ -22,6 +22,7 @@ use Rattle.btree.specs.Kept.{LosesNoPage}
 use Rattle.btree_read.proofs.AscendLemmas.{root_ascends}
 use Rattle.btree.proofs.PageLossLemmas.{loses_left}
 use Rattle.catalog_records.specs.Keepable.{IsTable}
+use Rattle.catalog_records.specs.References.{AreReferencesOver}
 use Rattle.catalog.specs.Held.{entry_of, entries_of, IsCoded, AreCoded, HoldsSchema}
 use Rattle.catalog.proofs.PutLemmas.{entries_append}
 use Rattle.catalog.specs.Left.{EntriesLeft, HasTree, SchemaLeft}
@@ -127,30 +128,30 @@ schema_append : (xs ys : List Table) → schema_records (xs ++ ys) ≡ schema_re
 schema_append [] ys = refl
 schema_append (x ∷ xs) ys = ap (λ rs. table_records x ++ rs) (schema_append xs ys) ∙ sym (append_assoc (table_records x) (schema_records xs) (schema_records ys))
 
-entries_with : (before behind : List Table) (t : Table) → entries_of (schema_records (before ++ t ∷ behind)) ≡ entries_of (schema_records before) ++ (entries_of (table_records t) ++ entries_of (schema_records behind))
+pub entries_with : (before behind : List Table) (t : Table) → entries_of (schema_records (before ++ t ∷ behind)) ≡ entries_of (schema_records before) ++ (entries_of (table_records t) ++ entries_of (schema_records behind))
 entries_with before behind t =
     ap entries_of (schema_append before (t ∷ behind)) ∙ entries_append (schema_records before) (table_records t ++ schema_records behind)
     ∙ ap (λ es. entries_of (schema_records before) ++ es) (entries_append (table_records t) (schema_records behind))
 
-entries_without : (before behind : List Table) → entries_of (schema_records before) ++ entries_of (schema_records behind) ≡ entries_of (schema_records (before ++ behind))
+pub entries_without : (before behind : List Table) → entries_of (schema_records before) ++ entries_of (schema_records behind) ≡ entries_of (schema_records (before ++ behind))
 entries_without before behind = sym (ap entries_of (schema_append before behind) ∙ entries_append (schema_records before) (schema_records behind))
 
-coded_without : (before behind : List Table) (t : Table) → AreCoded (schema_records (before ++ t ∷ behind)) → AreCoded (schema_records (before ++ behind))
+pub coded_without : (before behind : List Table) (t : Table) → AreCoded (schema_records (before ++ t ∷ behind)) → AreCoded (schema_records (before ++ behind))
 coded_without before behind t h =
     let all : AreCoded (schema_records before ++ (table_records t ++ schema_records behind)) = subst AreCoded (schema_append before (t ∷ behind)) h in
     let first = each_left IsCoded (schema_records before) (table_records t ++ schema_records behind) all in
     let later = each_right IsCoded (table_records t) (schema_records behind) (each_right IsCoded (schema_records before) (table_records t ++ schema_records behind) all) in
     subst AreCoded (sym (schema_append before behind)) (each_append IsCoded (schema_records before) (schema_records behind) first later)
 
-range_without : (before behind : List Table) (t : Table) → AllByRecursion IsTable (before ++ t ∷ behind) → AllByRecursion IsTable (before ++ behind)
+pub range_without : (before behind : List Table) (t : Table) → AllByRecursion IsTable (before ++ t ∷ behind) → AllByRecursion IsTable (before ++ behind)
 range_without before behind t h = each_append IsTable before behind (each_left IsTable before (t ∷ behind) h) (each_right IsTable before (t ∷ behind) h).1
 
 pub schema_left : {E : Type 0} (result : Result ℕ E) (old new : PageMap) (root : ℕ) (owned : List ℕ) (before behind : List Table) (t : Table) (records : List Record) → records ≡ table_records t
-    → HoldsSchema old root owned (before ++ t ∷ behind)
+    → HoldsSchema old root owned (before ++ t ∷ behind) → AreReferencesOver (before ++ behind)
     → ((owned : List ℕ) (b a : List Entry) → IsTree old root owned (b ++ (entries_of records ++ a)) → IfOk result (EntriesLeft old new owned (b ++ a)))
     → IfOk result (SchemaLeft old new owned (before ++ behind))
-schema_left (Err e) old new root owned before behind t records is held f = tt
-schema_left (Ok top) old new root owned before behind t records is held f =
+schema_left (Err e) old new root owned before behind t records is held references f = tt
+schema_left (Ok top) old new root owned before behind t records is held references f =
     let tree : IsTree old root owned (entries_of (schema_records before) ++ (entries_of records ++ entries_of (schema_records behind))) =
     subst (λ (rs : List Record). IsTree old root owned (entries_of (schema_records before) ++ (entries_of rs ++ entries_of (schema_records behind)))) (sym is) (subst (IsTree old root owned) (entries_with before behind t) held.tree) in
     let w : EntriesLeft old new owned (entries_of (schema_records before) ++ entries_of (schema_records behind)) top = f owned (entries_of (schema_records before)) (entries_of (schema_records behind)) tree in
@@ -160,6 +161,7 @@ schema_left (Ok top) old new root owned before behind t records is held f =
         tree = subst (IsTree new top w.now_owned) (entries_without before behind) w.stored;
         range = range_without before behind t held.range;
         coded = coded_without before behind t held.coded;
+        references = references;
       };
       own = w.own;
       gone = w.gone;

@@ -1,5 +1,6 @@
 pub mod DecodeLemmas
 pub mod OrderLemmas
+pub mod ReferenceLemmas
 pub mod PutLemmas
 pub mod RefusalLemmas
 pub mod RootLemmas

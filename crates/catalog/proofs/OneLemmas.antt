@@ -33,7 +33,7 @@ one_schema pages root owned also tables others h g =
     (records_same (schema_records tables) (schema_records others) h.coded g.coded (one_tree pages root owned also _ _ h.tree g.tree))
 
 pub schema_stays : (old new : PageMap) (root : ℕ) (owned : List ℕ) (tables : List Table) → ((n : ℕ) → Has n owned → new n ≡ old n) → HoldsSchema old root owned tables → HoldsSchema new root owned tables
-schema_stays old new root owned tables same h = record { tree = tree_stays old new root owned _ same h.tree; range = h.range; coded = h.coded }
+schema_stays old new root owned tables same h = record { tree = tree_stays old new root owned _ same h.tree; range = h.range; coded = h.coded; references = h.references }
 
 pub schema_used : (pages : PageMap) (root : ℕ) (owned : List ℕ) (tables : List Table) → HoldsSchema pages root owned tables → (n : ℕ) → Has n owned → IsSome (pages n)
 schema_used pages root owned tables h = tree_used pages root owned _ h.tree

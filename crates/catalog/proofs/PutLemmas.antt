@@ -19,10 +19,12 @@ use Rattle.btree_read.specs.Sorted.{put}
 use Rattle.btree.proofs.ChangeLemmas.{put_past}
 use Rattle.btree.specs.Written.{IsWritten}
 use Rattle.catalog_records.specs.Keepable.{IsTable}
+use Rattle.catalog_records.specs.References.{AreReferencesWith}
 use Rattle.btree_read.proofs.ListLemmas.{each_append, each_left, each_right}
 use Rattle.btree_read.proofs.OrderLemmas.{not_both}
 use Rattle.catalog.specs.Held.{entry_of, entries_of, IsCoded, AreCoded, HoldsSchema}
 use Rattle.catalog.specs.Changed.{with_table, IsFree, put_all, SchemaWritten}
+use Rattle.catalog.proofs.ReferenceLemmas.{references_with}
 use Rattle.catalog.proofs.OrderLemmas.{IsLess, less_bytes, Rises, IsNamed, table_rises, table_named, named_less, name_greater}
 
 -- the key is less than the first
@@ -158,22 +160,23 @@ coded_more records i r below is all one =
     subst AreCoded (sym (take_more records i r below ∙ ap (λ x. take i records ++ x ∷ []) (sym is))) (each_append IsCoded (take i records) (r ∷ []) all (one, tt))
 
 -- the schema with one more table
-pub schema_written : (a b : PageMap) (owned : List ℕ) (t : Table) (tables : List Table) (root next : ℕ) → HoldsSchema a root owned tables → IsTable t → IsFree t.name tables → AreCoded (table_records t)
+pub schema_written : (a b : PageMap) (owned : List ℕ) (t : Table) (tables : List Table) (root next : ℕ) → HoldsSchema a root owned tables → IsTable t → IsFree t.name tables → AreReferencesWith t tables → AreCoded (table_records t)
     → IsWritten a b owned (put_all (table_records t) (entries_of (schema_records tables))) next → SchemaWritten a b owned (with_table t tables) next
-schema_written a b owned t tables root next held good free coded w = record {
+schema_written a b owned t tables root next held good free own coded w = record {
   now_owned = w.now_owned;
   holds = record {
     tree = subst (IsTree b next w.now_owned) (schema_put t tables coded held.coded free) w.stored;
     range = with_each IsTable t tables good held.range;
     coded = coded_with t tables coded held.coded;
+    references = references_with t tables held.references own;
   };
   own = w.own;
   others = w.others;
 }
 
 pub schema_added : {E : Type 0} (result : Result ℕ E) (a b : PageMap) (owned : List ℕ) (t : Table) (tables : List Table) (root : ℕ) (records : List Record) → records ≡ table_records t
-    → HoldsSchema a root owned tables → IsTable t → IsFree t.name tables → OnOk result (AreCoded records)
+    → HoldsSchema a root owned tables → IsTable t → IsFree t.name tables → AreReferencesWith t tables → OnOk result (AreCoded records)
     → IfOk result (IsWritten a b owned (put_all records (entries_of (schema_records tables)))) → IfOk result (SchemaWritten a b owned (with_table t tables))
-schema_added (Ok next) a b owned t tables root records is held good free coded w =
-    schema_written a b owned t tables root next held good free (subst AreCoded is coded) (subst (λ (rs : List Record). IsWritten a b owned (put_all rs (entries_of (schema_records tables))) next) is w)
-schema_added (Err e) a b owned t tables root records is held good free coded w = tt
+schema_added (Ok next) a b owned t tables root records is held good free own coded w =
+    schema_written a b owned t tables root next held good free own (subst AreCoded is coded) (subst (λ (rs : List Record). IsWritten a b owned (put_all rs (entries_of (schema_records tables))) next) is w)
+schema_added (Err e) a b owned t tables root records is held good free own coded w = tt

@@ -6,6 +6,7 @@ use Rattle.sqlval.specs.declared.schema.Table.{Table}
 use Rattle.catalog_records.specs.declared.record.Record.{Record}
 use Rattle.catalog_records.specs.Records.{table_record, column_records, constraint_records, index_records, table_records, schema_records}
 use Rattle.catalog_records.specs.Keepable.{IsTable}
+use Rattle.catalog_records.proofs.ReferenceLemmas.{references_around}
 use Rattle.sqlrecord.specs.Key.{key_code}
 use Rattle.sqlrecord.specs.Row.{row_code}
 use Rattle.page_space.specs.Space.{PageMap}
@@ -73,6 +74,7 @@ root_written (Ok next) a b owned before behind t top root name r small named is 
         range = each_around IsTable before behind t (with_root root t) (λ h. record { root = small; columns = h.columns; constraints = h.constraints; indexes = h.indexes; constraints_over = h.constraints_over; indexes_over = h.indexes_over }) held.range;
         coded = subst AreCoded (sym (schema_around before behind (with_root root t)))
             (each_around IsCoded (schema_records before) (others_of t behind) (table_record t.name t.root) (table_record t.name root) (λ h. subst IsCoded one coded) (subst AreCoded (schema_around before behind t) held.coded));
+        references = references_around before behind t (with_root root t) refl refl refl held.references;
       };
       own = w.own;
       others = w.others;

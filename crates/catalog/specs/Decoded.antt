@@ -7,6 +7,7 @@ use Rattle.btree_read.specs.declared.entry.Entry.{Entry}
 use Rattle.sqlval.specs.declared.schema.Table.{Table}
 use Rattle.catalog_records.specs.Records.{schema_records}
 use Rattle.catalog_records.specs.Keepable.{AreTables}
+use Rattle.catalog_records.specs.References.{AreReferencesOver}
 use Rattle.catalog.specs.Held.{entries_of, AreCoded}
 
 -- of these records, which have codes, the first ones were read, and the entries that are left are
@@ -24,5 +25,5 @@ Leaves (Err error) So = error ≡ Memory
 
 -- where these entries are the records of tables, they are those of these
 abbrev pub IsDecoded : List Entry → List Table → Type 0
-IsDecoded entries found = (tables : List Table) → AreTables tables → AreCoded (schema_records tables)
-    → entries ≡ entries_of (schema_records tables) → found ≡ tables
+IsDecoded entries found = (tables : List Table) → AreTables tables → AreReferencesOver tables
+    → AreCoded (schema_records tables) → entries ≡ entries_of (schema_records tables) → found ≡ tables

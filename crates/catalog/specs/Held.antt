@@ -5,6 +5,7 @@ use Rattle.sqlval.specs.declared.schema.Table.{Table}
 use Rattle.catalog_records.specs.declared.record.Record.{Record}
 use Rattle.catalog_records.specs.Records.{schema_records}
 use Rattle.catalog_records.specs.Keepable.{AreTables}
+use Rattle.catalog_records.specs.References.{AreReferencesOver}
 use Rattle.sqlrecord.specs.Storable.{AllStorable}
 use Rattle.sqlrecord.specs.Key.{key_code}
 use Rattle.sqlrecord.specs.Row.{row_code}
@@ -28,11 +29,13 @@ pub record IsCoded (r : Record) : Type 0 where
 abbrev pub AreCoded : List Record → Type 0
 AreCoded records = AllByRecursion IsCoded records
 
--- the tree at the root has just the records of these tables
+-- the tree at the root has just the records of these tables, and what their foreign keys reference
+-- is among them
 pub record HoldsSchema (pages : PageMap) (root : ℕ) (owned : List ℕ) (tables : List Table) : Type 0 where
   pub tree : IsTree pages root owned (entries_of (schema_records tables))
   pub range : AreTables tables
   pub coded : AreCoded (schema_records tables)
+  pub references : AreReferencesOver tables
 
 -- no tables are held there
 abbrev pub HoldsNoSchema : PageMap → ℕ → Type 0

@@ -12,6 +12,7 @@ ghost use Rattle.btree.specs.Written.{IsWritten};
 ghost use Rattle.btree.specs.Kept.{LosesNoPage};
 ghost use Rattle.catalog_records.specs.Records.{table_records, table_record as table_record_of};
 ghost use Rattle.catalog_records.specs.Keepable.{IsTable};
+ghost use Rattle.catalog_records.specs.References.{AreReferencesWith};
 ghost use Rattle.catalog.specs.Held.{IsCoded, AreCoded, HoldsSchema};
 ghost use Rattle.catalog.specs.Changed.{with_table, with_root, IsFree, put_all, SchemaWritten, MayRefuse, HoldsNoSchemaIn, IsOfRecord};
 
@@ -123,8 +124,29 @@ fn records_of(alloc: Global, table: &Table) -> Result<Items<Record>, ChangeError
     }
 }
 
-/// Puts a table whose name is free into the schema that the tree at a root holds, and answers the
-/// root; root 0 is the schema without tables.
+/// Puts the records of a table into the tree at a root, and answers the root.
+pub(crate) fn put_table<S: PageSpace>(
+    space: &mut S,
+    alloc: Global,
+    root: u32,
+    table: &Table,
+) -> Result<u32, ChangeError>
+    ensures put { (owned : List ℕ) (entries : List Entry) → IsTree (S.pages space.old) root owned entries
+        → IfOk result (IsWritten (S.pages space.old) (S.pages space.new) owned (put_all (table_records table.now) entries)) }
+    ensures coded { OnOk result (AreCoded (table_records table.now)) }
+    ensures keeps { IfOk result (LosesNoPage (S.pages space.old) (S.pages space.new) root) }
+    ensures whole { OnOk result (S.is_whole space.old → S.is_whole space.new) }
+    ensures refusal { IfErr result (MayRefuse (S.at_limit space.new) (IsNoTreeIn (S.pages space.old) root (S.is_whole space.old)) (S.refused space.old) (S.refused space.new)) }
+    ensures rising { S.refused space.old ≤ S.refused space.new }
+    ensures follows { S.follows space.old space.new }
+{
+    let records = records_of(alloc, table)?;
+    put_records(space, alloc, root, records.as_slice())
+}
+
+/// Puts a table whose name is free, and whose foreign keys reference columns of it or of the others,
+/// into the schema that the tree at a root holds, and answers the root; root 0 is the schema without
+/// tables.
 ///
 /// Refused for want of memory, where the device refuses a call, at the limits of pages, as damaged
 /// only where no schema is held there or the list of free pages is none, and where one of the
@@ -137,7 +159,7 @@ pub fn add_table<S: PageSpace>(
     table: &Table,
 ) -> Result<u32, ChangeError>
     ensures added { (owned : List ℕ) (tables : List AnyTable) → HoldsSchema (S.pages space.old) root owned tables
-        → IsTable table.now → IsFree table.now.name tables
+        → IsTable table.now → IsFree table.now.name tables → AreReferencesWith table.now tables
         → IfOk result (SchemaWritten (S.pages space.old) (S.pages space.new) owned (with_table table.now tables)) }
     ensures keeps { IfOk result (LosesNoPage (S.pages space.old) (S.pages space.new) root) }
     ensures whole { OnOk result (S.is_whole space.old → S.is_whole space.new) }
@@ -145,8 +167,7 @@ pub fn add_table<S: PageSpace>(
     ensures rising { S.refused space.old ≤ S.refused space.new }
     ensures follows { S.follows space.old space.new }
 {
-    let records = records_of(alloc, table)?;
-    put_records(space, alloc, root, records.as_slice())
+    put_table(space, alloc, root, table)
 }
 
 /// Puts the root of a table's tree of rows into the schema that the tree at a root holds, and

@@ -3,13 +3,14 @@ ghost use Rattle.std.specs.Prelude.{◌≡◌, ◌≤◌, ◌∷◌, ◌++◌, �
 ghost use Rattle.sqlval.specs.declared.schema.Table.{Table as AnyTable};
 ghost use Rattle.btree.specs.Kept.{LosesNoPage};
 ghost use Rattle.catalog_records.specs.Keepable.{IsTable};
+ghost use Rattle.catalog_records.specs.References.{AreReferencesOver};
 ghost use Rattle.catalog.specs.Held.{HoldsSchema};
 ghost use Rattle.catalog.specs.Changed.{MayRefuse, SchemaWritten};
 ghost use Rattle.catalog.specs.Left.{HoldsNoneWith};
 
-use crate::adding::add_table;
-use crate::drop_table;
+use crate::adding::put_table;
 use crate::error::ChangeError;
+use crate::removing::take_table;
 use page_space::PageSpace;
 use sqlval::Table;
 use std::alloc::Global;
@@ -29,7 +30,7 @@ pub fn alter_table<S: PageSpace>(
 ) -> Result<u32, ChangeError>
     ensures altered { (owned : List ℕ) (before behind : List AnyTable)
         → HoldsSchema (S.pages space.old) root owned (before ++ table.now ∷ behind) → changed.now.name ≡ table.now.name
-        → IsTable changed.now
+        → AreReferencesOver (before ++ changed.now ∷ behind) → IsTable changed.now
         → IfOk result (SchemaWritten (S.pages space.old) (S.pages space.new) owned (before ++ changed.now ∷ behind)) }
     ensures keeps { IfOk result (LosesNoPage (S.pages space.old) (S.pages space.new) root) }
     ensures whole { OnOk result (S.is_whole space.old → S.is_whole space.new) }
@@ -37,6 +38,6 @@ pub fn alter_table<S: PageSpace>(
     ensures rising { S.refused space.old ≤ S.refused space.new }
     ensures follows { S.follows space.old space.new }
 {
-    let top = drop_table(space, alloc, root, table)?;
-    add_table(space, alloc, top, changed)
+    let top = take_table(space, alloc, root, table)?;
+    put_table(space, alloc, top, changed)
 }

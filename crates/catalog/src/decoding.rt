@@ -1,11 +1,12 @@
 //! Records from the entries of a tree.
-ghost use Rattle.std.specs.Prelude.{◌≡◌, ◌++◌, List, map};
+ghost use Rattle.std.specs.Prelude.{◌≡◌, ◌++◌, List, map, IfOk};
 ghost use Rattle.sqlval.specs.declared.value.Value.{Value as AnyValue};
 ghost use Rattle.sqlval.specs.declared.schema.Table.{Table as AnyTable};
 ghost use Rattle.catalog_records.specs.declared.record.Record.{Record as AnyRecord};
 ghost use Rattle.catalog_records.specs.Records.{schema_records};
 ghost use Rattle.catalog_records.specs.Given.{Gives};
 ghost use Rattle.catalog_records.specs.Keepable.{AreTables};
+ghost use Rattle.catalog_records.specs.References.{AreReferencesOver};
 ghost use Rattle.sqlrecord.specs.Key.{IsKeyOf, key_code};
 ghost use Rattle.sqlrecord.specs.Row.{IsCodeOf, row_code};
 ghost use Rattle.btree_read.specs.declared.entry.Entry.{Entry as AnyEntry};
@@ -83,9 +84,10 @@ fn records_of(alloc: Global, entries: &Entries) -> Result<Items<Record>, ReadErr
 
 /// The schema whose records these entries are.
 pub(crate) fn schema_of_entries(alloc: Global, entries: &Entries) -> Result<Schema, ReadError>
-    ensures { (tables : List AnyTable) → AreTables tables → AreCoded (schema_records tables)
-        → entries.now ≡ entries_of (schema_records tables)
+    ensures again { (tables : List AnyTable) → AreTables tables → AreReferencesOver tables
+        → AreCoded (schema_records tables) → entries.now ≡ entries_of (schema_records tables)
         → Gives result (record { tables = tables }) }
+    ensures references { IfOk result (λ schema. AreReferencesOver schema.tables) }
 {
     let records = records_of(alloc, entries)?;
     schema_of_records(alloc, records.as_slice())

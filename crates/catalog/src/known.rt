@@ -4,6 +4,7 @@ ghost use Rattle.sqlval.specs.declared.schema.Table.{Table as AnyTable};
 ghost use Rattle.page_space.specs.Space.{ReadRefused};
 ghost use Rattle.catalog_records.specs.Records.{schema_records};
 ghost use Rattle.catalog_records.specs.Keepable.{AreTables};
+ghost use Rattle.catalog_records.specs.References.{AreReferencesOver};
 ghost use Rattle.catalog.specs.Held.{entries_of, AreCoded, HoldsSchema, HoldsNoSchema};
 ghost use Rattle.catalog.specs.Decoded.{IsDecoded, Leaves};
 
@@ -21,6 +22,7 @@ pub struct KnownSchema {
     entries: Entries,
     schema: Schema,
     ghost decoded: { IsDecoded entries schema.tables },
+    ghost references: { AreReferencesOver schema.tables },
 }
 
 impl KnownSchema {
@@ -45,8 +47,8 @@ impl KnownSchema {
 
     /// Decodes the schema of these entries, where they are not those of the last one.
     fn hold(&mut self, alloc: Global, entries: Entries) -> Result<(), ReadError>
-        ensures { (tables : List AnyTable) → AreTables tables → AreCoded (schema_records tables)
-            → entries ≡ entries_of (schema_records tables)
+        ensures { (tables : List AnyTable) → AreTables tables → AreReferencesOver tables
+            → AreCoded (schema_records tables) → entries ≡ entries_of (schema_records tables)
             → Leaves result (self.new.schema.tables ≡ tables) }
     {
         if entries.is_same(&self.entries) {
@@ -71,6 +73,7 @@ pub fn read_known<R: PageReader>(
 ) -> Result<(), SpaceError>
     ensures found { (owned : List ℕ) (tables : List AnyTable) → HoldsSchema (R.pages space.old) root owned tables
         → OnOk result (known.new.schema.tables ≡ tables) }
+    ensures references { OnOk result (AreReferencesOver known.new.schema.tables) }
     ensures same { R.pages space.new ≡ R.pages space.old }
     ensures whole { R.is_whole space.old → R.is_whole space.new }
     ensures refusal { IfErr result (ReadRefused (HoldsNoSchema (R.pages space.old) root) (R.refused space.old) (R.refused space.new)) }

@@ -7,6 +7,7 @@ mod decoding;
 mod error;
 mod known;
 mod laws;
+mod referring;
 mod removing;
 mod schema;
 
@@ -15,5 +16,6 @@ pub use altering::alter_table;
 pub use error::ChangeError;
 pub use known::{KnownSchema, read_known};
 pub use laws::{schemas_stay, tables_are_one};
+pub use referring::{are_references_in, is_referenced_in};
 pub use removing::drop_table;
 pub use schema::read_schema;

@@ -1,5 +1,5 @@
 //! The records of a table taken out of a schema.
-ghost use Rattle.std.specs.Prelude.{◌≡◌, ◌≤◌, ◌∷◌, ◌++◌, ℕ, List, IfOk, IfErr, OnOk};
+ghost use Rattle.std.specs.Prelude.{◌≡◌, ◌≤◌, ◌∷◌, ◌++◌, ℕ, false, List, IfOk, IfErr, OnOk};
 ghost use Rattle.sqlval.specs.declared.schema.Table.{Table as AnyTable};
 ghost use Rattle.sqlrecord.specs.Key.{key_code};
 ghost use Rattle.btree_read.specs.declared.entry.Entry.{Entry};
@@ -7,6 +7,7 @@ ghost use Rattle.btree_read.specs.Tree.{IsTree};
 ghost use Rattle.btree.specs.Overfull.{IsNoTreeIn};
 ghost use Rattle.btree.specs.Kept.{LosesNoPage};
 ghost use Rattle.catalog_records.specs.Records.{table_records};
+ghost use Rattle.catalog_records.specs.References.{is_referenced};
 ghost use Rattle.catalog.specs.Held.{HoldsSchema, entries_of};
 ghost use Rattle.catalog.specs.Changed.{MayRefuse, HoldsNoSchemaIn, IsOfRecord};
 ghost use Rattle.catalog.specs.Left.{EntriesLeft, HasTree, SchemaLeft};
@@ -93,9 +94,29 @@ fn records_of(alloc: Global, table: &Table) -> Result<Items<Record>, ChangeError
     }
 }
 
-/// Takes a table, as `read_schema` gave it, out of the schema that the tree at a root holds, and
-/// answers the root; 0 where that was its only one. The trees of its rows and indexes stay as they
-/// are.
+/// Takes the records of a table out of the tree at a root, and answers the root.
+pub(crate) fn take_table<S: PageSpace>(
+    space: &mut S,
+    alloc: Global,
+    root: u32,
+    table: &Table,
+) -> Result<u32, ChangeError>
+    ensures taken { (owned : List ℕ) (before behind : List Entry)
+        → IsTree (S.pages space.old) root owned (before ++ (entries_of (table_records table.now) ++ behind))
+        → IfOk result (EntriesLeft (S.pages space.old) (S.pages space.new) owned (before ++ behind)) }
+    ensures keeps { IfOk result (LosesNoPage (S.pages space.old) (S.pages space.new) root) }
+    ensures whole { OnOk result (S.is_whole space.old → S.is_whole space.new) }
+    ensures refusal { IfErr result (MayRefuse (S.at_limit space.new) (IsNoTreeIn (S.pages space.old) root (S.is_whole space.old)) (S.refused space.old) (S.refused space.new)) }
+    ensures rising { S.refused space.old ≤ S.refused space.new }
+    ensures follows { S.follows space.old space.new }
+{
+    let records = records_of(alloc, table)?;
+    remove_records(space, alloc, root, records.as_slice())
+}
+
+/// Takes a table, as `read_schema` gave it, which no other one references, out of the schema that
+/// the tree at a root holds, and answers the root; 0 where that was its only one. The trees of its
+/// rows and indexes stay as they are.
 ///
 /// Refused as `add_table` of `catalog` is.
 pub fn drop_table<S: PageSpace>(
@@ -106,6 +127,7 @@ pub fn drop_table<S: PageSpace>(
 ) -> Result<u32, ChangeError>
     ensures dropped { (owned : List ℕ) (before behind : List AnyTable)
         → HoldsSchema (S.pages space.old) root owned (before ++ table.now ∷ behind)
+        → is_referenced table.now.name (before ++ table.now ∷ behind) ≡ false
         → IfOk result (SchemaLeft (S.pages space.old) (S.pages space.new) owned (before ++ behind)) }
     ensures keeps { IfOk result (LosesNoPage (S.pages space.old) (S.pages space.new) root) }
     ensures whole { OnOk result (S.is_whole space.old → S.is_whole space.new) }
@@ -113,6 +135,5 @@ pub fn drop_table<S: PageSpace>(
     ensures rising { S.refused space.old ≤ S.refused space.new }
     ensures follows { S.follows space.old space.new }
 {
-    let records = records_of(alloc, table)?;
-    remove_records(space, alloc, root, records.as_slice())
+    take_table(space, alloc, root, table)
 }

@@ -2,6 +2,7 @@
 ghost use Rattle.std.specs.Prelude.{◌≡◌, ◌≤◌, ℕ, List, IfOk, IfErr};
 ghost use Rattle.sqlval.specs.declared.schema.Table.{Table as AnyTable};
 ghost use Rattle.page_space.specs.Space.{ReadRefused};
+ghost use Rattle.catalog_records.specs.References.{AreReferencesOver};
 ghost use Rattle.catalog.specs.Held.{HoldsSchema, HoldsNoSchema};
 
 use crate::decoding::schema_of_entries;
@@ -22,6 +23,7 @@ pub fn read_schema<R: PageReader>(
 ) -> Result<Schema, SpaceError>
     ensures found { (owned : List ℕ) (tables : List AnyTable) → HoldsSchema (R.pages space.old) root owned tables
         → IfOk result (λ schema. schema.tables ≡ tables) }
+    ensures references { IfOk result (λ schema. AreReferencesOver schema.tables) }
     ensures same { R.pages space.new ≡ R.pages space.old }
     ensures whole { R.is_whole space.old → R.is_whole space.new }
     ensures refusal { IfErr result (ReadRefused (HoldsNoSchema (R.pages space.old) root) (R.refused space.old) (R.refused space.new)) }

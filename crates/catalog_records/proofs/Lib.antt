@@ -6,3 +6,4 @@ pub mod RuleLemmas
 pub mod NumberedLemmas
 pub mod TableLemmas
 pub mod ApartLemmas
+pub mod ReferenceLemmas

@@ -43,14 +43,14 @@ IsConstraint constraint = IsRule constraint.rule
 abbrev pub AreAmong : ℕ → List ℕ → Type 0
 AreAmong count places = AllByRecursion (λ place. place < count) places
 
--- Whether a rule names by their places only columns of a table that has so many. A foreign key,
--- which no text declares yet, is not kept.
+-- Whether a rule names by their places only columns of a table that has so many, where it speaks of
+-- its own table.
 abbrev pub IsRuleOver : ℕ → Rule → Type 0
 IsRuleOver count (NotNull column) = column < count
 IsRuleOver count (PrimaryKey columns) = AreAmong count columns
 IsRuleOver count (Unique columns) = AreAmong count columns
 IsRuleOver count (Check text) = Unit {0}
-IsRuleOver count (ForeignKey reference) = ⊥
+IsRuleOver count (ForeignKey reference) = AreAmong count reference.columns
 
 -- a constraint and an index of a table with so many columns
 abbrev pub IsConstraintOver : ℕ → Constraint → Type 0

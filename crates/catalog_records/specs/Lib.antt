@@ -2,5 +2,6 @@ pub mod Places
 pub mod Records
 pub mod Given
 pub mod Keepable
+pub mod References
 pub mod Cuts
 pub mod Rows

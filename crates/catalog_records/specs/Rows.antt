@@ -8,6 +8,7 @@ use Rattle.sqlval.specs.declared.schema.Constraint.{Constraint}
 use Rattle.sqlval.specs.declared.schema.Index.{Index}
 use Rattle.catalog_records.specs.Records.{key_of, column_record, constraint_record, index_record, schema_records}
 use Rattle.catalog_records.specs.Keepable.{AreTables}
+use Rattle.catalog_records.specs.References.{AreReferencesOver}
 
 abbrev pub column_row : Column → List Value
 column_row column = (column_record [] 0 column).row
@@ -29,4 +30,5 @@ EndsTable records = (name : List ℕ) (kind : ℕ) → 0 < kind → EndsAt (key_
 
 -- no schema that the program can hold has these records
 abbrev pub IsNoSchema : List Record → Type 0
-IsNoSchema records = (tables : List Table) → AreTables tables → schema_records tables ≡ records → ⊥
+IsNoSchema records = (tables : List Table) → AreTables tables → AreReferencesOver tables → schema_records tables ≡ records
+    → ⊥

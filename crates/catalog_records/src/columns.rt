@@ -17,7 +17,7 @@ pub fn are_among(count: usize, places: &[usize]) -> bool
     true
 }
 
-/// Whether a rule names only places of so many columns, and is no foreign key.
+/// Whether a rule names only places of so many columns, where it speaks of its own table.
 fn is_rule_over(count: usize, rule: &Rule) -> bool
     ensures { IsTrue result ↔ IsRuleOver count rule.now }
 {
@@ -26,11 +26,11 @@ fn is_rule_over(count: usize, rule: &Rule) -> bool
         Rule::PrimaryKey(columns) => are_among(count, columns.as_slice()),
         Rule::Unique(columns) => are_among(count, columns.as_slice()),
         Rule::Check(_) => true,
-        Rule::ForeignKey(_) => false,
+        Rule::ForeignKey(reference) => are_among(count, reference.columns.as_slice()),
     }
 }
 
-/// Whether constraints name only places of so many columns, and none is a foreign key.
+/// Whether constraints name only places of so many columns, where they speak of their own table.
 pub fn are_constraints_over(count: usize, constraints: &[Constraint]) -> bool
     ensures { IsTrue result ↔ AllByRecursion (IsConstraintOver count) constraints.now }
 {

@@ -5,6 +5,7 @@ ghost use Rattle.catalog_records.specs.declared.record.Record.{Record as AnyReco
 ghost use Rattle.catalog_records.specs.Records as kept;
 ghost use Rattle.catalog_records.specs.Given.{Gives, GivesFront};
 ghost use Rattle.catalog_records.specs.Keepable.{IsTable, AreTables};
+ghost use Rattle.catalog_records.specs.References.{AreReferencesOver};
 ghost use Rattle.catalog_records.specs.Rows.{EndsTable, IsNoSchema};
 
 use crate::columns::{are_constraints_over, are_indexes_over};
@@ -13,6 +14,7 @@ use crate::parts::page_of;
 use crate::read_error::ReadError;
 use crate::reading::{columns_first, constraints_first, indexes_first};
 use crate::record::Record;
+use crate::references::are_references_over;
 use crate::values::{nothing_left, number_first};
 use items::{Items, Text};
 use sqlval::{Schema, Table};
@@ -93,10 +95,14 @@ fn tables_in(alloc: Global, records: &[Record]) -> Result<Items<Table>, ReadErro
 pub fn schema_of_records(alloc: Global, records: &[Record]) -> Result<Schema, ReadError>
     ensures sound { IfOk result (λ schema. kept.schema_records schema.tables ≡ records.now) }
     ensures range { IfOk result (λ schema. AreTables schema.tables) }
-    ensures again { (tables : List AnyTable) → AreTables tables → kept.schema_records tables ≡ records.now
-        → Gives result (record { tables = tables }) }
+    ensures references { IfOk result (λ schema. AreReferencesOver schema.tables) }
+    ensures again { (tables : List AnyTable) → AreTables tables → AreReferencesOver tables
+        → kept.schema_records tables ≡ records.now → Gives result (record { tables = tables }) }
     ensures damaged { IsNoSchema records.now → IsErr result }
 {
     let tables = tables_in(alloc, records)?;
+    if !are_references_over(tables.as_slice()) {
+        return Err(ReadError::Damaged);
+    }
     Ok(Schema { tables })
 }

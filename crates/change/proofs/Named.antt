@@ -45,7 +45,7 @@ readable reading schema db name d h inside e good =
     let same = found.2 in
     subst (λ (n : Name). AreReadable n d.columns d.constraints) (sym e)
     (subst (λ (columns : List Column). AreReadable name columns d.constraints) (sym same.columns)
-    (subst (λ (constraints : List Constraint). AreReadable name found.0.columns constraints) (sym same.constraints) (good name found.0 found.1).readable))
+    (subst (λ (constraints : List Constraint). AreReadable name found.0.columns constraints) (sym same.constraints) (good name found.0 found.1).alone.readable))
 
 -- want of memory and damage are no refusal of the device
 pub no_device : (refusal : Refusal) → (refusal ≡ Memory) ⊎ (refusal ≡ Damaged) → refusal ≡ Disk → ⊥

@@ -3,3 +3,4 @@ pub mod Spelled
 pub mod Readable
 pub mod Inside
 pub mod Places
+pub mod Referenced

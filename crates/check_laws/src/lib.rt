@@ -4,4 +4,7 @@
 
 mod laws;
 
-pub use laws::{a_check_is_one_condition, declared_columns_are_there, kept_checks_can_be_read};
+pub use laws::{
+    a_check_is_one_condition, declared_columns_are_there, kept_checks_can_be_read,
+    what_is_referenced_is_there,
+};

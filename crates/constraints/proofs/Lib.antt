@@ -12,3 +12,5 @@ pub mod Recounted
 pub mod Said
 pub mod Limits
 mod Sorted
+pub mod Matched
+pub mod Unmatched

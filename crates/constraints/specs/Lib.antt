@@ -5,3 +5,4 @@ pub mod Stopped
 pub mod Foreseen
 pub mod Alone
 pub mod Keys
+pub mod Matched

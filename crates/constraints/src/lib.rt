@@ -9,6 +9,7 @@ mod foreseen;
 mod frame;
 mod keys;
 mod lengths;
+mod matching;
 mod order;
 mod refusal;
 mod settled_rows;
@@ -22,6 +23,9 @@ pub use foreseen::Foreseen;
 pub use frame::{begin, settle, settle_unless, violation_in};
 pub use keys::key_columns;
 pub use lengths::{admit, fits_key, rows_fit_key};
+pub use matching::{
+    Moved, has_foreign_keys, is_at_end, rows_to_match, settle_came, settle_matches, settle_moved,
+};
 pub use order::compare_keys;
 pub use refusal::refusal_of_stop;
 pub use settled_rows::settle_rows;

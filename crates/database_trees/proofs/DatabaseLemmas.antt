@@ -107,7 +107,7 @@ stays old new root tables same h =
     record { owned = h.owned; trees = record { each = all_stay old new ts (λ n i. same n (all_used old ts h.trees.each n i)) h.trees.each; apart = h.trees.apart; all = λ a. absurd (cc) }; fits = h.fits }
 
 pub at_first : {alone : Bool} (pages : PageMap) → (alone ≡ true → (n : ℕ) → pages n ≡ None) → HoldsFor alone pages 0 []
-at_first pages none = record { owned = []; trees = record { each = (record { tree = (refl, refl); range = tt; coded = tt }, tt); apart = tt; all = λ a n u. absurd (not_fresh pages n u (none a n)) }; fits = tt }
+at_first pages none = record { owned = []; trees = record { each = (record { tree = (refl, refl); range = tt; coded = tt; references = refl }, tt); apart = tt; all = λ a n u. absurd (not_fresh pages n u (none a n)) }; fits = tt }
 
 -- ---- all pages are owned
 

@@ -6,19 +6,45 @@ ghost use Rattle.catalog.specs.Changed.{with_table, IsFree, SchemaWritten, Holds
 ghost use Rattle.std.specs.List.{AllByRecursion};
 ghost use Rattle.store.specs.Contents as stored;
 ghost use Rattle.catalog_records.specs.Keepable.{IsTable};
+ghost use Rattle.catalog_records.specs.References.{AreReferencesWith};
 ghost use Rattle.btree.specs.Kept.{LosesNoPage};
 ghost use Rattle.database_trees.specs.Held.{TableAt, HoldsDatabase, contents_of, IsAllOwned};
 ghost use Rattle.database_trees.specs.Changed.{DatabaseWritten, HoldsNoDatabaseIn, SpaceRefused, ReachesNone, DatabaseOwned};
 
 use crate::DatabaseError;
 use crate::error::of_change;
-use catalog::add_table;
-use page_space::PageSpace;
+use catalog::{add_table, are_references_in};
+use page_space::{PageSpace, SpaceError};
 use sqlval::Table;
 use std::alloc::Global;
 use stored_tables::read_table;
 
-/// Puts a table whose name is free into the schema, and answers its root.
+/// Puts a table whose name is free, and what it references there, into the schema, and answers its
+/// root.
+fn add_fitting<S: PageSpace>(
+    space: &mut S,
+    alloc: Global,
+    root: u32,
+    table: &Table,
+) -> Result<u32, DatabaseError>
+    ensures added { (owned : List ℕ) (tables : List AnyTable) → HoldsSchema (S.pages space.old) root owned tables
+        → IsTable table.now → IsFree table.now.name tables → AreReferencesWith table.now tables
+        → IfOk result (SchemaWritten (S.pages space.old) (S.pages space.new) owned (with_table table.now tables)) }
+    ensures keeps { IfOk result (LosesNoPage (S.pages space.old) (S.pages space.new) root) }
+    ensures limits { IfErr result ReachesNone }
+    ensures whole { OnOk result (S.is_whole space.old → S.is_whole space.new) }
+    ensures refusal { IfErr result (SpaceRefused (S.at_limit space.new) (HoldsNoSchemaIn (S.pages space.old) root (S.is_whole space.old)) (S.refused space.old) (S.refused space.new)) }
+    ensures rising { S.refused space.old ≤ S.refused space.new }
+    ensures follows { S.follows space.old space.new }
+{
+    match add_table(space, alloc, root, table) {
+        Ok(top) => Ok(top),
+        Err(error) => Err(of_change(error)),
+    }
+}
+
+/// Puts a table whose name is free into the schema, and answers its root. Where what it
+/// references is not there, that counts as want of memory.
 fn add_new<S: PageSpace>(
     space: &mut S,
     alloc: Global,
@@ -35,9 +61,15 @@ fn add_new<S: PageSpace>(
     ensures rising { S.refused space.old ≤ S.refused space.new }
     ensures follows { S.follows space.old space.new }
 {
-    match add_table(space, alloc, root, table) {
-        Ok(top) => Ok(top),
-        Err(error) => Err(of_change(error)),
+    match are_references_in(space, alloc, root, table) {
+        Ok(are) => {
+            if are {
+                add_fitting(space, alloc, root, table)
+            } else {
+                Err(DatabaseError::Space(SpaceError::Memory))
+            }
+        }
+        Err(fault) => Err(DatabaseError::Space(fault)),
     }
 }
 
@@ -46,7 +78,8 @@ fn add_new<S: PageSpace>(
 ///
 /// Refused for want of memory, where the device refuses a call, at the limits of pages, as damaged
 /// only where no database is held there or the list of free pages is none, and where a record of
-/// the schema is too long. After a refusal nothing is said of the pages but what every call of the
+/// the schema is too long. That a foreign key references a table or columns that are not there
+/// counts as want of memory. After a refusal nothing is said of the pages but what every call of the
 /// space keeps.
 pub fn create_table<S: PageSpace>(
     space: &mut S,

@@ -1,10 +1,11 @@
 //! A table taken away, with all of its trees.
-ghost use Rattle.std.specs.Prelude.{◌≡◌, ◌≤◌, List, IfOk, IfErr, OnOk, Bool, false};
+ghost use Rattle.std.specs.Prelude.{◌≡◌, ◌≤◌, ◌∷◌, ◌++◌, List, IfOk, IfErr, OnOk, Bool, false};
 ghost use Rattle.store.specs.Contents as stored;
 ghost use Rattle.page_space.specs.Space.{ChangeRefused};
 ghost use Rattle.btree_remove.specs.Dropped.{AreDropped};
+ghost use Rattle.catalog_records.specs.References.{is_referenced};
 ghost use Rattle.database_trees.specs.Trees.{pages_of};
-ghost use Rattle.database_trees.specs.Held.{TableAt, HoldsDatabase, contents_of, trees_of_indexes, table_trees, IsAllOwned};
+ghost use Rattle.database_trees.specs.Held.{TableAt, HoldsDatabase, declared_of, contents_of, trees_of_indexes, table_trees, IsAllOwned};
 ghost use Rattle.database_trees.specs.Changed.{DatabaseWritten, HoldsNoDatabaseIn, SpaceRefused, ReachesNone, DatabaseOwned};
 ghost use Rattle.database_trees.specs.Exchanged.{IsTableOf};
 ghost use Rattle.database_trees.specs.Dropped.{AreIndexes, AreTreesOf, TableGone, AreFreed};
@@ -12,6 +13,7 @@ ghost use Rattle.database_trees.specs.Dropped.{AreIndexes, AreTreesOf, TableGone
 use crate::DatabaseError;
 use crate::error::of_change;
 use btree_remove::drop_tree;
+use catalog::is_referenced_in;
 use items::{Items, Text};
 use page_space::{PageSpace, SpaceError};
 use sqlval::{Index, Table};
@@ -54,7 +56,36 @@ fn drop_trees<S: PageSpace>(space: &mut S, alloc: Global, table: &Table) -> Resu
     }
 }
 
+/// Takes a table that no other one references out of the schema, gives its trees back, and answers
+/// the schema's root.
+fn drop_free<S: PageSpace>(
+    space: &mut S,
+    alloc: Global,
+    root: u32,
+    table: &Table,
+) -> Result<u32, DatabaseError>
+    ensures dropped { (alone : Bool) (h : IsTableOf alone (S.pages space.old) root table.now)
+        → is_referenced table.now.name (declared_of h.before ++ table.now ∷ declared_of h.behind) ≡ false
+        → IfOk result (TableGone alone (S.pages space.new) h.before h.at h.behind) }
+    ensures limits { IfErr result ReachesNone }
+    ensures whole { OnOk result (S.is_whole space.old → S.is_whole space.new) }
+    ensures refusal { IfErr result (SpaceRefused (S.at_limit space.new) ((h : IsTableOf false (S.pages space.old) root table.now)
+        → is_referenced table.now.name (declared_of h.before ++ table.now ∷ declared_of h.behind) ≡ false
+        → S.is_whole space.old → ⊥) (S.refused space.old) (S.refused space.new)) }
+    ensures rising { S.refused space.old ≤ S.refused space.new }
+    ensures follows { S.follows space.old space.new }
+{
+    match catalog::drop_table(space, alloc, root, table) {
+        Ok(top) => match drop_trees(space, alloc, table) {
+            Ok(()) => Ok(top),
+            Err(fault) => Err(DatabaseError::Space(fault)),
+        },
+        Err(error) => Err(of_change(error)),
+    }
+}
+
 /// Takes a table out of the schema, gives its trees back, and answers the schema's root.
+/// Where another one references it, that counts as want of memory.
 fn drop_found<S: PageSpace>(
     space: &mut S,
     alloc: Global,
@@ -70,12 +101,15 @@ fn drop_found<S: PageSpace>(
     ensures rising { S.refused space.old ≤ S.refused space.new }
     ensures follows { S.follows space.old space.new }
 {
-    match catalog::drop_table(space, alloc, root, table) {
-        Ok(top) => match drop_trees(space, alloc, table) {
-            Ok(()) => Ok(top),
-            Err(fault) => Err(DatabaseError::Space(fault)),
-        },
-        Err(error) => Err(of_change(error)),
+    match is_referenced_in(space, alloc, root, &table.name) {
+        Ok(referenced) => {
+            if referenced {
+                Err(DatabaseError::Space(SpaceError::Memory))
+            } else {
+                drop_free(space, alloc, root, table)
+            }
+        }
+        Err(fault) => Err(DatabaseError::Space(fault)),
     }
 }
 
@@ -84,8 +118,9 @@ fn drop_found<S: PageSpace>(
 ///
 /// Refused for want of memory, where the device refuses a call, at the limits of pages, as damaged
 /// only where no database is held there or the list of free pages is none, and where a record of
-/// the schema is too long. After a refusal nothing is said of the pages but what every call of the
-/// space keeps.
+/// the schema is too long. That a foreign key of another table references this one counts as
+/// want of memory. After a refusal nothing is said of the pages but what every call of the space
+/// keeps.
 pub fn drop_table<S: PageSpace>(
     space: &mut S,
     alloc: Global,

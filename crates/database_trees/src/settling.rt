@@ -80,7 +80,8 @@ fn table_with(table: Table, rows: u32, roots: &Items<u32>) -> Table
     }
 }
 
-/// Puts a table in place of one of its name in the schema, and answers the root.
+/// Puts a table in place of one of its name, columns and constraints in the schema, and answers the
+/// root.
 pub(crate) fn put_table<S: PageSpace>(
     space: &mut S,
     alloc: Global,
@@ -89,7 +90,8 @@ pub(crate) fn put_table<S: PageSpace>(
     changed: &Table,
 ) -> Result<u32, DatabaseError>
     ensures put { (alone : Bool) (h : HasTable alone (S.pages space.old) root table.now) → IsTable changed.now
-        → changed.now.name ≡ table.now.name
+        → changed.now.name ≡ table.now.name → changed.now.columns ≡ table.now.columns
+        → changed.now.constraints ≡ table.now.constraints
         → IfOk result (TablePut alone (S.pages space.new) h.front changed.now h.back h.others) }
     ensures limits { IfErr result ReachesNone }
     ensures whole { OnOk result (S.is_whole space.old → S.is_whole space.new) }

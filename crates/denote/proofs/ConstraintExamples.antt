@@ -1,6 +1,6 @@
 -- Worked changes of rows under several constraints and limits: a statement, a table, and what
 -- becomes of it.
-use Rattle.std.proofs.Common.{◌≡◌, refl, sym, subst, arith, ℕ, List, [], ◌∷◌, Option, Some, None, replicate}
+use Rattle.std.proofs.Common.{◌≡◌, refl, ℕ, List, [], ◌∷◌, Option, Some, None, replicate}
 use Rattle.std.specs.FinMap.{insert}
 use Rattle.sqlval.specs.declared.value.Value.{Value}
 use Rattle.sqlval.specs.declared.value.Value.TheVariants.{Null, Text}
@@ -12,10 +12,10 @@ use Rattle.typing.specs.declared.typed.Expression.TheVariants as e
 use Rattle.typing.specs.declared.statement.Assignment.{Assignment}
 use Rattle.typing.specs.declared.statement.InsertSource.TheVariants.{Values}
 use Rattle.denote.specs.declared.fault.Fault.TheVariants.{TextTooLong, DivisionByZero, OutOfRange, Record, Key}
-use Rattle.denote.specs.Database.{Database, Table, CheckReading}
-use Rattle.denote.specs.Change.{Changed, Makes, Raises, Violates, insert_into, update_in, IsAccepted, IsNamed}
+use Rattle.denote.specs.Database.{Database, Table, CheckReading, violated_by}
+use Rattle.denote.specs.Change.{Changed, Raises, insert_into, update_in}
 use Rattle.denote.proofs.Nodes.{meanings}
-use Rattle.denote.proofs.ExampleTrees.{number, minus_one, greatest, literal, at, plus, divided, exceeds, t, table, two_integers, numbered, lettered, no_check}
+use Rattle.denote.proofs.ExampleTrees.{number, minus_one, greatest, literal, at, plus, divided, exceeds, t, table, two_integers, numbered, lettered, no_check, makes}
 
 abbrev null : Expression
 null = e.Constant Null
@@ -62,29 +62,36 @@ into_three_kinds db rows = insert_of second_is_positive db (0 ∷ 1 ∷ 2 ∷ []
 abbrev null_and_minus_one : Database → Changed
 null_and_minus_one db = into_three_kinds db ((null ∷ e.Constant minus_one ∷ text (97 ∷ 98 ∷ []) ∷ []) ∷ [])
 
-pub both_constraints_are_named : (db : Database) → null_and_minus_one db ≡ Violates (first ∷ p ∷ [])
-both_constraints_are_named db = simp meanings
+-- T with these rows
+abbrev three_kinds : List Row → Table
+three_kinds rows = table (Integer ∷ Integer ∷ Varchar 2 ∷ []) (numbered 1 (NotNull 0) ∷ lettered 80 (Check []) ∷ numbered 3 (Unique (0 ∷ [])) ∷ []) rows
 
--- so either name may be shown
-pub either_name_refuses : (db : Database) → IsNamed (null_and_minus_one db) first × IsNamed (null_and_minus_one db) p
-either_name_refuses db =
-    (subst (λ made. IsNamed made first) (sym (both_constraints_are_named db)) (0, omega arith, refl), subst (λ made. IsNamed made p) (sym (both_constraints_are_named db)) (1, omega arith, refl))
+abbrev of_null_and_minus_one : Table
+of_null_and_minus_one = three_kinds ((Null ∷ minus_one ∷ Text (97 ∷ 98 ∷ []) ∷ []) ∷ [])
 
--- and it is not accepted
-pub what_violates_is_not_accepted : (db new : Database) (count : Option ℕ) → IsAccepted (null_and_minus_one db) new count → ⊥
-what_violates_is_not_accepted db new count = subst (λ made. IsAccepted made new count → ⊥) (sym (both_constraints_are_named db)) (λ accepted. accepted)
+pub null_and_minus_one_come : (db : Database) → null_and_minus_one db ≡ makes second_is_positive db of_null_and_minus_one 1
+null_and_minus_one_come db = simp meanings
+
+pub both_constraints_are_named : violated_by second_is_positive t of_null_and_minus_one ≡ first ∷ p ∷ []
+both_constraints_are_named = simp meanings
 
 -- INSERT INTO T VALUES (NULL, -1, 'abc')
 pub storing_comes_before_constraints : (db : Database) →
     into_three_kinds db ((null ∷ e.Constant minus_one ∷ text (97 ∷ 98 ∷ 99 ∷ []) ∷ []) ∷ []) ≡ Raises (TextTooLong ∷ [])
 storing_comes_before_constraints db = simp meanings
 
+abbrev of_three : Table
+of_three = three_kinds ((number 1 ∷ number 1 ∷ Text (97 ∷ []) ∷ []) ∷ (number 1 ∷ number 1 ∷ Text (98 ∷ []) ∷ []) ∷ (Null ∷ number 2 ∷ Text (99 ∷ []) ∷ []) ∷ [])
+
 -- INSERT INTO T VALUES (1, 1, 'a'), (1, 1, 'b'), (NULL, 2, 'c')
 pub constraints_of_all_rows : (db : Database) →
     into_three_kinds db
     ((literal 1 ∷ literal 1 ∷ text (97 ∷ []) ∷ []) ∷ (literal 1 ∷ literal 1 ∷ text (98 ∷ []) ∷ []) ∷ (null ∷ literal 2 ∷ text (99 ∷ []) ∷ []) ∷ [])
-    ≡ Violates (first ∷ third ∷ [])
+    ≡ makes second_is_positive db of_three 3
 constraints_of_all_rows db = simp meanings
+
+pub both_of_all_rows_are_named : violated_by second_is_positive t of_three ≡ first ∷ third ∷ []
+both_of_all_rows_are_named = simp meanings
 
 -- INSERT INTO T VALUES (1 / 0, 9223372036854775807 + 1, 'abc')
 pub faults_of_all_sources : (db : Database) →
@@ -114,16 +121,19 @@ abbrev into_empty : Database → List (List Expression) → Changed
 into_empty db rows = insert_of quotient_exceeds_one db (0 ∷ 1 ∷ []) rows (with_check [])
 
 -- INSERT INTO T VALUES (NULL, 0)
-pub an_unknown_check_is_no_violation : (db : Database) → into_empty db ((null ∷ literal 0 ∷ []) ∷ []) ≡ Makes (insert db t (with_check (pair Null (number 0) ∷ []))) (Some 1)
+pub an_unknown_check_is_no_violation : (db : Database) → into_empty db ((null ∷ literal 0 ∷ []) ∷ []) ≡ makes quotient_exceeds_one db (with_check (pair Null (number 0) ∷ [])) 1
 an_unknown_check_is_no_violation db = simp meanings
 
 -- INSERT INTO T VALUES (4, 2)
-pub a_true_check_is_no_violation : (db : Database) → into_empty db ((literal 4 ∷ literal 2 ∷ []) ∷ []) ≡ Makes (insert db t (with_check (pair (number 4) (number 2) ∷ []))) (Some 1)
+pub a_true_check_is_no_violation : (db : Database) → into_empty db ((literal 4 ∷ literal 2 ∷ []) ∷ []) ≡ makes quotient_exceeds_one db (with_check (pair (number 4) (number 2) ∷ [])) 1
 a_true_check_is_no_violation db = simp meanings
 
 -- INSERT INTO T VALUES (1, 1)
-pub a_false_check_is_a_violation : (db : Database) → into_empty db ((literal 1 ∷ literal 1 ∷ []) ∷ []) ≡ Violates (first ∷ [])
+pub a_false_check_is_a_violation : (db : Database) → into_empty db ((literal 1 ∷ literal 1 ∷ []) ∷ []) ≡ makes quotient_exceeds_one db (with_check (pair (number 1) (number 1) ∷ [])) 1
 a_false_check_is_a_violation db = simp meanings
+
+pub a_false_check_is_a_violation_named : violated_by quotient_exceeds_one t (with_check (pair (number 1) (number 1) ∷ [])) ≡ first ∷ []
+a_false_check_is_a_violation_named = simp meanings
 
 -- INSERT INTO T VALUES (1, 0)
 pub a_check_faults : (db : Database) → into_empty db ((literal 1 ∷ literal 0 ∷ []) ∷ []) ≡ Raises (DivisionByZero ∷ [])
@@ -147,12 +157,15 @@ an_update_meets_a_faulting_check db = simp meanings
 
 -- UPDATE T SET B = 1
 pub an_update_that_checks_allow : (db : Database) →
-    update_of_two db (assign 1 (literal 1) ∷ []) ≡ Makes (insert db t (with_check (pair Null (number 1) ∷ pair (number 4) (number 1) ∷ []))) (Some 2)
+    update_of_two db (assign 1 (literal 1) ∷ []) ≡ makes quotient_exceeds_one db (with_check (pair Null (number 1) ∷ pair (number 4) (number 1) ∷ [])) 2
 an_update_that_checks_allow db = simp meanings
 
 -- UPDATE T SET A = 1, B = 1
-pub an_update_meets_a_false_check : (db : Database) → update_of_two db (assign 0 (literal 1) ∷ assign 1 (literal 1) ∷ []) ≡ Violates (first ∷ [])
+pub an_update_meets_a_false_check : (db : Database) → update_of_two db (assign 0 (literal 1) ∷ assign 1 (literal 1) ∷ []) ≡ makes quotient_exceeds_one db (with_check (pair (number 1) (number 1) ∷ pair (number 1) (number 1) ∷ [])) 2
 an_update_meets_a_false_check db = simp meanings
+
+pub an_update_meets_a_false_check_named : violated_by quotient_exceeds_one t (with_check (pair (number 1) (number 1) ∷ pair (number 1) (number 1) ∷ [])) ≡ first ∷ []
+an_update_meets_a_false_check_named = simp meanings
 
 -- ---- T (A, B, C, UNIQUE (A, B), UNIQUE (C))
 
@@ -166,7 +179,7 @@ three_with_nulls = (number 1 ∷ Null ∷ number 1 ∷ []) ∷ (number 1 ∷ Nul
 -- INSERT INTO T VALUES (1, NULL, 1), (1, NULL, NULL), (NULL, NULL, NULL)
 pub unique_wants_no_null : (db : Database) →
     insert_of no_check db (0 ∷ 1 ∷ 2 ∷ []) ((literal 1 ∷ null ∷ literal 1 ∷ []) ∷ (literal 1 ∷ null ∷ null ∷ []) ∷ (null ∷ null ∷ null ∷ []) ∷ []) (with_uniques [])
-    ≡ Makes (insert db t (with_uniques three_with_nulls)) (Some 3)
+    ≡ makes no_check db (with_uniques three_with_nulls) 3
 unique_wants_no_null db = simp meanings
 
 -- T has these three rows: UPDATE T SET assignments
@@ -174,17 +187,23 @@ abbrev update_of_nulls : Database → List Assignment → Changed
 update_of_nulls db assignments = update_of no_check db assignments (with_uniques three_with_nulls)
 
 -- UPDATE T SET B = 5
-pub one_unique_is_violated : (db : Database) → update_of_nulls db (assign 1 (literal 5) ∷ []) ≡ Violates (first ∷ [])
+pub one_unique_is_violated : (db : Database) → update_of_nulls db (assign 1 (literal 5) ∷ []) ≡ makes no_check db (with_uniques ((number 1 ∷ number 5 ∷ number 1 ∷ []) ∷ (number 1 ∷ number 5 ∷ Null ∷ []) ∷ (Null ∷ number 5 ∷ Null ∷ []) ∷ [])) 3
 one_unique_is_violated db = simp meanings
 
+pub one_unique_is_violated_named : violated_by no_check t (with_uniques ((number 1 ∷ number 5 ∷ number 1 ∷ []) ∷ (number 1 ∷ number 5 ∷ Null ∷ []) ∷ (Null ∷ number 5 ∷ Null ∷ []) ∷ [])) ≡ first ∷ []
+one_unique_is_violated_named = refl
+
 -- UPDATE T SET B = 5, C = 1
-pub both_uniques_are_violated : (db : Database) → update_of_nulls db (assign 1 (literal 5) ∷ assign 2 (literal 1) ∷ []) ≡ Violates (first ∷ second ∷ [])
+pub both_uniques_are_violated : (db : Database) → update_of_nulls db (assign 1 (literal 5) ∷ assign 2 (literal 1) ∷ []) ≡ makes no_check db (with_uniques ((number 1 ∷ number 5 ∷ number 1 ∷ []) ∷ (number 1 ∷ number 5 ∷ number 1 ∷ []) ∷ (Null ∷ number 5 ∷ number 1 ∷ []) ∷ [])) 3
 both_uniques_are_violated db = simp meanings
+
+pub both_uniques_are_violated_named : violated_by no_check t (with_uniques ((number 1 ∷ number 5 ∷ number 1 ∷ []) ∷ (number 1 ∷ number 5 ∷ number 1 ∷ []) ∷ (Null ∷ number 5 ∷ number 1 ∷ []) ∷ [])) ≡ first ∷ second ∷ []
+both_uniques_are_violated_named = refl
 
 -- UPDATE T SET A = NULL, B = 5
 pub a_null_in_each_is_no_violation : (db : Database) →
     update_of_nulls db (assign 0 null ∷ assign 1 (literal 5) ∷ [])
-    ≡ Makes (insert db t (with_uniques ((Null ∷ number 5 ∷ number 1 ∷ []) ∷ (Null ∷ number 5 ∷ Null ∷ []) ∷ (Null ∷ number 5 ∷ Null ∷ []) ∷ []))) (Some 3)
+    ≡ makes no_check db (with_uniques ((Null ∷ number 5 ∷ number 1 ∷ []) ∷ (Null ∷ number 5 ∷ Null ∷ []) ∷ (Null ∷ number 5 ∷ Null ∷ []) ∷ [])) 3
 a_null_in_each_is_no_violation db = simp meanings
 
 -- ---- limits
@@ -204,7 +223,7 @@ into_four_texts db last stored =
 
 -- the last of 223: 1,000 bytes, of which 3 a text are not its characters
 pub a_row_of_1000_bytes : (db : Database) →
-    into_four_texts db 223 (four_texts []) ≡ Makes (insert db t (four_texts ((Text (letters 255) ∷ Text (letters 255) ∷ Text (letters 255) ∷ Text (letters 223) ∷ []) ∷ []))) (Some 1)
+    into_four_texts db 223 (four_texts []) ≡ makes no_check db (four_texts ((Text (letters 255) ∷ Text (letters 255) ∷ Text (letters 255) ∷ Text (letters 223) ∷ []) ∷ [])) 1
 a_row_of_1000_bytes db = simp meanings
 
 -- the last of 224

@@ -26,7 +26,7 @@ use Rattle.denote.specs.declared.fault.Fault.{Fault}
 use Rattle.denote.specs.Evaluation.{Evaluation, ◌>>=◌, adding, unless, together}
 use Rattle.denote.specs.StoredRow.{key_faults, row_with, admitted, inserted_row}
 use Rattle.denote.specs.Meaning.{Tables, value_of, truth_at, query_outcome}
-use Rattle.denote.specs.Database.{Name, IndexDeclaration, Table, Database, rows_in, CheckReading, checks_of, violated_by, IsSameDatabase}
+use Rattle.denote.specs.Database.{Name, IndexDeclaration, Table, Database, rows_in, CheckReading, checks_of, violated_in, IsSameDatabase}
 
 -- ---- INSERT, UPDATE and DELETE: the rows that they give
 
@@ -69,15 +69,15 @@ pub data Changed : Type 0 where
   Raises : (faults : List Fault) → Changed
   Violates : (names : List Name) → Changed
 
--- the database that would be, if the table's new rows violate no constraint
+-- the database that would be, if it violates no constraint
 abbrev pub unless_violated : List Name → Database → ℕ → Changed
 unless_violated [] db count = Makes db (Some count)
 unless_violated (name ∷ names) db count = Violates (name ∷ names)
 
 abbrev pub with_rows : CheckReading → Database → Name → Table → List Row → ℕ → Changed
 with_rows reading db name table rows count =
-    let new : Table = record table { rows = rows } in
-    unless_violated (violated_by reading name new) (insert db name new) count
+    let new : Database = insert db name (record table { rows = rows }) in
+    unless_violated (violated_in reading new) new count
 
 -- what is made of the rows that a statement gives, if none faults
 abbrev pub unless_raised : {A : Type 0} → Evaluation A → (A → Changed) → Changed
@@ -126,7 +126,7 @@ on_table db None change = Makes db (Some 0)
 on_table db (Some table) change = change table
 
 -- What the rules of names exclude is never met: a CREATE TABLE of a name that stands, a DROP of one
--- that does not.
+-- that does not, a DROP TABLE of a table that another one references.
 abbrev pub changed : CheckReading → Database → Change → Changed
 changed reading db (does.CreateTable c) = Makes (insert db c.name (created c)) None
 changed reading db (does.DropTable name) = Makes (remove db name) None

@@ -1,10 +1,12 @@
--- Tables and databases, and when they are good (ISO/IEC 9075:1992, 4.8 to 4.10, 11.3 to 11.9).
-use Rattle.std.specs.Prelude.{ℕ, ◌≡◌, Bool, true, false, ◌||◌, nat_lt, List, [], ◌∷◌, length, filter, map, flat_map, Option, Some, None, Ok, Err}
-use Rattle.std.specs.List.{All, list_any, list_all, filter_map}
+-- Tables and databases, and when they are good (ISO/IEC 9075:1992, 4.8 to 4.10, 11.3 to 11.9; 11.8
+-- with no match type and no action).
+use Rattle.std.specs.Prelude.{ℕ, ◌≡◌, Bool, true, false, not, ◌||◌, nat_lt, List, [], ◌∷◌, ◌++◌, length, filter, map, flat_map, Option, Some, None, Ok, Err}
+use Rattle.std.specs.List.{All, AllByRecursion, list_any, list_all, filter_map}
 use Rattle.std.specs.Cmp.Lexicographic.{pointwise}
-use Rattle.std.specs.FinMap.{FinMap, get}
+use Rattle.std.specs.FinMap.{FinMap, get, keys}
 use Rattle.sqlval.specs.declared.schema.Column.{Column}
 use Rattle.sqlval.specs.declared.schema.Constraint.{Constraint}
+use Rattle.sqlval.specs.declared.schema.Reference.{Reference}
 use Rattle.sqlval.specs.declared.schema.Rule.{Rule}
 use Rattle.sqlval.specs.declared.schema.Rule.TheVariants.{NotNull, PrimaryKey, Unique, Check, ForeignKey}
 use Rattle.sqlval.specs.declared.schema.Table as schema
@@ -93,8 +95,8 @@ has_twins columns [] = false
 has_twins columns (row ∷ rows) = list_any (matches columns (key_of columns row)) rows || has_twins columns rows
 
 -- Whether a table violates a rule by its own rows. A CHECK is violated only where it is false
--- (4.10.2). PRIMARY KEY is UNIQUE and NOT NULL in one: our own choice. A foreign key, which no text
--- declares yet, asks for the rows of a table: no table violates it by itself.
+-- (4.10.2). PRIMARY KEY is UNIQUE and NOT NULL in one: our own choice. A foreign key asks for the
+-- rows of a table, so no table violates it by itself: below.
 abbrev pub is_violated : CheckReading → Name → Table → Rule → Bool
 is_violated reading name table (NotNull column) = has_null (column ∷ []) table.rows
 is_violated reading name table (PrimaryKey columns) = has_null columns table.rows || has_twins columns table.rows
@@ -105,6 +107,42 @@ is_violated reading name table (ForeignKey reference) = false
 -- the names of the constraints that a table violates by its own rows
 abbrev pub violated_by : CheckReading → Name → Table → List Name
 violated_by reading name table = map (λ c. c.name) (filter (λ c. is_violated reading name table c.rule) table.constraints)
+
+-- ---- foreign keys
+
+-- whether a row satisfies a foreign key, where these are the rows of the table that it references:
+-- one of its columns is null, or some row has equal ones (11.8, 8.10 without MATCH)
+abbrev pub is_matched : Reference → List Row → Row → Bool
+is_matched reference others row = list_any is_null (key_of reference.columns row) || list_any (matches reference.referenced (key_of reference.columns row)) others
+
+-- whether some row does not
+abbrev pub has_unmatched : Reference → List Row → List Row → Bool
+has_unmatched reference others rows = list_any (λ row. not (is_matched reference others row)) rows
+
+-- whether rows of a table violate a rule that is a foreign key, where these are the rows of every
+-- table
+abbrev pub is_unmatched : (Name → List Row) → List Row → Rule → Bool
+is_unmatched tables rows (NotNull column) = false
+is_unmatched tables rows (PrimaryKey columns) = false
+is_unmatched tables rows (Unique columns) = false
+is_unmatched tables rows (Check text) = false
+is_unmatched tables rows (ForeignKey reference) = has_unmatched reference (tables reference.table) rows
+
+-- the names of the foreign keys that these constraints of a table have and these of its rows
+-- violate
+abbrev pub unmatched_by : (Name → List Row) → List Constraint → List Row → List Name
+unmatched_by tables constraints rows = map (λ c. c.name) (filter (λ c. is_unmatched tables rows c.rule) constraints)
+
+-- ---- what a database violates
+
+-- the names of the constraints that the table of a name violates, if there is one
+abbrev pub violated_at : CheckReading → Database → Name → Option Table → List Name
+violated_at reading db name None = []
+violated_at reading db name (Some table) = violated_by reading name table ++ unmatched_by (rows_in db) table.constraints table.rows
+
+-- the names of all constraints that a database violates, of whatever table they are
+abbrev pub violated_in : CheckReading → Database → List Name
+violated_in reading db = flat_map (λ name. violated_at reading db name (get db name)) (keys db)
 
 -- ---- good databases
 
@@ -147,16 +185,43 @@ pub record NamesItsColumns (table : Table) : Type 0 where
   pub in_constraints : are_places (length table.columns) (constraint_columns table.constraints) ≡ true
   pub in_indexes : are_places (length table.columns) (index_columns table.indexes) ≡ true
 
--- The rows fit the columns and violate nothing, the table's CHECKs can be read, and what its
--- constraints and indexes name are its columns.
+-- The rows fit the columns and violate nothing by themselves, the table's CHECKs can be read, and
+-- what its constraints and indexes name are its columns.
 pub record IsGoodTable (reading : CheckReading) (name : Name) (table : Table) : Type 0 where
   pub fitting : list_all (fits_columns table.columns) table.rows ≡ true
   pub unviolated : violated_by reading name table ≡ []
   pub readable : AreReadable name table.columns table.constraints
   pub named : NamesItsColumns table
 
+-- A foreign key references columns of a table that there is, as many as it has itself. That they
+-- are a key of that table is asked where it is declared, and no part of this.
+pub record HasReferenced (db : Database) (reference : Reference) : Type 0 where
+  pub table : Table
+  pub there : get db reference.table ≡ Some table
+  pub places : are_places (length table.columns) reference.referenced ≡ true
+  pub count : length reference.referenced ≡ length reference.columns
+
+-- what a rule references, if it is a foreign key, is there
+abbrev pub IsReferenceIn : Database → Rule → Type 0
+IsReferenceIn db (NotNull column) = Unit {0}
+IsReferenceIn db (PrimaryKey columns) = Unit {0}
+IsReferenceIn db (Unique columns) = Unit {0}
+IsReferenceIn db (Check text) = Unit {0}
+IsReferenceIn db (ForeignKey reference) = HasReferenced db reference
+
+-- what the foreign keys among these constraints reference is there
+abbrev pub AreReferencesIn : Database → List Constraint → Type 0
+AreReferencesIn db constraints = AllByRecursion (λ c. IsReferenceIn db c.rule) constraints
+
+-- A table of a database: it is good by itself, its foreign keys reference what is there, and its
+-- rows satisfy them.
+pub record IsGoodIn (reading : CheckReading) (db : Database) (name : Name) (table : Table) : Type 0 where
+  pub alone : IsGoodTable reading name table
+  pub referenced : AreReferencesIn db table.constraints
+  pub matched : unmatched_by (rows_in db) table.constraints table.rows ≡ []
+
 abbrev pub IsGood : CheckReading → Database → Type 0
-IsGood reading db = (name : Name) (table : Table) → get db name ≡ Some table → IsGoodTable reading name table
+IsGood reading db = (name : Name) (table : Table) → get db name ≡ Some table → IsGoodIn reading db name table
 
 -- ---- databases that are the same up to the order of rows
 

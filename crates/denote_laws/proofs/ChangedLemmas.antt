@@ -1,6 +1,6 @@
 -- Changes of databases that are the same up to the order of rows.
-use Rattle.std.proofs.Common.{◌≡◌, refl, ap, subst, ℕ, zero, suc, ◌==◌, Bool, true, false, cond, not, List, [], ◌∷◌, ◌++◌, map, length, Option, Some, None, Result, Ok, Err}
-use Rattle.std.specs.Prelude.{filter, flat_map, count_by, slice_get, position, option_and_then}
+use Rattle.std.proofs.Common.{◌≡◌, refl, ap, sym, ◌∙◌, subst, ℕ, zero, suc, ◌==◌, Bool, true, false, cond, not, List, [], ◌∷◌, ◌++◌, map, length, Option, Some, None, Result, Ok, Err}
+use Rattle.std.specs.Prelude.{Contains, filter, flat_map, count_by, slice_get, position, option_and_then}
 use Rattle.std.specs.Option.{option_map}
 use Rattle.std.specs.List.{enumerate_from}
 use Rattle.std.specs.FinMap.{get, insert, remove, entries, from_entries}
@@ -31,7 +31,7 @@ use Rattle.denote.specs.Meaning.{Tables, value_of, truth_at, query_outcome}
 use Rattle.denote.specs.Answer.{Answers}
 use Rattle.denote.specs.Query.{denotes}
 use Rattle.typing.specs.declared.typed.OrderedQuery.{OrderedQuery}
-use Rattle.denote.specs.Database.{Name, IndexDeclaration, Table, Database, rows_of, rows_in, CheckReading, checks_of, violated_by, IsSameTable, AreSame, IsSameDatabase}
+use Rattle.denote.specs.Database.{Name, IndexDeclaration, Table, Database, rows_of, rows_in, CheckReading, checks_of, violated_by, unmatched_by, violated_at, violated_in, IsSameTable, AreSame, IsSameDatabase}
 use Rattle.denote.specs.Change.{inserted_rows, is_touched, assigned, updated_if, updated_rows, deleted_rows, Changed, Makes, Raises, Violates, unless_violated, with_rows, unless_raised, insert_into, update_in, delete_from, created, index_on, without_index, on_table, changed, IsAccepted, IsRaised, IsNamed}
 use Rattle.operator_laws.proofs.Permuting.{Permutes-refl, Permutes-sym, Permutes-map, Permutes-flat_map, Permutes-append, HasSame-permutes}
 use Rattle.operator_laws.specs.Same.{IsAlikeBy, IsSameValue, IsSameBag, Each, IfBoth}
@@ -39,7 +39,8 @@ use Rattle.denote_laws.specs.Changed.{AreSameTables, IsSameChange, after}
 use Rattle.denote_laws.proofs.Maps.{is_name, found-insert, found-remove, found-mapped}
 use Rattle.operator_laws.proofs.Orders.{length-permutes, count_by-permutes, Permutes-filter}
 use Rattle.operator_laws.proofs.Same.{HasSame-some, IsSameValue-refl, next-same, then-same, unless-alike, adding-alike, together-same, together-rows, Each-maps}
-use Rattle.denote_laws.proofs.Tables.{violated_by-same}
+use Rattle.denote_laws.proofs.Tables.{violated_by-same, unmatched_by-same}
+use Rattle.denote_laws.proofs.Violated.{violated-at, violated-in}
 use Rattle.denote_laws.proofs.Trees.{values-same, truths-same, queries-same}
 
 -- ---- rows that are stored
@@ -187,25 +188,55 @@ rows_of-same (Some t) (Some u) h = h.rows
 pub tables-same : (db new : Database) → IsSameDatabase db new → AreSameTables (rows_in db) (rows_in new)
 tables-same db new k = λ name. rows_of-same (get db name) (get new name) (k name)
 
+-- ---- what databases violate
+
+AreSame-sym : (o p : Option Table) → AreSame o p → AreSame p o
+AreSame-sym None None h = tt
+AreSame-sym None (Some u) h = h
+AreSame-sym (Some t) None h = h
+AreSame-sym (Some t) (Some u) h =
+    record { columns = sym h.columns; constraints = sym h.constraints; indexes = sym h.indexes; rows = Permutes-sym t.rows u.rows h.rows }
+
+violated_at-same : (reading : CheckReading) (db new : Database) (name : Name) (t u : Table) → IsSameDatabase db new → IsSameTable t u
+    → violated_at reading db name (Some t) ≡ violated_at reading new name (Some u)
+violated_at-same reading db new name t u k h =
+    ap (λ xs. xs ++ unmatched_by (rows_in db) t.constraints t.rows) (violated_by-same reading name t u h.columns h.constraints h.rows)
+    ∙ ap (λ xs. violated_by reading name u ++ xs)
+    (unmatched_by-same (rows_in db) (rows_in new) t.constraints t.rows u.rows (tables-same db new k) h.rows ∙ ap (λ cs. unmatched_by (rows_in new) cs u.rows) h.constraints)
+
+violated_in-within : (reading : CheckReading) (db new : Database) (constraint : Name) → IsSameDatabase db new → Contains (violated_in reading db) constraint → Contains (violated_in reading new) constraint
+violated_in-within reading db new constraint k h =
+    let one = violated-in reading db constraint h in
+    let name = one.0 in
+    at name one.1.0 one.1.2 (get new name) refl (subst (λ (o : Option Table). AreSame o (get new name)) one.1.1 (k name))
+  where
+    at : (name : Name) (t : Table) → Contains (violated_at reading db name (Some t)) constraint → (found : Option Table) → get new name ≡ found → AreSame (Some t) found
+        → Contains (violated_in reading new) constraint
+    at name t here None is same = absurd same
+    at name t here (Some u) is same = violated-at reading new name u constraint is (subst (λ xs. Contains xs constraint) (violated_at-same reading db new name t u k same) here)
+
+pub violated_in-same : (reading : CheckReading) (db new : Database) → IsSameDatabase db new → HasSame (violated_in reading db) (violated_in reading new)
+violated_in-same reading db new k = λ constraint.
+    (violated_in-within reading db new constraint k, violated_in-within reading new db constraint (λ name. AreSame-sym (get db name) (get new name) (k name)))
+
 -- ---- changes
 
 module _ (reading : CheckReading) (db new : Database) (k : IsSameDatabase db new) where
-  unless_violated-same : (names others : List Name) (d e : Database) (m n : ℕ) → names ≡ others → IsSameDatabase d e → m ≡ n
+  unless_violated-same : (names others : List Name) (d e : Database) (m n : ℕ) → HasSame names others → IsSameDatabase d e → m ≡ n
       → IsSameChange (unless_violated names d m) (unless_violated others e n)
   unless_violated-same [] [] d e m n f h is = (h, ap Some is)
-  unless_violated-same [] (other ∷ others) d e m n f h is = absurd (cc)
-  unless_violated-same (name ∷ names) [] d e m n f h is = absurd (cc)
+  unless_violated-same [] (other ∷ others) d e m n f h is = absurd (HasSame-some other others f)
+  unless_violated-same (name ∷ names) [] d e m n f h is = absurd (HasSame-some name names (λ x. ((f x).1, (f x).0)))
   unless_violated-same (name ∷ names) (other ∷ others) d e m n f h is = f
 
   with_rows-same : (name : Name) (table : Table) (old rows others : List Row) (m n : ℕ) → Permutes rows others → m ≡ n
       → IsSameChange (with_rows reading db name table rows m) (with_rows reading new name (record table { rows = old }) others n)
   with_rows-same name table old rows others m n p is =
-      unless_violated-same (violated_by reading name (record table { rows = rows })) (violated_by reading name (record table { rows = others }))
-      (insert db name (record table { rows = rows })) (insert new name (record table { rows = others })) m n
-      (violated_by-same reading name (record table { rows = rows }) (record table { rows = others }) refl refl p)
-      (insert-same db new name (record table { rows = rows }) (record table { rows = others })
-      (record { columns = refl; constraints = refl; indexes = refl; rows = p }) k)
-      is
+      let made : Database = insert db name (record table { rows = rows }) in
+      let other : Database = insert new name (record table { rows = others }) in
+      let same : IsSameDatabase made other = insert-same db new name (record table { rows = rows }) (record table { rows = others })
+      (record { columns = refl; constraints = refl; indexes = refl; rows = p }) k in
+      unless_violated-same (violated_in reading made) (violated_in reading other) made other m n (violated_in-same reading made other same) same is
 
   raised-same : {A B : Type 0} (R : A → B → Type 0) (x : Evaluation A) (y : Evaluation B) (made : A → Changed) (other : B → Changed) → IsAlikeBy R x y
       → ((a : A) (b : B) → R a b → IsSameChange (made a) (other b))

@@ -1,6 +1,8 @@
 -- A change of a good database makes a good one.
-use Rattle.std.proofs.Common.{◌≡◌, refl, ap, sym, ◌∙◌, subst, ℕ, suc, zero, ◌+◌, Bool, true, false, cond, not, ◌&&◌, if◌then◌else◌, List, [], ◌∷◌, ◌++◌, map, length, take, drop, nat_le, Option, Some, None, Ok, Err, arith}
+use Rattle.std.proofs.Common.{◌≡◌, refl, ap, sym, ◌∙◌, subst, ℕ, suc, zero, ◌+◌, Bool, true, false, cond, not, ◌&&◌, ◌||◌, if◌then◌else◌, List, [], ◌∷◌, ◌++◌, map, length, take, drop, nat_le, Option, Some, None, Ok, Err, arith}
 use Rattle.std.specs.Prelude.{filter, flat_map, count_by}
+use Rattle.std.specs.Cmp.{eq_by_cmp_equiv}
+use Rattle.std.specs.Cmp.Lexicographic.{bytes_decides, nat_list_cmp_total}
 use Rattle.std.specs.Option.{option_map}
 use Rattle.std.specs.List.{list_all, enumerate_from}
 use Rattle.std.specs.FinMap.{get, insert, remove, entries, from_entries}
@@ -11,7 +13,11 @@ use Rattle.sqlval.specs.declared.code.Code.TheVariants.{TextTooLong}
 use Rattle.sqlval.specs.declared.schema.Column.{Column}
 use Rattle.sqlval.specs.declared.storing.ColumnType.{ColumnType}
 use Rattle.sqlval.specs.declared.storing.ColumnType.TheVariants.{Integer, Varchar}
-use Rattle.sqlval.specs.Schema.{is_named}
+use Rattle.sqlval.specs.declared.schema.Constraint.{Constraint}
+use Rattle.sqlval.specs.declared.schema.Rule.{Rule}
+use Rattle.sqlval.specs.declared.schema.Rule.TheVariants.{NotNull, PrimaryKey, Unique, Check, ForeignKey}
+use Rattle.sqlval.specs.Schema.{same_name, is_named}
+use Rattle.typing.specs.Known.{is_reference_to, references}
 use Rattle.sqlval.specs.Storing.{stored, fits_column, is_spaces}
 use Rattle.sqlval.specs.Value.{Row}
 use Rattle.typing.specs.declared.statement.Change.{Change}
@@ -29,14 +35,16 @@ use Rattle.denote.specs.Evaluation.{Evaluation, ◌>>=◌, given, unless, adding
 use Rattle.denote.specs.Expression.{cell}
 use Rattle.denote.specs.StoredRow.{given_for, value_for, row_with, row_faults, admitted, inserted_row, key_faults}
 use Rattle.denote.specs.Meaning.{Tables, value_of, query_outcome}
-use Rattle.denote.specs.Database.{Name, IndexDeclaration, Table, Database, rows_in, CheckReading, checks_of, violated_by, fits_columns, index_columns, are_places, IsGoodTable, IsGood}
+use Rattle.denote.specs.Database.{Name, IndexDeclaration, Table, Database, rows_of, rows_in, CheckReading, checks_of, violated_by, is_unmatched, has_unmatched, unmatched_by, violated_in, fits_columns, AreReadable, NamesItsColumns, HasReferenced, IsReferenceIn, AreReferencesIn, index_columns, are_places, IsGoodTable, IsGoodIn, IsGood}
 use Rattle.denote.specs.Change.{inserted_rows, is_touched, assigned, updated_if, updated_rows, deleted_rows, Changed, Makes, Raises, Violates, unless_violated, with_rows, unless_raised, insert_into, update_in, delete_from, created, index_on, without_index, on_table, changed}
+use Rattle.denote.specs.Bag.{Permutes}
 use Rattle.operator_laws.proofs.Permuting.{Permutes-refl}
 use Rattle.operator_laws.specs.Same.{Every}
 use Rattle.denote_laws.proofs.Maps.{is_name, is_name-equal, found-insert, found-remove, found-mapped}
 use Rattle.denote_laws.proofs.Places.{places-filtered, places-owned, places-pushed}
-use Rattle.denote_laws.proofs.Tables.{violated_by-same, nothing-violated}
-use Rattle.denote_laws.specs.Changed.{DeclaresRightly}
+use Rattle.denote_laws.proofs.Tables.{violated_by-same, unmatched_by-same, nothing-violated, nothing-unmatched}
+use Rattle.denote_laws.proofs.Violated.{none_of_both, unviolated-at}
+use Rattle.denote_laws.specs.Changed.{IsRight, IsNotReferenced, DeclaresRightly}
 
 -- ---- evaluations whose values have a property
 
@@ -98,11 +106,11 @@ and-second : (a b : Bool) → (a && b) ≡ true → b ≡ true
 and-second true b e = e
 and-second false b e = absurd (cc)
 
-all-of_every : {A : Type 0} (p : A → Bool) (xs : List A) → Every (λ x. p x ≡ true) xs → list_all p xs ≡ true
+pub all-of_every : {A : Type 0} (p : A → Bool) (xs : List A) → Every (λ x. p x ≡ true) xs → list_all p xs ≡ true
 all-of_every p [] h = refl
 all-of_every p (x ∷ xs) h = and-both (p x) (list_all p xs) h.0 (all-of_every p xs h.1)
 
-every-of_all : {A : Type 0} (p : A → Bool) (xs : List A) → list_all p xs ≡ true → Every (λ x. p x ≡ true) xs
+pub every-of_all : {A : Type 0} (p : A → Bool) (xs : List A) → list_all p xs ≡ true → Every (λ x. p x ≡ true) xs
 every-of_all p [] e = tt
 every-of_all p (x ∷ xs) e = (and-first (p x) (list_all p xs) e, every-of_all p xs (and-second (p x) (list_all p xs) e))
 
@@ -236,25 +244,188 @@ deleted_rows-fit tables table d h =
 
 -- ---- databases
 
-same_some : {X : Type 0} (x y : X) → Some x ≡ Some y → x ≡ y
+or-first : (a b : Bool) → (a || b) ≡ false → a ≡ false
+or-first true b e = absurd (cc)
+or-first false b e = refl
+
+or-second : (a b : Bool) → (a || b) ≡ false → b ≡ false
+or-second true b e = absurd (cc)
+or-second false b e = e
+
+-- names that are two by one test are two by the other
+is_name-same : (name : Name) → is_name name name ≡ true
+is_name-same name = (eq_by_cmp_equiv nat_list_cmp_total).refl name
+
+false_true : (b : Bool) → b ≡ false → b ≡ true → ⊥
+false_true b e f = absurd (cc)
+
+pub other_name : (one other : Name) → same_name one other ≡ false → is_name one other ≡ false
+other_name one other e = at (is_name one other) refl
+  where
+    at : (b : Bool) → is_name one other ≡ b → b ≡ false
+    at true is = absurd (false_true (same_name one other) e ((bytes_decides one other).1 (is_name-equal one other is)))
+    at false is = refl
+
+other_characters : (one other : Name) → is_name one other ≡ false → same_name one other ≡ false
+other_characters one other e = at (same_name one other) refl
+  where
+    at : (b : Bool) → same_name one other ≡ b → b ≡ false
+    at true is = absurd (false_true (is_name one other) e (ap (is_name one) (sym ((bytes_decides one other).0 is)) ∙ is_name-same one))
+    at false is = refl
+
+pub same_some : {X : Type 0} (x y : X) → Some x ≡ Some y → x ≡ y
 same_some x y e = cc
 
 module _ (reading : CheckReading) where
-  pub good-insert : (db : Database) (name : Name) (new : Table) → IsGood reading db → IsGoodTable reading name new → IsGood reading (insert db name new)
-  good-insert db name new good h other table e = at (is_name other name) refl (sym (found-insert db name new other) ∙ e)
-    where
-      at : (b : Bool) → is_name other name ≡ b → cond b (Some new) (get db other) ≡ Some table → IsGoodTable reading other table
-      at true is f =
-          let named : IsGoodTable reading other new = subst (λ (n : Name). IsGoodTable reading n new) (sym (is_name-equal other name is)) h in
-          subst (λ (t : Table). IsGoodTable reading other t) (same_some new table f) named
-      at false is f = good other table f
+  -- ---- what foreign keys reference
 
-  good-remove : (db : Database) (name : Name) → IsGood reading db → IsGood reading (remove db name)
-  good-remove db name good other table e = at (is_name other name) (sym (found-remove db name other) ∙ e)
+  -- of a table that comes under a name, in place of one with the same columns if there is one
+  abbrev KeepsColumns : Database → Name → Table → Type 0
+  KeepsColumns db name new = (old : Table) → get db name ≡ Some old → old.columns ≡ new.columns
+
+  found_at : (db : Database) (name : Name) (new : Table) → get (insert db name new) name ≡ Some new
+  found_at db name new = found-insert db name new name ∙ ap (λ b. cond b (Some new) (get db name)) (is_name-same name)
+
+  referenced-insert : (db : Database) (name : Name) (new : Table) (rule : Rule) → KeepsColumns db name new → IsReferenceIn db rule → IsReferenceIn (insert db name new) rule
+  referenced-insert db name new (NotNull column) keeps h = tt
+  referenced-insert db name new (PrimaryKey columns) keeps h = tt
+  referenced-insert db name new (Unique columns) keeps h = tt
+  referenced-insert db name new (Check text) keeps h = tt
+  referenced-insert db name new (ForeignKey reference) keeps h = at (is_name reference.table name) refl (found-insert db name new reference.table)
     where
-      at : (b : Bool) → cond b None (get db other) ≡ Some table → IsGoodTable reading other table
-      at true f = absurd (cc)
-      at false f = good other table f
+      at : (b : Bool) → is_name reference.table name ≡ b → get (insert db name new) reference.table ≡ cond b (Some new) (get db reference.table)
+          → HasReferenced (insert db name new) reference
+      at true is found = record {
+        table = new;
+        there = found;
+        places = subst (λ (columns : List Column). are_places (length columns) reference.referenced ≡ true)
+            (keeps h.table (ap (get db) (sym (is_name-equal reference.table name is)) ∙ h.there)) h.places;
+        count = h.count;
+      }
+      at false is found = record { table = h.table; there = found ∙ h.there; places = h.places; count = h.count }
+
+  pub references-insert : (db : Database) (name : Name) (new : Table) (constraints : List Constraint) → KeepsColumns db name new → AreReferencesIn db constraints
+      → AreReferencesIn (insert db name new) constraints
+  references-insert db name new [] keeps h = tt
+  references-insert db name new (c ∷ constraints) keeps h = (referenced-insert db name new c.rule keeps h.0, references-insert db name new constraints keeps h.1)
+
+  -- of a table that goes, and that none of these rules references
+  referenced-remove : (db : Database) (name : Name) (rule : Rule) → is_reference_to name rule ≡ false → IsReferenceIn db rule → IsReferenceIn (remove db name) rule
+  referenced-remove db name (NotNull column) away h = tt
+  referenced-remove db name (PrimaryKey columns) away h = tt
+  referenced-remove db name (Unique columns) away h = tt
+  referenced-remove db name (Check text) away h = tt
+  referenced-remove db name (ForeignKey reference) away h = record {
+    table = h.table;
+    there = found-remove db name reference.table ∙ ap (λ b. cond b None (get db reference.table)) (other_name reference.table name away) ∙ h.there;
+    places = h.places;
+    count = h.count;
+  }
+
+  references-remove : (db : Database) (name : Name) (constraints : List Constraint) → references name constraints ≡ false → AreReferencesIn db constraints
+      → AreReferencesIn (remove db name) constraints
+  references-remove db name [] away h = tt
+  references-remove db name (c ∷ constraints) away h = (
+    referenced-remove db name c.rule (or-first (is_reference_to name c.rule) (references name constraints) away) h.0,
+    references-remove db name constraints (or-second (is_reference_to name c.rule) (references name constraints) away) h.1,
+  )
+
+  unmatched-remove : (db : Database) (name : Name) (rows : List Row) (rule : Rule) → is_reference_to name rule ≡ false
+      → is_unmatched (rows_in (remove db name)) rows rule ≡ is_unmatched (rows_in db) rows rule
+  unmatched-remove db name rows (NotNull column) away = refl
+  unmatched-remove db name rows (PrimaryKey columns) away = refl
+  unmatched-remove db name rows (Unique columns) away = refl
+  unmatched-remove db name rows (Check text) away = refl
+  unmatched-remove db name rows (ForeignKey reference) away = ap (λ found. has_unmatched reference (rows_of found) rows)
+      (found-remove db name reference.table ∙ ap (λ b. cond b None (get db reference.table)) (other_name reference.table name away))
+
+  all_unmatched-remove : (db : Database) (name : Name) (rows : List Row) (constraints : List Constraint) → references name constraints ≡ false
+      → unmatched_by (rows_in (remove db name)) constraints rows ≡ unmatched_by (rows_in db) constraints rows
+  all_unmatched-remove db name rows [] away = refl
+  all_unmatched-remove db name rows (c ∷ constraints) away = rw (
+      unmatched-remove db name rows c.rule (or-first (is_reference_to name c.rule) (references name constraints) away)
+      ) (at (is_unmatched (rows_in db) rows c.rule) (all_unmatched-remove db name rows constraints (or-second (is_reference_to name c.rule) (references name constraints) away)))
+    where
+      at : (b : Bool) → unmatched_by (rows_in (remove db name)) constraints rows ≡ unmatched_by (rows_in db) constraints rows
+          → map (λ c. c.name) (cond b (c ∷ filter (λ c. is_unmatched (rows_in (remove db name)) rows c.rule) constraints) (filter (λ c. is_unmatched (rows_in (remove db name)) rows c.rule) constraints))
+          ≡ map (λ c. c.name) (cond b (c ∷ filter (λ c. is_unmatched (rows_in db) rows c.rule) constraints) (filter (λ c. is_unmatched (rows_in db) rows c.rule) constraints))
+      at true e = ap (λ names. c.name ∷ names) e
+      at false e = e
+
+  -- ---- tables that come and go
+
+  -- A table comes under a name, in place of one with the same columns or of none, and what the
+  -- database then violates is nothing.
+  pub good-unviolated : (db : Database) (name : Name) (new : Table) → IsGood reading db → KeepsColumns db name new → list_all (fits_columns new.columns) new.rows ≡ true
+      → AreReadable name new.columns new.constraints → NamesItsColumns new → AreReferencesIn (insert db name new) new.constraints → violated_in reading (insert db name new) ≡ []
+      → IsGood reading (insert db name new)
+  good-unviolated db name new good keeps fitting readable names references none other table e =
+      at (is_name other name) refl (sym (found-insert db name new other) ∙ e)
+      (none_of_both (violated_by reading other table) (unmatched_by (rows_in (insert db name new)) table.constraints table.rows) (unviolated-at reading (insert db name new) other table e none))
+    where
+      at : (b : Bool) → is_name other name ≡ b → cond b (Some new) (get db other) ≡ Some table
+          → (violated_by reading other table ≡ []) × (unmatched_by (rows_in (insert db name new)) table.constraints table.rows ≡ []) → IsGoodIn reading (insert db name new) other table
+      at true is f nothing = record {
+        alone = record {
+          fitting = subst (λ (t : Table). list_all (fits_columns t.columns) t.rows ≡ true) (same_some new table f) fitting;
+          unviolated = nothing.0;
+          readable = subst (λ (t : Table). AreReadable other t.columns t.constraints) (same_some new table f)
+              (subst (λ (n : Name). AreReadable n new.columns new.constraints) (sym (is_name-equal other name is)) readable);
+          named = subst NamesItsColumns (same_some new table f) names;
+        };
+        referenced = subst (λ (t : Table). AreReferencesIn (insert db name new) t.constraints) (same_some new table f) references;
+        matched = nothing.1;
+      }
+      at false is f nothing = record {
+        alone = (good other table f).alone;
+        referenced = references-insert db name new table.constraints keeps (good other table f).referenced;
+        matched = nothing.1;
+      }
+
+  -- the same rows under every name violate the same
+  same_rows : (db new : Database) → ((name : Name) → rows_in db name ≡ rows_in new name) → (name : Name) → Permutes (rows_in db name) (rows_in new name)
+  same_rows db new h name = subst (Permutes (rows_in db name)) (h name) (Permutes-refl (rows_in db name))
+
+  rows-insert : (db : Database) (name : Name) (new : Table) → rows_of (get db name) ≡ new.rows → (other : Name) → rows_in db other ≡ rows_in (insert db name new) other
+  rows-insert db name new same other = at (is_name other name) refl ∙ ap rows_of (sym (found-insert db name new other))
+    where
+      at : (b : Bool) → is_name other name ≡ b → rows_of (get db other) ≡ rows_of (cond b (Some new) (get db other))
+      at true is = ap (λ n. rows_of (get db n)) (is_name-equal other name is) ∙ same
+      at false is = refl
+
+  -- a table comes under a name, with the rows that are found there
+  good-insert : (db : Database) (name : Name) (new : Table) → IsGood reading db → KeepsColumns db name new → rows_of (get db name) ≡ new.rows → IsGoodTable reading name new
+      → AreReferencesIn (insert db name new) new.constraints → unmatched_by (rows_in db) new.constraints new.rows ≡ [] → IsGood reading (insert db name new)
+  good-insert db name new good keeps same h references matched other table e = at (is_name other name) refl (sym (found-insert db name new other) ∙ e)
+    where
+      still : (t : Table) → unmatched_by (rows_in db) t.constraints t.rows ≡ [] → unmatched_by (rows_in (insert db name new)) t.constraints t.rows ≡ []
+      still t none = sym (unmatched_by-same (rows_in db) (rows_in (insert db name new)) t.constraints t.rows t.rows
+          (same_rows db (insert db name new) (rows-insert db name new same)) (Permutes-refl t.rows)) ∙ none
+
+      at : (b : Bool) → is_name other name ≡ b → cond b (Some new) (get db other) ≡ Some table → IsGoodIn reading (insert db name new) other table
+      at true is f = subst (λ (t : Table). IsGoodIn reading (insert db name new) other t) (same_some new table f) (record {
+        alone = subst (λ (n : Name). IsGoodTable reading n new) (sym (is_name-equal other name is)) h;
+        referenced = references;
+        matched = still new matched;
+      })
+      at false is f = record {
+        alone = (good other table f).alone;
+        referenced = references-insert db name new table.constraints keeps (good other table f).referenced;
+        matched = still table (good other table f).matched;
+      }
+
+  good-remove : (db : Database) (name : Name) → IsNotReferenced db name → IsGood reading db → IsGood reading (remove db name)
+  good-remove db name away good other table e = at (is_name other name) refl (sym (found-remove db name other) ∙ e)
+    where
+      at : (b : Bool) → is_name other name ≡ b → cond b None (get db other) ≡ Some table → IsGoodIn reading (remove db name) other table
+      at true is f = absurd (cc)
+      at false is f =
+          let none = away other table f (other_characters other name is) in
+          record {
+            alone = (good other table f).alone;
+            referenced = references-remove db name table.constraints none (good other table f).referenced;
+            matched = all_unmatched-remove db name table.rows table.constraints none ∙ (good other table f).matched;
+          }
 
   -- but for the columns that they name indexes do not matter
   good-indexes : (name : Name) (table : Table) (indexes : List IndexDeclaration) → IsGoodTable reading name table
@@ -266,14 +437,44 @@ module _ (reading : CheckReading) where
     named = record { in_constraints = h.named.in_constraints; in_indexes = places };
   }
 
+  rows-mapped : (db : Database) (index : Name) (other : Name) → rows_in db other ≡ rows_in (from_entries (map (λ e. (e.0, without_index index e.1)) (entries db))) other
+  rows-mapped db index other = at (get db other) ∙ ap rows_of (sym (found-mapped (without_index index) db other))
+    where
+      at : (found : Option Table) → rows_of found ≡ rows_of (option_map (without_index index) found)
+      at None = refl
+      at (Some t) = refl
+
+  referenced-mapped : (db : Database) (index : Name) (rule : Rule) → IsReferenceIn db rule → IsReferenceIn (from_entries (map (λ e. (e.0, without_index index e.1)) (entries db))) rule
+  referenced-mapped db index (NotNull column) h = tt
+  referenced-mapped db index (PrimaryKey columns) h = tt
+  referenced-mapped db index (Unique columns) h = tt
+  referenced-mapped db index (Check text) h = tt
+  referenced-mapped db index (ForeignKey reference) h = record {
+    table = without_index index h.table;
+    there = found-mapped (without_index index) db reference.table ∙ ap (option_map (without_index index)) h.there;
+    places = h.places;
+    count = h.count;
+  }
+
+  references-mapped : (db : Database) (index : Name) (constraints : List Constraint) → AreReferencesIn db constraints
+      → AreReferencesIn (from_entries (map (λ e. (e.0, without_index index e.1)) (entries db))) constraints
+  references-mapped db index [] h = tt
+  references-mapped db index (c ∷ constraints) h = (referenced-mapped db index c.rule h.0, references-mapped db index constraints h.1)
+
   good-mapped : (db : Database) (index : Name) → IsGood reading db → IsGood reading (from_entries (map (λ e. (e.0, without_index index e.1)) (entries db)))
   good-mapped db index good other table e = at (get db other) refl (sym (found-mapped (without_index index) db other) ∙ e)
     where
-      at : (found : Option Table) → get db other ≡ found → option_map (without_index index) found ≡ Some table → IsGoodTable reading other table
+      new : Database
+      new = from_entries (map (λ e. (e.0, without_index index e.1)) (entries db))
+
+      at : (found : Option Table) → get db other ≡ found → option_map (without_index index) found ≡ Some table → IsGoodIn reading new other table
       at None is f = absurd (cc)
-      at (Some t) is f = subst (λ (u : Table). IsGoodTable reading other u) (same_some (without_index index t) table f)
-          (good-indexes other t (filter (λ i. not (is_named index i.name)) t.indexes) (good other t is)
-          (places-filtered (length t.columns) (λ i. not (is_named index i.name)) t.indexes (good other t is).named.in_indexes))
+      at (Some t) is f = subst (λ (u : Table). IsGoodIn reading new other u) (same_some (without_index index t) table f) (record {
+        alone = good-indexes other t (filter (λ i. not (is_named index i.name)) t.indexes) (good other t is).alone
+            (places-filtered (length t.columns) (λ i. not (is_named index i.name)) t.indexes (good other t is).alone.named.in_indexes);
+        referenced = references-mapped db index t.constraints (good other t is).referenced;
+        matched = sym (unmatched_by-same (rows_in db) (rows_in new) t.constraints t.rows t.rows (same_rows db new (rows-mapped db index)) (Permutes-refl t.rows)) ∙ (good other t is).matched;
+      })
 
   -- what makes a database makes a good one
   abbrev MakesGood : Changed → Type 0
@@ -281,18 +482,21 @@ module _ (reading : CheckReading) where
   MakesGood (Raises faults) = Unit {0}
   MakesGood (Violates names) = Unit {0}
 
-  with_rows-good : (db : Database) (name : Name) (table : Table) (rows : List Row) (count : ℕ) → IsGood reading db → IsGoodTable reading name table
+  with_rows-good : (db : Database) (name : Name) (table : Table) (rows : List Row) (count : ℕ) → IsGood reading db → get db name ≡ Some table
       → Every (λ r. fits_columns table.columns r ≡ true) rows → MakesGood (with_rows reading db name table rows count)
-  with_rows-good db name table rows count good was h = at (violated_by reading name (record table { rows = rows })) refl
+  with_rows-good db name table rows count good is h = at (violated_in reading (insert db name (record table { rows = rows }))) refl
     where
-      at : (names : List Name) → violated_by reading name (record table { rows = rows }) ≡ names
+      was : IsGoodIn reading db name table
+      was = good name table is
+
+      keeps : KeepsColumns db name (record table { rows = rows })
+      keeps old e = ap (λ (t : Table). t.columns) (same_some old table (sym e ∙ is))
+
+      at : (names : List Name) → violated_in reading (insert db name (record table { rows = rows })) ≡ names
           → MakesGood (unless_violated names (insert db name (record table { rows = rows })) count)
-      at [] e = good-insert db name (record table { rows = rows }) good (record {
-        fitting = all-of_every (fits_columns table.columns) rows h;
-        unviolated = e;
-        readable = was.readable;
-        named = record { in_constraints = was.named.in_constraints; in_indexes = was.named.in_indexes };
-      })
+      at [] e = good-unviolated db name (record table { rows = rows }) good keeps (all-of_every (fits_columns table.columns) rows h) was.alone.readable
+          (record { in_constraints = was.alone.named.in_constraints; in_indexes = was.alone.named.in_indexes })
+          (references-insert db name (record table { rows = rows }) table.constraints keeps was.referenced) e
       at (violated ∷ names) e = tt
 
   raised-good : {A : Type 0} (P : A → Type 0) (x : Evaluation A) (made : A → Changed) → IfValue P x → ((a : A) → P a → MakesGood (made a))
@@ -307,67 +511,74 @@ module _ (reading : CheckReading) where
   rows-fit : (name : Name) (table : Table) → IsGoodTable reading name table → Every (λ r. fits_columns table.columns r ≡ true) table.rows
   rows-fit name table h = every-of_all (fits_columns table.columns) table.rows h.fitting
 
-  insert-good : (db : Database) (i : Insert) (table : Table) → IsGood reading db → IsGoodTable reading i.table table → MakesGood (insert_into reading db i table)
+  insert-good : (db : Database) (i : Insert) (table : Table) → IsGood reading db → get db i.table ≡ Some table → MakesGood (insert_into reading db i table)
   insert-good db i table good h =
       raised-good (Every (λ r. fits_columns table.columns r ≡ true)) (inserted_rows (checks_of reading i.table table) (rows_in db) table i.columns i.source)
       (λ rows. with_rows reading db i.table table (table.rows ++ rows) (length rows))
       (inserted_rows-fit (checks_of reading i.table table) (rows_in db) table i.columns i.source)
       (λ rows k. with_rows-good db i.table table (table.rows ++ rows) (length rows) good h
-      (every-append (λ r. fits_columns table.columns r ≡ true) table.rows rows (rows-fit i.table table h) k))
+      (every-append (λ r. fits_columns table.columns r ≡ true) table.rows rows (rows-fit i.table table (good i.table table h).alone) k))
 
-  update-good : (db : Database) (u : Update) (table : Table) → IsGood reading db → IsGoodTable reading u.table table → MakesGood (update_in reading db u table)
+  update-good : (db : Database) (u : Update) (table : Table) → IsGood reading db → get db u.table ≡ Some table → MakesGood (update_in reading db u table)
   update-good db u table good h =
       raised-good (Every (λ (r : Bool × Row). fits_columns table.columns r.1 ≡ true)) (updated_rows (checks_of reading u.table table) (rows_in db) table u)
       (λ rows. with_rows reading db u.table table (map (λ r. r.1) rows) (count_by (λ r. r.0) rows))
-      (updated_rows-fit (checks_of reading u.table table) (rows_in db) table u (rows-fit u.table table h))
+      (updated_rows-fit (checks_of reading u.table table) (rows_in db) table u (rows-fit u.table table (good u.table table h).alone))
       (λ rows k. with_rows-good db u.table table (map (λ r. r.1) rows) (count_by (λ r. r.0) rows) good h
       (Every-map (λ (r : Bool × Row). fits_columns table.columns r.1 ≡ true) (λ r. fits_columns table.columns r ≡ true) (λ r. r.1) rows k (λ r l. l)))
 
-  delete-good : (db : Database) (d : Delete) (table : Table) → IsGood reading db → IsGoodTable reading d.table table → MakesGood (delete_from reading db d table)
+  delete-good : (db : Database) (d : Delete) (table : Table) → IsGood reading db → get db d.table ≡ Some table → MakesGood (delete_from reading db d table)
   delete-good db d table good h =
       raised-good (Every (λ (r : Bool × Row). fits_columns table.columns r.1 ≡ true)) (deleted_rows (rows_in db) table d)
-      (λ rows. with_rows reading db d.table table (map (λ r. r.1) (filter (λ r. not r.0) rows)) (count_by (λ r. r.0) rows)) (deleted_rows-fit (rows_in db) table d (rows-fit d.table table h))
+      (λ rows. with_rows reading db d.table table (map (λ r. r.1) (filter (λ r. not r.0) rows)) (count_by (λ r. r.0) rows)) (deleted_rows-fit (rows_in db) table d (rows-fit d.table table (good d.table table h).alone))
       (λ rows k. with_rows-good db d.table table (map (λ r. r.1) (filter (λ r. not r.0) rows)) (count_by (λ r. r.0) rows) good h
       (Every-map (λ (r : Bool × Row). fits_columns table.columns r.1 ≡ true) (λ r. fits_columns table.columns r ≡ true) (λ r. r.1) (filter (λ r. not r.0) rows)
       (Every-filter (λ (r : Bool × Row). fits_columns table.columns r.1 ≡ true) (λ r. not r.0) rows k) (λ r l. l)))
 
-  index-good : (db : Database) (c : CreateIndex) (table : Table) → IsGood reading db → IsGoodTable reading c.table table → are_places (length table.columns) c.columns ≡ true
+  index-good : (db : Database) (c : CreateIndex) (table : Table) → IsGood reading db → get db c.table ≡ Some table → are_places (length table.columns) c.columns ≡ true
       → MakesGood (index_on db c table)
-  index-good db c table good h places =
+  index-good db c table good is places =
       raised-good (λ (i : IndexDeclaration). are_places (length table.columns) i.columns ≡ true)
       (unless (flat_map (λ row. key_faults row c.columns) table.rows) (record { name = Some c.name; columns = c.columns }))
       (λ index. Makes (insert db c.table (record table { indexes = table.indexes ++ index ∷ [] })) None)
       (IfValue-unless (λ (i : IndexDeclaration). are_places (length table.columns) i.columns ≡ true) (flat_map (λ row. key_faults row c.columns) table.rows)
       (record { name = Some c.name; columns = c.columns }) places)
-      (λ index k. good-insert db c.table (record table { indexes = table.indexes ++ index ∷ [] }) good (good-indexes c.table table (table.indexes ++ index ∷ []) h
-      (places-pushed (length table.columns) table.indexes index h.named.in_indexes k)))
+      (λ index k.
+      let was = good c.table table is in
+      let keeps : KeepsColumns db c.table (record table { indexes = table.indexes ++ index ∷ [] }) = λ old e. ap (λ (t : Table). t.columns) (same_some old table (sym e ∙ is)) in
+      good-insert db c.table (record table { indexes = table.indexes ++ index ∷ [] }) good keeps (ap rows_of is)
+      (good-indexes c.table table (table.indexes ++ index ∷ []) was.alone (places-pushed (length table.columns) table.indexes index was.alone.named.in_indexes k))
+      (references-insert db c.table (record table { indexes = table.indexes ++ index ∷ [] }) table.constraints keeps was.referenced) was.matched)
 
   -- a change of the table of this name
   on_table-good : (db : Database) (name : Name) (change : Table → Changed) → IsGood reading db
-      → ((table : Table) → get db name ≡ Some table → IsGoodTable reading name table → MakesGood (change table)) → MakesGood (on_table db (get db name) change)
+      → ((table : Table) → get db name ≡ Some table → MakesGood (change table)) → MakesGood (on_table db (get db name) change)
   on_table-good db name change good h = at (get db name) refl
     where
       at : (found : Option Table) → get db name ≡ found → MakesGood (on_table db found change)
       at None e = good
-      at (Some table) e = h table e (good name table e)
+      at (Some table) e = h table e
 
   changed-makes_good : (db : Database) (change : Change) → DeclaresRightly db change → IsGood reading db → MakesGood (changed reading db change)
-  changed-makes_good db (does.CreateTable c) rightly good = good-insert db c.name (created c) good
+  changed-makes_good db (does.CreateTable c) rightly good = good-insert db c.name (created c) good (λ old e. absurd (not_free old (sym rightly.free ∙ e))) (ap rows_of rightly.free)
       (record {
         fitting = refl;
         unviolated = nothing-violated reading c.name (created c) refl;
-        readable = rightly.0;
-        named = record { in_constraints = rightly.1; in_indexes = places-owned (length c.columns) c.constraints rightly.1 };
-      })
-  changed-makes_good db (does.DropTable name) rightly good = good-remove db name good
-  changed-makes_good db (does.CreateIndex c) rightly good = on_table-good db c.table (index_on db c) good (λ table is h. index-good db c table good h (rightly table is))
+        readable = rightly.readable;
+        named = record { in_constraints = rightly.named; in_indexes = places-owned (length c.columns) c.constraints rightly.named };
+      }) rightly.referenced (nothing-unmatched (rows_in db) c.constraints)
+    where
+      not_free : (old : Table) → None ≡ Some old → ⊥
+      not_free old e = absurd (cc)
+  changed-makes_good db (does.DropTable name) rightly good = good-remove db name rightly good
+  changed-makes_good db (does.CreateIndex c) rightly good = on_table-good db c.table (index_on db c) good (λ table is. index-good db c table good is (rightly table is))
   changed-makes_good db (does.DropIndex name) rightly good = good-mapped db name good
   changed-makes_good db (does.Insert i) rightly good = on_table-good db i.table (insert_into reading db i) good
-      (λ table is h. insert-good db i table good h)
+      (λ table is. insert-good db i table good is)
   changed-makes_good db (does.Update u) rightly good = on_table-good db u.table (update_in reading db u) good
-      (λ table is h. update-good db u table good h)
+      (λ table is. update-good db u table good is)
   changed-makes_good db (does.Delete d) rightly good = on_table-good db d.table (delete_from reading db d) good
-      (λ table is h. delete-good db d table good h)
+      (λ table is. delete-good db d table good is)
 
   pub changed-good : (db new : Database) (change : Change) (count : Option ℕ) → DeclaresRightly db change → IsGood reading db → changed reading db change ≡ Makes new count → IsGood reading new
   changed-good db new change count rightly good e = subst MakesGood e (changed-makes_good db change rightly good)

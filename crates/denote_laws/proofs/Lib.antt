@@ -8,3 +8,7 @@ pub mod SoundTrees
 pub mod Soundness
 pub mod Tables
 pub mod Trees
+pub mod Referring
+pub mod Violated
+pub mod Difference
+pub mod Missing

@@ -22,7 +22,7 @@ use Rattle.denote.specs.Expression.{cell}
 use Rattle.denote_laws.specs.Law.{IsSound, AreSound}
 use Rattle.denote.specs.StoredRow.{given_for, value_for, row_with, row_faults, admitted, inserted_row, key_faults}
 use Rattle.denote.specs.Meaning.{Tables, value_of, truth_at, query_outcome}
-use Rattle.denote.specs.Database.{Name, IndexDeclaration, Table, Database, rows_in, CheckReading, checks_of, violated_by}
+use Rattle.denote.specs.Database.{Name, IndexDeclaration, Table, Database, rows_in, CheckReading, checks_of, violated_in}
 use Rattle.denote.specs.Change.{inserted_rows, is_touched, assigned, updated_if, updated_rows, deleted_rows, Changed, Makes, unless_violated, with_rows, unless_raised, insert_into, update_in, delete_from, index_on, on_table, changed}
 use Rattle.denote_laws.proofs.Soundness.{next-sound, unless-sound, together-sound, stored-sound}
 use Rattle.denote_laws.specs.Sound.{IsDecided}
@@ -114,7 +114,7 @@ deleted_rows-sound tables table d =
 
 with_rows-decided : (reading : CheckReading) (db : Database) (name : Name) (table : Table) (rows : List Row) (count : ℕ)
     → IsDecided (with_rows reading db name table rows count)
-with_rows-decided reading db name table rows count = at (violated_by reading name (record table { rows = rows }))
+with_rows-decided reading db name table rows count = at (violated_in reading (insert db name (record table { rows = rows })))
   where
     at : (names : List Name) → IsDecided (unless_violated names (insert db name (record table { rows = rows })) count)
     at [] = tt

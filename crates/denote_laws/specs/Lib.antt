@@ -1,3 +1,4 @@
 pub mod Law
 pub mod Sound
 pub mod Changed
+pub mod Difference

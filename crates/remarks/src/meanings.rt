@@ -4,7 +4,7 @@
 type Meaning = (&'static str, &'static str);
 
 /// The refusals, but for those that name a constraint.
-const MEANINGS: [Meaning; 42] = [
+const MEANINGS: [Meaning; 43] = [
     ("0A000", "a reserved word of a form that is not built"),
     ("21000", "a scalar subquery has more than one row"),
     (
@@ -59,6 +59,10 @@ const MEANINGS: [Meaning; 42] = [
     (
         "42000 check",
         "a subquery or a set function stands in a CHECK",
+    ),
+    (
+        "42000 reference",
+        "a foreign key references no key, or one of another table references what is to be dropped",
     ),
     (
         "42000 session",

@@ -120,7 +120,7 @@ apart columns (row ∷ rows) n t =
 pub good-has : (reading : CheckReading) (db : Database) (known : StoredTable) → IsGood reading db → Has db known
     → HasTable (rows_in db) known
 good-has reading db known good has =
-    let table = good known.name has.table has.found in
+    let table = (good known.name has.table has.found).alone in
     let rows : rows_in db known.name ≡ has.table.rows = ap rows_of has.found in
     record {
       width = subst (λ (z : List Row). Every (λ row. length row ≡ known.width) z) (sym rows)

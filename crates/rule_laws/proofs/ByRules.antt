@@ -60,7 +60,7 @@ module _ (rules others : Rules) (are : AreRules rules) (also : AreRules others) 
 
     module _ (obstacle : Option Refusal) (good : IsGood rules.check t.working) where
       same : (change : Change) → changed rules.check t.working change ≡ changed others.check t.working change
-      same change = sym (same_changed rules.check others.check are.checks also.checks t.working (λ name table is. (good name table is).readable) change)
+      same change = sym (same_changed rules.check others.check are.checks also.checks t.working (λ name table is. (good name table is).alone.readable) change)
 
       inserted_means : (table : Name) (rows : List Row) (x : Statement) (change : Change) → Means (inserting rules table rows) t.working x (does.Change change)
           → Means (inserting others table rows) t.working x (does.Change change)

@@ -10,7 +10,7 @@ use Rattle.sqlval.specs.declared.schema.Rule.TheVariants as rule
 use Rattle.typing.specs.Check.{IsCheckReading}
 use Rattle.typing.specs.Kept.{text_in, kept_texts}
 use Rattle.typing.specs.declared.typed.Condition.{Condition}
-use Rattle.denote.specs.Database.{Name, Table, Database, CheckReading, IsReadable, AreReadable, IsGoodTable, IsGood, check_at, checks_of, is_check, is_false, is_violated, violated_by}
+use Rattle.denote.specs.Database.{Name, Table, Database, CheckReading, IsReadable, AreReadable, IsGoodTable, IsGoodIn, IsGood, check_at, checks_of, is_check, is_false, is_violated, violated_by}
 
 module _ (reading other : CheckReading) (reads : IsCheckReading reading) (also : IsCheckReading other) (name : Name) (table : Table) where
   abbrev AreRead : List (List ℕ) → Type 0
@@ -74,4 +74,6 @@ module _ (reading other : CheckReading) (reads : IsCheckReading reading) (also :
   }
 
 pub good_by_every : (reading other : CheckReading) (db : Database) → IsCheckReading reading → IsCheckReading other → IsGood reading db → IsGood other db
-good_by_every reading other db reads also good name table is = good_table reading other reads also name table (good name table is)
+good_by_every reading other db reads also good name table is =
+    let was : IsGoodIn reading db name table = good name table is in
+    record { alone = good_table reading other reads also name table was.alone; referenced = was.referenced; matched = was.matched }

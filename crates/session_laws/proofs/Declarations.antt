@@ -1,7 +1,9 @@
--- What a text declares is right: CHECKs can be read, and columns that are named by their places are
--- there.
-use Rattle.std.proofs.Common.{◌≡◌, refl, sym, ◌∙◌, subst, ℕ, true, List, length, Some, Ok, Err}
-use Rattle.std.specs.FinMap.{get}
+-- What a text declares is right: a table's name is free, CHECKs can be read, columns that are named
+-- by their places are there, what foreign keys reference is there, and no table that is dropped is
+-- referenced.
+use Rattle.std.proofs.Common.{◌≡◌, refl, sym, ◌∙◌, subst, ℕ, true, false, List, length, Some, None, Ok, Err}
+use Rattle.std.specs.FinMap.{get, insert}
+use Rattle.sqlval.specs.Schema.{same_name}
 use Rattle.sqlval.specs.declared.schema.Schema.{Schema}
 use Rattle.sqlval.specs.Value.{Row}
 use Rattle.lexer.specs.Printing.{HasKinds}
@@ -25,11 +27,12 @@ use Rattle.typing.specs.CreateTable.{create_found}
 use Rattle.typing.specs.Finding.{Finding, ◌>>=◌}
 use Rattle.typing.specs.Index.{index_found, dropped_index, dropped_table}
 use Rattle.typing.specs.Insert.{insert_found}
-use Rattle.typing.specs.Known.{Known, known}
+use Rattle.typing.specs.Known.{Known, known, references}
 use Rattle.typing.specs.Order.{ordered_found}
 use Rattle.typing.specs.Statement.{answered_found}
 use Rattle.typing.specs.Update.{update_found, delete_found}
-use Rattle.denote.specs.Database.{Name, Database, Table, AreReadable, are_places, constraint_columns}
+use Rattle.denote.specs.Change.{created}
+use Rattle.denote.specs.Database.{Name, Database, Table, AreReadable, AreReferencesIn, NamesItsColumns, are_places, constraint_columns}
 use Rattle.denote.specs.SchemaOf.{IsSchemaOf}
 use Rattle.denote_laws.specs.Changed.{DeclaresRightly}
 use Rattle.session_definitions.specs.InsertedRows.{insert_of_rows, inserting}
@@ -49,9 +52,26 @@ abbrev pub IndexLaw : Type 0
 IndexLaw = (schema : Schema) (db : Database) (tree : IndexTree) (index : CreateIndex) (table : Table) → IsSchemaOf schema db → index_found (known schema) tree ≡ Ok index
     → get db index.table ≡ Some table → are_places (length table.columns) index.columns ≡ true
 
+-- the tables of a database name columns of their own
+abbrev pub NameTheirColumns : Database → Type 0
+NameTheirColumns db = (name : Name) (table : Table) → get db name ≡ Some table → NamesItsColumns table
+
+-- the name of a CREATE TABLE is free, and what its foreign keys reference is there then
+abbrev pub FreeLaw : Type 0
+FreeLaw = (schema : Schema) (db : Database) (tree : Tree) (table : CreateTable) → IsSchemaOf schema db → create_found (known schema) tree ≡ Ok table → get db table.name ≡ None
+
+abbrev pub ReferenceLaw : Type 0
+ReferenceLaw = (schema : Schema) (db : Database) (tree : Tree) (table : CreateTable) → IsSchemaOf schema db → NameTheirColumns db → create_found (known schema) tree ≡ Ok table
+    → AreReferencesIn (insert db table.name (created table)) table.constraints
+
+-- no other table references one that a DROP TABLE drops
+abbrev pub DropLaw : Type 0
+DropLaw = (schema : Schema) (db : Database) (name dropped : List ℕ) → IsSchemaOf schema db → dropped_table (known schema) name ≡ Ok dropped
+    → (other : List ℕ) (table : Table) → get db other ≡ Some table → same_name other dropped ≡ false → references dropped table.constraints ≡ false
+
 -- what a text declares by these rules is right
 abbrev pub DeclareRightly : Rules → Type 0
-DeclareRightly rules = (text : Bytes) (x : Statement) (db : Database) (change : Change) → IsRead text x → Means rules db x (does.Change change) → DeclaresRightly db change
+DeclareRightly rules = (text : Bytes) (x : Statement) (db : Database) (change : Change) → NameTheirColumns db → IsRead text x → Means rules db x (does.Change change) → DeclaresRightly db change
 
 same_change : (c d : Change) → ◌≡◌ {A = Finding Typed} (Ok (does.Change c)) (Ok (does.Change d)) → c ≡ d
 same_change c d e = cc
@@ -68,18 +88,21 @@ no_change : {A : Type 0} (db : Database) (found : Finding A) (f : A → Typed) (
 no_change db (Ok a) f change h e = absurd (h a (cc e))
 no_change db (Err reasons) f change h e = absurd (cc e)
 
-module _ (checks : CheckLaw) (columns : ColumnLaw) (indexes : IndexLaw) (schema : Schema) (db : Database) (of : IsSchemaOf schema db) (text : Bytes) (change : Change) where
-  created : (tree : Tree) → IsRead text (asks.CreateTable tree) → (c : CreateTable) → create_found (known schema) tree ≡ Ok c → DeclaresRightly db (change_of.CreateTable c)
-  created tree read c found = (
-    checks (known schema) tree c text (kinds_of read.tokens) (record { tokens = read.tokens; are = read.spelled.tokenized; kinds_are = refl }) read.spelled.nested read.statement found,
-    columns (known schema) tree c found,
-  )
+module _ (checks : CheckLaw) (columns : ColumnLaw) (indexes : IndexLaw) (frees : FreeLaw) (refers : ReferenceLaw) (drops : DropLaw) (schema : Schema) (db : Database) (of : IsSchemaOf schema db)
+    (names : NameTheirColumns db) (text : Bytes) (change : Change) where
+  created_right : (tree : Tree) → IsRead text (asks.CreateTable tree) → (c : CreateTable) → create_found (known schema) tree ≡ Ok c → DeclaresRightly db (change_of.CreateTable c)
+  created_right tree read c found = record {
+    free = frees schema db tree c of found;
+    readable = checks (known schema) tree c text (kinds_of read.tokens) (record { tokens = read.tokens; are = read.spelled.tokenized; kinds_are = refl }) read.spelled.nested read.statement found;
+    named = columns (known schema) tree c found;
+    referenced = refers schema db tree c of names found;
+  }
 
   found_right : (x : Statement) → IsRead text x → answered_found x schema ≡ Ok (does.Change change) → DeclaresRightly db change
   found_right (asks.Query tree) read e = no_change db (ordered_found (known schema) tree) does.Query change (λ q f. absurd (cc f)) e
   found_right (asks.Explain tree) read e = no_change db (ordered_found (known schema) tree) does.Explain change (λ q f. absurd (cc f)) e
-  found_right (asks.CreateTable tree) read e = of_kind db (create_found (known schema) tree) change_of.CreateTable change (created tree read) e
-  found_right (asks.DropTable name) read e = of_kind db (dropped_table (known schema) name) change_of.DropTable change (λ n f. tt) e
+  found_right (asks.CreateTable tree) read e = of_kind db (create_found (known schema) tree) change_of.CreateTable change (created_right tree read) e
+  found_right (asks.DropTable name) read e = of_kind db (dropped_table (known schema) name) change_of.DropTable change (λ n f. drops schema db name n of f) e
   found_right (asks.CreateIndex tree) read e = of_kind db (index_found (known schema) tree) change_of.CreateIndex change
       (λ c f. λ table is. indexes schema db tree c table of f is) e
   found_right (asks.DropIndex name) read e = of_kind db (dropped_index (known schema) name) change_of.DropIndex change (λ n f. tt) e
@@ -94,9 +117,9 @@ module _ (checks : CheckLaw) (columns : ColumnLaw) (indexes : IndexLaw) (schema 
   found_right (asks.Fetch name) read e = absurd (cc e)
   found_right (asks.CloseCursor name) read e = absurd (cc e)
 
-pub declare_rightly : CheckLaw → ColumnLaw → IndexLaw → (rules : Rules) → AreRules rules → DeclareRightly rules
-declare_rightly checks columns indexes rules are text x db change read m =
-    found_right checks columns indexes m.schema db m.of_database text change x read (sym (are.statements m.schema x) ∙ m.found)
+pub declare_rightly : CheckLaw → ColumnLaw → IndexLaw → FreeLaw → ReferenceLaw → DropLaw → (rules : Rules) → AreRules rules → DeclareRightly rules
+declare_rightly checks columns indexes frees refers drops rules are text x db change names read m =
+    found_right checks columns indexes frees refers drops m.schema db m.of_database names text change x read (sym (are.statements m.schema x) ∙ m.found)
 
 -- an INSERT of rows that are given declares nothing
 pub inserts_rightly : (rules : Rules) (table : Name) (rows : List Row) (x : Statement) (db : Database) (change : Change)

@@ -26,7 +26,7 @@ use Rattle.session_definitions.specs.Step.{Withholds, Replies, Responds}
 use Rattle.session_definitions.specs.Transactions.{active, with_cursor, without_cursor, with_unnamed}
 use Rattle.session_definitions.specs.World.{Transaction, Session}
 use Rattle.session_laws.proofs.GoodDatabases.{accepted_good}
-use Rattle.session_laws.proofs.Declarations.{DeclareRightly, inserts_rightly}
+use Rattle.session_laws.proofs.Declarations.{DeclareRightly, NameTheirColumns, inserts_rightly}
 
 module _ (rules : Rules) where
   abbrev pub IsGoodTransaction : Transaction → Type 0
@@ -46,6 +46,9 @@ module _ (rules : Rules) where
 
   module _ (session : Session) (t : Transaction) (obstacle : Option Refusal) (reply : Reply) (effect : Effect)
       (own : IsGoodIfAny session.transaction) (good : IsGoodTransaction t) where
+    its_columns : NameTheirColumns t.working
+    its_columns name table is = (good.1 name table is).alone.named
+
     nothing : effect ≡ Effect.Nothing → LeavesGood effect
     nothing e = rw e tt
 
@@ -115,13 +118,13 @@ module _ (rules : Rules) where
     carried_out_good : DeclareRightly rules → (text : Bytes) (x : Statement) → IsRead text x → CarriesOut rules session t obstacle x reply effect → LeavesGood effect
     carried_out_good keeps text (asks.Query x) read h = queries_good x h
     carried_out_good keeps text (asks.Explain x) read h = explains_good x h
-    carried_out_good keeps text (asks.CreateTable x) read h = changes_good (asks.CreateTable x) (λ change m. keeps text (asks.CreateTable x) t.working change read m) h
-    carried_out_good keeps text (asks.DropTable x) read h = changes_good (asks.DropTable x) (λ change m. keeps text (asks.DropTable x) t.working change read m) h
-    carried_out_good keeps text (asks.CreateIndex x) read h = changes_good (asks.CreateIndex x) (λ change m. keeps text (asks.CreateIndex x) t.working change read m) h
-    carried_out_good keeps text (asks.DropIndex x) read h = changes_good (asks.DropIndex x) (λ change m. keeps text (asks.DropIndex x) t.working change read m) h
-    carried_out_good keeps text (asks.Insert x) read h = changes_good (asks.Insert x) (λ change m. keeps text (asks.Insert x) t.working change read m) h
-    carried_out_good keeps text (asks.Update x) read h = changes_good (asks.Update x) (λ change m. keeps text (asks.Update x) t.working change read m) h
-    carried_out_good keeps text (asks.Delete x) read h = changes_good (asks.Delete x) (λ change m. keeps text (asks.Delete x) t.working change read m) h
+    carried_out_good keeps text (asks.CreateTable x) read h = changes_good (asks.CreateTable x) (λ change m. keeps text (asks.CreateTable x) t.working change its_columns read m) h
+    carried_out_good keeps text (asks.DropTable x) read h = changes_good (asks.DropTable x) (λ change m. keeps text (asks.DropTable x) t.working change its_columns read m) h
+    carried_out_good keeps text (asks.CreateIndex x) read h = changes_good (asks.CreateIndex x) (λ change m. keeps text (asks.CreateIndex x) t.working change its_columns read m) h
+    carried_out_good keeps text (asks.DropIndex x) read h = changes_good (asks.DropIndex x) (λ change m. keeps text (asks.DropIndex x) t.working change its_columns read m) h
+    carried_out_good keeps text (asks.Insert x) read h = changes_good (asks.Insert x) (λ change m. keeps text (asks.Insert x) t.working change its_columns read m) h
+    carried_out_good keeps text (asks.Update x) read h = changes_good (asks.Update x) (λ change m. keeps text (asks.Update x) t.working change its_columns read m) h
+    carried_out_good keeps text (asks.Delete x) read h = changes_good (asks.Delete x) (λ change m. keeps text (asks.Delete x) t.working change its_columns read m) h
     carried_out_good keeps text (asks.Commit work) read h = ends_good session.transaction own h
     carried_out_good keeps text (asks.Rollback work) read h = undoes_good session.transaction h
     carried_out_good keeps text (asks.SetTransaction mode) read h = sets_good session.transaction mode h

@@ -18,7 +18,9 @@ ghost use Rattle.session_laws.specs.Sound.{IsSound, IsGoodWorld};
 ghost use Rattle.session_definitions.specs.Step.{Step, StepOf};
 ghost use Rattle.session_definitions.specs.World.{World, is_live, new_world, opened};
 
-use check_laws::{declared_columns_are_there, kept_checks_can_be_read};
+use check_laws::{
+    declared_columns_are_there, kept_checks_can_be_read, what_is_referenced_is_there,
+};
 
 /// A refused call leaves the world as it was; but a serialization failure has rolled back the
 /// session's transaction, and a FETCH has closed its cursor.
@@ -74,6 +76,7 @@ pub fn databases_stay_good()
 {
     kept_checks_can_be_read();
     declared_columns_are_there();
+    what_is_referenced_is_there();
 }
 
 /// The committed databases of a run form one list, whose last one is the last committed; each is

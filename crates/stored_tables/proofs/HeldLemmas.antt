@@ -48,7 +48,7 @@ stays old new root tables same h = record {
 }
 
 pub at_first : (pages : PageMap) → HoldsTables pages 0 []
-at_first pages = record { owned = []; schema = record { tree = (refl, refl); range = tt; coded = tt }; rows = tt; fits = tt; apart = tt }
+at_first pages = record { owned = []; schema = record { tree = (refl, refl); range = tt; coded = tt; references = refl }; rows = tt; fits = tt; apart = tt }
 
 -- the pages of a tree are apart
 pub tree_apart : (pages : PageMap) (root : ℕ) (owned : List ℕ) (entries : List Entry) → IsTree pages root owned entries → Apart owned

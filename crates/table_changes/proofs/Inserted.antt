@@ -1,7 +1,7 @@
 -- What an INSERT of rows that are given leaves of a store.
-use Rattle.std.proofs.Common.{◌≡◌, ◌∙◌, refl, sym, ap, subst, ℕ, Bool, true, false, cond, List, [], ◌∷◌, ◌++◌, map, length, Option, Some, None, Ok, arith}
+use Rattle.std.proofs.Common.{◌≡◌, ◌∙◌, refl, sym, ap, subst, ℕ, Bool, true, false, cond, List, [], ◌∷◌, ◌++◌, map, length, Option, Some, None, Ok, arith, append-nil}
 use Rattle.std.proofs.lemmas.Cmp.{nat_list_cmp_total, tied_itself}
-use Rattle.std.specs.Prelude.{Contains}
+use Rattle.std.specs.Prelude.{Contains, IfSome, IfNone}
 use Rattle.std.specs.Ordering.{is_eq}
 use Rattle.std.specs.FinMap.{get, insert}
 use Rattle.refusals.specs.declared.refusal.Refusal.{Refusal}
@@ -16,10 +16,10 @@ use Rattle.typing.specs.declared.statement.InsertSource.TheVariants as from
 use Rattle.typing.specs.declared.typed.Condition.{Condition}
 use Rattle.typing.specs.declared.typed.Expression.{Expression}
 use Rattle.denote.specs.declared.fault.Fault.{Fault}
-use Rattle.denote.specs.Bag.{Permutes}
+use Rattle.denote.specs.Bag.{Permutes, HasSame}
 use Rattle.denote.specs.Change.{Changed, changed, on_table, insert_into, inserted_rows, unless_raised, unless_violated, with_rows, IsAccepted, IsNamed}
 use Rattle.denote.specs.Change.Changed.{Makes}
-use Rattle.denote.specs.Database.{Name, Table, Database, CheckReading, checks_of, rows_in, violated_by, IsSameTable, AreSame, IsSameDatabase}
+use Rattle.denote.specs.Database.{Name, Table, Database, CheckReading, checks_of, rows_in, violated_in, IsSameTable, AreSame, IsSameDatabase}
 use Rattle.denote.specs.Evaluation.{Evaluation, adding, together}
 use Rattle.denote.specs.Meaning.{Tables, value_of, query_outcome}
 use Rattle.denote.specs.StoredRow.{inserted_row, row_with}
@@ -36,9 +36,12 @@ use Rattle.transactions.proofs.Tests.{reserved}
 use Rattle.operator_laws.proofs.Orders.{length-permutes}
 use Rattle.operator_laws.proofs.Permuting.{Permutes-refl, Permutes-append, HasSame-permutes}
 use Rattle.denote_laws.proofs.Maps.{is_name, found-insert}
-use Rattle.denote_laws.proofs.Tables.{violated_by-same}
+use Rattle.denote_laws.specs.Difference.{Differs}
+use Rattle.denote_laws.proofs.ChangedLemmas.{violated_in-same}
+use Rattle.denote_laws.proofs.Good.{other_name}
 use Rattle.constraints.specs.Changed.{RefusesChange}
-use Rattle.constraints.specs.Settled.{Decided, Holds, Breaks}
+use Rattle.constraints.specs.Matched.{AllHold, BreaksAny, CameAll, has_foreign_keys}
+use Rattle.constraints.specs.Settled.{AreAmong, Decided}
 use Rattle.constraints.proofs.Held.{held_as}
 use Rattle.constraints.proofs.Violations.{same_some}
 use Rattle.constraints.proofs.Short.{Fits, given_each, admitted_fits, no_long_row, no_long_key}
@@ -93,38 +96,63 @@ is_named : (names : List Name) (db : Database) (count : ℕ) (name : Name) → C
 is_named [] db count name one = absurd (let below = one.1 in omega (arith, below))
 is_named (n ∷ names) db count name one = one
 
-module _ (reading : CheckReading) (db : Database) (name : Name) (table : Table) (meant rows : List Row) (count : ℕ) (order : Permutes meant rows) where
+empty_same : (names : List Name) → HasSame names [] → names ≡ []
+empty_same [] h = refl
+empty_same (name ∷ names) h = absurd (let below = ((h name).0 (0, omega arith, refl)).1 in omega (arith, below))
+
+module _ (reading : CheckReading) (db : Database) (name : Name) (table : Table) (there : get db name ≡ Some table) (meant rows : List Row) (count : ℕ) (order : Permutes meant rows) where
   same_table : IsSameTable (record table { rows = table.rows ++ meant }) (record table { rows = table.rows ++ rows })
   same_table = record { columns = refl; constraints = refl; indexes = refl; rows = Permutes-append table.rows table.rows meant rows (Permutes-refl table.rows) order }
 
-  same_violated : violated_by reading name (record table { rows = table.rows ++ meant }) ≡ violated_by reading name (record table { rows = table.rows ++ rows })
-  same_violated = violated_by-same reading name (record table { rows = table.rows ++ meant }) (record table { rows = table.rows ++ rows }) refl refl same_table.rows
+  -- the database as it is meant violates what the one with the stored rows does
+  abbrev meant_there : Database
+  meant_there = insert db name (record table { rows = table.rows ++ meant })
+
+  same_made : IsSameDatabase meant_there (insert db name (record table { rows = table.rows ++ rows }))
+  same_made = put-same db name (record table { rows = table.rows ++ meant }) (record table { rows = table.rows ++ rows }) same_table
 
   put_there : get (insert db name (record table { rows = table.rows ++ rows })) name ≡ Some (record table { rows = table.rows ++ rows })
   put_there = found-insert db name (record table { rows = table.rows ++ rows }) name ∙ ap (λ b. cond b (Some (record table { rows = table.rows ++ rows })) (get db name)) (still_name name)
 
-  -- where the stored rows violate nothing, the change is accepted with them
-  pub accepts : (made : Database) → made ≡ insert db name (record table { rows = table.rows ++ rows }) → Holds reading made name
+  -- where nothing is violated, the change is accepted with the stored rows
+  pub accepts : (made : Database) → made ≡ insert db name (record table { rows = table.rows ++ rows }) → AllHold reading made
       → IsAccepted (with_rows reading db name table (table.rows ++ meant) count) made (Some count)
   accepts made is holds =
-      let none : violated_by reading name (record table { rows = table.rows ++ rows }) ≡ [] =
-      subst (λ (m : Database). Holds reading m name) is holds (record table { rows = table.rows ++ rows }) put_there in
-      let made_so : with_rows reading db name table (table.rows ++ meant) count ≡ Makes (insert db name (record table { rows = table.rows ++ meant })) (Some count) =
-      ap (λ names. unless_violated names (insert db name (record table { rows = table.rows ++ meant })) count) (same_violated ∙ none) in
+      let none : violated_in reading meant_there ≡ [] = empty_same (violated_in reading meant_there)
+      (subst (λ (names : List Name). HasSame (violated_in reading meant_there) names) (subst (λ (m : Database). AllHold reading m) is holds)
+      (violated_in-same reading meant_there (insert db name (record table { rows = table.rows ++ rows })) same_made)) in
+      let made_so : with_rows reading db name table (table.rows ++ meant) count ≡ Makes meant_there (Some count) =
+      ap (λ names. unless_violated names meant_there count) none in
       subst (λ (c : Changed). IsAccepted c made (Some count)) (sym made_so) (
-        subst (λ (m : Database). IsSameDatabase (insert db name (record table { rows = table.rows ++ meant })) m) (sym is)
-            (put-same db name (record table { rows = table.rows ++ meant }) (record table { rows = table.rows ++ rows }) same_table),
+        subst (λ (m : Database). IsSameDatabase meant_there m) (sym is) same_made,
         refl,
       )
 
-  -- and where they violate a constraint, so do the rows as they are meant
-  pub names_it : (made : Database) → made ≡ insert db name (record table { rows = table.rows ++ rows }) → (t : Table) (constraint : Name) → get made name ≡ Some t
-      → Contains (violated_by reading name t) constraint → IsNamed (with_rows reading db name table (table.rows ++ meant) count) constraint
-  names_it made is t constraint found one =
-      let same : t ≡ record table { rows = table.rows ++ rows } =
-      same_some t (record table { rows = table.rows ++ rows }) (sym found ∙ ap (λ (m : Database). get m name) is ∙ put_there) in
-      is_named (violated_by reading name (record table { rows = table.rows ++ meant })) (insert db name (record table { rows = table.rows ++ meant })) count constraint
-      (subst (λ (names : List Name). Contains names constraint) (ap (violated_by reading name) same ∙ sym same_violated) one)
+  -- and where a constraint is violated, it is with the rows as they are meant
+  pub names_it : (made : Database) → made ≡ insert db name (record table { rows = table.rows ++ rows }) → (constraint : Name)
+      → Contains (violated_in reading made) constraint → IsNamed (with_rows reading db name table (table.rows ++ meant) count) constraint
+  names_it made is constraint one =
+      is_named (violated_in reading meant_there) meant_there count constraint
+      ((violated_in-same reading meant_there (insert db name (record table { rows = table.rows ++ rows })) same_made constraint).1
+      (subst (λ (m : Database). Contains (violated_in reading m) constraint) is one))
+
+  -- rows came to the table, and none went
+  pub differs : Differs db (insert db name (record table { rows = table.rows ++ rows })) name rows []
+  differs = record {
+    table = table;
+    was_there = there;
+    now = record table { rows = table.rows ++ rows };
+    there = put_there;
+    constraints = refl;
+    stay = table.rows;
+    before = subst (λ (all : List Row). Permutes all table.rows) (sym (append-nil table.rows)) (Permutes-refl table.rows);
+    after = Permutes-refl (table.rows ++ rows);
+    others = λ other apart. found-insert db name (record table { rows = table.rows ++ rows }) other
+        ∙ ap (λ b. cond b (Some (record table { rows = table.rows ++ rows })) (get db other)) (other_name other name apart);
+  }
+
+  pub among : AreAmong (insert db name (record table { rows = table.rows ++ rows })) name rows
+  among = record { table = record table { rows = table.rows ++ rows }; there = put_there; others = table.rows; order = Permutes-refl (table.rows ++ rows) }
 
 -- ---- the change
 
@@ -146,7 +174,7 @@ module _ (reading : CheckReading) (old mid : Stored) (i : Insert) (rows : List R
       subst (λ (s : Stored). HasMore (database_of s.working) i.table rows (database_of made.working)) (sym m) (record {
         table = g.table;
         there = g.there;
-        more = ap (λ (db : Database). get db i.table) (would_be made e) ∙ put_there reading (database_of old.working) i.table g.table g.meant rows (length g.meant) g.order;
+        more = ap (λ (db : Database). get db i.table) (would_be made e) ∙ put_there reading (database_of old.working) i.table g.table g.there g.meant rows (length g.meant) g.order;
       })
 
   -- what decides the CHECKs of the table still does
@@ -155,7 +183,7 @@ module _ (reading : CheckReading) (old mid : Stored) (i : Insert) (rows : List R
   decided_made decides made e = decided_still decides (database_of old.working) (database_of made.working) i.table g.table (g.table.rows ++ rows) (would_be made e) g.there
 
   -- the rows are stored
-  pub inserted : (made new : Stored) (n : ℕ) (reply : Reply) → made ≡ working_on mid (appended mid.working i.table rows) → new ≡ made → Holds reading (database_of made.working) i.table
+  pub inserted : (made new : Stored) (n : ℕ) (reply : Reply) → made ≡ working_on mid (appended mid.working i.table rows) → new ≡ made → AllHold reading (database_of made.working)
       → n ≡ length rows → reply ≡ counted (Some n) → HasAccepted reading old (does.Insert i) reply new
   inserted made new n reply e kept holds count says_so =
       let left : made ≡ record old { working = appended old.working i.table rows; marked = old.working } = e ∙ ap (λ (s : Stored). working_on s (appended s.working i.table rows)) m in
@@ -166,20 +194,41 @@ module _ (reading : CheckReading) (old mid : Stored) (i : Insert) (rows : List R
         count = Some (length g.meant);
         accepted =
             subst (λ (c : Changed). IsAccepted c (database_of (appended old.working i.table rows)) (Some (length g.meant))) (sym changed_is)
-            (accepts reading (database_of old.working) i.table g.table g.meant rows (length g.meant) g.order (database_of (appended old.working i.table rows))
-            (appended-database old.working i.table g.table rows g.there) (subst (λ (s : Stored). Holds reading (database_of s.working) i.table) left holds));
+            (accepts reading (database_of old.working) i.table g.table g.there g.meant rows (length g.meant) g.order (database_of (appended old.working i.table rows))
+            (appended-database old.working i.table g.table rows g.there) (subst (λ (s : Stored). AllHold reading (database_of s.working)) left holds));
         says_so = says_so ∙ ap (λ (n : ℕ). counted (Some n)) as_many;
         leaves = kept ∙ left;
       }
 
   -- or a constraint is violated
-  pub broken : (made : Stored) (refusal : Refusal) → made ≡ working_on mid (appended mid.working i.table rows) → Breaks reading (database_of made.working) i.table refusal
+  pub broken : (made : Stored) (refusal : Refusal) → made ≡ working_on mid (appended mid.working i.table rows) → BreaksAny reading (database_of made.working) refusal
       → RefusesChange reading (database_of old.working) (does.Insert i) refusal
-  broken made refusal e (Breaks.withheld reserved) = RefusesChange.withheld reserved
-  broken made refusal e (Breaks.violates t constraint found says_so one) =
+  broken made refusal e (BreaksAny.withheld reserved) = RefusesChange.withheld reserved
+  broken made refusal e (BreaksAny.violates constraint says_so one) =
       RefusesChange.violates constraint says_so
       (subst (λ (c : Changed). IsNamed c constraint) (sym changed_is)
-      (names_it reading (database_of old.working) i.table g.table g.meant rows (length g.meant) g.order (database_of made.working) (would_be made e) t constraint found one))
+      (names_it reading (database_of old.working) i.table g.table g.there g.meant rows (length g.meant) g.order (database_of made.working) (would_be made e) constraint one))
+
+  -- rows came to the table alone, and these are some of its own
+  pub differ : (made : Stored) → made ≡ working_on mid (appended mid.working i.table rows) → Differs (database_of old.working) (database_of made.working) i.table rows []
+  differ made e = subst (λ (db : Database). Differs (database_of old.working) db i.table rows []) (sym (would_be made e))
+      (differs reading (database_of old.working) i.table g.table g.there g.meant rows (length g.meant) g.order)
+
+  pub are_among : (made : Stored) → made ≡ working_on mid (appended mid.working i.table rows) → AreAmong (database_of made.working) i.table rows
+  are_among made e = subst (λ (db : Database). AreAmong db i.table rows) (sym (would_be made e))
+      (among reading (database_of old.working) i.table g.table g.there g.meant rows (length g.meant) g.order)
+
+  -- the copies of these rows are there, where the table has a foreign key
+  pub came_all : (made : Stored) (copies : Option (List Row)) → made ≡ working_on mid (appended mid.working i.table rows)
+      → IfSome copies (λ all. all ≡ rows)
+      → IfNone copies ((t : Table) → get (database_of old.working) i.table ≡ Some t → has_foreign_keys t.constraints ≡ false)
+      → CameAll (database_of made.working) i.table rows copies
+  came_all made (Some all) e same none = same
+  came_all made None e same none = λ t found.
+      let now : t ≡ record g.table { rows = g.table.rows ++ rows } = same_some t (record g.table { rows = g.table.rows ++ rows })
+      (sym found ∙ ap (λ (db : Database). get db i.table) (would_be made e)
+      ∙ put_there reading (database_of old.working) i.table g.table g.there g.meant rows (length g.meant) g.order) in
+      ap (λ (u : Table). has_foreign_keys u.constraints) now ∙ none g.table g.there
 
   keys_in : indexes_of (get mid.working i.table) ≡ g.table.indexes
   keys_in =

@@ -91,4 +91,4 @@ good-holds reading schema db of good name table e =
     let here : get db name ≡ Some stored = ap (get db) (sym called) ∙ is in
     let same : stored.columns ≡ table.columns = sym declares.columns ∙ columns in
     subst (λ (o : Option Table). AreRows (column_types table.columns) (rows_of o)) (sym here)
-    (subst (λ (cs : List Column). AreRows (column_types cs) stored.rows) same (rows-fit stored.columns stored.rows (good name stored here).fitting))
+    (subst (λ (cs : List Column). AreRows (column_types cs) stored.rows) same (rows-fit stored.columns stored.rows (good name stored here).alone.fitting))

@@ -1,5 +1,5 @@
 -- What is left of a store once all changes of rows are made and the table was looked at.
-use Rattle.std.proofs.Common.{◌≡◌, ◌∙◌, refl, sym, ap, subst, ℕ, false, List, [], ◌++◌, map, Option, Some, None, IfSome}
+use Rattle.std.proofs.Common.{◌≡◌, ◌∙◌, refl, sym, ap, subst, ℕ, false, cond, List, [], ◌++◌, map, Option, Some, None, IfSome, IfNone}
 use Rattle.std.specs.FinMap.{get, insert}
 use Rattle.refusals.specs.declared.refusal.Refusal.{Refusal}
 use Rattle.operator_laws.specs.Same.{Every}
@@ -10,7 +10,10 @@ use Rattle.typing.specs.declared.statement.Change.{Change}
 use Rattle.denote.specs.Bag.{Permutes}
 use Rattle.denote.specs.Change.{changed}
 use Rattle.denote.specs.Change.Changed.{Makes}
-use Rattle.denote.specs.Database.{Name, Table, CheckReading, IndexDeclaration, violated_by}
+use Rattle.denote.specs.Database.{Name, Table, Database, CheckReading, IndexDeclaration, violated_by}
+use Rattle.denote_laws.specs.Difference.{Differs}
+use Rattle.denote_laws.proofs.Good.{other_name}
+use Rattle.denote_laws.proofs.Maps.{found-insert}
 use Rattle.replies.specs.declared.reply.Reply.{Reply}
 use Rattle.replies.specs.declared.reply.Reply.TheVariants as says
 use Rattle.session_definitions.specs.Statements.{counted}
@@ -19,7 +22,10 @@ use Rattle.store.specs.Errors.{indexes_of}
 use Rattle.store.specs.Indexes.{entries_of}
 use Rattle.store.specs.Stored.{Stored, SameButMark, marked_now, undone, working_on}
 use Rattle.constraints.specs.Changed.{HasChanged, RefusesChange}
-use Rattle.constraints.specs.Settled.{AreAmong, Decided, Holds, OthersHold, Breaks}
+use Rattle.constraints.specs.declared.matching.Moved.{Moved}
+use Rattle.constraints.specs.Matched.{AllHold, BreaksAny, IsAtNoEnd, MovedAll}
+use Rattle.constraints.proofs.Matched.{still-at-no-end}
+use Rattle.constraints.specs.Settled.{AreAmong, Decided, Holds, OthersHold}
 use Rattle.constraints.proofs.Held.{held_as}
 use Rattle.constraints.proofs.Settling.{undone_all, makes, refuses}
 use Rattle.update_delete.proofs.Made.{decided_still, found_still, holds_still, put_still}
@@ -54,23 +60,39 @@ module _ (reading : CheckReading) (old mid : Stored) (change : Change) (name : N
     holds_made good = holds_still reading (database_of old.working) (database_of made.working) name is.table is.left would_be good
 
     -- the new rows are some of its own, and where the others violate nothing, they do
-    pub among_made : planned.harmless ≡ false → AreAmong (database_of made.working) name (rows_new planned.changes)
-    among_made unsure = record {
+    pub among_made : AreAmong (database_of made.working) name (rows_new planned.changes)
+    among_made = record {
       table = record is.table { rows = is.left };
       there = put_still (database_of old.working) (database_of made.working) name is.table is.left would_be;
       others = is.others;
-      order = is.among unsure;
+      order = is.among;
     }
 
     pub others_made : planned.harmless ≡ false → OthersGood reading old.working change name planned is → OthersHold reading (database_of made.working) name (rows_new planned.changes)
     others_made unsure good = found_still (database_of old.working) (database_of made.working) name is.table is.left would_be
-        (λ (t : Table). (others : List Row) × Permutes (others ++ rows_new planned.changes) t.rows × (violated_by reading name (record t { rows = others }) ≡ [])) (is.others, is.among unsure, good)
+        (λ (t : Table). (others : List Row) × Permutes (others ++ rows_new planned.changes) t.rows × (violated_by reading name (record t { rows = others }) ≡ [])) (is.others, is.among, good)
 
     -- what decides the CHECKs of the table still does
     pub decided_made : (decides : Name → List Column → List Constraint → Type 0) → Decided decides (database_of old.working) name → Decided decides (database_of made.working) name
     decided_made decides = decided_still decides (database_of old.working) (database_of made.working) name is.table is.left would_be is.there
 
-    pub carried : (new : Stored) (n : ℕ) (reply : Reply) → new ≡ made → Holds reading (database_of made.working) name → n ≡ is.count → reply ≡ counted (Some n)
+    -- rows came to the table, and others went from it
+    pub differ_made : Differs (database_of old.working) (database_of made.working) name (rows_new planned.changes) planned.gone
+    differ_made = record {
+      table = is.table;
+      was_there = is.there;
+      now = record is.table { rows = is.left };
+      there = put_still (database_of old.working) (database_of made.working) name is.table is.left would_be;
+      constraints = refl;
+      stay = is.others;
+      before = is.before;
+      after = is.among;
+      others = λ other apart. ap (λ (db : Database). get db other) would_be
+          ∙ found-insert (database_of old.working) name (record is.table { rows = is.left }) other
+          ∙ ap (λ b. cond b (Some (record is.table { rows = is.left })) (get (database_of old.working) other)) (other_name other name apart);
+    }
+
+    pub carried : (new : Stored) (n : ℕ) (reply : Reply) → new ≡ made → AllHold reading (database_of made.working) → n ≡ is.count → reply ≡ counted (Some n)
         → HasChanged reading old change reply new
     carried new n reply kept holds count says_so = record {
       contents = all_made name planned.numbers planned.changes old.working;
@@ -83,7 +105,7 @@ module _ (reading : CheckReading) (old mid : Stored) (change : Change) (name : N
       leaves = kept ∙ made_is;
     }
 
-    pub broken : (refusal : Refusal) → Breaks reading (database_of made.working) name refusal → RefusesChange reading (database_of old.working) change refusal
+    pub broken : (refusal : Refusal) → BreaksAny reading (database_of made.working) refusal → RefusesChange reading (database_of old.working) change refusal
     broken refusal h = refuses reading (database_of old.working) (database_of made.working) name is.table is.left is.count would_be change refusal is.means h
 
 -- what is so of the new rows is so of those that are looked up
@@ -91,6 +113,25 @@ pub where_new : (found : Option (List Row)) (planned : Planned) (P : List Row �
     → (planned.harmless ≡ false → P (rows_new planned.changes)) → IfSome found P
 where_new None planned P new h = tt
 where_new (Some rows) planned P new h = subst P (sym new.0) (h new.1)
+
+-- what moved is asked, where a foreign key has the table at an end
+none_moved : (old new : Database) (name : Name) (planned : Planned) → Differs old new name (rows_new planned.changes) planned.gone → IsAtNoEnd old name → IsAtNoEnd new name
+none_moved old new name planned d none = still-at-no-end name old new (rows_new planned.changes) planned.gone d none
+
+pub moved_all : (old new : Database) (name : Name) (planned : Planned) (moved : Option Moved) → Differs old new name (rows_new planned.changes) planned.gone
+    → IfSome moved (λ m. (m.came ≡ rows_new planned.changes) × (m.gone ≡ planned.gone)) → IfNone moved (IsAtNoEnd old name)
+    → MovedAll new name (rows_new planned.changes) planned.gone moved
+moved_all old new name planned (Some moved) d same none = same
+moved_all old new name planned None d same none = none_moved old new name planned d none
+
+pub none_before : {P Q : Type 0} (moved : Option Moved) → (P → Q) → IfNone moved P → IfNone moved Q
+none_before None f h = f h
+none_before (Some moved) f h = tt
+
+pub some_among : (moved : Option Moved) (planned : Planned) (P : List Row → Type 0) → P (rows_new planned.changes)
+    → IfSome moved (λ m. (m.came ≡ rows_new planned.changes) × (m.gone ≡ planned.gone)) → IfSome moved (λ m. P m.came)
+some_among None planned P h same = tt
+some_among (Some moved) planned P h same = subst P (sym same.0) h
 
 -- what goes back to the mark
 pub taken_back : (old mid made new : Stored) (c : Contents) → mid ≡ marked_now old → made ≡ working_on mid c → new ≡ undone made → SameButMark old new

@@ -11,7 +11,7 @@ use Rattle.denote.specs.Stop.{Gives}
 use Rattle.operator_laws.proofs.Permuting.{Permutes-sym, Permutes-pass}
 use Rattle.update_delete.specs.declared.change.RowChange.{RowChange}
 use Rattle.update_delete.specs.declared.change.RowChange.TheVariants.{Stays, Goes, Becomes}
-use Rattle.update_delete.specs.RowChanges.{rows_left, rows_new, spread_at, spread}
+use Rattle.update_delete.specs.RowChanges.{rows_gone, rows_left, rows_new, spread_at, spread}
 use Rattle.update_delete.specs.Kept.{Keeps, KeepAll}
 use Rattle.update_delete.proofs.Keeping.{constraints-kept}
 
@@ -63,6 +63,32 @@ left-permutes test (row ∷ rows) changes few = by (test row) changes few (λ cs
         goes_on (Permutes-sym (new ∷ (staying rows (spread test rows changes) ++ rows_new changes)) (staying rows (spread test rows changes) ++ (new ∷ rows_new changes))
         (Permutes-pass new (staying rows (spread test rows changes)) (rows_new changes)))
         (keeps new (rest changes (omega (arith, few))))
+
+none-gone : (rows : List Row) → rows_gone rows [] ≡ []
+none-gone [] = refl
+none-gone (row ∷ rows) = refl
+
+-- the rows of a table are those that stay and those that go
+pub gone-permutes : (test : Row → Bool) (rows : List Row) (changes : List RowChange)
+    → Permutes (staying rows (spread test rows changes) ++ rows_gone (filter test rows) changes) rows
+gone-permutes test [] changes = nothing
+gone-permutes test (row ∷ rows) changes = by (test row) changes (λ cs. gone-permutes test rows cs)
+  where
+    by : (b : Bool) (changes : List RowChange)
+        → ((cs : List RowChange) → Permutes (staying rows (spread test rows cs) ++ rows_gone (filter test rows) cs) rows)
+        → Permutes (staying (row ∷ rows) (spread_at b (λ (others : List RowChange). spread test rows others) changes) ++ rows_gone (cond b (row ∷ filter test rows) (filter test rows)) changes)
+        (row ∷ rows)
+    by false changes rest = keeps row (rest changes)
+    by true [] rest = keeps row (subst (λ (gs : List Row). Permutes (staying rows (spread test rows []) ++ gs) rows) (none-gone (filter test rows)) (rest []))
+    by true (Stays ∷ changes) rest = keeps row (rest changes)
+    by true (Goes ∷ changes) rest =
+        goes_on (Permutes-sym (row ∷ (staying rows (spread test rows changes) ++ rows_gone (filter test rows) changes)) (staying rows (spread test rows changes) ++ (row ∷ rows_gone (filter test rows) changes))
+        (Permutes-pass row (staying rows (spread test rows changes)) (rows_gone (filter test rows) changes)))
+        (keeps row (rest changes))
+    by true (Becomes new ∷ changes) rest =
+        goes_on (Permutes-sym (row ∷ (staying rows (spread test rows changes) ++ rows_gone (filter test rows) changes)) (staying rows (spread test rows changes) ++ (row ∷ rows_gone (filter test rows) changes))
+        (Permutes-pass row (staying rows (spread test rows changes)) (rows_gone (filter test rows) changes)))
+        (keeps row (rest changes))
 
 pub few-in : (changes : List RowChange) (rows passing : List Row) → length changes ≡ length rows → rows ≡ passing → length changes ≤ length passing
 few-in changes rows passing many is = subst (λ (rs : List Row). length changes ≤ length rs) is (omega (arith, many))

@@ -1,5 +1,5 @@
 -- What is planned for the rows of a table is what the definitions make of it.
-use Rattle.std.proofs.Common.{◌≡◌, ◌∙◌, refl, sym, ap, subst, ℕ, Bool, true, false, not, ◌≤◌, List, [], ◌++◌, map, filter, length, Some, Ok, Err, arith}
+use Rattle.std.proofs.Common.{◌≡◌, ◌∙◌, refl, sym, ap, subst, ℕ, Bool, true, false, not, ◌≤◌, List, [], ◌++◌, map, filter, length, Option, Some, None, Ok, Err, arith}
 use Rattle.std.specs.Prelude.{Contains, count_by}
 use Rattle.std.specs.List.{list_any}
 use Rattle.std.specs.FinMap.{get}
@@ -31,14 +31,23 @@ use Rattle.constraints.specs.Stopped.{refused_by}
 use Rattle.constraints.proofs.Declared.{no_table}
 use Rattle.constraints.proofs.Held.{held_as}
 use Rattle.update_delete.specs.Made.{all_made}
-use Rattle.update_delete.specs.RowChanges.{spread, rows_new, IsShort, AreUpdates, AreDeletions}
+use Rattle.update_delete.specs.RowChanges.{spread, rows_gone, rows_new, IsShort, AreUpdates, AreDeletions}
+use Rattle.update_delete.specs.declared.change.RowChange.{RowChange}
 use Rattle.update_delete.specs.declared.planned.Planned.{Planned}
+use Rattle.update_delete.specs.Planned.{IsPlannedFor}
 use Rattle.update_delete.specs.Plans.{IsMeant, IsHarmless}
 use Rattle.update_delete.proofs.Sparse.{made-spread, count-spread, every-spread}
 use Rattle.update_delete.proofs.Fewer.{own-rows, violates-no-more}
 use Rattle.update_delete.specs.Kept.{Keeps, KeepAll}
 use Rattle.update_delete.proofs.Keeping.{keep-spread, constraints-kept}
-use Rattle.update_delete.proofs.Coming.{staying, staying-hold, left-permutes}
+use Rattle.update_delete.proofs.Coming.{gone-permutes, staying, staying-hold, left-permutes}
+
+-- what is so of this plan is so of what is planned
+pub planned-of : (P : Option Planned → Type 0) (numbers : List ℕ) (rows : List Row) (changes : List RowChange) (harmless : Bool) (found : Option Planned)
+    → IsPlannedFor numbers rows changes harmless found
+    → P (Some (record { numbers = numbers; changes = changes; gone = rows_gone rows changes; harmless = harmless })) → P found
+planned-of P numbers rows changes harmless None is h = absurd is
+planned-of P numbers rows changes harmless (Some planned) is h = subst (λ (p : Planned). P (Some p)) (sym is) h
 
 -- no table has the name
 pub no_update : (reading : CheckReading) (c : Contents) (schema : Schema) (u : Update) → IsSchemaOf schema (database_of c)
@@ -82,6 +91,13 @@ made_sparsely c name table there planned test numbered k =
     ∙ made-spread name test (entries_of (get c name)) planned.changes k
     ∙ ap (λ (rs : List Row). all_made name (map (λ (e : Entry). e.0) (entries_of (get c name))) (spread test rs planned.changes) k) rows
 
+-- the rows that the table had are those that stay and those that go
+went_from : (table : Table) (test : Row → Bool) (planned : Planned) → planned.gone ≡ rows_gone (filter test table.rows) planned.changes
+    → Permutes (staying table.rows (spread test table.rows planned.changes) ++ planned.gone) table.rows
+went_from table test planned left_out =
+    subst (λ (rows : List Row). Permutes (staying table.rows (spread test table.rows planned.changes) ++ rows) table.rows) (sym left_out)
+    (gone-permutes test table.rows planned.changes)
+
 -- ---- UPDATE
 
 module _ (reading : CheckReading) (c : Contents) (u : Update) (table : Table) (there : get (database_of c) u.table ≡ Some table) where
@@ -94,8 +110,8 @@ module _ (reading : CheckReading) (c : Contents) (u : Update) (table : Table) (t
 
   pub update_meant : (planned : Planned) (test : Row → Bool) → planned.numbers ≡ map (λ (e : Entry). e.0) (filter (λ (e : Entry). test e.1) (entries_of (get c u.table)))
       → (found : List (Bool × Row)) → updated ≡ Ok found → AreUpdates table (spread test table.rows planned.changes) found → length planned.changes ≤ length (filter test table.rows)
-      → IsMeant reading c (does.Update u) u.table planned
-  update_meant planned test numbered found e are few = record {
+      → planned.gone ≡ rows_gone (filter test table.rows) planned.changes → IsMeant reading c (does.Update u) u.table planned
+  update_meant planned test numbered found e are few left_out = record {
     table = table;
     there = there;
     all = spread test table.rows planned.changes;
@@ -106,7 +122,8 @@ module _ (reading : CheckReading) (c : Contents) (u : Update) (table : Table) (t
     touched = sym (count-spread test table.rows planned.changes) ∙ are.as_many;
     are = are;
     others = staying table.rows (spread test table.rows planned.changes);
-    among = λ unsure.
+    before = went_from table test planned left_out;
+    among =
         subst (λ (rows : List Row). Permutes (staying table.rows (spread test table.rows planned.changes) ++ rows_new planned.changes) rows) are.left_so
         (left-permutes test table.rows planned.changes few);
     means = update_is ∙ ap (λ x. unless_raised x (λ (rows : List (Bool × Row)). with_rows reading (database_of c) u.table table (map (λ r. r.1) rows) (count_by (λ r. r.0) rows))) e;
@@ -118,10 +135,11 @@ module _ (reading : CheckReading) (c : Contents) (u : Update) (table : Table) (t
   -- a table whose keys stay, and to which no row comes that violates a constraint alone, holds
   pub update_harmless : (planned : Planned) (test : Row → Bool) → planned.numbers ≡ map (λ (e : Entry). e.0) (filter (λ (e : Entry). test e.1) (entries_of (get c u.table)))
       → (found : List (Bool × Row)) → updated ≡ Ok found → AreUpdates table (spread test table.rows planned.changes) found → length planned.changes ≤ length (filter test table.rows)
+      → planned.gone ≡ rows_gone (filter test table.rows) planned.changes
       → (planned.harmless ≡ true → KeepAll (Keeps reading u.table table table.constraints) (filter test table.rows) planned.changes) → IsHarmless reading c (does.Update u) u.table planned
   unfolding update_meant
-  update_harmless planned test numbered found e are few keeps = record {
-    meant = update_meant planned test numbered found e are few;
+  update_harmless planned test numbered found e are few left_out keeps = record {
+    meant = update_meant planned test numbered found e are few left_out;
     others_good = λ unsure holds. staying-hold reading u.table table (spread test table.rows planned.changes) (holds table there);
     leaves_good = λ sure holds. ap (λ (rows : List Row). violated_by reading u.table (record table { rows = rows })) (sym are.left_so)
         ∙ constraints-kept reading u.table table (spread test table.rows planned.changes)
@@ -139,8 +157,9 @@ module _ (reading : CheckReading) (c : Contents) (d : Delete) (table : Table) (t
   deletion_is = ap (λ o. on_table (database_of c) o (delete_from reading (database_of c) d)) there
 
   pub deletion_meant : (planned : Planned) (test : Row → Bool) → planned.harmless ≡ true → planned.numbers ≡ map (λ (e : Entry). e.0) (filter (λ (e : Entry). test e.1) (entries_of (get c d.table)))
-      → (found : List (Bool × Row)) → deleted ≡ Ok found → AreDeletions table (spread test table.rows planned.changes) found → IsMeant reading c (does.Delete d) d.table planned
-  deletion_meant planned test sure numbered found e are = record {
+      → (found : List (Bool × Row)) → deleted ≡ Ok found → AreDeletions table (spread test table.rows planned.changes) found → length planned.changes ≤ length (filter test table.rows)
+      → planned.gone ≡ rows_gone (filter test table.rows) planned.changes → IsMeant reading c (does.Delete d) d.table planned
+  deletion_meant planned test sure numbered found e are few left_out = record {
     table = table;
     there = there;
     all = spread test table.rows planned.changes;
@@ -150,19 +169,23 @@ module _ (reading : CheckReading) (c : Contents) (d : Delete) (table : Table) (t
     count = count_by (λ r. r.0) found;
     touched = sym (count-spread test table.rows planned.changes) ∙ are.as_many;
     are = are;
-    others = [];
-    among = λ unsure. absurd (cc (sure, unsure));
+    others = staying table.rows (spread test table.rows planned.changes);
+    before = went_from table test planned left_out;
+    among =
+        subst (λ (rows : List Row). Permutes (staying table.rows (spread test table.rows planned.changes) ++ rows_new planned.changes) rows) are.left_so
+        (left-permutes test table.rows planned.changes few);
     means = deletion_is ∙ ap (λ x. unless_raised x (λ (rows : List (Bool × Row)). with_rows reading (database_of c) d.table table (map (λ r. r.1) (filter (λ r. not r.0) rows)) (count_by (λ r. r.0) rows))) e;
   }
 
   -- fewer rows violate no more
   pub deletion_harmless : (planned : Planned) (test : Row → Bool) → planned.harmless ≡ true
       → planned.numbers ≡ map (λ (e : Entry). e.0) (filter (λ (e : Entry). test e.1) (entries_of (get c d.table)))
-      → (found : List (Bool × Row)) → deleted ≡ Ok found → AreDeletions table (spread test table.rows planned.changes) found → IsHarmless reading c (does.Delete d) d.table planned
+      → (found : List (Bool × Row)) → deleted ≡ Ok found → AreDeletions table (spread test table.rows planned.changes) found → length planned.changes ≤ length (filter test table.rows)
+      → planned.gone ≡ rows_gone (filter test table.rows) planned.changes → IsHarmless reading c (does.Delete d) d.table planned
   unfolding deletion_meant
-  deletion_harmless planned test sure numbered found e are =
+  deletion_harmless planned test sure numbered found e are few left_out =
       let own : map (λ (r : Bool × Row). r.1) found ≡ table.rows = own-rows (is_touched (rows_in (database_of c)) d.filter) table.rows found e in record {
-        meant = deletion_meant planned test sure numbered found e are;
+        meant = deletion_meant planned test sure numbered found e are few left_out;
         others_good = λ unsure holds. absurd (cc (sure, unsure));
         leaves_good = λ said holds. violates-no-more (λ (r : Bool × Row). not r.0) reading d.table table found
             (ap (λ (rows : List Row). violated_by reading d.table (record table { rows = rows })) own ∙ holds table there);

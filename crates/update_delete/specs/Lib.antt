@@ -9,3 +9,4 @@ pub mod Ranges
 pub mod Kept
 pub mod KeptChanges
 pub mod Reached
+pub mod Planned

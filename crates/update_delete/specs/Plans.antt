@@ -17,8 +17,8 @@ use Rattle.update_delete.specs.RowChanges.{is_change, rows_new, IsShort, AreChan
 use Rattle.update_delete.specs.declared.planned.Planned.{Planned}
 
 -- The table is there. The planned changes make of a store what changes of all rows of the table
--- make, of which some may stay; and these leave the rows that it has by the definitions. Where
--- these are to be looked at, they are, in some order, the others and the new ones.
+-- make, of which some may stay; and these leave the rows that it has by the definitions. These are,
+-- in some order, the others and the new ones; those that it had are the others and the ones gone.
 pub record IsMeant (reading : CheckReading) (c : Contents) (change : Change) (name : Name) (planned : Planned) : Type 0 where
   pub table : Table
   pub there : get (database_of c) name ≡ Some table
@@ -31,7 +31,8 @@ pub record IsMeant (reading : CheckReading) (c : Contents) (change : Change) (na
   pub touched : count_by is_change planned.changes ≡ count
   pub are : AreChanges table all left count
   pub others : List Row
-  pub among : planned.harmless ≡ false → Permutes (others ++ rows_new planned.changes) left
+  pub before : Permutes (others ++ planned.gone) table.rows
+  pub among : Permutes (others ++ rows_new planned.changes) left
   pub means : changed reading (database_of c) change ≡ with_rows reading (database_of c) name table left count
 
 -- the table that would be violates no constraint

@@ -23,6 +23,17 @@ rows_left [] changes = []
 rows_left (row ∷ rows) [] = row ∷ rows
 rows_left (row ∷ rows) (change ∷ changes) = left_of row change ++ rows_left rows changes
 
+-- what is no longer there of a row, and of rows, the n-th of which is changed by the n-th change
+abbrev pub gone_of : Row → RowChange → List Row
+gone_of row Stays = []
+gone_of row Goes = row ∷ []
+gone_of row (Becomes new) = row ∷ []
+
+abbrev pub rows_gone : List Row → List RowChange → List Row
+rows_gone [] changes = []
+rows_gone (row ∷ rows) [] = []
+rows_gone (row ∷ rows) (change ∷ changes) = gone_of row change ++ rows_gone rows changes
+
 -- changes of the rows that pass a test, put among those of all rows: the others stay
 abbrev pub spread_at : Bool → (List RowChange → List RowChange) → List RowChange → List RowChange
 spread_at false others changes = Stays ∷ others changes

@@ -3,7 +3,7 @@ ghost use Rattle.std.specs.Prelude.{◌≡◌, [], IfOk, IfErr, IfSome, OnErr};
 ghost use Rattle.std.specs.FinMap.{get};
 ghost use Rattle.refusals.specs.declared.refusal.Refusal.TheVariants.{Disk};
 ghost use Rattle.typing.specs.declared.statement.Change.TheVariants as does;
-ghost use Rattle.denote.specs.Database.{CheckReading, rows_in};
+ghost use Rattle.denote.specs.Database.{CheckReading, IsGood, rows_in};
 ghost use Rattle.denote.specs.SchemaOf.{IsSchemaOf};
 ghost use Rattle.transactions.specs.Refused.{IfRefused, TellsNoLimit, TellsReached};
 ghost use Rattle.store.specs.Contents.{Contents, database_of};
@@ -13,7 +13,7 @@ ghost use Rattle.store.specs.Stored.{SameButMark};
 ghost use Rattle.tree_tables.specs.TablesRead.{Agree};
 ghost use Rattle.query_answers.specs.Lent.{rows_lent};
 ghost use Rattle.constraints.specs.Changed.{HasChanged, RefusesChange};
-ghost use Rattle.constraints.specs.Settled.{Decided, Holds};
+ghost use Rattle.constraints.specs.Settled.{Decided};
 ghost use Rattle.update_delete.specs.Statements.{IsFilterOf, tables_in_filter};
 ghost use Rattle.update_delete.specs.Candidates.{AreCandidates};
 ghost use Rattle.update_delete.specs.Plans.{IsPlanned};
@@ -22,7 +22,7 @@ ghost use Rattle.update_delete.specs.RowChanges.{rows_new};
 use crate::candidates::candidates;
 use crate::carrying::carry_out;
 use crate::deleting::deletions;
-use crate::planned::Planned;
+use crate::planned::{Planned, planned_for};
 use crate::reading::lent_to_delete;
 use crate::trees::filter_tree;
 use algebra::Condition;
@@ -35,11 +35,11 @@ use std::alloc::Global;
 use store::{Numbered, Store};
 use typing::Delete;
 
-/// DELETE from a table that violates no constraint: the rows that its condition touches go, so that
-/// it violates none. The condition sees the tables as they were. It is refused by a fault of its
-/// evaluation over all rows; for want of memory, by the device or by a limit of the store. Whether
-/// a CHECK is violated is decided by `checks`. It sets the mark. Where it is refused, all is as it
-/// was, but for the mark.
+/// DELETE from a table of a good database: the rows that its condition touches go. The condition
+/// sees the tables as they were. It is refused by a fault of its evaluation over all rows, or else
+/// by a foreign key that would be violated (23000); for want of memory, by the device or by a limit
+/// of the store. Whether a CHECK is violated is decided by `checks`. It sets the mark. Where it is
+/// refused, all is as it was, but for the mark.
 pub fn delete_rows<S: Store, C: Checks>(
     alloc: Global,
     store: &mut S,
@@ -49,7 +49,7 @@ pub fn delete_rows<S: Store, C: Checks>(
     ensures changes { IfOk result (λ reply. (reading : CheckReading) → S.is_sound store.old
         → IsSchemaOf (S.prepared store.old) (database_of (S.shows store.old).working)
         → Decided (C.decides checks.now reading) (database_of (S.shows store.old).working) delete.now.table
-        → Holds reading (database_of (S.shows store.old).working) delete.now.table
+        → IsGood reading (database_of (S.shows store.old).working)
         → HasChanged reading (S.shows store.old) (does.Delete delete.now) reply (S.shows store.new)) }
     ensures refused { IfErr result (λ refusal. (reading : CheckReading) → S.is_sound store.old
         → IsSchemaOf (S.prepared store.old) (database_of (S.shows store.old).working)
@@ -132,11 +132,7 @@ fn all_deletions(
     };
     let Numbered { numbers, rows } = found;
     match deletions(alloc, lent, filter, rows.as_slice()) {
-        Ok(changes) => Ok(Some(Planned {
-            numbers,
-            changes,
-            harmless: true,
-        })),
+        Ok(changes) => planned_for(alloc, numbers, rows, changes, true),
         Err(stop) => Err(refusal_of_stop(stop)),
     }
 }

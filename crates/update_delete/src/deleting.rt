@@ -1,5 +1,5 @@
 //! The rows that a DELETE touches go.
-ghost use Rattle.std.specs.Prelude.{◌≡◌, Bool, false, [], Ok, IfOk, map};
+ghost use Rattle.std.specs.Prelude.{◌≡◌, Bool, false, [], Ok, IfOk, length, map};
 ghost use Rattle.std.specs.Prelude.{filter as list_filter};
 ghost use Rattle.sqlval.specs.Value.{Row as AnyRow};
 ghost use Rattle.typing.specs.declared.statement.Delete.{Delete};
@@ -44,6 +44,7 @@ pub fn deletions(
         → IsFilterOf d.filter filter.now
         → GivesChanges (λ changes found. AreDeletions table (spread test table.rows changes) found) result (deleted_rows tables table d) }
     ensures spares { IfOk result (λ changes. rows_new changes ≡ []) }
+    ensures as_many { IfOk result (λ changes. length changes ≡ length rows.now) }
 {
     evaluation_keeps_the_meaning();
     listings_read_their_tables();

@@ -1,5 +1,5 @@
 //! The new rows of a change, and their look-up once they have come.
-ghost use Rattle.std.specs.Prelude.{◌≡◌, true, false, IfOk, IfErr, IfSome, OnOk, OnErr};
+ghost use Rattle.std.specs.Prelude.{◌≡◌, true, false, IfOk, IfErr, IfSome, IfNone, OnOk, OnErr};
 ghost use Rattle.std.specs.Option.{option_copied};
 ghost use Rattle.refusals.specs.declared.refusal.Refusal.TheVariants.{Disk};
 ghost use Rattle.denote.specs.Database.{CheckReading};
@@ -9,11 +9,12 @@ ghost use Rattle.store.specs.Errors.{HasRisen};
 ghost use Rattle.store.specs.Going.{Going};
 ghost use Rattle.store.specs.Stored.{undone};
 ghost use Rattle.transactions.specs.Refused.{TellsNoLimit};
+ghost use Rattle.constraints.specs.Matched.{IsAtNoEnd};
 ghost use Rattle.constraints.specs.Settled.{AreAmong, Breaks, Decided, Holds, OthersHold};
 ghost use Rattle.update_delete.specs.RowChanges.{new_of, rows_new};
 
 use crate::change::RowChange;
-use constraints::{Checks, are_few, settle_rows, settle_unless};
+use constraints::{Checks, Moved, are_few, is_at_end, settle_rows, settle_unless};
 use denote::{Row, Rows};
 use items::{Items, Text};
 use refusals::Refusal;
@@ -44,6 +45,35 @@ pub(crate) fn rows_to_look_up<S: Store>(
     match are_few(alloc, store, name, count) {
         Ok(true) => match new_rows(alloc, changes) {
             Ok(rows) => Ok(Some(rows)),
+            Err(_) => Err(Refusal::Memory),
+        },
+        Ok(false) => Ok(None),
+        Err(refusal) => Err(refusal),
+    }
+}
+
+/// The rows that these changes bring and those that are there no more, where a foreign key has the
+/// table at one of its ends; else nothing. The store is left as it was.
+pub(crate) fn rows_moved<S: Store>(
+    alloc: Global,
+    store: &mut S,
+    name: &Text,
+    changes: &[RowChange],
+    gone: Rows,
+) -> Result<Option<Moved>, Refusal>
+    ensures some { IfOk result (λ found. IfSome found (λ moved. (moved.came ≡ rows_new changes.now)
+        × (moved.gone ≡ gone))) }
+    ensures none { IfOk result (λ found. IfNone found (S.is_sound store.old
+        → IsAtNoEnd (database_of (S.shows store.old).working) name.now)) }
+    ensures refused { IfErr result (λ refusal. S.is_sound store.old → IsReserved refusal) }
+    ensures limits { IfErr result TellsNoLimit }
+    ensures device { IfErr result (λ refusal. refusal ≡ Disk → HasRisen (S.refused store.old) (S.refused store.new)) }
+    ensures shows { S.shows store.new ≡ S.shows store.old }
+    ensures goes { S.goes_on store.old store.new Going.keeps }
+{
+    match is_at_end(store, name) {
+        Ok(true) => match new_rows(alloc, changes) {
+            Ok(came) => Ok(Some(Moved { came, gone })),
             Err(_) => Err(Refusal::Memory),
         },
         Ok(false) => Ok(None),

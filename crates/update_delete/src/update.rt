@@ -3,7 +3,7 @@ ghost use Rattle.std.specs.Prelude.{◌≡◌, IfOk, IfErr, OnErr};
 ghost use Rattle.std.specs.FinMap.{get};
 ghost use Rattle.refusals.specs.declared.refusal.Refusal.TheVariants.{Disk};
 ghost use Rattle.typing.specs.declared.statement.Change.TheVariants as does;
-ghost use Rattle.denote.specs.Database.{CheckReading, rows_in};
+ghost use Rattle.denote.specs.Database.{CheckReading, IsGood, rows_in};
 ghost use Rattle.denote.specs.SchemaOf.{IsSchemaOf};
 ghost use Rattle.transactions.specs.Refused.{IfRefused, TellsNoLimit, TellsReached};
 ghost use Rattle.store.specs.Contents.{Contents, database_of};
@@ -13,7 +13,7 @@ ghost use Rattle.store.specs.Stored.{SameButMark};
 ghost use Rattle.tree_tables.specs.TablesRead.{Agree};
 ghost use Rattle.query_answers.specs.Lent.{rows_lent};
 ghost use Rattle.constraints.specs.Changed.{HasChanged, RefusesChange};
-ghost use Rattle.constraints.specs.Settled.{Decided, Holds};
+ghost use Rattle.constraints.specs.Settled.{Decided};
 ghost use Rattle.update_delete.specs.Statements.{IsUpdateOf, tables_in_update};
 ghost use Rattle.update_delete.specs.Checked.{AreChecksFor};
 ghost use Rattle.update_delete.specs.Candidates.{AreCandidates};
@@ -24,7 +24,7 @@ use crate::candidates::candidates;
 use crate::carrying::carry_out;
 use crate::change::RowUpdate;
 use crate::harmless::are_harmless;
-use crate::planned::Planned;
+use crate::planned::{Planned, planned_for};
 use crate::reading::lent_to_update;
 use crate::trees::update_trees;
 use crate::updating::updates;
@@ -56,7 +56,7 @@ pub fn update_rows<S: Store, C: Checks>(
         → IsSchemaOf (S.prepared store.old) (database_of (S.shows store.old).working)
         → Decided (C.decides checks.now reading) (database_of (S.shows store.old).working) update.now.table
         → AreChecksFor reading (database_of (S.shows store.old).working) update.now.table trees.now
-        → Holds reading (database_of (S.shows store.old).working) update.now.table
+        → IsGood reading (database_of (S.shows store.old).working)
         → HasChanged reading (S.shows store.old) (does.Update update.now) reply (S.shows store.new)) }
     ensures refused { IfErr result (λ refusal. (reading : CheckReading) → S.is_sound store.old
         → IsSchemaOf (S.prepared store.old) (database_of (S.shows store.old).working)
@@ -158,11 +158,7 @@ fn all_updates<C: Checks>(
     let Numbered { numbers, rows } = found;
     match updates(alloc, lent, table, trees, made, rows.as_slice()) {
         Ok(changes) => match are_harmless(alloc, table, checks, &rows, &changes) {
-            Ok(harmless) => Ok(Some(Planned {
-                numbers,
-                changes,
-                harmless,
-            })),
+            Ok(harmless) => planned_for(alloc, numbers, rows, changes, harmless),
             Err(refusal) => Err(refusal),
         },
         Err(stop) => Err(refusal_of_stop(stop)),

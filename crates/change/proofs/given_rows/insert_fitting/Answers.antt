@@ -23,7 +23,7 @@ returns-in-Ok-rows_given-clause-changes g c = IfOk-weaker c.insert_rows.result _
     let lent : IsSchemaOf c.schema-2.result.now db = subst (λ (s : Schema). IsSchemaOf s db) (sym c.schema-2.ensures) of in
     let there = c.in-Ok.ensures.there db schema in
     let decided = c.in-Ok.ensures.decides reading db is_reading schema in
-    h reading c.args.columns.now (from.Values (typed_rows c.args.rows)) sound decided (λ table is. (good c.args.name.now table is).unviolated)
+    h reading c.args.columns.now (from.Values (typed_rows c.args.rows)) sound decided good
     (c.in-Ok-rows_given.ensures.gives reading db there.0 lent there.1 (decided there.0 there.1)))
     c.insert_rows.ensures.changes
 
@@ -35,7 +35,7 @@ returns-in-Ok-rows_given-clause-refused g c = IfErr-weaker c.insert_rows.result 
     let lent : IsSchemaOf c.schema-2.result.now db = subst (λ (s : Schema). IsSchemaOf s db) (sym c.schema-2.ensures) of in
     let there = c.in-Ok.ensures.there db schema in
     let decided = c.in-Ok.ensures.decides reading db is_reading schema in
-    h reading c.args.columns.now (from.Values (typed_rows c.args.rows)) sound decided (λ table is. (good c.args.name.now table is).unviolated)
+    h reading c.args.columns.now (from.Values (typed_rows c.args.rows)) sound decided good
     (c.in-Ok-rows_given.ensures.gives reading db there.0 lent there.1 (decided there.0 there.1)))
     c.insert_rows.ensures.refused
 

@@ -9,7 +9,7 @@ use Rattle.update_delete.specs.Checked.{AreChecksFor}
 use Rattle.store.specs.Contents.{database_of}
 use Rattle.store.specs.Stored.{Stored}
 use Rattle.constraints.specs.Changed.{RefusesChange}
-use Rattle.constraints.specs.Settled.{Holds}
+use Rattle.denote.specs.Database.{IsGood}
 use Rattle.table_changes.specs.Given.{AreGiven, HasAccepted}
 use Rattle.constraints.proofs.Limits.{tells_none}
 use Rattle.change.specs.Reached.{ChangeReaches}
@@ -29,7 +29,7 @@ returns-in-Ok-rows_of-clause-changes g c = IfOk-weaker c.insert_rows.result _ _
     subst (λ (s : Stored). HasAccepted reading s (does.Insert c.args.insert.now) reply (g.S.Store.shows c.insert_rows.new.store)) (sym same)
     (h reading c.args.insert.now.columns c.args.insert.now.source ((g.met.S.Store.goes_on_goes _ _ _ c.rows_of.ensures.goes).sound sound)
     (subst (λ (s : Stored). AreChecksFor reading (database_of s.working) c.args.insert.now.table c.in-Ok.checks.conditions) same decided)
-    (subst (λ (s : Stored). Holds reading (database_of s.working) c.args.insert.now.table) same (λ table is. (good c.args.insert.now.table table is).unviolated))
+    (subst (λ (s : Stored). IsGood reading (database_of s.working)) same good)
     (subst (λ (s : Stored). AreGiven reading (database_of s.working) c.args.insert.now c.in-Ok-rows_of.rows) same given)))
     c.insert_rows.ensures.changes
 
@@ -45,7 +45,7 @@ returns-in-Ok-rows_of-clause-refused g c = IfErr-weaker c.insert_rows.result _ _
     subst (λ (s : Stored). RefusesChange reading (database_of s.working) (does.Insert c.args.insert.now) refusal) (sym same)
     (h reading c.args.insert.now.columns c.args.insert.now.source ((g.met.S.Store.goes_on_goes _ _ _ c.rows_of.ensures.goes).sound sound)
     (subst (λ (s : Stored). AreChecksFor reading (database_of s.working) c.args.insert.now.table c.in-Ok.checks.conditions) same decided)
-    (subst (λ (s : Stored). Holds reading (database_of s.working) c.args.insert.now.table) same (λ table is. (good c.args.insert.now.table table is).unviolated))
+    (subst (λ (s : Stored). IsGood reading (database_of s.working)) same good)
     (subst (λ (s : Stored). AreGiven reading (database_of s.working) c.args.insert.now c.in-Ok-rows_of.rows) same given)))
     c.insert_rows.ensures.refused
 

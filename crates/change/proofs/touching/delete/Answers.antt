@@ -15,7 +15,7 @@ returns-in-Ok-clause-changes g c = IfOk-weaker c.delete_rows.result _ _
     (λ reply h reading is_reading sound of good.
     let db = database_of (g.S.Store.shows c.args.store.now).working in
     let schema : IsSchemaOf c.schema.result.now db = subst (λ (s : Schema). IsSchemaOf s db) (sym c.schema.ensures) of in
-    h reading sound of (c.in-Ok.ensures.decides reading db is_reading schema) (λ table is. (good c.args.delete.now.table table is).unviolated))
+    h reading sound of (c.in-Ok.ensures.decides reading db is_reading schema) good)
     c.delete_rows.ensures.changes
 
 pub returns-in-Ok-clause-refused : goal.returns-in-Ok-clause-refused

@@ -17,7 +17,7 @@ returns-in-Ok-clause-changes g c = IfOk-weaker c.update_rows.result _ _
     let db = database_of (g.S.Store.shows c.args.store.now).working in
     let schema : IsSchemaOf c.schema.result.now db = subst (λ (s : Schema). IsSchemaOf s db) (sym c.schema.ensures) of in
     h reading sound of (c.in-Ok.ensures.decides reading db is_reading schema)
-    (rw c.as_slice.ensures (c.in-Ok.ensures.decides reading db is_reading schema)) (λ table is. (good c.args.update.now.table table is).unviolated))
+    (rw c.as_slice.ensures (c.in-Ok.ensures.decides reading db is_reading schema)) good)
     c.update_rows.ensures.changes
 
 pub returns-in-Ok-clause-refused : goal.returns-in-Ok-clause-refused

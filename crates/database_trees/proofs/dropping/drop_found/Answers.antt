@@ -1,35 +1,42 @@
-use Rattle.std.proofs.Common.{arith, false}
+use Rattle.std.proofs.Common.{◌≡◌, ◌∷◌, ◌++◌, ◌∙◌, sym, arith, false}
 use Rattle.stored_tables.proofs.ChangeLemmas.{whole_later}
-use Rattle.catalog.specs.Changed.{HoldsNoSchemaIn}
+use Rattle.catalog_records.specs.References.{is_referenced}
+use Rattle.catalog.specs.Held.{HoldsNoSchema}
 use Rattle.database_trees.specs.Held.{declared_of}
 use Rattle.database_trees.specs.Exchanged.{IsTableOf}
-use Rattle.database_trees.specs.Dropped.{AreTreesOf, TableGone}
-use Rattle.database_trees.proofs.DatabaseLemmas.{schema_of_it}
-use Rattle.database_trees.proofs.DropLemmas.{trees_then, table_gone}
-use Rattle.database_trees.proofs.RefusalLemmas.{fault_refused, change_refused_by, schema_reaches}
+use Rattle.database_trees.proofs.DatabaseLemmas.{schema_of_it, table_in}
+use Rattle.database_trees.proofs.RefusalLemmas.{read_refused, refused_later}
 use Rattle.database_trees.proofs.dropping.drop_found.Goals as goal
 
-pub returns-in-Ok-drop_trees-clause-dropped : goal.returns-in-Ok-drop_trees-clause-dropped
-returns-in-Ok-drop_trees-clause-dropped g c = λ alone h.
-    let w = c.in-Ok.ensures.dropped h.holds.owned (declared_of h.before) (declared_of h.behind) (schema_of_it (g.S.PageReader.pages c.args.space.now) c.args.root c.args.table.now h) in
-    table_gone (g.S.PageReader.pages c.args.space.now) (g.S.PageReader.pages c.drop_table.new.space) c.args.root c.in-Ok.top c.args.table.now h w (g.S.PageReader.pages c.drop_trees.new.space) (c.in-Ok-drop_trees.ensures.dropped _ (trees_then (g.S.PageReader.pages c.args.space.now) (g.S.PageReader.pages c.drop_table.new.space) c.args.root c.in-Ok.top c.args.table.now h w))
+pub returns-else-referenced-clause-dropped : goal.returns-else-referenced-clause-dropped
+returns-else-referenced-clause-dropped g c = λ alone h. c.drop_free.ensures.dropped _ (table_in (g.S.PageReader.pages c.args.space.now) (g.S.PageReader.pages c.is_referenced_in.new.space) c.args.root c.args.table.now c.is_referenced_in.ensures.same h)
+    (sym (c.in-Ok.ensures.found h.holds.owned (declared_of h.before ++ c.args.table.now ∷ declared_of h.behind) (schema_of_it (g.S.PageReader.pages c.args.space.now) c.args.root c.args.table.now h)) ∙ c.if-referenced.false)
 
-pub returns-in-Ok-drop_trees-clause-follows : goal.returns-in-Ok-drop_trees-clause-follows
-returns-in-Ok-drop_trees-clause-follows g c = g.met.S.PageReader.follows_trans _ _ _ c.drop_table.ensures.follows c.drop_trees.ensures.follows
+pub returns-else-referenced-clause-limits : goal.returns-else-referenced-clause-limits
+returns-else-referenced-clause-limits g c = c.drop_free.ensures.limits
 
-pub returns-in-Err-drop_trees-clause-follows : goal.returns-in-Err-drop_trees-clause-follows
-returns-in-Err-drop_trees-clause-follows g c = g.met.S.PageReader.follows_trans _ _ _ c.drop_table.ensures.follows c.drop_trees.ensures.follows
+pub returns-else-referenced-clause-whole : goal.returns-else-referenced-clause-whole
+returns-else-referenced-clause-whole g c = whole_later c.drop_free.result (g.S.PageReader.is_whole c.args.space.now) (g.S.PageReader.is_whole c.is_referenced_in.new.space) (g.S.PageReader.is_whole c.drop_free.new.space) c.is_referenced_in.ensures.whole c.drop_free.ensures.whole
 
-pub returns-in-Err-drop_trees-clause-refusal : goal.returns-in-Err-drop_trees-clause-refusal
-returns-in-Err-drop_trees-clause-refusal g c =
-    fault_refused c.in-Err-drop_trees.fault (g.S.PageSpace.at_limit c.drop_trees.new.space) (AreTreesOf false (g.S.PageReader.pages c.drop_table.new.space) c.args.table.now → (g.S.PageReader.is_whole c.drop_table.new.space) → ⊥) (IsTableOf false (g.S.PageReader.pages c.args.space.now) c.args.root c.args.table.now → (g.S.PageReader.is_whole c.args.space.now) → ⊥) (g.S.PageReader.refused c.args.space.now) (g.S.PageReader.refused c.drop_table.new.space) (g.S.PageReader.refused c.drop_trees.new.space)
-    (λ none h whole. let w = c.in-Ok.ensures.dropped h.holds.owned (declared_of h.before) (declared_of h.behind) (schema_of_it (g.S.PageReader.pages c.args.space.now) c.args.root c.args.table.now h) in
-    none (trees_then (g.S.PageReader.pages c.args.space.now) (g.S.PageReader.pages c.drop_table.new.space) c.args.root c.in-Ok.top c.args.table.now h w) (c.in-Ok.ensures.whole whole)) c.drop_table.ensures.rising c.in-Err-drop_trees.ensures.refusal
+pub returns-else-referenced-clause-refusal : goal.returns-else-referenced-clause-refusal
+returns-else-referenced-clause-refusal g c =
+    refused_later c.drop_free.result (g.S.PageSpace.at_limit c.drop_free.new.space) ((h : IsTableOf false (g.S.PageReader.pages c.is_referenced_in.new.space) c.args.root c.args.table.now) → is_referenced c.args.table.now.name (declared_of h.before ++ c.args.table.now ∷ declared_of h.behind) ≡ false → (g.S.PageReader.is_whole c.is_referenced_in.new.space) → ⊥) (IsTableOf false (g.S.PageReader.pages c.args.space.now) c.args.root c.args.table.now → (g.S.PageReader.is_whole c.args.space.now) → ⊥) (g.S.PageReader.refused c.args.space.now) (g.S.PageReader.refused c.is_referenced_in.new.space) (g.S.PageReader.refused c.drop_free.new.space)
+    (λ none h whole. none (table_in (g.S.PageReader.pages c.args.space.now) (g.S.PageReader.pages c.is_referenced_in.new.space) c.args.root c.args.table.now c.is_referenced_in.ensures.same h)
+    (sym (c.in-Ok.ensures.found h.holds.owned (declared_of h.before ++ c.args.table.now ∷ declared_of h.behind) (schema_of_it (g.S.PageReader.pages c.args.space.now) c.args.root c.args.table.now h)) ∙ c.if-referenced.false) (c.is_referenced_in.ensures.whole whole)) c.is_referenced_in.ensures.rising c.drop_free.ensures.refusal
 
-pub returns-in-Err-clause-limits : goal.returns-in-Err-clause-limits
-returns-in-Err-clause-limits g c = schema_reaches c.in-Err.error c.of_change.result ⊥ ⊥ ⊥ c.of_change.ensures
+pub returns-else-referenced-clause-rising : goal.returns-else-referenced-clause-rising
+returns-else-referenced-clause-rising g c = omega (arith, c.is_referenced_in.ensures.rising, c.drop_free.ensures.rising)
+
+pub returns-else-referenced-clause-follows : goal.returns-else-referenced-clause-follows
+returns-else-referenced-clause-follows g c = g.met.S.PageReader.follows_trans _ _ _ c.is_referenced_in.ensures.follows c.drop_free.ensures.follows
+
+pub returns-then-referenced-clause-rising : goal.returns-then-referenced-clause-rising
+returns-then-referenced-clause-rising g c = c.is_referenced_in.ensures.rising
+
+pub returns-then-referenced-clause-follows : goal.returns-then-referenced-clause-follows
+returns-then-referenced-clause-follows g c = c.is_referenced_in.ensures.follows
 
 pub returns-in-Err-clause-refusal : goal.returns-in-Err-clause-refusal
 returns-in-Err-clause-refusal g c =
-    change_refused_by c.in-Err.error c.of_change.result (g.S.PageSpace.at_limit c.drop_table.new.space) (HoldsNoSchemaIn (g.S.PageReader.pages c.args.space.now) c.args.root (g.S.PageReader.is_whole c.args.space.now)) (IsTableOf false (g.S.PageReader.pages c.args.space.now) c.args.root c.args.table.now → (g.S.PageReader.is_whole c.args.space.now) → ⊥) (g.S.PageReader.refused c.args.space.now) (g.S.PageReader.refused c.args.space.now) (g.S.PageReader.refused c.drop_table.new.space) c.of_change.ensures
-    (λ none h whole. none h.holds.owned _ (schema_of_it (g.S.PageReader.pages c.args.space.now) c.args.root c.args.table.now h) whole) (omega arith) c.in-Err.ensures.refusal
+    read_refused c.in-Err.fault (g.S.PageSpace.at_limit c.is_referenced_in.new.space) (HoldsNoSchema (g.S.PageReader.pages c.args.space.now) c.args.root) (IsTableOf false (g.S.PageReader.pages c.args.space.now) c.args.root c.args.table.now → (g.S.PageReader.is_whole c.args.space.now) → ⊥) (g.S.PageReader.refused c.args.space.now) (g.S.PageReader.refused c.is_referenced_in.new.space)
+    (λ none h whole. none h.holds.owned (declared_of h.before ++ c.args.table.now ∷ declared_of h.behind) (schema_of_it (g.S.PageReader.pages c.args.space.now) c.args.root c.args.table.now h)) c.in-Err.ensures.refusal

@@ -15,7 +15,7 @@ pub returns-in-Ok-clause-put : goal.returns-in-Ok-clause-put
 returns-in-Ok-clause-put g c = λ alone h good.
     let is = c.in-Ok.ensures.indexed ∙ ap (λ (t : Table). table_indexed t c.args.index c.args.top) (itself_found (g.S.PageReader.pages c.args.space.now) c.args.root c.args.table.now c.in-Ok-Some.found h (c.in-Ok-Some.ensures.found h.owned (h.front ++ c.args.table.now ∷ h.back) (schema_held (g.S.PageReader.pages c.args.space.now) c.args.root c.args.table.now h)) c.in-Ok-Some.field-0-is) in
     subst (λ (t : Table). IfOk c.put_table.result (TablePut alone (g.S.PageReader.pages c.put_table.new.space) h.front t h.back h.others)) is
-    (c.put_table.ensures.put _ (has_table (g.S.PageReader.pages c.args.space.now) (g.S.PageReader.pages c.read_table.new.space) c.args.root c.args.table.now c.read_table.ensures.same h) (subst IsTable (sym is) good) (ap (λ (t : Table). t.name) is))
+    (c.put_table.ensures.put _ (has_table (g.S.PageReader.pages c.args.space.now) (g.S.PageReader.pages c.read_table.new.space) c.args.root c.args.table.now c.read_table.ensures.same h) (subst IsTable (sym is) good) (ap (λ (t : Table). t.name) is) (ap (λ (t : Table). t.columns) is) (ap (λ (t : Table). t.constraints) is))
 
 pub returns-in-Ok-clause-whole : goal.returns-in-Ok-clause-whole
 returns-in-Ok-clause-whole g c = whole_later c.put_table.result (g.S.PageReader.is_whole c.args.space.now) (g.S.PageReader.is_whole c.read_table.new.space) (g.S.PageReader.is_whole c.put_table.new.space) c.read_table.ensures.whole c.put_table.ensures.whole

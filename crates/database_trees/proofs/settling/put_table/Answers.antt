@@ -1,4 +1,5 @@
 use Rattle.std.proofs.Common.{arith, false}
+use Rattle.catalog_records.proofs.ReferenceLemmas.{references_around}
 use Rattle.catalog.specs.Left.{HoldsNoneWith}
 use Rattle.database_trees.specs.Exchanged.{HasTable}
 use Rattle.database_trees.proofs.SettleLemmas.{schema_held, table_put}
@@ -6,9 +7,10 @@ use Rattle.database_trees.proofs.RefusalLemmas.{change_refused_by, schema_reache
 use Rattle.database_trees.proofs.settling.put_table.Goals as goal
 
 pub returns-in-Ok-clause-put : goal.returns-in-Ok-clause-put
-returns-in-Ok-clause-put g c = λ alone h good same.
+returns-in-Ok-clause-put g c = λ alone h good same columns constraints.
+    let held = schema_held (g.S.PageReader.pages c.args.space.now) c.args.root c.args.table.now h in
     table_put (g.S.PageReader.pages c.args.space.now) (g.S.PageReader.pages c.alter_table.new.space) c.args.root c.in-Ok.top c.args.table.now c.args.changed.now h
-    (c.in-Ok.ensures.altered h.owned h.front h.back (schema_held (g.S.PageReader.pages c.args.space.now) c.args.root c.args.table.now h) same good) c.in-Ok.ensures.keeps
+    (c.in-Ok.ensures.altered h.owned h.front h.back held same (references_around h.front h.back c.args.table.now c.args.changed.now same columns constraints held.references) good) c.in-Ok.ensures.keeps
 
 pub returns-in-Err-clause-limits : goal.returns-in-Err-clause-limits
 returns-in-Err-clause-limits g c = schema_reaches c.in-Err.error c.of_change.result ⊥ ⊥ ⊥ c.of_change.ensures

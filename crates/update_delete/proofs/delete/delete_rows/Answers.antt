@@ -5,7 +5,8 @@ use Rattle.typing.specs.declared.statement.Change.TheVariants as does
 use Rattle.store.specs.Contents.{database_of}
 use Rattle.store.specs.Stored.{Stored, SameButMark}
 use Rattle.constraints.specs.Changed.{HasChanged, RefusesChange}
-use Rattle.constraints.specs.Settled.{Decided, Holds}
+use Rattle.constraints.specs.Settled.{Decided}
+use Rattle.denote.specs.Database.{IsGood}
 use Rattle.update_delete.specs.Plans.{IsMeant, IsHarmless}
 use Rattle.update_delete.proofs.Carried.{nothing}
 use Rattle.store.specs.Errors.{ChangingReaches}
@@ -16,18 +17,18 @@ use Rattle.update_delete.proofs.delete.delete_rows.Goals as goal
 
 pub returns-in-Ok-Some-clause-changes : goal.returns-in-Ok-Some-clause-changes
 returns-in-Ok-Some-clause-changes g c = IfOk-weaker c.carry_out.result _ _
-    (λ reply h reading sound of decided holds.
+    (λ reply h reading sound of decided good.
     let change = does.Delete c.args.delete.now in
     let old = g.S.Store.shows c.args.store.now in
     let mid = g.S.Store.shows c.planned_deletion.new.store in
     let same = c.planned_deletion.ensures.shows in
     let meant = rw c.in-Ok-Some.field-0-is at (c.in-Ok-Some.ensures.planned reading sound of) in
     let moved = subst (λ (s : Stored). IsHarmless reading s.working change c.args.delete.now.table c.in-Ok-Some.planned) (sym same) meant in
-    let holds_there = subst (λ (s : Stored). Holds reading (database_of s.working) c.args.delete.now.table) (sym same) holds in
+    let good_there = subst (λ (s : Stored). IsGood reading (database_of s.working)) (sym same) good in
     subst (λ (s : Stored). HasChanged reading s change reply (g.S.Store.shows c.carry_out.new.store)) same
     (h reading change ((g.met.S.Store.goes_on_goes _ _ _ c.planned_deletion.ensures.goes).sound sound)
     (subst (λ (s : Stored). Decided (g.C.Checks.decides c.args.checks.now reading) (database_of s.working) c.args.delete.now.table) (sym same) decided)
-    holds_there moved))
+    good_there moved))
     c.carry_out.ensures.changes
 
 pub returns-in-Ok-Some-clause-refused : goal.returns-in-Ok-Some-clause-refused
@@ -44,7 +45,7 @@ returns-in-Ok-Some-clause-refused g c = IfErr-weaker c.carry_out.result _ _
     c.carry_out.ensures.refused
 
 pub returns-in-Ok-None-clause-changes : goal.returns-in-Ok-None-clause-changes
-returns-in-Ok-None-clause-changes g c = λ reading sound of decided holds.
+returns-in-Ok-None-clause-changes g c = λ reading sound of decided good.
     nothing reading (g.S.Store.shows c.args.store.now) (g.S.Store.shows c.planned_deletion.new.store) (does.Delete c.args.delete.now)
     (rw c.in-Ok-None.field-0-is at (c.in-Ok-None.ensures.planned reading sound of)) c.planned_deletion.ensures.shows
 

@@ -5,7 +5,8 @@ use Rattle.typing.specs.declared.statement.Change.TheVariants as does
 use Rattle.store.specs.Contents.{database_of}
 use Rattle.store.specs.Stored.{Stored, SameButMark}
 use Rattle.constraints.specs.Changed.{HasChanged, RefusesChange}
-use Rattle.constraints.specs.Settled.{Decided, Holds}
+use Rattle.constraints.specs.Settled.{Decided}
+use Rattle.denote.specs.Database.{IsGood}
 use Rattle.update_delete.specs.Plans.{IsMeant, IsHarmless}
 use Rattle.update_delete.proofs.Carried.{nothing}
 use Rattle.std.specs.FinMap.{get}
@@ -17,7 +18,7 @@ use Rattle.update_delete.proofs.update.update_rows.Goals as goal
 
 pub returns-in-Ok-Some-clause-changes : goal.returns-in-Ok-Some-clause-changes
 returns-in-Ok-Some-clause-changes g c = IfOk-weaker c.carry_out.result _ _
-    (λ reply h reading sound of decided checks holds.
+    (λ reply h reading sound of decided checks good.
     let change = does.Update c.args.update.now in
     let old = g.S.Store.shows c.args.store.now in
     let mid = g.S.Store.shows c.planned_update.new.store in
@@ -26,7 +27,7 @@ returns-in-Ok-Some-clause-changes g c = IfOk-weaker c.carry_out.result _ _
     subst (λ (s : Stored). HasChanged reading s change reply (g.S.Store.shows c.carry_out.new.store)) same
     (h reading change ((g.met.S.Store.goes_on_goes _ _ _ c.planned_update.ensures.goes).sound sound)
     (subst (λ (s : Stored). Decided (g.C.Checks.decides c.args.checks.now reading) (database_of s.working) c.args.update.now.table) (sym same) decided)
-    (subst (λ (s : Stored). Holds reading (database_of s.working) c.args.update.now.table) (sym same) holds)
+    (subst (λ (s : Stored). IsGood reading (database_of s.working)) (sym same) good)
     (subst (λ (s : Stored). IsHarmless reading s.working change c.args.update.now.table c.in-Ok-Some.planned) (sym same) meant)))
     c.carry_out.ensures.changes
 
@@ -44,7 +45,7 @@ returns-in-Ok-Some-clause-refused g c = IfErr-weaker c.carry_out.result _ _
     c.carry_out.ensures.refused
 
 pub returns-in-Ok-None-clause-changes : goal.returns-in-Ok-None-clause-changes
-returns-in-Ok-None-clause-changes g c = λ reading sound of decided checks holds.
+returns-in-Ok-None-clause-changes g c = λ reading sound of decided checks good.
     nothing reading (g.S.Store.shows c.args.store.now) (g.S.Store.shows c.planned_update.new.store) (does.Update c.args.update.now)
     (rw c.in-Ok-None.field-0-is at (c.in-Ok-None.ensures.planned reading sound of decided checks)) c.planned_update.ensures.shows
 
