@@ -11,10 +11,10 @@ abbrev pub foreign_words : List Word
 foreign_words =
     word.Alter ∷ word.Any ∷ word.Assertion ∷ word.Cascade ∷ word.Case ∷ word.Cast ∷ word.Char ∷ word.Coalesce
     ∷ word.Collate ∷ word.Corresponding ∷ word.Current ∷ word.Date ∷ word.Decimal ∷ word.Default ∷ word.Domain
-    ∷ word.Escape ∷ word.Float ∷ word.Foreign ∷ word.Full ∷ word.Grant ∷ word.Interval ∷ word.Isolation
-    ∷ word.Natural ∷ word.Nullif ∷ word.Numeric ∷ word.Real ∷ word.References ∷ word.Restrict ∷ word.Revoke
-    ∷ word.Right ∷ word.Savepoint ∷ word.Schema ∷ word.Scroll ∷ word.Smallint ∷ word.Some ∷ word.Time
-    ∷ word.Timestamp ∷ word.Using ∷ word.View ∷ []
+    ∷ word.Escape ∷ word.Float ∷ word.Full ∷ word.Grant ∷ word.Interval ∷ word.Isolation ∷ word.Natural
+    ∷ word.Nullif ∷ word.Numeric ∷ word.Real ∷ word.Restrict ∷ word.Revoke ∷ word.Right ∷ word.Savepoint
+    ∷ word.Schema ∷ word.Scroll ∷ word.Smallint ∷ word.Some ∷ word.Time ∷ word.Timestamp ∷ word.Using
+    ∷ word.View ∷ []
 
 -- the word is one of them
 abbrev pub is_foreign_word : Word → Bool

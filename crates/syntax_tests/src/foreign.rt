@@ -6,7 +6,7 @@ ghost use Rattle.syntax_tests.specs.Foreign as spec;
 use lexer::{Kind, Token, Word};
 
 /// The words, in the order of `Word`.
-const FOREIGN: [Word; 39] = [
+const FOREIGN: [Word; 37] = [
     Word::Alter,
     Word::Any,
     Word::Assertion,
@@ -24,7 +24,6 @@ const FOREIGN: [Word; 39] = [
     Word::Domain,
     Word::Escape,
     Word::Float,
-    Word::Foreign,
     Word::Full,
     Word::Grant,
     Word::Interval,
@@ -33,7 +32,6 @@ const FOREIGN: [Word; 39] = [
     Word::Nullif,
     Word::Numeric,
     Word::Real,
-    Word::References,
     Word::Restrict,
     Word::Revoke,
     Word::Right,
