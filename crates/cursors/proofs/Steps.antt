@@ -177,6 +177,11 @@ comes_pushed (Ok x) failed old new to rows more row count put is whole taken nex
     subst (λ (list : List Row). HasTaken old to list (count + 1)) (sym put) (comes_next old new to rows row count taken next fits)
 comes_pushed (Err e) failed old new to rows more row count put is whole taken next fits = let bad : true ≡ false = sym is ∙ whole in absurd (cc)
 
+pub one_longer : {T E : Type 0} (result : Result T E) (failed : Bool) (rows more : List Row) (row : Row) (count : ℕ)
+    → OnOk result (more ≡ rows ++ row ∷ []) → failed ≡ is_err result → failed ≡ false → length rows ≡ count → length more ≡ count + 1
+one_longer (Ok x) failed rows more row count put is whole so_many = ap length put ∙ length-append rows (row ∷ []) ∙ ap (λ k. k + 1) so_many
+one_longer (Err e) failed rows more row count put is whole so_many = let bad : true ≡ false = sym is ∙ whole in absurd (cc)
+
 -- whatever came, the cursor fits
 pub fits_after : (old new to : OpenCursor) (rows : List Row) (count : ℕ) → HasTaken old new rows count → ((contents : Contents) → Fits new contents → Fits to contents)
     → (contents : Contents) → Fits old contents → Fits to contents

@@ -1,5 +1,5 @@
 //! An open cursor, whose list was made whole when it was opened.
-ghost use Rattle.std.specs.Prelude.{◌≡◌, ◌≢◌, ◌⊎◌, ◌<◌, [], ◌∷◌, true, length, IfOk, IfErr, MatchOption};
+ghost use Rattle.std.specs.Prelude.{◌≡◌, ◌≢◌, ◌⊎◌, ◌<◌, ◌≤◌, [], ◌∷◌, true, length, IfOk, IfErr, MatchOption};
 ghost use Rattle.std.specs.Option.{option_to_list};
 ghost use Rattle.refusals.specs.declared.refusal.Refusal.TheVariants.{Disk};
 ghost use Rattle.algebra.specs.Listing.{tree_listing};
@@ -157,6 +157,7 @@ pub fn next_row(cursor: &mut OpenCursor) -> Result<Option<Row>, Fault>
 pub fn next_rows(alloc: Global, cursor: &mut OpenCursor, count: u64) -> Result<Rows, Refusal>
     ensures rows { IfOk result (λ rows. (contents : Contents) → Fits cursor.old contents
         → IsAhead rows count (cursor_of cursor.old contents) (cursor_of cursor.new contents)) }
+    ensures most { IfOk result (λ rows. length rows ≤ count) }
     ensures fits { (contents : Contents) → Fits cursor.old contents → Fits cursor.new contents }
     ensures refused { IfErr result (λ refusal. (contents : Contents) → Fits cursor.old contents
         → MayTake refusal count (cursor_of cursor.old contents)) }

@@ -14,10 +14,10 @@ pub data Asked : Type 0 where
   Close : Asked
   Insert : (table : Name) → (rows : List Row) → Asked
 
--- whether it is the statement in a text
-abbrev pub is_text : Asked → Bool
-is_text (Asked.Text text) = true
-is_text (Asked.Query text) = false
-is_text (Asked.Rows count) = false
-is_text Asked.Close = false
-is_text (Asked.Insert table rows) = false
+-- Whether callers that share an engine ask it: they ask texts, and queries in turns.
+abbrev pub is_shared : Asked → Bool
+is_shared (Asked.Text text) = true
+is_shared (Asked.Query text) = true
+is_shared (Asked.Rows count) = true
+is_shared Asked.Close = true
+is_shared (Asked.Insert table rows) = false

@@ -10,6 +10,7 @@ pub mod InsertedRows
 pub mod Calls
 pub mod Step
 pub mod Run
+pub mod Turns
 pub mod Serial
 pub mod Script
 pub mod Engine

@@ -9,7 +9,7 @@ use Rattle.refusals.specs.declared.refusal.Refusal.TheVariants.{Memory, Disk, Ex
 use Rattle.refusals.specs.declared.limit.Limit.TheVariants as limit
 use Rattle.denote.specs.Database.{Database}
 use Rattle.replies.specs.declared.reply.Reply.{Reply}
-use Rattle.session_definitions.specs.Asked.{Asked, is_text}
+use Rattle.session_definitions.specs.Asked.{Asked, is_shared}
 use Rattle.session_definitions.specs.Effect.{Effect, writer_without}
 use Rattle.session_definitions.specs.Refusals.{StopsFlush}
 use Rattle.session_definitions.specs.Rules.{Rules}
@@ -91,11 +91,11 @@ Run rules start [] end = end ≡ start
 Run rules start (moment ∷ earlier) end = Run rules start earlier moment.before
     × Happens rules moment.before moment.event end
 
--- What sessions do: they are made, also where that is refused, asked statements, and ended. Callers
--- that share an engine ask nothing else of it yet.
+-- What sessions do: they are made, also where that is refused, asked statements and queries in
+-- turns, and ended. Callers that share an engine ask nothing else of it.
 abbrev pub is_call : Event → Bool
 is_call (Event.Makes made) = true
-is_call (Event.Calls s asked reply effect) = is_text asked
+is_call (Event.Calls s asked reply effect) = is_shared asked
 is_call (Event.Drops s) = true
 is_call (Event.Flushes left) = false
 is_call (Event.SetsPieces pieces) = false

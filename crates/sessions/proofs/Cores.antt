@@ -56,6 +56,11 @@ set_alike st new w v slots s old mode is q = live_is new v (slice_set slots s (S
     by (inr ne) = ap is_some (slot_beside slots s q (Some mode) ne)
 
 -- what is in a slot is no matter of the others
+pub others_stay : (st : Stored) (w : Option ℕ) (slots : Slots) (s : ℕ) (slot : Option Kept) → (q : ℕ) → q ≢ s
+    → get (shown st w (slice_set slots s slot)).sessions q ≡ get (shown st w slots).sessions q
+others_stay st w slots s slot q ne =
+    session_at st w (slice_set slots s slot) q ∙ ap (option_map (session_of st w q)) (slot_beside slots s q slot ne) ∙ sym (session_at st w slots q)
+
 pub set_beside : (st new : Stored) (w v : Option ℕ) (slots : Slots) (s : ℕ) (slot : Option Kept) → (q : ℕ) → q ≢ s
     → is_live (shown new v (slice_set slots s slot)) q ≡ is_live (shown st w slots) q
 set_beside st new w v slots s slot q ne = live_is new v (slice_set slots s slot) q ∙ ap is_some (slot_beside slots s q slot ne) ∙ sym (live_is st w slots q)

@@ -42,6 +42,10 @@ is_fetch _ = false
 abbrev pub IsFetchText : Bytes → Type 0
 IsFetchText text = (name : Name) × IsRead text (asks.Fetch name)
 
+-- the text is a query
+abbrev pub IsQueryText : Bytes → Type 0
+IsQueryText text = (x : OrderedQuery) × IsRead text (asks.Query x)
+
 abbrev pub IsOfKind : Kind → Statement → Type 0
 IsOfKind kind.Query x = (query : OrderedQuery) × (x ≡ asks.Query query)
 IsOfKind kind.Change x = is_change x ≡ true

@@ -6,6 +6,7 @@ pub mod Changed
 pub mod Numbers
 pub mod Held
 pub mod Opened
+pub mod Turned
 pub mod OfCore
 pub mod Limits
 pub mod Committing

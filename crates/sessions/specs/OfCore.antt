@@ -38,3 +38,7 @@ StandAlike old new = (s : ℕ) → is_live new s ≡ is_live old s
 -- the same others stand
 abbrev pub StandBeside : ℕ → World → World → Type 0
 StandBeside s old new = (q : ℕ) → q ≢ s → is_live new q ≡ is_live old q
+
+-- the writer and all other sessions are as they were
+abbrev pub OthersStay : ℕ → World → World → Type 0
+OthersStay s old new = (new.writer ≡ old.writer) × ((q : ℕ) → q ≢ s → get new.sessions q ≡ get old.sessions q)

@@ -5,7 +5,7 @@ use crate::calling::{call, settle};
 use crate::changes::Changes;
 use crate::inserting::insert_rows;
 use crate::language::Language;
-use crate::query_calls::{close_query, open_query, take_rows};
+use crate::query_calls::{close_query, is_query, open_query, take_rows};
 use crate::slots::{Slots, new_slot};
 use denote::Rows;
 use items::Text;
@@ -66,11 +66,13 @@ impl<S: Store, L: Language + Changes<S>> Core<S, L> {
     ghost use Rattle.refusals.specs.declared.refusal.Refusal.TheVariants.{CursorState, Damaged, Disk, Exceeded, Invalid, SerializationFailure};
     ghost use Rattle.sessions.specs.Committing.{CommitsAsWriter};
     ghost use Rattle.sessions.specs.Explained.{IfLines, ShowsLines};
-    ghost use Rattle.sessions.specs.Kinds.{IsFetchText};
+    ghost use Rattle.std.specs.Prelude.{IsTrue};
+    ghost use Rattle.sessions.specs.Kinds.{IsFetchText, IsQueryText};
+    ghost use Rattle.sessions.specs.Turned.{TellsOpening, TellsRows};
     ghost use Rattle.sessions.specs.Limits.{CallReaches};
     ghost use Rattle.sessions.specs.Seen.{seen_in};
     ghost use Rattle.sessions.specs.Opening.{Stays};
-    ghost use Rattle.sessions.specs.OfCore.{IsSound, StandAlike, StandBeside, number_of, world_of};
+    ghost use Rattle.sessions.specs.OfCore.{IsSound, OthersStay, StandAlike, StandBeside, number_of, world_of};
 
     /// Carries out a statement of this session, and answers its reply. A call of a session that has
     /// ended is refused by `session`, and nothing changes.
@@ -126,6 +128,13 @@ impl<S: Store, L: Language + Changes<S>> Core<S, L> {
         reply
     }
 
+    /// Whether the text is a query. It says no for want of memory too.
+    pub fn is_query(&self, text: &[u8]) -> bool
+        ensures { IsTrue result → IsQueryText text.now }
+    {
+        is_query(self.alloc, &self.language, text)
+    }
+
     /// Opens the query in this text as the cursor without a name: another statement is refused by
     /// `syntax`, and 24000 where it is open. It begins a transaction. While it is open a change is
     /// 24000. That the database which it sees is good is a law of runs; it relies on it.
@@ -142,6 +151,7 @@ impl<S: Store, L: Language + Changes<S>> Core<S, L> {
         ensures live { StandAlike (world_of S.shows self.old) (world_of S.shows self.new) }
         ensures device { Counts result (S.refused self.old.store) (S.refused self.new.store) }
         ensures limits { IfRefused result TellsNoLimit }
+        ensures told { TellsOpening result }
         ensures kept { IfRefused result (λ refusal. world_of S.shows self.new ≡ world_of S.shows self.old) }
         ensures goes { S.goes_on self.old.store self.new.store Going.keeps }
         ensures counts { S.refused self.old.store ≤ S.refused self.new.store }
@@ -165,7 +175,8 @@ impl<S: Store, L: Language + Changes<S>> Core<S, L> {
     }
 
     /// So many of the next rows of the query that was opened, or fewer and then the end is reached;
-    /// 24000 where none is open. A refusal stands in place of its rows, and closes it.
+    /// 24000 where none is open. A refusal stands in place of its rows, and closes it. The writer
+    /// and other sessions stay as they were, also over a damaged store.
     pub fn take_rows(&mut self, session: SessionId, count: u64) -> Reply
         ensures step { (rules : Rules) → IsSound S.is_sound S.shows self.old
             → is_live (world_of S.shows self.old) (number_of session) ≡ true
@@ -176,6 +187,8 @@ impl<S: Store, L: Language + Changes<S>> Core<S, L> {
         ensures live { StandAlike (world_of S.shows self.old) (world_of S.shows self.new) }
         ensures device { IfRefused result (λ refusal. refusal ≢ Disk) }
         ensures limits { IfRefused result TellsNoLimit }
+        ensures told { TellsRows count result }
+        ensures others { OthersStay (number_of session) (world_of S.shows self.old) (world_of S.shows self.new) }
         ensures untouched { self.new.store ≡ self.old.store }
     {
         if !self.slots.stands(session.number) {
@@ -188,7 +201,8 @@ impl<S: Store, L: Language + Changes<S>> Core<S, L> {
         reply
     }
 
-    /// Closes the query that was opened; 24000 where none is open. Takes no memory.
+    /// Closes the query that was opened; 24000 where none is open. Takes no memory. The writer and
+    /// other sessions stay as they were, also over a damaged store.
     pub fn close_query(&mut self, session: SessionId) -> Reply
         ensures step { (rules : Rules) → IsSound S.is_sound S.shows self.old
             → is_live (world_of S.shows self.old) (number_of session) ≡ true
@@ -199,6 +213,7 @@ impl<S: Store, L: Language + Changes<S>> Core<S, L> {
         ensures live { StandAlike (world_of S.shows self.old) (world_of S.shows self.new) }
         ensures refused { is_live (world_of S.shows self.old) (number_of session) ≡ true
             → IfRefused result (λ refusal. refusal ≡ CursorState) }
+        ensures others { OthersStay (number_of session) (world_of S.shows self.old) (world_of S.shows self.new) }
         ensures untouched { self.new.store ≡ self.old.store }
     {
         if !self.slots.stands(session.number) {

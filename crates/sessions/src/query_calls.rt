@@ -1,5 +1,5 @@
 //! The query of a text, whose cursor has no name: it is opened, its rows are taken, it is closed.
-ghost use Rattle.std.specs.Prelude.{◌≡◌, ◌≢◌, ℕ, is_some, MatchOption, None, Option};
+ghost use Rattle.std.specs.Prelude.{◌≡◌, ◌≢◌, ℕ, is_some, IsTrue, MatchOption, None, Option};
 ghost use Rattle.refusals.specs.declared.refusal.Refusal.TheVariants.{CursorState, Disk};
 ghost use Rattle.ast.specs.declared.statement.Statement.TheVariants as asks;
 ghost use Rattle.lexer.specs.Token.{Bytes};
@@ -15,7 +15,10 @@ ghost use Rattle.transactions.specs.Refused.{Counts, IfRefused, TellsNoLimit};
 ghost use Rattle.cursors.specs.Opened.{Fits};
 ghost use Rattle.sessions.specs.Held.{Holds, Leaves};
 ghost use Rattle.sessions.specs.Seen.{seen_in};
+ghost use Rattle.sessions.specs.Kinds.{IsOfKind, IsQueryText};
+ghost use Rattle.sessions.specs.declared.kind.Kind.TheVariants as kinds;
 ghost use Rattle.sessions.specs.Opened.{GivesRows};
+ghost use Rattle.sessions.specs.Turned.{TellsOpening, TellsRows};
 
 use crate::cursor_calls::{AfterFetch, let_go, opened, refused};
 use crate::language::Language;
@@ -27,6 +30,26 @@ use replies::Reply;
 use std::alloc::Global;
 use store::Store;
 use transactions::{refusal_of, take_back, view_of};
+
+/// Whether a text is a query. It says no for want of memory too.
+pub(crate) fn is_query<L: Language>(alloc: Global, language: &L, text: &[u8]) -> bool
+    ensures { IsTrue result → IsQueryText text.now }
+{
+    match language.read(alloc, text) {
+        Ok(statement) => asks_a_query(&statement),
+        Err(_) => false,
+    }
+}
+
+/// Whether a statement is a query.
+fn asks_a_query(statement: &Statement) -> bool
+    ensures { IsTrue result → IsOfKind kinds.Query statement.now }
+{
+    match statement {
+        Statement::Query(_) => true,
+        _ => false,
+    }
+}
 
 /// Opens the query in a text. Another statement is refused by `syntax`. It begins a transaction
 /// where the session has none, but not where it is refused.
@@ -45,6 +68,7 @@ pub(crate) fn open_query<S: Store, L: Language>(
         → Leaves rules session (Asked.Query text.now) result (S.shows store.old) writer slot.old (S.shows store.new) writer slot.new }
     ensures device { Counts result (S.refused store.old) (S.refused store.new) }
     ensures limits { IfRefused result TellsNoLimit }
+    ensures told { TellsOpening result }
     ensures kept { IfRefused result (λ refusal. SameButMark (S.shows store.old) (S.shows store.new)
         × (slot.new ≡ slot.old)) }
     ensures goes { S.goes_on store.old store.new Going.keeps }
@@ -74,6 +98,7 @@ fn open_statement<S: Store, L: Language>(
         → Leaves rules session (Asked.Query text) result (S.shows store.old) writer slot.old (S.shows store.new) writer slot.new }
     ensures device { Counts result (S.refused store.old) (S.refused store.new) }
     ensures limits { IfRefused result TellsNoLimit }
+    ensures told { TellsOpening result }
     ensures kept { IfRefused result (λ refusal. SameButMark (S.shows store.old) (S.shows store.new)
         × (slot.new ≡ slot.old)) }
     ensures goes { S.goes_on store.old store.new Going.keeps }
@@ -103,6 +128,7 @@ fn open_read<S: Store, L: Language>(
         → Leaves rules session (Asked.Query text) result (S.shows store.old) writer slot.old (S.shows store.new) writer slot.new }
     ensures device { Counts result (S.refused store.old) (S.refused store.new) }
     ensures limits { IfRefused result TellsNoLimit }
+    ensures told { TellsOpening result }
     ensures kept { IfRefused result (λ refusal. SameButMark (S.shows store.old) (S.shows store.new)
         × (slot.new ≡ slot.old)) }
     ensures goes { S.goes_on store.old store.new Going.keeps }
@@ -132,6 +158,7 @@ pub(crate) fn take_rows(alloc: Global, slot: &mut Slot, count: u64) -> Reply
     ensures leaves { (rules : Rules) (st : Stored) (w : Option ℕ) (s : ℕ) → IsOrderly st w
         → Holds st w s slot.old.cursors
         → Leaves rules s (Asked.Rows count) result st w slot.old st w slot.new }
+    ensures told { TellsRows count result }
     ensures device { IfRefused result (λ refusal. refusal ≢ Disk) }
     ensures limits { IfRefused result TellsNoLimit }
 {
@@ -146,6 +173,7 @@ fn taken(alloc: Global, held: Option<OpenCursor>, count: u64) -> AfterFetch
     ensures gives { MatchOption held ((result.left ≡ None) × (result.reply ≡ Reply.Refused CursorState))
         (λ cursor. (contents : Contents) → Fits cursor contents
         → GivesRows cursor count result.left result.reply contents) }
+    ensures told { TellsRows count result.reply }
     ensures device { IfRefused result.reply (λ refusal. refusal ≢ Disk) }
     ensures limits { IfRefused result.reply TellsNoLimit }
 {
@@ -159,6 +187,7 @@ fn taken(alloc: Global, held: Option<OpenCursor>, count: u64) -> AfterFetch
 fn taken_from(alloc: Global, cursor: OpenCursor, count: u64) -> AfterFetch
     ensures gives { (contents : Contents) → Fits cursor contents
         → GivesRows cursor count result.left result.reply contents }
+    ensures told { TellsRows count result.reply }
     ensures device { IfRefused result.reply (λ refusal. refusal ≢ Disk) }
     ensures limits { IfRefused result.reply TellsNoLimit }
 {

@@ -1,9 +1,9 @@
 -- X0002 is told only where the device refused a call.
-use Rattle.std.proofs.Common.{◌≡◌, ◌∙◌, ℕ, ◌+◌, ◌-◌, ◌^◌, ◌≤◌, Bool, true, false, List, [], ◌∷◌, ◌++◌, Ok, Err, length, refl, sym, arith}
+use Rattle.std.proofs.Common.{◌≡◌, ◌≢◌, ◌∙◌, ℕ, ◌+◌, ◌-◌, ◌^◌, ◌≤◌, Bool, true, false, List, [], ◌∷◌, ◌++◌, Ok, Err, length, refl, sym, arith}
 use Rattle.std.specs.Prelude.{min}
 use Rattle.std.proofs.Math.Nat.{le_refl, le_trans}
 use Rattle.refusals.specs.declared.refusal.Refusal.{Refusal}
-use Rattle.refusals.specs.declared.refusal.Refusal.TheVariants.{Disk, Exceeded}
+use Rattle.refusals.specs.declared.refusal.Refusal.TheVariants.{CursorState, Disk, Exceeded}
 use Rattle.refusals.specs.declared.limit.Limit.TheVariants as limit
 use Rattle.replies.specs.declared.reply.Reply.{Reply}
 use Rattle.replies.specs.declared.reply.Reply.TheVariants as says_so
@@ -31,13 +31,13 @@ reply_later _ k m n less h = tt
 act_still : (act : Act) (k m n : ℕ) → m ≤ n → TellsDevice act k m → TellsDevice act k n
 act_still (Connects id) k m n more h = tt
 act_still (Refused refusal) k m n more h = λ is. risen_still k m n (h is) more
-act_still (Says id text reply) k m n more h = reply_still reply k m n more h
+act_still (Says id asked reply) k m n more h = reply_still reply k m n more h
 act_still (Ends id) k m n more h = tt
 
 act_later : (act : Act) (k m n : ℕ) → k ≤ m → TellsDevice act m n → TellsDevice act k n
 act_later (Connects id) k m n less h = tt
 act_later (Refused refusal) k m n less h = λ is. risen_later k m n less (h is)
-act_later (Says id text reply) k m n less h = reply_later reply k m n less h
+act_later (Says id asked reply) k m n less h = reply_later reply k m n less h
 act_later (Ends id) k m n less h = tt
 
 -- one call more
@@ -77,7 +77,7 @@ reply_rose _ k m h is = absurd (cc is)
 act_rose : (act : Act) (k m : ℕ) → TellsDevice act k m → tells_disk act ≡ true → HasRisen k m
 act_rose (Connects id) k m h is = absurd (cc is)
 act_rose (Refused refusal) k m h is = h (disk_is refusal is)
-act_rose (Says id text reply) k m h is = reply_rose reply k m h is
+act_rose (Says id asked reply) k m h is = reply_rose reply k m h is
 act_rose (Ends id) k m h is = absurd (cc is)
 
 rose_with : (b : Bool) (top k r n m : ℕ) → k ≤ r → (b ≡ true → min (k + 1) top ≤ r) → min (r + n) top ≤ m → min (k + (one_if b + n)) top ≤ m
@@ -115,13 +115,22 @@ same_count m n is = omega (arith, is)
 pub not_disk : (refusal : Refusal) (m n : ℕ) → refusal ≡ Exceeded limit.Sessions → refusal ≡ Disk → HasRisen m n
 not_disk refusal m n is disk = let bad : Exceeded limit.Sessions ≡ Disk = sym is ∙ disk in absurd (cc)
 
+-- the calls of a query in turns that leave the store as it was are refused by no device
+pub never_disk : (reply : Reply) (m n : ℕ) → IfRefused reply (λ refusal. refusal ≢ Disk) → Counts reply m n
+never_disk (says_so.Refused refusal) m n h = λ is. absurd (h is)
+never_disk _ m n h = tt
+
+pub closing_disk : (reply : Reply) (m n : ℕ) → IfRefused reply (λ refusal. refusal ≡ CursorState) → Counts reply m n
+closing_disk (says_so.Refused refusal) m n h = λ is. let bad : CursorState ≡ Disk = sym h ∙ is in absurd (cc)
+closing_disk _ m n h = tt
+
 -- ---- the answers of a script
 
 module _ (has_refused : Type 0) where
   abbrev AskTells : Ask → Type 0
   AskTells joins = Unit {0}
   AskTells (refused refusal) = refusal ≡ Disk → has_refused
-  AskTells (says text reply) = IfRefused reply (λ refusal. refusal ≡ Disk → has_refused)
+  AskTells (says asked reply) = IfRefused reply (λ refusal. refusal ≡ Disk → has_refused)
   AskTells leaves = Unit {0}
 
   answers_tell : (stands : Bool) (texts : List (List ℕ)) (answers : List Answer) → length answers ≡ length texts → EachAsk AskTells (opened stands texts answers)
@@ -135,7 +144,7 @@ module _ (has_refused : Type 0) where
 act_tells : (act : Act) (m n : ℕ) → TellsDevice act m n → AskTells (HasRisen m n) (ask_of act)
 act_tells (Connects id) m n h = tt
 act_tells (Refused refusal) m n h = h
-act_tells (Says id text reply) m n h = h
+act_tells (Says id asked reply) m n h = h
 act_tells (Ends id) m n h = tt
 
 pub answered : (m n : ℕ) (texts : List (List ℕ)) (who : ℕ) (log : List Event) (answers : List Answer) → Played texts (calls_by who log) answers → AllTellDevice log m n

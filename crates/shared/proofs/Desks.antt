@@ -44,7 +44,7 @@ lives_on id who (Connects i) b h live = go (i == id) refl
     go true e = let is : (id == i) ≡ true = grind (arith, nat_tests) in ap (λ t. t || b) is
     go false e = let is : (id == i) ≡ false = grind (arith, nat_tests) in ap (λ t. t || b) is ∙ live
 lives_on id who (Refused refusal) b h live = live
-lives_on id who (Says i text reply) b h live = live
+lives_on id who (Says i asked reply) b h live = live
 lives_on id who (Ends i) b h live = go (i == id) refl
   where
     go : (t : Bool) → (i == id) ≡ t → (not (id == i) && b) ≡ is_some (given t None h)

@@ -3,12 +3,11 @@
 use Rattle.std.proofs.Common.{◌≡◌, ℕ, true, List, Option, Some, None, Ok, Err, refl, sym, subst, ◌∙◌}
 use Rattle.std.specs.Prelude.{is_some}
 use Rattle.denote.specs.Database.{Database, CheckReading, IsGood}
-use Rattle.lexer.specs.Token.{Bytes}
 use Rattle.refusals.specs.declared.refusal.Refusal.{Refusal}
 use Rattle.replies.specs.declared.reply.Reply.{Reply}
 use Rattle.session_definitions.specs.Rules.{Rules, AreRules}
 use Rattle.session_definitions.specs.Run.{MakesSession, DropsSession, Moment, Run}
-use Rattle.session_definitions.specs.Step.{Step}
+use Rattle.session_definitions.specs.Step.{StepOf}
 use Rattle.session_definitions.specs.World.{Transaction, World, is_live}
 use Rattle.session_laws.specs.Sound.{IsGoodWorld}
 use Rattle.store.specs.Stored.{Stored}
@@ -25,7 +24,8 @@ use Rattle.sessions.proofs.QuerySteps.{sees}
 use Rattle.shared.specs.declared.event.Event.{Event}
 use Rattle.shared.specs.declared.event.Act.{Act}
 use Rattle.shared.specs.declared.event.Act.TheVariants.{Connects, Refused, Says, Ends}
-use Rattle.shared.specs.History.{IsTold, Happens}
+use Rattle.shared.specs.declared.event.Question.{Question}
+use Rattle.shared.specs.History.{IsTold, Happens, asked_of}
 use Rattle.shared.proofs.Histories.{says_happens, connects_happens, refused_happens, ends_happens}
 
 -- by the rules of names and types a run from a good world ends in a good one
@@ -55,14 +55,14 @@ module _ {S L D : Type 0} (is_sound : S → Type 0) (shows : S → Stored) (old 
   GoesOn act = (rules : Rules) → AreRules rules → IsSound is_sound shows old → IsGoodWorld rules.check (world_of shows old)
       → IsSound is_sound shows new × Happens rules (world_of shows old) act (world_of shows new)
 
-  pub says_on : (session : SessionId) (text : Bytes) (reply : Reply) → is_live (world_of shows old) (number_of session) ≡ true
+  pub says_on : (session : SessionId) (asked : Question) (reply : Reply) → is_live (world_of shows old) (number_of session) ≡ true
       → ((rules : Rules) → AreRules rules → IsSound is_sound shows old → is_live (world_of shows old) (number_of session) ≡ true
-      → IsGood rules.check (seen_in (shows old.store) old.writer (number_of session)) → Step rules (world_of shows old) (number_of session) text reply (world_of shows new))
+      → IsGood rules.check (seen_in (shows old.store) old.writer (number_of session)) → StepOf rules (world_of shows old) (number_of session) (asked_of asked) reply (world_of shows new))
       → ((rules : Rules) → AreRules rules → IsSound is_sound shows old → IsGood rules.check (seen_in (shows old.store) old.writer (number_of session)) → IsSound is_sound shows new)
-      → GoesOn (Says (number_of session) text reply)
-  says_on session text reply live step sound = λ rules are is good.
+      → GoesOn (Says (number_of session) asked reply)
+  says_on session asked reply live step sound = λ rules are is good.
       let seen = good_seen rules.check (shows old.store) old.writer (slots_of old) (number_of session) is.order live good in
-      (sound rules are is seen, says_happens rules (world_of shows old) (world_of shows new) (number_of session) text reply (step rules are is live seen))
+      (sound rules are is seen, says_happens rules (world_of shows old) (world_of shows new) (number_of session) asked reply (step rules are is live seen))
 
   pub connects_on : (session : SessionId) → (IsSound is_sound shows old → MakesSession (world_of shows old) (Ok (number_of session)) (world_of shows new))
       → (IsSound is_sound shows old → IsSound is_sound shows new) → GoesOn (Connects (number_of session))

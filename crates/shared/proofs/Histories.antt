@@ -7,14 +7,16 @@ use Rattle.session_definitions.specs.World.{World}
 use Rattle.session_definitions.specs.Asked.{Asked}
 use Rattle.session_definitions.specs.Rules.{Rules}
 use Rattle.session_definitions.specs.Run as runs
-use Rattle.session_definitions.specs.Step.{Step}
+use Rattle.session_definitions.specs.Step.{StepOf}
 use Rattle.refusals.specs.declared.refusal.Refusal.{Refusal}
 use Rattle.replies.specs.declared.reply.Reply.{Reply}
 use Rattle.shared.specs.declared.event.Event.{Event}
 use Rattle.shared.specs.declared.event.Act.{Act}
 use Rattle.shared.specs.declared.event.Act.TheVariants.{Connects, Refused, Says, Ends}
+use Rattle.shared.specs.declared.event.Question.{Question}
+use Rattle.shared.specs.declared.event.Question.TheVariants.{Text, Query, Rows, Close}
 use Rattle.shared.specs.declared.rule.View.{View}
-use Rattle.shared.specs.History.{IsTold, Happens, event, told_of, acts_of, kept, calls_by, given, moved, holder_from, holder_of, IsOwn, AreOwnBehind, AllOf, at_after}
+use Rattle.shared.specs.History.{IsTold, Happens, event, asked_of, told_of, acts_of, kept, calls_by, given, moved, holder_from, holder_of, IsOwn, AreOwnBehind, AllOf, at_after}
 use Rattle.shared.specs.Views.{IsAt, May, Calls, extended}
 
 pub same : (a : ℕ) → (a == a) ≡ true
@@ -98,7 +100,7 @@ moved_other v id who (Connects i) may at apart h = go (i == id) refl
     go true e = let is : i ≡ id = grind (arith, nat_tests) in none_some who (sym may.1 ∙ ap (λ k. holder_of k v.log) is ∙ h)
     go false e = h
 moved_other v id who (Refused refusal) may at apart h = h
-moved_other v id who (Says i text reply) may at apart h = h
+moved_other v id who (Says i asked reply) may at apart h = h
 moved_other v id who (Ends i) may at apart h = go (i == id) refl
   where
     go : (b : Bool) → (i == id) ≡ b → given b None (holder_of id v.log) ≡ Some who
@@ -121,7 +123,7 @@ stays log who k act n (Some id) same h = holder_snoc id None log (event k act n)
 own_at : (log : List Event) (who : ℕ) (act : Act) (n : ℕ) (at : Option ℕ) → IsAt log who at → IsAt (log ++ event who act n ∷ []) who (at_after act at)
 own_at log who (Connects id) n at h = holder_snoc id None log (event who (Connects id) n) ∙ ap (λ b. given b (Some who) (holder_of id log)) (same id)
 own_at log who (Refused refusal) n at h = stays log who who (Refused refusal) n at (λ id. refl) h
-own_at log who (Says id text reply) n at h = stays log who who (Says id text reply) n at (λ i. refl) h
+own_at log who (Says id asked reply) n at h = stays log who who (Says id asked reply) n at (λ i. refl) h
 own_at log who (Ends id) n at h = tt
 
 pub stays_own : (v : View) (e : Event) → e.who ≡ v.who → IsAt v.log v.who v.at → IsAt (v.log ++ e ∷ []) v.who (at_after e.act v.at)
@@ -138,7 +140,7 @@ moved_own v id (Connects i) may alone h = go (i == id) refl h
     go true e h = let is : i ≡ id = grind (arith, nat_tests) in ap Some is
     go false e h = none_some id (sym may.0 ∙ alone h)
 moved_own v id (Refused refusal) may alone h = alone h
-moved_own v id (Says i text reply) may alone h = alone h
+moved_own v id (Says i asked reply) may alone h = alone h
 moved_own v id (Ends i) may alone h = go (i == id) refl h
   where
     go : (b : Bool) → (i == id) ≡ b → given b None (holder_of id v.log) ≡ Some v.who → None ≡ Some id
@@ -157,7 +159,7 @@ moved_back v id who (Connects i) apart h = go (i == id) h
     go true h = let is : who ≡ v.who = cc h in absurd (apart is)
     go false h = h
 moved_back v id who (Refused refusal) apart h = h
-moved_back v id who (Says i text reply) apart h = h
+moved_back v id who (Says i asked reply) apart h = h
 moved_back v id who (Ends i) apart h = go (i == id) h
   where
     go : (b : Bool) → given b None (holder_of id v.log) ≡ Some who → holder_of id v.log ≡ Some who
@@ -174,7 +176,7 @@ moved_below n id k (Connects i) h less first who is = go (i == id) is
     go true is = let one : k ≡ who = cc is in subst (λ (x : ℕ). x < n) one less
     go false is = first who is
 moved_below n id k (Refused refusal) h less first who is = first who is
-moved_below n id k (Says i text reply) h less first who is = first who is
+moved_below n id k (Says i asked reply) h less first who is = first who is
 moved_below n id k (Ends i) h less first who is = go (i == id) is
   where
     go : (b : Bool) → given b None h ≡ Some who → who < n
@@ -218,8 +220,11 @@ calls_beside v u e is may own apart c = record {
 }
 
 -- each kind of call is an event, of which just the call is told
-pub says_happens : (rules : Rules) (w w' : World) (id : ℕ) (text : List ℕ) (reply : Reply) → Step rules w id text reply w' → Happens rules w (Says id text reply) w'
-says_happens rules w w' id text reply step = record { event = runs.Event.Calls id (Asked.Text text) reply step.0; shared = refl; told = refl; happens = step.1 }
+pub says_happens : (rules : Rules) (w w' : World) (id : ℕ) (asked : Question) (reply : Reply) → StepOf rules w id (asked_of asked) reply w' → Happens rules w (Says id asked reply) w'
+says_happens rules w w' id (Text text) reply step = record { event = runs.Event.Calls id (Asked.Text text) reply step.0; shared = refl; told = refl; happens = step.1 }
+says_happens rules w w' id (Query text) reply step = record { event = runs.Event.Calls id (Asked.Query text) reply step.0; shared = refl; told = refl; happens = step.1 }
+says_happens rules w w' id (Rows count) reply step = record { event = runs.Event.Calls id (Asked.Rows count) reply step.0; shared = refl; told = refl; happens = step.1 }
+says_happens rules w w' id Close reply step = record { event = runs.Event.Calls id Asked.Close reply step.0; shared = refl; told = refl; happens = step.1 }
 
 pub connects_happens : (rules : Rules) (w w' : World) (id : ℕ) → runs.MakesSession w (Ok id) w' → Happens rules w (Connects id) w'
 connects_happens rules w w' id made = record { event = runs.Event.Makes (Ok id); shared = refl; told = refl; happens = made }

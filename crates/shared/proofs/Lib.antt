@@ -5,5 +5,7 @@ pub mod Limits
 pub mod Moves
 pub mod Goods
 pub mod Desks
+pub mod Questions
 pub mod Asking
+pub mod InTurns
 pub mod Crossing

@@ -10,7 +10,7 @@ use Rattle.session_definitions.specs.Rules.{Rules, AreRules}
 use Rattle.session_definitions.specs.Run as runs
 use Rattle.session_definitions.specs.World.{World}
 use Rattle.session_laws.specs.Sound.{IsGoodWorld}
-use Rattle.store.specs.Errors.{HasRisen}
+use Rattle.store.specs.Errors.{HasRisen, Never}
 use Rattle.lexer.specs.Token.{Bytes}
 use Rattle.replies.specs.declared.reply.Reply.{Reply}
 use Rattle.replies.specs.declared.reply.Reply.TheVariants as says
@@ -20,9 +20,18 @@ use Rattle.transactions.specs.Refused.{Counts, IfRefused, TellsReached}
 use Rattle.shared.specs.declared.event.Event.{Event}
 use Rattle.shared.specs.declared.event.Act.{Act}
 use Rattle.shared.specs.declared.event.Act.TheVariants.{Connects, Refused, Says, Ends}
+use Rattle.shared.specs.declared.event.Question.{Question}
+use Rattle.shared.specs.declared.event.Question.TheVariants.{Text, Query, Rows, Close}
 
 abbrev pub event : ℕ → Act → ℕ → Event
 event who act refused = record { who = who; act = act; refused = refused }
+
+-- what a session was asked, in the words of sessions
+abbrev pub asked_of : Question → Asked
+asked_of (Text text) = Asked.Text text
+asked_of (Query text) = Asked.Query text
+asked_of (Rows count) = Asked.Rows count
+asked_of Close = Asked.Close
 
 -- ---- legal histories
 
@@ -31,10 +40,10 @@ event who act refused = record { who = who; act = act; refused = refused }
 abbrev pub told_of : runs.Event → List Act
 told_of (runs.Event.Makes (Ok s)) = Connects s ∷ []
 told_of (runs.Event.Makes (Err refusal)) = Refused refusal ∷ []
-told_of (runs.Event.Calls s (Asked.Text text) reply effect) = Says s text reply ∷ []
-told_of (runs.Event.Calls s (Asked.Query text) reply effect) = []
-told_of (runs.Event.Calls s (Asked.Rows count) reply effect) = []
-told_of (runs.Event.Calls s Asked.Close reply effect) = []
+told_of (runs.Event.Calls s (Asked.Text text) reply effect) = Says s (Text text) reply ∷ []
+told_of (runs.Event.Calls s (Asked.Query text) reply effect) = Says s (Query text) reply ∷ []
+told_of (runs.Event.Calls s (Asked.Rows count) reply effect) = Says s (Rows count) reply ∷ []
+told_of (runs.Event.Calls s Asked.Close reply effect) = Says s Close reply ∷ []
 told_of (runs.Event.Calls s (Asked.Insert table rows) reply effect) = []
 told_of (runs.Event.Drops s) = Ends s ∷ []
 told_of (runs.Event.Flushes left) = []
@@ -84,7 +93,7 @@ pub record Happens (rules : Rules) (w : World) (act : Act) (w' : World) : Type 0
 abbrev pub lives_after : Act → ℕ → Bool → Bool
 lives_after (Connects i) id stood = (id == i) || stood
 lives_after (Refused refusal) id stood = stood
-lives_after (Says i text reply) id stood = stood
+lives_after (Says i asked reply) id stood = stood
 lives_after (Ends i) id stood = not (id == i) && stood
 
 abbrev pub kept : Bool → Event → List Event → List Event
@@ -104,7 +113,7 @@ given false new old = old
 abbrev pub moved : ℕ → ℕ → Act → Option ℕ → Option ℕ
 moved id who (Connects i) holder = given (i == id) (Some who) holder
 moved id who (Refused refusal) holder = holder
-moved id who (Says i text reply) holder = holder
+moved id who (Says i asked reply) holder = holder
 moved id who (Ends i) holder = given (i == id) None holder
 
 abbrev pub holder_from : ℕ → Option ℕ → List Event → Option ℕ
@@ -120,7 +129,7 @@ holder_of id log = holder_from id None log
 abbrev pub IsOwn : List Event → ℕ → Act → Type 0
 IsOwn before who (Connects id) = holder_of id before ≡ None
 IsOwn before who (Refused refusal) = Unit {0}
-IsOwn before who (Says id text reply) = holder_of id before ≡ Some who
+IsOwn before who (Says id asked reply) = holder_of id before ≡ Some who
 IsOwn before who (Ends id) = holder_of id before ≡ Some who
 
 -- and so is each of these calls, which come behind those
@@ -141,7 +150,7 @@ AllOf n (e ∷ es) = (e.who < n) × AllOf n es
 abbrev pub at_after : Act → Option ℕ → Option ℕ
 at_after (Connects id) at = Some id
 at_after (Refused refusal) at = at
-at_after (Says id text reply) at = at
+at_after (Says id asked reply) at = at
 at_after (Ends id) at = None
 
 -- each call is such a one
@@ -155,7 +164,7 @@ EachAct P (e ∷ es) = P e.act × EachAct P es
 abbrev pub TellsDevice : Act → ℕ → ℕ → Type 0
 TellsDevice (Connects id) before after = Unit {0}
 TellsDevice (Refused refusal) before after = refusal ≡ Disk → HasRisen before after
-TellsDevice (Says id text reply) before after = Counts reply before after
+TellsDevice (Says id asked reply) before after = Counts reply before after
 TellsDevice (Ends id) before after = Unit {0}
 
 -- The counts after the calls do not fall, from the one before the history to the one that is
@@ -177,7 +186,7 @@ says_disk _ = false
 abbrev pub tells_disk : Act → Bool
 tells_disk (Connects id) = false
 tells_disk (Refused refusal) = is_disk refusal
-tells_disk (Says id text reply) = says_disk reply
+tells_disk (Says id asked reply) = says_disk reply
 tells_disk (Ends id) = false
 
 abbrev pub one_if : Bool → ℕ
@@ -198,12 +207,19 @@ HasRisenBy n before after = min (before + n) (2 ^ 64 - 1) ≤ after
 abbrev pub TextMayReach : Bytes → StoreLimit → Type 0
 TextMayReach text which = (commits : ℕ) × CallReaches (λ _. Unit {0}) commits text which
 
--- a call tells such a limit only where its text may reach it; no session is made only where as many
--- stand as may
+-- the question may reach it: a text as said, and no other question
+abbrev pub MayReach : Question → StoreLimit → Type 0
+MayReach (Text text) = TextMayReach text
+MayReach (Query text) = Never
+MayReach (Rows count) = Never
+MayReach Close = Never
+
+-- a call tells such a limit only where what was asked may reach it; no session is made only where
+-- as many stand as may
 abbrev pub ActTellsLimits : Act → Type 0
 ActTellsLimits (Connects id) = Unit {0}
 ActTellsLimits (Refused refusal) = refusal ≡ Exceeded limit.Sessions
-ActTellsLimits (Says id text reply) = IfRefused reply (TellsReached (TextMayReach text))
+ActTellsLimits (Says id asked reply) = IfRefused reply (TellsReached (MayReach asked))
 ActTellsLimits (Ends id) = Unit {0}
 
 -- The count of refused calls has not fallen since it was the one. X0002 was told of a call only

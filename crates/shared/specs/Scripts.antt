@@ -13,6 +13,8 @@ use Rattle.transactions.specs.Refused.{IfRefused, TellsReached}
 use Rattle.shared.specs.declared.event.Event.{Event}
 use Rattle.shared.specs.declared.event.Act.{Act}
 use Rattle.shared.specs.declared.event.Act.TheVariants.{Connects, Refused, Says, Ends}
+use Rattle.shared.specs.declared.event.Question.{Question}
+use Rattle.shared.specs.declared.event.Question.TheVariants as question
 use Rattle.shared.specs.History.{Stays, AllOf, AreOwn, IsCounted, TextMayReach, calls_by}
 use Rattle.shared.specs.Views.{Past}
 
@@ -24,13 +26,13 @@ Answer = Result Reply Refusal
 pub data Ask : Type 0 where
   joins : Ask
   refused : Refusal → Ask
-  says : List ℕ → Reply → Ask
+  says : Question → Reply → Ask
   leaves : Ask
 
 abbrev pub ask_of : Act → Ask
 ask_of (Connects id) = joins
 ask_of (Refused refusal) = refused refusal
-ask_of (Says id text reply) = says text reply
+ask_of (Says id asked reply) = says asked reply
 ask_of (Ends id) = leaves
 
 abbrev pub asks : List Event → List Ask
@@ -41,8 +43,8 @@ asks (e ∷ es) = ask_of e.act ∷ asks es
 -- is asked where it was made.
 abbrev pub asked : Bool → List ℕ → Answer → List Ask
 asked stands text (Err refusal) = refused refusal ∷ []
-asked false text (Ok reply) = joins ∷ says text reply ∷ []
-asked true text (Ok reply) = says text reply ∷ []
+asked false text (Ok reply) = joins ∷ says (question.Text text) reply ∷ []
+asked true text (Ok reply) = says (question.Text text) reply ∷ []
 
 -- whether the session stands after an answer, and after these
 abbrev pub after : Bool → Answer → Bool

@@ -14,6 +14,7 @@ use Rattle.statement_definitions.specs.Rollback.{IsRollback}
 use Rattle.shared.specs.declared.event.Event.{Event}
 use Rattle.shared.specs.declared.event.Act.{Act}
 use Rattle.shared.specs.declared.event.Act.TheVariants.{Connects, Refused, Says, Ends}
+use Rattle.shared.specs.declared.event.Question.TheVariants.{Text}
 use Rattle.shared.specs.declared.rule.View.{View}
 use Rattle.shared.specs.History.{IsCounted, IsLegal, Stays, event, calls_by, holder_of, AllOf, AreOwn, TextMayReach, at_after}
 
@@ -92,7 +93,7 @@ pub record Kept (words : List ℕ) (views : List View) : Type 0 where
 abbrev pub May : View → Act → Type 0
 May v (Connects id) = (v.at ≡ None) × (holder_of id v.log ≡ None)
 May v (Refused refusal) = Unit {0}
-May v (Says id text reply) = v.at ≡ Some id
+May v (Says id asked reply) = v.at ≡ Some id
 May v (Ends id) = v.at ≡ Some id
 
 -- what the rule tells of the caller that was taken in
@@ -166,8 +167,8 @@ AllHeard log (caller ∷ callers) = IsHeard log caller × AllHeard log callers
 -- There is one history, in which each of these callers is heard; where it was settled how many
 -- callers there are, no other made a call in it. The device had refused `before` calls when it
 -- began, and has refused `after` in the core that is handed back. Each call is of its caller's own
--- session, and the sessions that stand are those that the history leaves to somebody. Under the premise it is legal, and the world is the one
--- after it.
+-- session, and the sessions that stand are those that the history leaves to somebody. Under the
+-- premise it is legal, and the world is the one after it.
 pub record HasHistory (premise : Type 0) (start : World) (before : ℕ) (settled : Option ℕ) (callers : List Past) (is_sound : Type 0) (world : World) (after : ℕ) : Type 0 where
   pub log : List Event
   pub heard : AllHeard log callers
@@ -198,7 +199,7 @@ pub record Extends (premise : Type 0) (start : World) (before : ℕ) (v : Past) 
 pub record Said (premise : Type 0) (start : World) (before : ℕ) (v : Past) (text : Bytes) (reply : Reply) (w : Past) : Type 0 where
   pub id : ℕ
   pub at : v.at ≡ Some id
-  pub call : Extends premise start before v (Says id text reply) w
+  pub call : Extends premise start before v (Says id (Text text) reply) w
   pub limits : IfRefused reply (TellsReached (TextMayReach text))
   pub rolled_back : IsRollback text → reply ≡ Done
 

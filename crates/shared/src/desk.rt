@@ -1,18 +1,22 @@
 //! What lies under the lock: a core, and the pass that knows the history of all that was called.
-ghost use Rattle.std.specs.Prelude.{◌≡◌, ◌≢◌, ◌<◌, ◌≤◌, ℕ, ◌+◌, ◌%◌, ◌^◌, Some, None, List, [], true, false, is_some, length, IfOk, IfErr, OnOk};
+ghost use Rattle.std.specs.Prelude.{◌≡◌, ◌≢◌, ◌<◌, ◌≤◌, ℕ, ◌+◌, ◌%◌, ◌^◌, Some, None, List, [], true, false, is_some, length, IsTrue, IfOk, IfErr, OnOk};
 ghost use Rattle.refusals.specs.declared.refusal.Refusal.TheVariants.{Disk, Exceeded};
 ghost use Rattle.refusals.specs.declared.limit.Limit.TheVariants as limit;
 ghost use mathlib.Core.List.{IsPrefix};
 ghost use Rattle.crossbeam_utils.specs.Seq.{cell_view};
 ghost use Rattle.session_definitions.specs.Refusals.{StopsFlush};
 ghost use Rattle.session_definitions.specs.World.{is_live};
+ghost use Rattle.sessions.specs.Kinds.{IsQueryText};
 ghost use Rattle.sessions.specs.OfCore.{IsSound, world_of};
+ghost use Rattle.sessions.specs.Turned.{TellsOpening, TellsRows};
 ghost use Rattle.store.specs.Errors.{HasRisen};
 ghost use Rattle.transactions.specs.Refused.{Counts};
 ghost use Rattle.shared.specs.History.{event, calls_by, holder_of, AllOf, AreOwn, IsCounted, Stays};
 ghost use Rattle.shared.specs.Scripts.{store_of};
 ghost use Rattle.shared.specs.Views.{keeper as keeper_of, one_more, host, keeper_in, caller_in, extended, IsNew, May, Told, Extends, Said, Joined, TurnedAway, Left};
 ghost use Rattle.shared.specs.Called.{act_of};
+ghost use Rattle.shared.specs.Turned.{Turn};
+ghost use Rattle.shared.specs.declared.event.Question.TheVariants as question;
 
 use crate::callers::{Client, Session};
 use crate::rule::{Asked, Call, Cell, Guest, Newcomer, Peek, Room, Spare, Token};
@@ -25,12 +29,21 @@ use std::mem::replace;
 use std::sync::Wait;
 use store::Store;
 
+/// What a session was asked.
+#[derive(Clone, Copy)]
+pub(crate) enum Asking<'a> {
+    Text(&'a [u8]),
+    Query(&'a [u8]),
+    Rows(u64),
+    Close,
+}
+
 /// A call that was made under the lock, with what its caller is told.
 #[derive(Clone, Copy)]
 pub(crate) enum Called<'a> {
     Connects(SessionId),
     Refused(&'a Refusal),
-    Says(SessionId, &'a [u8], &'a Reply),
+    Says(SessionId, Asking<'a>, &'a Reply),
     Ends(SessionId),
 }
 
@@ -128,7 +141,75 @@ impl<S: Store, L: Language + Changes<S>, J: Room> Desk<S, L, J> {
         take_in(rt, cell, &mut self.keeper, &mut me.token);
         let reply = self.core.step(me.id, text);
         self.count = self.count.wrapping_add(1);
-        let call = Called::Says(me.id, text, &reply);
+        let call = Called::Says(me.id, Asking::Text(text), &reply);
+        let keeper = &mut self.keeper;
+        me.token = record::<S, L, Brand, R>(rt, cell, keeper, self.count, call, &self.core);
+        reply
+    }
+
+    /// Whether the text is a query. It says no for want of memory too. It is no call.
+    pub(crate) fn is_query(&self, text: &[u8]) -> bool
+        ensures { IsTrue result → IsQueryText text.now }
+    {
+        self.core.is_query(text)
+    }
+
+    /// Opens the query in this text in the session. X0002 is told only where this call was refused
+    /// by the device.
+    pub(crate) fn open_query<R: Wait>(
+        &mut self,
+        rt: &R,
+        cell: &Cell,
+        me: &mut Session<J>,
+        text: &[u8],
+    ) -> Reply
+        requires { cell.now.table.shared.table_id ≡ J.table }
+        ensures turn { Turn J.premise J.start J.refused me.old (question.Query text.now) result me.new }
+        ensures told { TellsOpening result }
+        ensures device { Counts result self.old.refused self.new.refused }
+    {
+        databases_stay_good();
+        take_in(rt, cell, &mut self.keeper, &mut me.token);
+        let reply = self.core.open_query(me.id, text);
+        self.count = self.count.wrapping_add(1);
+        let call = Called::Says(me.id, Asking::Query(text), &reply);
+        let keeper = &mut self.keeper;
+        me.token = record::<S, L, Brand, R>(rt, cell, keeper, self.count, call, &self.core);
+        reply
+    }
+
+    /// Takes so many of the next rows of the query that the session has open.
+    pub(crate) fn take_rows<R: Wait>(
+        &mut self,
+        rt: &R,
+        cell: &Cell,
+        me: &mut Session<J>,
+        count: u64,
+    ) -> Reply
+        requires { cell.now.table.shared.table_id ≡ J.table }
+        ensures turn { Turn J.premise J.start J.refused me.old (question.Rows count) result me.new }
+        ensures told { TellsRows count result }
+    {
+        databases_stay_good();
+        take_in(rt, cell, &mut self.keeper, &mut me.token);
+        let reply = self.core.take_rows(me.id, count);
+        self.count = self.count.wrapping_add(1);
+        let call = Called::Says(me.id, Asking::Rows(count), &reply);
+        let keeper = &mut self.keeper;
+        me.token = record::<S, L, Brand, R>(rt, cell, keeper, self.count, call, &self.core);
+        reply
+    }
+
+    /// Closes the query that the session has open.
+    pub(crate) fn close_query<R: Wait>(&mut self, rt: &R, cell: &Cell, me: &mut Session<J>) -> Reply
+        requires { cell.now.table.shared.table_id ≡ J.table }
+        ensures { Turn J.premise J.start J.refused me.old question.Close result me.new }
+    {
+        databases_stay_good();
+        take_in(rt, cell, &mut self.keeper, &mut me.token);
+        let reply = self.core.close_query(me.id);
+        self.count = self.count.wrapping_add(1);
+        let call = Called::Says(me.id, Asking::Close, &reply);
         let keeper = &mut self.keeper;
         me.token = record::<S, L, Brand, R>(rt, cell, keeper, self.count, call, &self.core);
         reply

@@ -11,6 +11,7 @@ mod jobs;
 mod lock;
 mod rule;
 mod scripts;
+mod turns;
 
 pub use callers::{Client, Session};
 pub use desk::Desk;

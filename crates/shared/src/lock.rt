@@ -1,10 +1,11 @@
 //! The calls of sessions, by any thread.
-ghost use Rattle.std.specs.Prelude.{◌≡◌, ◌≤◌, ℕ, Some, None, [], false, IfOk, IfErr, OnOk};
+ghost use Rattle.std.specs.Prelude.{◌≡◌, ◌≤◌, ℕ, Some, None, [], false, IsTrue, IfOk, IfErr, OnOk};
 ghost use Rattle.refusals.specs.declared.refusal.Refusal.TheVariants.{Exceeded};
 ghost use Rattle.refusals.specs.declared.limit.Limit.TheVariants as limit;
 ghost use Rattle.crossbeam_utils.specs.Seq.{cell_view};
 ghost use Rattle.session_definitions.specs.Refusals.{StopsFlush};
 ghost use Rattle.session_definitions.specs.World.{is_live};
+ghost use Rattle.sessions.specs.Kinds.{IsQueryText};
 ghost use Rattle.sessions.specs.OfCore.{IsSound, world_of};
 ghost use Rattle.shared.specs.Scripts.{store_of};
 ghost use Rattle.shared.specs.Views.{keeper as keeper_of, AreNew, Said, Joined, TurnedAway, Left, HasHistory};
@@ -106,6 +107,14 @@ impl<S: Store, L: Language + Changes<S>, J: Room> Shared<S, L, J> {
         ensures full { IfErr result (λ e. e.0 ≡ Exceeded limit.Sessions) }
     {
         self.desk.lock(rt).connect(rt, &self.cell, me)
+    }
+
+    /// Whether the text is a query, which `execute_in_turns` asks in turns. It says no for want of
+    /// memory too. It is no call of the history.
+    pub fn is_query<R: Wait>(&self, rt: &R, text: &[u8]) -> bool
+        ensures { IsTrue result → IsQueryText text.now }
+    {
+        self.desk.lock(rt).is_query(text)
     }
 
     /// Writes some of what is committed and not on the device yet, and answers how many pages are

@@ -8,7 +8,7 @@ use Rattle.replies.specs.declared.reply.Reply.TheVariants as says
 use Rattle.session_definitions.specs.Asked.{Asked}
 use Rattle.session_definitions.specs.Rules.{Rules}
 use Rattle.session_definitions.specs.Run.{Moment, Run}
-use Rattle.turn_laws.specs.Turns.{AreTaken, Exchange, InTurns, TakesTurns, exchange, exchanges_in}
+use Rattle.session_definitions.specs.Turns.{AreTaken, Exchange, InTurns, TakesTurns, exchange, exchanges_in}
 use Rattle.session_definitions.specs.World.{World}
 use Rattle.turn_laws.proofs.Ends.{broken, closed_so, given_all, refused}
 use Rattle.turn_laws.proofs.Latest.{Latest, latest, stands_in}
@@ -71,6 +71,7 @@ module _ (rules : Rules) (s : ℕ) (text : Bytes) (n : ℕ) (start : World) wher
   refusal_told moments end exchanges refusal (InTurns.refused earlier before _ taken) all run stands =
       refused_by_last earlier before refusal moments end taken
       (latest rules s (Asked.Rows n) (says.Refused refusal) earlier start moments end all run stands)
+  refusal_told moments end exchanges refusal (InTurns.unkept earlier before last closing taken) all run stands = IsRefused.withheld tt
 
 pub answers : (rules : Rules) (s : ℕ) (text : Bytes) (n : ℕ) (start end : World) (moments : List Moment) (rows : List Row)
     → Run rules start moments end → TakesTurns s text n moments (says.Rows rows)

@@ -1,5 +1,5 @@
 -- What the turns of a query leave behind.
-use Rattle.std.proofs.Common.{◌≡◌, ◌⊎◌, ◌<◌, ℕ, true, List, [], ◌∷◌, ◌++◌, length, None, refl, sym, ap, ◌∙◌, inl, inr}
+use Rattle.std.proofs.Common.{◌≡◌, ◌⊎◌, ℕ, true, List, [], ◌∷◌, ◌++◌, None, refl, sym, ap, ◌∙◌, inl, inr}
 use Rattle.sqlval.specs.Value.{Row}
 use Rattle.refusals.specs.declared.refusal.Refusal.{Refusal}
 use Rattle.lexer.specs.Token.{Bytes}
@@ -8,12 +8,12 @@ use Rattle.replies.specs.declared.reply.Reply.TheVariants as says
 use Rattle.session_definitions.specs.Asked.{Asked}
 use Rattle.session_definitions.specs.Rules.{Rules}
 use Rattle.session_definitions.specs.Run.{Moment, Run}
-use Rattle.turn_laws.specs.Turns.{AreTaken, Exchange, InTurns, TakesTurns, exchange, exchanges_in}
+use Rattle.session_definitions.specs.Turns.{AreTaken, Exchange, InTurns, TakesTurns, exchange, exchanges_in}
 use Rattle.session_definitions.specs.World.{World}
-use Rattle.turn_laws.proofs.Ends.{broken, closed, closed_behind, closing_so, given_all}
+use Rattle.turn_laws.proofs.Ends.{broken, closed, closed_behind, closing_so}
 use Rattle.turn_laws.proofs.Latest.{Latest, latest, stands_in}
 use Rattle.turn_laws.proofs.Openings.{first_leaves, first_left}
-use Rattle.turn_laws.proofs.Taking.{IsTaking, first_among, first_here, slot, taking}
+use Rattle.turn_laws.proofs.Taking.{IsTaking, first_among, first_here, further_taken, slot, taking}
 use Rattle.turn_laws.specs.Answered.{HasClosed, IsAsBefore}
 
 same_asked : (e f : Exchange) (es fs : List Exchange) → e ∷ es ≡ f ∷ fs → e.asked ≡ f.asked
@@ -31,31 +31,31 @@ rows_close n e = cc
 module _ (rules : Rules) (s : ℕ) (text : Bytes) (n : ℕ) (start : World) where
   -- the rows that came before a query was closed
   taken_before : (earlier : List Exchange) (before last : List Row) (others : List Exchange) (closing : Reply) (moments : List Moment) (end : World)
-      → AreTaken text n earlier before → length last < n
+      → AreTaken text n earlier before
       → (c : Latest rules s Asked.Close closing others moments start end)
       → (l : Latest rules s (Asked.Rows n) (says.Rows last) earlier c.earlier start c.moment.before)
       → IsTaking rules s text c.earlier (before ++ last) c.moment.before
-  taken_before earlier before last others closing moments end taken few c l =
-      (given_all rules s text n start earlier before last c.earlier c.moment.before few l
-      (taking rules s text n start earlier before taken l.earlier l.moment.before l.before l.run l.stood)).taking
+  taken_before earlier before last others closing moments end taken c l =
+      further_taken rules s text n start earlier before last c.earlier c.moment.before l
+      (taking rules s text n start earlier before taken l.earlier l.moment.before l.before l.run l.stood)
 
   taken_until : (earlier : List Exchange) (before last : List Row) (closing : Reply) (moments : List Moment) (end : World)
-      → AreTaken text n earlier before → length last < n
+      → AreTaken text n earlier before
       → (c : Latest rules s Asked.Close closing (exchange (Asked.Rows n) (says.Rows last) ∷ earlier) moments start end)
       → IsTaking rules s text c.earlier (before ++ last) c.moment.before
-  taken_until earlier before last closing moments end taken few c =
-      taken_before earlier before last (exchange (Asked.Rows n) (says.Rows last) ∷ earlier) closing moments end taken few c
+  taken_until earlier before last closing moments end taken c =
+      taken_before earlier before last (exchange (Asked.Rows n) (says.Rows last) ∷ earlier) closing moments end taken c
       (latest rules s (Asked.Rows n) (says.Rows last) earlier start c.earlier c.moment.before c.before c.run c.stood)
 
   -- ---- the call that closes it
 
   closing_told : (earlier : List Exchange) (before last : List Row) (closing : Reply) (moments : List Moment) (end : World)
-      → AreTaken text n earlier before → length last < n
+      → AreTaken text n earlier before
       → Latest rules s Asked.Close closing (exchange (Asked.Rows n) (says.Rows last) ∷ earlier) moments start end
       → closing ≡ says.Done
-  closing_told earlier before last closing moments end taken few c =
+  closing_told earlier before last closing moments end taken c =
       (closing_so rules s text n start (exchange (Asked.Rows n) (says.Rows last) ∷ earlier) (before ++ last) closing moments end c
-      (taken_until earlier before last closing moments end taken few c)).0
+      (taken_until earlier before last closing moments end taken c)).0
 
   told_at_close : (moments : List Moment) (end : World) (exchanges others : List Exchange) (reply closing : Reply) → InTurns text n exchanges reply
       → exchanges_in s moments ≡ exchanges → exchanges ≡ exchange Asked.Close closing ∷ others
@@ -67,7 +67,11 @@ module _ (rules : Rules) (s : ℕ) (text : Bytes) (n : ℕ) (start : World) wher
       absurd (rows_close n (same_asked _ _ _ _ ends))
   told_at_close moments end exchanges others reply closing (InTurns.fewer earlier before last told taken few) all ends run stands =
       sym (same_reply _ _ _ _ ends)
-      ∙ closing_told earlier before last told moments end taken few
+      ∙ closing_told earlier before last told moments end taken
+      (latest rules s Asked.Close told (exchange (Asked.Rows n) (says.Rows last) ∷ earlier) start moments end all run stands)
+  told_at_close moments end exchanges others reply closing (InTurns.unkept earlier before last told taken) all ends run stands =
+      sym (same_reply _ _ _ _ ends)
+      ∙ closing_told earlier before last told moments end taken
       (latest rules s Asked.Close told (exchange (Asked.Rows n) (says.Rows last) ∷ earlier) start moments end all run stands)
 
   -- ---- the session behind them
@@ -91,7 +95,7 @@ module _ (rules : Rules) (s : ℕ) (text : Bytes) (n : ℕ) (start : World) wher
       left_by (latest rules s Asked.Close closing (exchange (Asked.Rows n) (says.Rows last) ∷ earlier) start moments end all run stands)
     where
       left_by : Latest rules s Asked.Close closing (exchange (Asked.Rows n) (says.Rows last) ∷ earlier) moments start end → HasClosed end s
-      left_by c = left_closed earlier before last closing moments end c (taken_until earlier before last closing moments end taken few c)
+      left_by c = left_closed earlier before last closing moments end c (taken_until earlier before last closing moments end taken c)
 
   left_refused : (earlier : List Exchange) (before : List Row) (refusal : Refusal) (moments : List Moment) (end : World)
       → AreTaken text n earlier before
@@ -121,6 +125,11 @@ module _ (rules : Rules) (s : ℕ) (text : Bytes) (n : ℕ) (start : World) wher
   refusal_left moments end exchanges refusal (InTurns.refused earlier before _ taken) all run stands =
       inl (left_refused earlier before refusal moments end taken
       (latest rules s (Asked.Rows n) (says.Refused refusal) earlier start moments end all run stands))
+  refusal_left moments end exchanges refusal (InTurns.unkept earlier before last closing taken) all run stands =
+      inl (left_by (latest rules s Asked.Close closing (exchange (Asked.Rows n) (says.Rows last) ∷ earlier) start moments end all run stands))
+    where
+      left_by : Latest rules s Asked.Close closing (exchange (Asked.Rows n) (says.Rows last) ∷ earlier) moments start end → HasClosed end s
+      left_by c = left_closed earlier before last closing moments end c (taken_until earlier before last closing moments end taken c)
 
 pub told_closed : (rules : Rules) (s : ℕ) (text : Bytes) (n : ℕ) (start end : World) (moments : List Moment) (reply closing : Reply) (others : List Exchange)
     → Run rules start moments end → TakesTurns s text n moments reply

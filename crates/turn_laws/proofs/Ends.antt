@@ -16,7 +16,7 @@ use Rattle.session_definitions.specs.Effect.{Effect}
 use Rattle.session_definitions.specs.Refusals.{IsReserved, refusal_of}
 use Rattle.session_definitions.specs.Rules.{Rules}
 use Rattle.session_definitions.specs.Run.{Moment}
-use Rattle.turn_laws.specs.Turns.{Exchange}
+use Rattle.session_definitions.specs.Turns.{Exchange}
 use Rattle.session_definitions.specs.World.{Session, World, is_live}
 use Rattle.turn_laws.proofs.Latest.{Latest, still}
 use Rattle.turn_laws.proofs.Taking.{IsTaking, Opened, as_left, became, cursor_at, opened_among, slot, taken_more, taken_so, taking_later}

@@ -10,7 +10,7 @@ use Rattle.session_definitions.specs.Effect.{Effect}
 use Rattle.session_definitions.specs.Rules.{Rules}
 use Rattle.session_definitions.specs.Run.{Event, Happens, Moment, Run}
 use Rattle.session_definitions.specs.Step.{Call}
-use Rattle.turn_laws.specs.Turns.{Exchange, exchange, exchange_in, exchanges_in, is_end_of}
+use Rattle.session_definitions.specs.Turns.{Exchange, exchange, exchange_in, exchanges_in, is_end_of}
 use Rattle.session_definitions.specs.World.{Session, World, is_live}
 use Rattle.turn_laws.proofs.Slots.{IsOf, others_leave, whose}
 

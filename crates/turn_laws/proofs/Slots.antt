@@ -11,7 +11,7 @@ use Rattle.session_definitions.specs.Asked.{Asked}
 use Rattle.session_definitions.specs.Effect.{Effect, idle, after}
 use Rattle.session_definitions.specs.Rules.{Rules}
 use Rattle.session_definitions.specs.Run.{Event, Happens}
-use Rattle.turn_laws.specs.Turns.{exchange, exchange_in, is_end_of}
+use Rattle.session_definitions.specs.Turns.{exchange, exchange_in, is_end_of}
 use Rattle.session_definitions.specs.World.{Session, World, is_live, is_writer, new_session}
 
 -- ---- look-ups after a change

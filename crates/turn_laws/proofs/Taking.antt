@@ -24,7 +24,7 @@ use Rattle.session_definitions.specs.Run.{Event, Moment, Run}
 use Rattle.session_definitions.specs.Statements.{IsSameOutcome}
 use Rattle.session_definitions.specs.Step.{Call}
 use Rattle.session_definitions.specs.Transactions.{active, begun, with_unnamed}
-use Rattle.turn_laws.specs.Turns.{AreTaken, Exchange, exchanges_in}
+use Rattle.session_definitions.specs.Turns.{AreTaken, Exchange, exchanges_in}
 use Rattle.session_definitions.specs.World.{Cursor, Session, Transaction, World, is_live}
 use Rattle.turn_laws.proofs.Latest.{Latest, latest, stands_in, still}
 use Rattle.turn_laws.proofs.Slots.{get_here}
@@ -179,7 +179,7 @@ module _ (rules : Rules) (s : ℕ) (text : Bytes) (n : ℕ) (start : World) wher
       taking_later rules s text (l.moment ∷ l.earlier) moments [] l.behind end l.within l.kept
       (opened_so rules s text l.moment l.earlier l.behind l.effect l.is l.call l.call.replies)
 
-  further_taken : (others : List Exchange) (before more : List Row) (moments : List Moment) (end : World)
+  pub further_taken : (others : List Exchange) (before more : List Row) (moments : List Moment) (end : World)
       → (l : Latest rules s (Asked.Rows n) (says.Rows more) others moments start end)
       → IsTaking rules s text l.earlier before l.moment.before
       → IsTaking rules s text moments (before ++ more) end

@@ -17,7 +17,7 @@ use Rattle.session_definitions.specs.Rules.{Rules}
 use Rattle.session_definitions.specs.Run.{Event, Moment}
 use Rattle.session_definitions.specs.Step.{Step}
 use Rattle.session_definitions.specs.Transactions.{begun}
-use Rattle.turn_laws.specs.Turns.{exchange, exchanges_in}
+use Rattle.session_definitions.specs.Turns.{exchange, exchanges_in}
 use Rattle.session_definitions.specs.World.{Session, Transaction, World}
 
 -- One of these moments is the first turn, at which the session was asked to open the query.

@@ -10,7 +10,7 @@ ghost use Rattle.replies.specs.declared.reply.Reply.TheVariants as says;
 ghost use Rattle.session_definitions.specs.Asked.{Asked};
 ghost use Rattle.session_definitions.specs.Rules.{Rules};
 ghost use Rattle.session_definitions.specs.Run.{Event, Happens, Moment, Run};
-ghost use Rattle.turn_laws.specs.Turns.{Exchange, TakesTurns, exchange, exchange_in, exchanges_in, is_end_of};
+ghost use Rattle.session_definitions.specs.Turns.{Exchange, TakesTurns, exchange, exchange_in, exchanges_in, is_end_of};
 ghost use Rattle.session_definitions.specs.World.{World, is_live};
 ghost use Rattle.sqlval.specs.Value.{Row};
 ghost use Rattle.turn_laws.specs.Answered.{CouldBeTold, HasClosed, IsAnswered, IsAsBefore, IsRefused};

@@ -81,3 +81,6 @@ returns-in-Err-opened-clause-kept g c =
 
 pub returns-then-has_unnamed-clause-kept : goal.returns-then-has_unnamed-clause-kept
 returns-then-has_unnamed-clause-kept g c = (same (g.S.Store.shows c.args.store.now) (g.S.Store.shows c.args.store.now) refl, refl)
+
+pub returns-in-Ok-clause-told : goal.returns-in-Ok-clause-told
+returns-in-Ok-clause-told g c = rw c.let_go.ensures tt

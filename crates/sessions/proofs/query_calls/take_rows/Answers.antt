@@ -23,3 +23,6 @@ returns-clause-device c = rw c.let_go.ensures c.taken-left.ensures.device
 
 pub returns-clause-limits : goal.returns-clause-limits
 returns-clause-limits c = rw c.let_go.ensures c.taken-left.ensures.limits
+
+pub returns-clause-told : goal.returns-clause-told
+returns-clause-told c = rw c.let_go.ensures c.taken-left.ensures.told

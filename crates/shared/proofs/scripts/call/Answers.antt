@@ -1,4 +1,5 @@
 use Rattle.std.proofs.Common.{[], ◌∷◌, Ok, Err, sym, subst}
+use Rattle.shared.specs.declared.event.Question.TheVariants as question
 use Rattle.shared.specs.Views.{Past}
 use Rattle.shared.specs.Scripts.{Asks, asked}
 use Rattle.shared.specs.Scripts.Ask.{joins, says}
@@ -20,7 +21,7 @@ returns-clause-asks g c =
     let said = asks_one _ _ _ _ _ _ c.execute-reply.ensures.call in
     elim c.match-caller.branch [
       | in-Stands w ↦ subst (λ (x : Caller g.row.J.Denot). Asks (past_of x) (asked (stands_of x) text (Ok reply)) new) (sym w.in-Stands.is)
-          (subst (λ (p : Past). Asks p (says text reply ∷ []) new) w.session-is said)
+          (subst (λ (p : Past). Asks p (says (question.Text text) reply ∷ []) new) w.session-is said)
       | in-Idle+in-Ok w ↦ subst (λ (x : Caller g.row.J.Denot). Asks (past_of x) (asked (stands_of x) text (Ok reply)) new) (sym w.in-Idle.is)
-          (asks_then _ _ _ (joins ∷ []) (says text reply ∷ []) (asks_one _ _ _ _ _ _ w.in-Ok.ensures.ok.call) (subst (λ (p : Past). Asks p (says text reply ∷ []) new) w.session-is said))
+          (asks_then _ _ _ (joins ∷ []) (says (question.Text text) reply ∷ []) (asks_one _ _ _ _ _ _ w.in-Ok.ensures.ok.call) (subst (λ (p : Past). Asks p (says (question.Text text) reply ∷ []) new) w.session-is said))
     ]

@@ -1,4 +1,4 @@
-use Rattle.std.proofs.Common.{◌≡◌, refl, true, false, Some, None, sym, subst, ◌∙◌, ap}
+use Rattle.std.proofs.Common.{◌≡◌, ◌≢◌, ℕ, refl, true, false, Some, None, sym, subst, ◌∙◌, ap}
 use Rattle.std.specs.FinMap.{get}
 use Rattle.session_definitions.specs.Asked.{Asked}
 use Rattle.session_definitions.specs.Step.{StepOf}
@@ -8,7 +8,7 @@ use Rattle.transactions.specs.Shown.{Slots, settled, shown}
 use Rattle.transactions.proofs.Orders.{same}
 use Rattle.sessions.specs.declared.slots.Slot.{Slot}
 use Rattle.sessions.specs.Numbers.{Held, held_at, kept_in, kept_of}
-use Rattle.sessions.proofs.Cores.{not_live, is_live_at, set_alike}
+use Rattle.sessions.proofs.Cores.{not_live, is_live_at, others_stay, set_alike}
 use Rattle.sessions.proofs.Holding.{all_held, held_readers, held_within, is_held, kept_here, kept_holds, kept_none, not_held, put_as, put_back}
 use Rattle.sessions.proofs.Kept.{refused_alike, world_kept}
 use Rattle.sessions.proofs.UnnamedSteps.{some_rules}
@@ -80,3 +80,19 @@ returns-then-not-stands-clause-refused g c = λ live.
 
 pub returns-clause-refused : goal.returns-clause-refused
 returns-clause-refused g c = λ live. c.close_query-reply.ensures.refused
+
+pub returns-then-not-stands-clause-others : goal.returns-then-not-stands-clause-others
+returns-then-not-stands-clause-others g c = (refl, λ q ne. refl)
+
+pub returns-clause-others : goal.returns-clause-others
+returns-clause-others g c =
+    let st = g.S.Store.shows c.args.self.now.store in
+    let w = c.args.self.now.writer in
+    let all = c.args.self.now.slots.all in
+    let n = c.args.session.number in
+    let put = put_back c.set.new.self.all c.take-slot.new.self.all all n c.settle.new.slot c.take-slot.ensures.left c.set.ensures in (
+      refl,
+      subst (λ (slots : Slots). (q : ℕ) → q ≢ n → get (shown st w slots).sessions q ≡ get (shown st w (kept_in all)).sessions q)
+          (sym (put_as c.set.new.self.all all n c.settle.new.slot (kept_of c.settle.new.slot) put refl))
+          (others_stay st w (kept_in all) n (Some (kept_of c.settle.new.slot))),
+    )

@@ -90,3 +90,6 @@ returns-clause-kept g c =
 
 pub returns-clause-counts : goal.returns-clause-counts
 returns-clause-counts g c = (g.met.S.Store.goes_on_goes _ _ _ c.open_query-reply.ensures.goes).refused
+
+pub returns-clause-told : goal.returns-clause-told
+returns-clause-told g c = c.open_query-reply.ensures.told

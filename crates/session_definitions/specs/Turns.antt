@@ -5,6 +5,7 @@ use Rattle.std.specs.Prelude.{ℕ, ◌≡◌, ◌<◌, ◌==◌, Bool, true, fal
 use Rattle.std.specs.List.{list_all}
 use Rattle.sqlval.specs.Value.{Row}
 use Rattle.refusals.specs.declared.refusal.Refusal.{Refusal}
+use Rattle.refusals.specs.declared.refusal.Refusal.TheVariants.{Memory}
 use Rattle.lexer.specs.Token.{Bytes}
 use Rattle.replies.specs.declared.reply.Reply.{Reply}
 use Rattle.replies.specs.declared.reply.Reply.TheVariants as says
@@ -30,7 +31,8 @@ pub data AreTaken (text : Bytes) (n : ℕ) : List Exchange → List Row → Type
 
 -- The exchanges of a query in turns, the latest of which stands first, and the reply that the
 -- caller puts together from them: all rows, where a turn gave fewer than n, behind which the query
--- was closed; or the first refusal, behind which nothing was asked.
+-- was closed; the first refusal, behind which nothing was asked; or want of memory to keep the rows
+-- of all turns, behind which it was closed too.
 pub data InTurns (text : Bytes) (n : ℕ) : List Exchange → Reply → Type 0 where
   not_opened : (refusal : Refusal)
       → InTurns text n (exchange (Asked.Query text) (says.Refused refusal) ∷ []) (says.Refused refusal)
@@ -40,6 +42,9 @@ pub data InTurns (text : Bytes) (n : ℕ) : List Exchange → Reply → Type 0 w
       → length rows < n
       → InTurns text n (exchange Asked.Close closing ∷ exchange (Asked.Rows n) (says.Rows rows) ∷ earlier)
       (says.Rows (before ++ rows))
+  unkept : (earlier : List Exchange) (before rows : List Row) (closing : Reply) → AreTaken text n earlier before
+      → InTurns text n (exchange Asked.Close closing ∷ exchange (Asked.Rows n) (says.Rows rows) ∷ earlier)
+      (says.Refused Memory)
 
 -- ---- among the moments of a run
 

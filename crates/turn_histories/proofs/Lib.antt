@@ -1,0 +1,5 @@
+mod Cuts
+mod Said
+mod Only
+mod Held
+mod Placed
