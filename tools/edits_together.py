@@ -29,6 +29,7 @@ TOP = os.path.dirname(os.path.dirname(os.path.realpath(__file__)))
 sys.dont_write_bytecode = True
 sys.path.insert(0, TOP + "/tools")
 from edit_record import FOLDERS, Checkout, Line  # noqa: E402
+from toolchain import keep_digests  # noqa: E402
 
 FUNCTION = re.compile(r"^(\s*)(?:pub(?:\([a-z]+\))? )?(?:const )?(?:unsafe )?fn (\w+)")
 # What the toolchain says where an edit took away what a proof file names, and of what rests on such a proof; and what it says of an edit that is tried by itself, which is
@@ -222,6 +223,7 @@ def main(words):
         print(__doc__, end="")
         return 0 if words else 2
     toolchain = runpy.run_path(os.path.realpath(shutil.which("rt")), run_name="toolchain")
+    keep_digests(toolchain["rtlib"].Crate)
     os.chdir(TOP)
     crates = {it.name: it for it in toolchain["rtlib"].crates_below(TOP)}
     verdicts = []

@@ -1,8 +1,7 @@
 -- The rows that an INSERT is given, and what it is refused for before they are stored.
-use Rattle.std.proofs.Common.{◌≡◌, ◌≢◌, ◌∙◌, sym, ap, subst, ℕ, List, [], ◌++◌, length, Some, Ok, Err, inl, inr, Contains, arith}
+use Rattle.std.proofs.Common.{◌≡◌, ◌∙◌, sym, ap, subst, ℕ, List, [], ◌++◌, length, Some, Ok, Err, inl, inr, Contains, arith}
 use Rattle.std.specs.FinMap.{get}
 use Rattle.refusals.specs.declared.refusal.Refusal.{Refusal}
-use Rattle.refusals.specs.declared.refusal.Refusal.TheVariants.{Disk}
 use Rattle.sqlval.specs.declared.schema.Table as declared
 use Rattle.sqlval.specs.Value.{Row}
 use Rattle.typing.specs.declared.statement.Change.TheVariants as does
@@ -12,32 +11,18 @@ use Rattle.typing.specs.declared.statement.InsertSource.TheVariants as from
 use Rattle.typing.specs.declared.typed.Condition.{Condition}
 use Rattle.typing.specs.declared.typed.Expression.{Expression}
 use Rattle.denote.specs.declared.fault.Fault.{Fault}
-use Rattle.denote.specs.declared.fault.Fault.TheVariants as fault
 use Rattle.denote.specs.Change.{Changed, changed, on_table, insert_into, inserted_rows, unless_raised, with_rows, IsRaised}
 use Rattle.denote.specs.Database.{Table, Database, CheckReading, table_of}
 use Rattle.denote.specs.Evaluation.{Evaluation, faults_in}
 use Rattle.denote.specs.Meaning.{Tables}
 use Rattle.denote.specs.SchemaOf.{Declares}
 use Rattle.operator_laws.proofs.Permuting.{Permutes-refl}
-use Rattle.session_definitions.specs.Refusals.{IsReserved, refusal_of}
+use Rattle.session_definitions.specs.Refusals.{IsReserved}
 use Rattle.query_answers.specs.Gives.{RefusesRows, Stores}
 use Rattle.query_answers.specs.Refused.{GivesFaults}
 use Rattle.constraints.specs.Changed.{RefusesChange}
 use Rattle.table_changes.specs.Given.{AreGiven}
 use Rattle.change.specs.Sources.{stored_of}
-
-pub fault_is_no_disk : (f : Fault) → refusal_of f ≢ Disk
-fault_is_no_disk fault.ManyRows = λ e. absurd (cc e)
-fault_is_no_disk fault.TextTooLong = λ e. absurd (cc e)
-fault_is_no_disk fault.OutOfRange = λ e. absurd (cc e)
-fault_is_no_disk fault.DivisionByZero = λ e. absurd (cc e)
-fault_is_no_disk fault.Record = λ e. absurd (cc e)
-fault_is_no_disk fault.Key = λ e. absurd (cc e)
-
--- a fault is no refusal of the device
-pub no_disk : (faults : List Fault) (refusal : Refusal) → GivesFaults faults refusal → refusal ≢ Disk
-no_disk faults refusal (inl e) = λ is. absurd (cc (e, is))
-no_disk faults refusal (inr h) = λ is. fault_is_no_disk h.0 (sym h.1 ∙ is)
 
 -- the rows of VALUES for a table as it is declared
 pub same_rows : (d : declared.Table) (table : Table) → Declares d table → (checks : List Condition) (tables : Tables) (places : List ℕ) (values : List (List Expression))

@@ -1,24 +1,19 @@
 -- The rows that answer a query, as sources of VALUES.
-use Rattle.std.proofs.Common.{◌≡◌, ◌∙◌, refl, sym, ap, subst, append-nil, ℕ, List, [], ◌∷◌, ◌++◌, map, Option, Some, None, Result, Ok, Err, inl, inr, ◌⊎◌, Contains, arith}
+use Rattle.std.proofs.Common.{◌≡◌, ◌∙◌, refl, sym, ap, subst, ℕ, List, [], ◌∷◌, ◌++◌, map, Some, Ok, Err, inl, inr, Contains, arith}
 use Rattle.std.proofs.lemmas.List.Elements.{Contains-append_left}
 use Rattle.std.specs.FinMap.{get}
 use Rattle.refusals.specs.declared.refusal.Refusal.{Refusal}
-use Rattle.sqlval.specs.declared.schema.Schema.{Schema}
-use Rattle.sqlval.specs.declared.schema.Table as stored
 use Rattle.sqlval.specs.declared.value.Value.{Value}
-use Rattle.sqlval.specs.Schema.{table_place}
 use Rattle.sqlval.specs.Value.{Row}
 use Rattle.typing.specs.declared.statement.Change.TheVariants as does
 use Rattle.typing.specs.declared.statement.Insert.{Insert}
 use Rattle.typing.specs.declared.statement.InsertSource.TheVariants as from
 use Rattle.typing.specs.declared.typed.Condition.{Condition}
-use Rattle.typing.specs.declared.typed.Expression as typed_expression
 use Rattle.typing.specs.declared.typed.Expression.TheVariants as typed
 use Rattle.typing.specs.declared.typed.Query.{Query}
-use Rattle.algebra.specs.declared.tree.Expression.{Expression}
-use Rattle.algebra.specs.declared.tree.StoredTable.{StoredTable}
-use Rattle.algebra.specs.Described.{described_in, known_of, table_at}
-use Rattle.algebra.specs.Translated.{tree_of_expression}
+use Rattle.algebra.specs.declared.tree.Expression.TheVariants.{Constant}
+use Rattle.algebra.specs.TreeOutcome.{outcome_step}
+use Rattle.algebra.proofs.Nodes.{value_constant as tree_constant}
 use Rattle.denote.specs.declared.fault.Fault.{Fault}
 use Rattle.denote.specs.Answer.{Answers}
 use Rattle.denote.specs.Change.{inserted_rows}
@@ -28,14 +23,13 @@ use Rattle.denote.specs.Meaning.{Tables, query_outcome, value_of}
 use Rattle.denote.specs.Query.{denotes}
 use Rattle.denote.specs.StoredRow.{inserted_row}
 use Rattle.denote.proofs.Nodes.{value_constant}
-use Rattle.operator_laws.specs.Same.{IsSameBag}
+use Rattle.operator_laws.specs.Same.{Each, IsSameBag}
 use Rattle.operator_laws.proofs.Same.{IsSameValue-refl, together-rows}
-use Rattle.translation.proofs.TreeNodes.{expression_constant}
 use Rattle.tree_tables.specs.TablesRead.{Agree}
 use Rattle.tree_tables.proofs.Nodes.{expression_constant as names_of_constant}
 use Rattle.query_answers.specs.Planned.{unordered}
 use Rattle.query_answers.specs.Refused.{GivesFaults, MayRefuse}
-use Rattle.query_answers.specs.Sources.{AreTreesOf, tables_in_row, tables_in_rows}
+use Rattle.query_answers.specs.Sources.{AreTreesOf, MeansExpression, tables_in_row, tables_in_rows}
 use Rattle.constraints.specs.Changed.{RefusesChange}
 use Rattle.table_changes.specs.Given.{AreGiven}
 use Rattle.change.specs.Listed.{constants, constants_of, typed_row, typed_rows}
@@ -44,26 +38,22 @@ use Rattle.change.proofs.Given.{raised_in, refuses_as}
 
 -- ---- rows as sources
 
--- what a schema knows of a table has the table's name
-pub described_named : (schema : Schema) (name : List ℕ) → (described_in schema name).name ≡ name
-described_named schema name = by (table_at schema (table_place name schema))
-  where
-    by : (table : Option stored.Table) → (known_of name table).name ≡ name
-    by None = refl
-    by (Some table) = refl
+-- a constant has its value over any tables
+module _ (tables : Tables) where
+  constant_means : (value : Value) → MeansExpression tables (Constant value) (typed.Constant value)
+  constant_means value env = rw (tree_constant (outcome_step tables) value env, value_constant tables env value) (IsSameValue-refl (Ok value))
 
-module _ (described : List ℕ → StoredTable) where
-  row_trees : (row : Row) → constants_of row ≡ map (tree_of_expression described) (typed_row row)
-  row_trees [] = refl
-  row_trees (value ∷ row) = λ i. sym (expression_constant described value) i ∷ row_trees row i
+  row_means : (row : Row) → Each (MeansExpression tables) (constants_of row) (typed_row row)
+  row_means [] = tt
+  row_means (value ∷ row) = (constant_means value, row_means row)
 
-  rows_trees : (rows : List Row) → constants rows ≡ map (map (tree_of_expression described)) (typed_rows rows)
-  rows_trees [] = refl
-  rows_trees (row ∷ rows) = λ i. row_trees row i ∷ rows_trees rows i
+  rows_mean : (rows : List Row) → Each (Each (MeansExpression tables)) (constants rows) (typed_rows rows)
+  rows_mean [] = tt
+  rows_mean (row ∷ rows) = (row_means row, rows_mean rows)
 
--- constants are the trees of constants
-pub are_trees : (schema : Schema) (rows : List Row) → AreTreesOf (typed_rows rows) (constants rows)
-are_trees schema rows = record { described = described_in schema; names = described_named schema; are = rows_trees (described_in schema) rows }
+-- constants are trees of constants
+pub are_trees : (tables : Tables) (rows : List Row) → AreTreesOf tables (typed_rows rows) (constants rows)
+are_trees tables rows = record { mean = rows_mean tables rows }
 
 -- constants name no tables
 row_names : (row : Row) → tables_in_row (constants_of row) ≡ []

@@ -21,7 +21,6 @@ ghost use Rattle.store.specs.Errors.{HasRisen};
 ghost use Rattle.store.specs.Going.{Going};
 ghost use Rattle.store.specs.Stored.{SameButMark};
 ghost use Rattle.constraints.specs.Changed.{RefusesChange};
-ghost use Rattle.check_constraints.specs.Conditions.{AreOfSome};
 ghost use Rattle.table_changes.specs.Given.{AreGiven, HasAccepted, into};
 ghost use Rattle.change.specs.Given.{GivenReaches, InsertsGiven, RefusesGiven, given_found};
 ghost use Rattle.change.specs.Listed.{typed_rows};
@@ -170,7 +169,7 @@ fn rows_given(
         → AreChecksOf (checks_of reading name.now table) checks.now.conditions
         → RefusesChange reading db (does.Insert (into name.now columns.now (from.Values (typed_rows rows)))) refusal) }
     ensures limits { IfErr result TellsNoLimit }
-    ensures device { IfErr result (λ refusal. AreOfSome checks.now.conditions → refusal ≢ Disk) }
+    ensures device { IfErr result (λ refusal. refusal ≢ Disk) }
 {
     let sources = match constants(alloc, rows) {
         Ok(sources) => sources,

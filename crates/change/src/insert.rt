@@ -13,7 +13,6 @@ ghost use Rattle.store.specs.Errors.{HasRisen};
 ghost use Rattle.store.specs.Going.{Going};
 ghost use Rattle.store.specs.Stored.{SameButMark};
 ghost use Rattle.constraints.specs.Changed.{RefusesChange};
-ghost use Rattle.check_constraints.specs.Conditions.{AreOfSome};
 ghost use Rattle.table_changes.specs.Given.{AreGiven, HasAccepted};
 ghost use Rattle.change.specs.Reached.{ChangeReaches};
 
@@ -81,8 +80,7 @@ fn rows_of<S: Store>(
         → AreChecksOf (checks_of reading insert.now.table table) checks.now.conditions
         → RefusesChange reading (database_of (S.shows store.old).working) (does.Insert insert.now) refusal) }
     ensures limits { IfErr result TellsNoLimit }
-    ensures device { IfErr result (λ refusal. AreOfSome checks.now.conditions → refusal ≡ Disk
-        → HasRisen (S.refused store.old) (S.refused store.new)) }
+    ensures device { IfErr result (λ refusal. refusal ≡ Disk → HasRisen (S.refused store.old) (S.refused store.new)) }
     ensures shows { S.shows store.new ≡ S.shows store.old }
     ensures goes { S.goes_on store.old store.new Going.reads }
 {

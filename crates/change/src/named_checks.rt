@@ -6,7 +6,6 @@ ghost use Rattle.typing.specs.Check.{IsCheckReading};
 ghost use Rattle.denote.specs.Database.{Database, Table, CheckReading, IsGood};
 ghost use Rattle.denote.specs.SchemaOf.{IsSchemaOf};
 ghost use Rattle.transactions.specs.Refused.{TellsNoLimit};
-ghost use Rattle.check_constraints.specs.Conditions.{AreOfSome};
 ghost use Rattle.check_constraints.specs.declared.reading.CheckFault.TheVariants as fault_of_checks;
 ghost use Rattle.update_delete.specs.Checked.{AreChecksFor};
 
@@ -26,7 +25,6 @@ pub(crate) fn named_checks(
 ) -> Result<TableChecks, Refusal>
     ensures there { IfOk result (λ _. (db : Database) → IsSchemaOf schema.now db
         → (table : Table) × (get db name.now ≡ Some table)) }
-    ensures some { IfOk result (λ checks. AreOfSome checks.conditions) }
     ensures decides { IfOk result (λ checks. (reading : CheckReading) (db : Database) → IsCheckReading reading
         → IsSchemaOf schema.now db → AreChecksFor reading db name.now checks.conditions) }
     ensures refused { IfErr result (λ refusal. (refusal ≡ Memory) ⊎ (refusal ≡ Damaged)) }

@@ -19,7 +19,6 @@ ghost use Rattle.store.specs.Going.{Going};
 ghost use Rattle.transactions.specs.Refused.{TellsNoLimit};
 ghost use Rattle.constraints.specs.Changed.{RefusesChange};
 ghost use Rattle.table_changes.specs.Given.{AreGiven};
-ghost use Rattle.check_constraints.specs.Conditions.{AreOfSome};
 ghost use Rattle.change.specs.Listed.{constants, constants_of};
 
 use crate::value_rows::stored_rows;
@@ -56,8 +55,7 @@ pub(crate) fn query_rows<S: Store>(
         → insert.now.source ≡ from.Query query.now
         → RefusesChange reading (database_of (S.shows store.old).working) (does.Insert insert.now) refusal) }
     ensures limits { IfErr result TellsNoLimit }
-    ensures device { IfErr result (λ refusal. AreOfSome checks.now.conditions → refusal ≡ Disk
-        → HasRisen (S.refused store.old) (S.refused store.new)) }
+    ensures device { IfErr result (λ refusal. refusal ≡ Disk → HasRisen (S.refused store.old) (S.refused store.new)) }
     ensures shows { S.shows store.new ≡ S.shows store.old }
     ensures goes { S.goes_on store.old store.new Going.reads }
 {

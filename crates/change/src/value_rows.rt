@@ -6,7 +6,7 @@ ghost use Rattle.session_definitions.specs.Refusals.{IsReserved};
 ghost use Rattle.typing.specs.declared.statement.Change.TheVariants as does;
 ghost use Rattle.typing.specs.declared.statement.InsertSource.TheVariants as from;
 ghost use Rattle.typing.specs.declared.typed.Expression.{Expression as Typed};
-ghost use Rattle.denote.specs.Database.{CheckReading, Database, Table, checks_of, rows_in};
+ghost use Rattle.denote.specs.Database.{CheckReading, Database, IsGood, Table, checks_of, rows_in};
 ghost use Rattle.denote.specs.SchemaOf.{IsSchemaOf};
 ghost use Rattle.tree_tables.specs.TablesRead.{Agree};
 ghost use Rattle.query_answers.specs.Gives.{RefusesRows, Stores};
@@ -18,7 +18,6 @@ ghost use Rattle.store.specs.Going.{Going};
 ghost use Rattle.transactions.specs.Refused.{TellsNoLimit};
 ghost use Rattle.constraints.specs.Changed.{RefusesChange};
 ghost use Rattle.table_changes.specs.Given.{AreGiven, into};
-ghost use Rattle.check_constraints.specs.Conditions.{AreOfSome};
 ghost use Rattle.change.specs.Sources.{stored_of};
 
 use algebra::Expression;
@@ -33,8 +32,8 @@ use std::alloc::Global;
 use store::{Seen, Store, View};
 use typing::Insert;
 
-/// The rows of VALUES as the table is to hold them. The tables that the sources name are read, and
-/// the store is left as it was.
+/// The rows of VALUES as the table is to hold them, their subqueries by plans. The tables that the
+/// sources name are read, and the store is left as it was.
 pub(crate) fn value_rows<S: Store>(
     alloc: Global,
     store: &mut S,
@@ -44,19 +43,20 @@ pub(crate) fn value_rows<S: Store>(
 ) -> Result<Rows, Refusal>
     ensures gives { IfOk result (λ rows. (reading : CheckReading) (table : Table) → S.is_sound store.old
         → IsSchemaOf (S.prepared store.old) (database_of (S.shows store.old).working)
+        → IsGood reading (database_of (S.shows store.old).working)
         → get (database_of (S.shows store.old).working) insert.now.table ≡ Some table
         → AreChecksOf (checks_of reading insert.now.table table) checks.now.conditions
         → insert.now.source ≡ from.Values values.now
         → AreGiven reading (database_of (S.shows store.old).working) insert.now rows) }
     ensures refused { IfErr result (λ refusal. (reading : CheckReading) (table : Table) → S.is_sound store.old
         → IsSchemaOf (S.prepared store.old) (database_of (S.shows store.old).working)
+        → IsGood reading (database_of (S.shows store.old).working)
         → get (database_of (S.shows store.old).working) insert.now.table ≡ Some table
         → AreChecksOf (checks_of reading insert.now.table table) checks.now.conditions
         → insert.now.source ≡ from.Values values.now
         → RefusesChange reading (database_of (S.shows store.old).working) (does.Insert insert.now) refusal) }
     ensures limits { IfErr result TellsNoLimit }
-    ensures device { IfErr result (λ refusal. AreOfSome checks.now.conditions → refusal ≡ Disk
-        → HasRisen (S.refused store.old) (S.refused store.new)) }
+    ensures device { IfErr result (λ refusal. refusal ≡ Disk → HasRisen (S.refused store.old) (S.refused store.new)) }
     ensures shows { S.shows store.new ≡ S.shows store.old }
     ensures goes { S.goes_on store.old store.new Going.reads }
 {
@@ -100,7 +100,7 @@ fn tables_named<S: Store>(
     tables_for_sources(alloc, &mut seen, trees)
 }
 
-/// The rows of sources, of which these are the trees, as the table is to hold them; or one of the
+/// The rows of sources, of which these are trees, as the table is to hold them; or one of the
 /// faults.
 pub(crate) fn stored_rows(
     alloc: Global,
@@ -113,17 +113,16 @@ pub(crate) fn stored_rows(
 ) -> Result<Rows, Refusal>
     ensures gives { IfOk result (λ rows. (reading : CheckReading) (db : Database) (table : Table) (values : List (List Typed))
         → IsSchemaOf schema.now db → get db name.now ≡ Some table
-        → AreChecksOf (checks_of reading name.now table) checks.now.conditions → AreTreesOf values trees.now
+        → AreChecksOf (checks_of reading name.now table) checks.now.conditions → AreTreesOf (rows_in db) values trees.now
         → Agree (rows_lent lent.now.tables) (rows_in db) (tables_in_rows trees.now)
         → Stores rows (stored_of reading db (into name.now columns.now (from.Values values)) table (from.Values values))) }
     ensures refused { IfErr result (λ refusal. (reading : CheckReading) (db : Database) (table : Table) (values : List (List Typed))
         → IsSchemaOf schema.now db → get db name.now ≡ Some table
-        → AreChecksOf (checks_of reading name.now table) checks.now.conditions → AreTreesOf values trees.now
+        → AreChecksOf (checks_of reading name.now table) checks.now.conditions → AreTreesOf (rows_in db) values trees.now
         → Agree (rows_lent lent.now.tables) (rows_in db) (tables_in_rows trees.now)
         → RefusesRows refusal (stored_of reading db (into name.now columns.now (from.Values values)) table (from.Values values))) }
     ensures limits { IfErr result TellsNoLimit }
-    ensures device { IfErr result (λ refusal. (values : List (List Typed)) → AreTreesOf values trees.now
-        → AreOfSome checks.now.conditions → refusal ≢ Disk) }
+    ensures device { IfErr result (λ refusal. refusal ≢ Disk) }
 {
     match table_named(schema, name) {
         Some(table) => rows_to_insert(

@@ -3,6 +3,7 @@ pub mod Answering
 pub mod Faults
 pub mod InsertLemmas
 pub mod Meant
+pub mod PlannedSources
 pub mod ByItself
 pub mod Planning
 pub mod ShownPlans

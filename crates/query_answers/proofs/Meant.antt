@@ -1,5 +1,5 @@
 -- What the trees of VALUES give shows what the definition gives.
-use Rattle.std.proofs.Common.{◌≡◌, refl, sym, ap, subst, ℕ, zero, suc, ◌≤◌, take, length, List, [], ◌∷◌, ◌++◌, map, Option, Some, None, Ok, Err, Contains, inr, arith}
+use Rattle.std.proofs.Common.{◌≡◌, ◌∙◌, refl, sym, ap, subst, ℕ, zero, suc, ◌≤◌, take, length, List, [], ◌∷◌, ◌++◌, map, Option, Some, None, Ok, Err, Contains, inr, arith}
 use Rattle.std.specs.Prelude.{◌==◌, flat_map, position, slice_get, option_and_then}
 use Rattle.std.specs.List.{enumerate_from}
 use Rattle.std.proofs.lemmas.List.Elements.{Contains-append_left, Contains-append_right}
@@ -19,9 +19,12 @@ use Rattle.algebra.specs.declared.tree.Expression.{Expression}
 use Rattle.algebra.specs.declared.tree.StoredTable.{StoredTable}
 use Rattle.algebra.specs.Described.{described_in, known_of, table_at}
 use Rattle.algebra.specs.Listing.{truth_listing, value_listing}
-use Rattle.algebra.specs.Translated.{tree_of_condition, tree_of_expression}
+use Rattle.algebra.specs.Translated.{tree_of_condition}
+use Rattle.algebra.specs.TreeOutcome.{tree_value}
 use Rattle.algebra_laws.specs.Shown.{IsShown, Shows, ShowsAt}
 use Rattle.algebra_laws.proofs.Evaluations.{IsShown-refl, IsShown-append, faults_in-shown, follows, then-shows, together-shows}
+use Rattle.algebra_laws.proofs.Trees.{expressions-show}
+use Rattle.denote.specs.Bag.{HasSame}
 use Rattle.denote.specs.declared.fault.Fault.{Fault}
 use Rattle.denote.specs.Change.{inserted_rows}
 use Rattle.denote.specs.Database.{Table, check_at}
@@ -29,18 +32,14 @@ use Rattle.denote.specs.Evaluation.{Evaluation, faults_in, given, together, unle
 use Rattle.denote.specs.Expression.{cell}
 use Rattle.denote.specs.Meaning.{Tables, truth_at, value_of}
 use Rattle.denote.specs.StoredRow.{admitted, given_for, inserted_row, key_faults, record_faults, row_faults, row_with, value_for}
-use Rattle.operator_laws.specs.Same.{Each}
-use Rattle.operator_laws.proofs.Same.{Each-maps}
+use Rattle.operator_laws.specs.Same.{Each, IsSameValue}
+use Rattle.operator_laws.proofs.Same.{Each-maps, HasSame-some}
 use Rattle.session_definitions.specs.Refusals.{refusal_of}
 use Rattle.tree_tables.specs.TablesRead.{Agree, tables_in_expression}
 use Rattle.query_answers.specs.Refused.{GivesFaults}
-use Rattle.query_answers.specs.Sources.{AreTreesOf, AreChecksOf, tables_in_row, tables_in_rows, source_value, check_truth, check_faults, faults_at, admitted_row, row_given, rows_given}
+use Rattle.query_answers.specs.Sources.{AreTreesOf, AreChecksOf, MeansExpression, tables_in_row, tables_in_rows, source_value, check_truth, check_faults, faults_at, admitted_row, row_given, rows_given}
 
 -- the laws, as the calls of them say
-abbrev pub ValuesShow : Type 0
-ValuesShow = (described : List ℕ → StoredTable) → ((name : List ℕ) → (described name).name ≡ name) → (tables : Tables) (x : typed_expression.Expression)
-    → ShowsAt (value_listing tables (tree_of_expression described x)) (value_of tables x)
-
 abbrev pub TruthsShow : Type 0
 TruthsShow = (described : List ℕ → StoredTable) → ((name : List ℕ) → (described name).name ≡ name) → (tables : Tables) (x : typed_condition.Condition)
     → ShowsAt (truth_listing tables (tree_of_condition described x)) (truth_at tables x)
@@ -112,20 +111,42 @@ unless-shows [] gs x h = by gs (h.none refl)
 unless-shows (f ∷ fs) [] x h = let none = (h.within f (0, omega arith, refl)).1 in absurd (omega (arith, none))
 unless-shows (f ∷ fs) (g ∷ gs) x h = h
 
+-- ---- what shows a meaning shows what has the same value or faults
+
+none-same : (xs ys : List Fault) → HasSame xs ys → xs ≡ [] → ys ≡ []
+none-same xs [] same e = refl
+none-same xs (y ∷ ys) same e = absurd (HasSame-some y ys (subst (λ (zs : List Fault). HasSame zs (y ∷ ys)) e same))
+
+pub shows-same : {A : Type 0} (x y z : Evaluation A) → Shows x y → IsSameValue y z → Shows x z
+shows-same (Ok x) (Ok y) (Ok z) h k = h ∙ k
+shows-same (Ok x) (Ok y) (Err faults) h k = absurd k
+shows-same (Ok x) (Err faults) z h k = absurd h
+shows-same (Err shown) (Ok y) z h k = absurd h
+shows-same (Err shown) (Err faults) (Ok z) h k = absurd k
+shows-same (Err shown) (Err faults) (Err others) h k = record {
+  within = λ fault there. (k fault).0 (h.within fault there);
+  none = λ e. none-same faults others k (h.none e);
+}
+
 -- ---- the rows of trees
 
-module _ (values : ValuesShow) (truths : TruthsShow) (tables : Tables) where
-  module _ (described : List ℕ → StoredTable) (names : (name : List ℕ) → (described name).name ≡ name) where
-    checks-shown : (conditions : List typed_condition.Condition) (row : Row)
-        → IsShown (check_faults (map (tree_of_condition described) conditions) row) (flat_map (λ check. faults_in (check_at check row)) conditions)
-    checks-shown [] row = IsShown-refl []
-    checks-shown (c ∷ cs) row =
-        IsShown-append (faults_in (check_truth row (tree_of_condition described c))) (faults_in (check_at c row)) (check_faults (map (tree_of_condition described) cs) row) (flat_map (λ check. faults_in (check_at check row)) cs)
-        (faults_in-shown (check_truth row (tree_of_condition described c)) (check_at c row) (truths described names (λ _. []) c (row ∷ []))) (checks-shown cs row)
+sources-show : (tables : Tables) (sources : List Expression) (asked : List typed_expression.Expression) → Each (MeansExpression tables) sources asked
+    → Each Shows (map (source_value tables) sources) (map (λ source. value_of tables source []) asked)
+sources-show tables [] [] means = tt
+sources-show tables [] (x ∷ asked) means = absurd means
+sources-show tables (tree ∷ sources) [] means = absurd means
+sources-show tables (tree ∷ sources) (x ∷ asked) means = (
+  shows-same (value_listing tables tree []) (tree_value tables tree []) (value_of tables x []) (expressions-show tables tree []) (means.0 []),
+  sources-show tables sources asked means.1,
+)
 
-    sources-show : (sources : List typed_expression.Expression) → Each Shows (map (source_value tables) (map (tree_of_expression described) sources)) (map (λ source. value_of tables source []) sources)
-    sources-show [] = tt
-    sources-show (x ∷ xs) = (values described names tables x [], sources-show xs)
+module _ (truths : TruthsShow) (tables : Tables) where
+  checks-shown : (described : List ℕ → StoredTable) → ((name : List ℕ) → (described name).name ≡ name) → (conditions : List typed_condition.Condition) (row : Row)
+      → IsShown (check_faults (map (tree_of_condition described) conditions) row) (flat_map (λ check. faults_in (check_at check row)) conditions)
+  checks-shown described names [] row = IsShown-refl []
+  checks-shown described names (c ∷ cs) row =
+      IsShown-append (faults_in (check_truth row (tree_of_condition described c))) (faults_in (check_at c row)) (check_faults (map (tree_of_condition described) cs) row) (flat_map (λ check. faults_in (check_at check row)) cs)
+      (faults_in-shown (check_truth row (tree_of_condition described c)) (check_at c row) (truths described names (λ _. []) c (row ∷ []))) (checks-shown described names cs row)
 
   admitted-shows : (conditions : List typed_condition.Condition) (checks : List Condition) → AreChecksOf conditions checks → (table : Table) (x y : Evaluation Row) → Shows x y
       → Shows (admitted_row checks table x) (admitted conditions table y)
@@ -137,29 +158,30 @@ module _ (values : ValuesShow) (truths : TruthsShow) (tables : Tables) where
       unless-shows (faults_at checks table r) (row_faults conditions table r) r
       (IsShown-append (check_faults checks r) (flat_map (λ check. faults_in (check_at check r)) conditions) (lengths r) (lengths r) shown (IsShown-refl (lengths r))))
 
-  each-shows : (described : List ℕ → StoredTable) → ((name : List ℕ) → (described name).name ≡ name) → (conditions : List typed_condition.Condition) (checks : List Condition) → AreChecksOf conditions checks
-      → (table : Table) (places : List ℕ) (rows : List (List typed_expression.Expression))
-      → Each Shows (map (row_given tables checks table places) (map (map (tree_of_expression described)) rows))
+  each-shows : (conditions : List typed_condition.Condition) (checks : List Condition) → AreChecksOf conditions checks → (table : Table) (places : List ℕ)
+      (trees : List (List Expression)) (rows : List (List typed_expression.Expression)) → Each (Each (MeansExpression tables)) trees rows
+      → Each Shows (map (row_given tables checks table places) trees)
       (map (λ sources. inserted_row conditions table places (map (λ source. value_of tables source []) sources)) rows)
-  each-shows described names conditions checks trees table places [] = tt
-  each-shows described names conditions checks trees table places (x ∷ xs) =
-      let one = map (source_value tables) (map (tree_of_expression described) x) in
+  each-shows conditions checks checked table places [] [] mean = tt
+  each-shows conditions checks checked table places [] (x ∷ rows) mean = absurd mean
+  each-shows conditions checks checked table places (tree ∷ trees) [] mean = absurd mean
+  each-shows conditions checks checked table places (tree ∷ trees) (x ∷ rows) mean =
+      let one = map (source_value tables) tree in
       let other = map (λ (source : typed_expression.Expression). value_of tables source []) x in (
-        admitted-shows conditions checks trees table (row_with table.columns places one []) (row_with table.columns places other [])
-            (row-shows table.columns places one other [] (sources-show described names x)),
-        each-shows described names conditions checks trees table places xs,
+        admitted-shows conditions checks checked table (row_with table.columns places one []) (row_with table.columns places other [])
+            (row-shows table.columns places one other [] (sources-show tables tree x mean.0)),
+        each-shows conditions checks checked table places trees rows mean.1,
       )
 
   pub rows-show : (read : ValuesRead) (lent : Tables) (conditions : List typed_condition.Condition) (checks : List Condition) (table : Table) (places : List ℕ)
-      (rows : List (List typed_expression.Expression)) (trees : List (List Expression)) → Agree lent tables (tables_in_rows trees) → AreTreesOf rows trees → AreChecksOf conditions checks
+      (rows : List (List typed_expression.Expression)) (trees : List (List Expression)) → Agree lent tables (tables_in_rows trees) → AreTreesOf tables rows trees → AreChecksOf conditions checks
       → Shows (rows_given lent checks table places trees) (inserted_rows conditions tables table places (Values rows))
   rows-show read lent conditions checks table places rows trees agree are checked =
       let meant = inserted_rows conditions tables table places (Values rows) in
       subst (λ (found : List (Evaluation Row)). Shows (together found) meant) (sym (same_rows read lent tables checks table places trees agree))
-      (subst (λ (ts : List (List Expression)). Shows (rows_given tables checks table places ts) meant) (sym are.are)
-      (together-shows (map (row_given tables checks table places) (map (map (tree_of_expression are.described)) rows))
+      (together-shows (map (row_given tables checks table places) trees)
       (map (λ sources. inserted_row conditions table places (map (λ source. value_of tables source []) sources)) rows)
-      (each-shows are.described are.names conditions checks checked table places rows)))
+      (each-shows conditions checks checked table places trees rows are.mean))
 
 -- ---- as clauses of a call
 

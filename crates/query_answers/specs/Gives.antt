@@ -15,14 +15,14 @@ use Rattle.tree_tables.specs.TablesRead.{Agree}
 use Rattle.query_answers.specs.Refused.{GivesFaults}
 use Rattle.query_answers.specs.Sources.{AreTreesOf, AreChecksOf, tables_in_rows}
 
--- Of whatever VALUES these are the trees, and over whatever tables that have the rows which were
--- lent.
+-- Over whatever tables that have the rows which were lent, and of whatever VALUES these are the
+-- trees over them.
 abbrev pub OfValues : Tables → List Condition → Table → List ℕ → List (List Expression)
     → (Evaluation (List Row) → Type 0) → Type 0
 OfValues lent checks table columns trees P =
     (tables : Tables) (conditions : List typed_condition.Condition) (rows : List (List typed_expression.Expression))
     → Agree lent tables (tables_in_rows trees)
-    → AreTreesOf rows trees → AreChecksOf conditions checks
+    → AreTreesOf tables rows trees → AreChecksOf conditions checks
     → P (inserted_rows conditions tables table columns (Values rows))
 
 -- just these rows are stored

@@ -9,21 +9,25 @@ use Rattle.algebra.specs.declared.tree.Condition.{Condition}
 use Rattle.algebra.specs.declared.tree.Expression.{Expression}
 use Rattle.algebra.specs.declared.tree.StoredTable.{StoredTable}
 use Rattle.algebra.specs.Listing.{truth_listing, value_listing}
-use Rattle.algebra.specs.Translated.{tree_of_condition, tree_of_expression}
+use Rattle.algebra.specs.Translated.{tree_of_condition}
+use Rattle.algebra.specs.TreeOutcome.{tree_value}
 use Rattle.denote.specs.declared.fault.Fault.{Fault}
 use Rattle.denote.specs.Database.{Table}
 use Rattle.denote.specs.Evaluation.{Evaluation, ◌>>=◌, faults_in, together, unless}
-use Rattle.denote.specs.Meaning.{Tables}
+use Rattle.denote.specs.Meaning.{Tables, value_of}
 use Rattle.denote.specs.StoredRow.{key_faults, record_faults, row_with}
+use Rattle.operator_laws.specs.Same.{Agree, Each}
 use Rattle.tree_tables.specs.TablesRead.{Names, all_names, tables_in_expression}
 
--- trees of the sources, whatever they know of tables beside their names
-pub record AreTreesOf (rows : List (List typed_expression.Expression)) (trees : List (List Expression)) : Type 0 where
-  pub described : List ℕ → StoredTable
-  pub names : (name : List ℕ) → (described name).name ≡ name
-  pub are : trees ≡ map (map (tree_of_expression described)) rows
+-- over these tables a tree has the value of an expression at each row, or the same faults
+abbrev pub MeansExpression : Tables → Expression → typed_expression.Expression → Type 0
+MeansExpression tables tree asked = Agree (tree_value tables tree) (value_of tables asked)
 
--- likewise of the conditions of CHECKs
+-- trees of the sources, row by row
+pub record AreTreesOf (tables : Tables) (rows : List (List typed_expression.Expression)) (trees : List (List Expression)) : Type 0 where
+  pub mean : Each (Each (MeansExpression tables)) trees rows
+
+-- the trees of the conditions of CHECKs, whatever they know of tables beside their names
 pub record AreChecksOf (conditions : List typed_condition.Condition) (checks : List Condition) : Type 0 where
   pub described : List ℕ → StoredTable
   pub names : (name : List ℕ) → (described name).name ≡ name

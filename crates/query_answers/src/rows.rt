@@ -1,6 +1,7 @@
 //! The rows that VALUES give for a table.
-ghost use Rattle.std.specs.Prelude.{◌≡◌, ◌==◌, position, [], ◌∷◌, IfOk, IfErr, map, flat_map};
+ghost use Rattle.std.specs.Prelude.{◌≡◌, ◌≢◌, ◌==◌, position, [], ◌∷◌, IfOk, IfErr, map, flat_map};
 ghost use Rattle.std.specs.Option.{option_copied};
+ghost use Rattle.refusals.specs.declared.refusal.Refusal.TheVariants.{Disk};
 ghost use Rattle.sqlval.specs.Matching.{key_of};
 ghost use Rattle.sqlval.specs.Storing.{stored};
 ghost use Rattle.denote.specs.Database.{table_of};
@@ -193,8 +194,8 @@ fn all_rows(
 
 /// The rows that an INSERT of VALUES adds to a table: the n-th source of each row goes to the
 /// column at the n-th place of `columns`, as that column holds it, and the other columns get null.
-/// `trees` are those of the sources, and `checks` those of the conditions of the table's CHECKs.
-/// Constraints are not looked at.
+/// `trees` mean what the sources do, and `checks` are the trees of the conditions of the table's
+/// CHECKs. Constraints are not looked at.
 ///
 /// Else it is refused by a fault: of a source, of storing, of a CHECK that cannot be evaluated, or
 /// `record` or `key` of a row; or for want of memory.
@@ -209,6 +210,7 @@ pub fn rows_to_insert(
     ensures gives { IfOk result (λ stored. OfValues (rows_lent lent.now.tables) checks.now (table_of table.now []) columns.now trees.now (Stores stored)) }
     ensures refused { IfErr result (λ refusal. OfValues (rows_lent lent.now.tables) checks.now (table_of table.now []) columns.now trees.now (RefusesRows refusal)) }
     ensures limits { IfErr result TellsNoLimit }
+    ensures device { IfErr result (λ refusal. refusal ≢ Disk) }
 {
     evaluation_keeps_the_meaning();
     values_read_their_tables();

@@ -5,6 +5,10 @@ ghost use Rattle.session_definitions.specs.Refusals.{IsReserved};
 ghost use Rattle.store.specs.Errors.{HasRisen};
 ghost use Rattle.algebra.specs.Described.{described_in};
 ghost use Rattle.algebra.specs.Translated.{tree_of_expression};
+ghost use Rattle.denote.specs.Database.{CheckReading, Database, IsGood, rows_in};
+ghost use Rattle.denote.specs.SchemaOf.{IsSchemaOf};
+ghost use Rattle.operator_laws.specs.Same.{Each};
+ghost use Rattle.rules.specs.Same.{KeepsExpression};
 ghost use Rattle.tree_tables.specs.TablesRead.{Agree};
 ghost use Rattle.transactions.specs.Refused.{TellsNoLimit};
 ghost use Rattle.query_answers.specs.Answered.{rows_found};
@@ -14,6 +18,8 @@ ghost use Rattle.query_answers.specs.Sources.{AreTreesOf, tables_in_row, tables_
 use crate::lent::{LentTables, lent_tables};
 use algebra::Expression;
 use items::{Items, Text};
+use known_tables::described_tables_are_known;
+use planned_subqueries::{planned_expressions, planned_trees_mean_the_same};
 use refusals::Refusal;
 use sqlval::Schema;
 use std::alloc::{AllocError, Global};
@@ -21,21 +27,49 @@ use store::Reading;
 use translation::translate_expression;
 use tree_tables::tables_in_expression;
 
-/// The trees of the sources of VALUES that were typed over this schema, row by row. Refuses for
-/// want of memory alone.
+/// The trees of the sources of VALUES that were typed over this schema, row by row, their
+/// subqueries as those of plans. They mean what the sources do over every good database of the
+/// schema, and name no table that these do not. Refuses for want of memory alone.
 pub fn source_trees(
     alloc: Global,
     schema: &Schema,
     rows: &[Items<typing::Expression>],
 ) -> Result<Items<Items<Expression>>, AllocError>
-    ensures trees { IfOk result (λ trees. AreTreesOf rows.now trees) }
-    ensures known { IfOk result (λ trees. trees ≡ map (map (tree_of_expression (described_in schema.now))) rows.now) }
+    ensures trees { (reading : CheckReading) (db : Database) → IsGood reading db → IsSchemaOf schema.now db
+        → IfOk result (λ trees. AreTreesOf (rows_in db) rows.now trees) }
+    ensures known { IfOk result (λ trees.
+        Each (Each KeepsExpression) trees (map (map (tree_of_expression (described_in schema.now))) rows.now)) }
+{
+    described_tables_are_known();
+    planned_trees_mean_the_same();
+    planned_rows(alloc, schema, rows)
+}
+
+fn planned_rows(
+    alloc: Global,
+    schema: &Schema,
+    rows: &[Items<typing::Expression>],
+) -> Result<Items<Items<Expression>>, AllocError>
+    ensures { IfOk result (λ trees.
+        Each (Each KeepsExpression) trees (map (map (tree_of_expression (described_in schema.now))) rows.now)) }
 {
     let mut trees = Items::new(alloc);
     for row in rows {
-        trees.push(row_trees(alloc, schema, row.as_slice())?)?;
+        trees.push(planned_row(alloc, schema, row.as_slice())?)?;
     }
     Ok(trees)
+}
+
+fn planned_row(
+    alloc: Global,
+    schema: &Schema,
+    sources: &[typing::Expression],
+) -> Result<Items<Expression>, AllocError>
+    ensures { IfOk result (λ trees.
+        Each KeepsExpression trees (map (tree_of_expression (described_in schema.now)) sources.now)) }
+{
+    let translated = row_trees(alloc, schema, sources)?;
+    planned_expressions(alloc, translated)
 }
 
 fn row_trees(

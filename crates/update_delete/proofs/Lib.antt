@@ -6,6 +6,7 @@ pub mod MadeTables
 pub mod Standing
 pub mod Reaching
 pub mod Carried
+pub mod PlannedTrees
 pub mod Planning
 pub mod Made
 pub mod Sparse

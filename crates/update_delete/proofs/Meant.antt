@@ -4,7 +4,6 @@ use Rattle.std.specs.Prelude.{◌==◌, flat_map, filter, count_by, position, sl
 use Rattle.std.proofs.lemmas.List.Elements.{Contains-append_left, Contains-append_right}
 use Rattle.std.proofs.lemmas.List.Sums.{sum_by-cons}
 use Rattle.std.specs.List.{enumerate_from}
-use Rattle.std.specs.Option.{option_map}
 use Rattle.sqlval.specs.declared.schema.Column.{Column}
 use Rattle.sqlval.specs.declared.truth.Truth.{Truth}
 use Rattle.sqlval.specs.declared.truth.Truth.TheVariants.{True}
@@ -16,13 +15,14 @@ use Rattle.typing.specs.declared.statement.Assignment.{Assignment}
 use Rattle.typing.specs.declared.statement.Delete.{Delete}
 use Rattle.typing.specs.declared.statement.Update.{Update}
 use Rattle.typing.specs.declared.typed.Condition as typed_condition
-use Rattle.typing.specs.declared.typed.Expression as typed_expression
 use Rattle.algebra.specs.declared.tree.Condition.{Condition}
 use Rattle.algebra.specs.declared.tree.Expression.{Expression}
 use Rattle.algebra.specs.declared.tree.StoredTable.{StoredTable}
 use Rattle.algebra.specs.Listing.{truth_listing, value_listing}
-use Rattle.algebra.specs.Translated.{tree_of_condition, tree_of_expression}
+use Rattle.algebra.specs.TreeOutcome.{tree_truth, tree_value}
+use Rattle.algebra.specs.Translated.{tree_of_condition}
 use Rattle.algebra_laws.specs.Shown.{IsShown, ShowsBy, Shows, ShowsAt}
+use Rattle.algebra_laws.proofs.Trees.{conditions-show, expressions-show}
 use Rattle.algebra_laws.proofs.Evaluations.{IsShown-refl, IsShown-append, faults_in-shown, follows, next-shows, then-shows, together-shows}
 use Rattle.denote.specs.declared.fault.Fault.{Fault}
 use Rattle.denote.specs.declared.fault.Stop.{Stop}
@@ -34,25 +34,22 @@ use Rattle.denote.specs.Expression.{cell}
 use Rattle.denote.specs.Meaning.{Tables, truth_at, value_of}
 use Rattle.denote.specs.Stop.{Gives, IsFaultOf}
 use Rattle.denote.specs.StoredRow.{admitted, given_for, key_faults, record_faults, row_faults, row_with, value_for}
-use Rattle.operator_laws.specs.Same.{Each, Every}
+use Rattle.operator_laws.specs.Same.{Each, Every, IfBoth}
 use Rattle.operator_laws.proofs.Same.{Each-maps}
 use Rattle.constraints.proofs.Short.{admitted_fits}
 use Rattle.tree_tables.specs.TablesRead.{Agree, tables_in_expression}
+use Rattle.query_answers.proofs.Meant.{shows-same}
 use Rattle.query_answers.specs.Sources.{AreChecksOf, tables_in_row, check_truth, check_faults, faults_at, admitted_row}
 use Rattle.update_delete.specs.declared.change.RowChange.{RowChange}
 use Rattle.update_delete.specs.declared.change.RowChange.TheVariants.{Becomes}
 use Rattle.update_delete.specs.declared.change.RowUpdate.{RowUpdate}
 use Rattle.update_delete.specs.Given.{touched_given, gone_if, deletion_given, value_at, assigned_given, replaced_if, update_given}
 use Rattle.update_delete.specs.RowChanges.{left_of, rows_left, spread, is_change, IsShort, AreChanges, AreUpdates, AreDeletions, GivesChanges}
-use Rattle.update_delete.specs.Statements.{IsFilterOf, IsUpdateOf, tables_in_filter, tables_in_update}
+use Rattle.update_delete.specs.Statements.{IsFilterOf, IsUpdateOf, MeansCondition, MeansSource, tables_in_filter, tables_in_update}
 use Rattle.update_delete.proofs.ConditionsRead.{ValuesRead, ListingsRead, conditions-read}
 use Rattle.update_delete.proofs.Sparse.{ok_map, faults-kept, together-spread}
 
--- the laws, as the calls of them say
-abbrev pub ValuesShow : Type 0
-ValuesShow = (described : List ℕ → StoredTable) → ((name : List ℕ) → (described name).name ≡ name) → (tables : Tables) (x : typed_expression.Expression)
-    → ShowsAt (value_listing tables (tree_of_expression described x)) (value_of tables x)
-
+-- the law, as the call of it says
 abbrev pub TruthsShow : Type 0
 TruthsShow = (described : List ℕ → StoredTable) → ((name : List ℕ) → (described name).name ≡ name) → (tables : Tables) (x : typed_condition.Condition)
     → ShowsAt (truth_listing tables (tree_of_condition described x)) (truth_at tables x)
@@ -104,7 +101,7 @@ unless-shows (f ∷ fs) (g ∷ gs) x h = h
 
 -- ---- a row after its assignments
 
-module _ (values : ValuesShow) (truths : TruthsShow) where
+module _ (truths : TruthsShow) where
   checks-shown : (described : List ℕ → StoredTable) → ((name : List ℕ) → (described name).name ≡ name) → (conditions : List typed_condition.Condition) (row : Row)
       → IsShown (check_faults (map (tree_of_condition described) conditions) row) (flat_map (λ check. faults_in (check_at check row)) conditions)
   checks-shown described names [] row = IsShown-refl []
@@ -124,22 +121,17 @@ module _ (values : ValuesShow) (truths : TruthsShow) where
 
 -- ---- whether a row is touched
 
-module _ (truths : TruthsShow) (read_values : ValuesRead) (read_listings : ListingsRead) (lent tables : Tables) where
-  condition-shows : (described : List ℕ → StoredTable) → ((name : List ℕ) → (described name).name ≡ name) → (asked : Option typed_condition.Condition) (row : Row)
-      → Agree lent tables (tables_in_filter (option_map (tree_of_condition described) asked))
-      → Shows (touched_given lent (option_map (tree_of_condition described) asked) row) (is_touched tables asked row)
-  condition-shows described names None row agree = refl
-  condition-shows described names (Some c) row agree =
-      let tree = tree_of_condition described c in
+module _ (read_values : ValuesRead) (read_listings : ListingsRead) (lent tables : Tables) where
+  filter-shows : (asked : Option typed_condition.Condition) (filter : Option Condition) (row : Row) → IfBoth (MeansCondition tables) filter asked
+      → Agree lent tables (tables_in_filter filter) → Shows (touched_given lent filter row) (is_touched tables asked row)
+  filter-shows None None row means agree = refl
+  filter-shows None (Some tree) row means agree = absurd means
+  filter-shows (Some c) None row means agree = absurd means
+  filter-shows (Some c) (Some tree) row means agree =
       let same : truth_listing lent tree (row ∷ []) ≡ truth_listing tables tree (row ∷ []) = ap (λ f. f (row ∷ [])) (conditions-read read_values read_listings lent tables tree agree) in
       then-shows (truth_listing lent tree (row ∷ [])) (truth_at tables c (row ∷ [])) (λ t. Ok (same_truth t True))
-      (subst (λ (x : Evaluation Truth). Shows x (truth_at tables c (row ∷ []))) (sym same) (truths described names tables c (row ∷ [])))
-
-  pub filter-shows : (asked : Option typed_condition.Condition) (filter : Option Condition) (row : Row) → (described : List ℕ → StoredTable) → ((name : List ℕ) → (described name).name ≡ name)
-      → filter ≡ option_map (tree_of_condition described) asked → Agree lent tables (tables_in_filter filter) → Shows (touched_given lent filter row) (is_touched tables asked row)
-  filter-shows asked filter row described names is agree =
-      subst (λ (f : Option Condition). Shows (touched_given lent f row) (is_touched tables asked row)) (sym is)
-      (condition-shows described names asked row (subst (λ (f : Option Condition). Agree lent tables (tables_in_filter f)) is agree))
+      (subst (λ (x : Evaluation Truth). Shows x (truth_at tables c (row ∷ []))) (sym same)
+      (shows-same (truth_listing tables tree (row ∷ [])) (tree_truth tables tree (row ∷ [])) (truth_at tables c (row ∷ [])) (conditions-show tables tree (row ∷ [])) (means (row ∷ []))))
 
 -- ---- all rows
 
@@ -273,10 +265,10 @@ module _ (kept : Bool × Row → List Row) (table : Table) (left : List (Bool ×
       let all = gives kept table left same (Err why) given asked (record { ok = tt; err = subst (λ (fs : List Fault). IsFaultOf fs why) (sym faults) h.err }) s in
       record { ok = tt; err = all.err }
 
-module _ (values : ValuesShow) (truths : TruthsShow) (read_values : ValuesRead) (read_listings : ListingsRead) (lent tables : Tables) where
+module _ (read_values : ValuesRead) (read_listings : ListingsRead) (lent tables : Tables) where
   -- the changes of a DELETE
   pub deletions_meant : (table : Table) (d : Delete) (tree : Option Condition) (rows : List Row) (test : Row → Bool) (reply : Result (List RowChange) Stop) → rows ≡ filter test table.rows
-      → ((row : Row) → test row ≡ false → touched_given lent tree row ≡ Ok false) → Agree lent tables (tables_in_filter tree) → IsFilterOf d.filter tree
+      → ((row : Row) → test row ≡ false → touched_given lent tree row ≡ Ok false) → Agree lent tables (tables_in_filter tree) → IsFilterOf tables d.filter tree
       → Gives reply (together (map (deletion_given lent tree) rows))
       → GivesChanges (λ changes found. AreDeletions table (spread test table.rows changes) found) reply (deleted_rows tables table d)
   deletions_meant table d tree rows test reply is others agree of h =
@@ -285,39 +277,39 @@ module _ (values : ValuesShow) (truths : TruthsShow) (read_values : ValuesRead) 
       (together-spread (deletion_given lent tree) test (λ row out. ap (λ x. x >>= (λ touched. Ok (gone_if touched))) (others row out)) table.rows)
       (all_shown kept_of table.indexes (deletion_given lent tree) (λ row. is_touched tables d.filter row >>= (λ touched. Ok (touched, row)))
       (λ row. deletion-shows table.indexes row (touched_given lent tree row) (is_touched tables d.filter row)
-      (filter-shows truths read_values read_listings lent tables d.filter tree row of.described of.names of.is agree)) table.rows)
+      (filter-shows read_values read_listings lent tables d.filter tree row of.means agree)) table.rows)
 
-  sources-show : (described : List ℕ → StoredTable) → ((name : List ℕ) → (described name).name ≡ name) → (assignments : List Assignment) (row : Row)
-      → Agree lent tables (tables_in_row (map (λ (a : Assignment). tree_of_expression described a.source) assignments))
-      → Each Shows (map (value_at lent row) (map (λ (a : Assignment). tree_of_expression described a.source) assignments)) (map (λ (a : Assignment). value_of tables a.source (row ∷ [])) assignments)
-  sources-show described names [] row agree = tt
-  sources-show described names (a ∷ assignments) row agree =
-      let tree = tree_of_expression described a.source in
-      let more = tables_in_row (map (λ (a : Assignment). tree_of_expression described a.source) assignments) in
+  sources-show : (sources : List Expression) (assignments : List Assignment) (row : Row) → Each (MeansSource tables) sources assignments → Agree lent tables (tables_in_row sources)
+      → Each Shows (map (value_at lent row) sources) (map (λ (a : Assignment). value_of tables a.source (row ∷ [])) assignments)
+  sources-show [] [] row means agree = tt
+  sources-show [] (a ∷ assignments) row means agree = absurd means
+  sources-show (tree ∷ sources) [] row means agree = absurd means
+  sources-show (tree ∷ sources) (a ∷ assignments) row means agree =
+      let more = tables_in_row sources in
       let same : value_listing lent tree (row ∷ []) ≡ value_listing tables tree (row ∷ []) =
       ap (λ f. f (row ∷ [])) (read_values lent tables tree (λ name among. agree name (Contains-append_left (tables_in_expression tree) more name among))) in (
-        subst (λ (x : Evaluation Value). Shows x (value_of tables a.source (row ∷ []))) (sym same) (values described names tables a.source (row ∷ [])),
-        sources-show described names assignments row (λ name among. agree name (Contains-append_right (tables_in_expression tree) more name among)),
+        subst (λ (x : Evaluation Value). Shows x (value_of tables a.source (row ∷ []))) (sym same)
+            (shows-same (value_listing tables tree (row ∷ [])) (tree_value tables tree (row ∷ [])) (value_of tables a.source (row ∷ [])) (expressions-show tables tree (row ∷ [])) (means.0 (row ∷ []))),
+        sources-show sources assignments row means.1 (λ name among. agree name (Contains-append_right (tables_in_expression tree) more name among)),
       )
 
+module _ (truths : TruthsShow) (read_values : ValuesRead) (read_listings : ListingsRead) (lent tables : Tables) where
   -- a row after its assignments
-  assigned-shows : (conditions : List typed_condition.Condition) (checks : List Condition) → AreChecksOf conditions checks → (table : Table) (u : Update) (made : RowUpdate) → IsUpdateOf u made
+  assigned-shows : (conditions : List typed_condition.Condition) (checks : List Condition) → AreChecksOf conditions checks → (table : Table) (u : Update) (made : RowUpdate) → IsUpdateOf tables u made
       → Agree lent tables (tables_in_row made.sources) → (row : Row) → Shows (assigned_given lent checks table made row) (assigned conditions tables table u.assignments row)
   assigned-shows conditions checks checked table u made of agree row =
-      let trees = map (λ (a : Assignment). tree_of_expression of.described a.source) u.assignments in
       let columns = map (λ (a : Assignment). a.column) u.assignments in
       let meant = map (λ (a : Assignment). value_of tables a.source (row ∷ [])) u.assignments in
       let shown : Each Shows (map (value_at lent row) made.sources) meant =
-      subst (λ (ts : List Expression). Each Shows (map (value_at lent row) ts) meant) (sym of.sources)
-      (sources-show of.described of.names u.assignments row (subst (λ (ts : List Expression). Agree lent tables (tables_in_row ts)) of.sources agree)) in
-      admitted-shows values truths conditions checks checked table (row_with table.columns made.columns (map (value_at lent row) made.sources) row) (row_with table.columns columns meant row)
+      sources-show read_values read_listings lent tables made.sources u.assignments row of.sources agree in
+      admitted-shows truths conditions checks checked table (row_with table.columns made.columns (map (value_at lent row) made.sources) row) (row_with table.columns columns meant row)
       (subst (λ (places : List ℕ). Shows (row_with table.columns made.columns (map (value_at lent row) made.sources) row) (row_with table.columns places meant row)) of.columns
       (row-shows table.columns made.columns (map (value_at lent row) made.sources) meant row shown))
 
   -- the changes of an UPDATE
   pub updates_meant : (conditions : List typed_condition.Condition) (checks : List Condition) (table : Table) (u : Update) (made : RowUpdate) (rows : List Row) (test : Row → Bool)
       (reply : Result (List RowChange) Stop) → rows ≡ filter test table.rows → ((row : Row) → test row ≡ false → touched_given lent made.filter row ≡ Ok false)
-      → Agree lent tables (tables_in_update made) → IsUpdateOf u made → AreChecksOf conditions checks → Gives reply (together (map (update_given lent checks table made) rows))
+      → Agree lent tables (tables_in_update made) → IsUpdateOf tables u made → AreChecksOf conditions checks → Gives reply (together (map (update_given lent checks table made) rows))
       → GivesChanges (λ changes found. AreUpdates table (spread test table.rows changes) found) reply (updated_rows conditions tables table u)
   updates_meant conditions checks table u made rows test reply is others agree of checked h =
       let in_filter = tables_in_filter made.filter in
@@ -328,5 +320,5 @@ module _ (values : ValuesShow) (truths : TruthsShow) (read_values : ValuesRead) 
       (together-spread (update_given lent checks table made) test (λ row out. ap (λ x. x >>= replaced_if (assigned_given lent checks table made row)) (others row out)) table.rows)
       (all_shown found_of table.indexes (update_given lent checks table made) (λ row. is_touched tables u.filter row >>= updated_if conditions tables table u.assignments row)
       (λ row. update-shows conditions tables table u.assignments row (assigned_given lent checks table made row) (touched_given lent made.filter row) (is_touched tables u.filter row)
-      (filter-shows truths read_values read_listings lent tables u.filter made.filter row of.described of.names of.filter (λ name among. agree name (Contains-append_left in_filter in_sources name among)))
+      (filter-shows read_values read_listings lent tables u.filter made.filter row of.filter (λ name among. agree name (Contains-append_left in_filter in_sources name among)))
       (assigned-shows conditions checks checked table u made of (λ name among. agree name (Contains-append_right in_filter in_sources name among)) row)) table.rows)

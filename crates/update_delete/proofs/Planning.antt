@@ -1,5 +1,5 @@
 -- What is planned for the rows of a table is what the definitions make of it.
-use Rattle.std.proofs.Common.{◌≡◌, ◌∙◌, refl, sym, ap, subst, ℕ, Bool, true, false, not, ◌≤◌, List, [], ◌++◌, map, filter, length, Option, Some, None, Ok, Err, arith}
+use Rattle.std.proofs.Common.{◌≡◌, ◌∙◌, refl, sym, ap, subst, ℕ, Bool, true, false, not, ◌≤◌, List, ◌++◌, map, filter, length, Option, Some, None, Ok, Err, arith}
 use Rattle.std.specs.Prelude.{Contains, count_by}
 use Rattle.std.specs.List.{list_any}
 use Rattle.std.specs.FinMap.{get}

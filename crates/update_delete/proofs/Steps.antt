@@ -1,19 +1,12 @@
 -- Replies of an evaluator, step by step.
-use Rattle.std.proofs.Common.{◌≡◌, refl, sym, ap, ℕ, Bool, true, false, List, Option, Result, Ok, Err}
-use Rattle.std.specs.Prelude.{IsTrue, ◌↔◌, IfOk}
-use Rattle.std.specs.Option.{option_map}
-use Rattle.sqlval.specs.declared.schema.Schema.{Schema}
-use Rattle.typing.specs.declared.typed.Condition as typed_condition
-use Rattle.algebra.specs.declared.tree.Condition.{Condition}
-use Rattle.algebra.specs.Described.{described_in}
-use Rattle.algebra.specs.Translated.{tree_of_condition}
+use Rattle.std.proofs.Common.{◌≡◌, refl, sym, ap, Bool, true, false, Result, Ok}
+use Rattle.std.specs.Prelude.{IsTrue, ◌↔◌}
 use Rattle.sqlval.specs.declared.truth.Truth.{Truth}
 use Rattle.sqlval.specs.declared.truth.Truth.TheVariants.{False, Unknown, True}
 use Rattle.sqlval.specs.Truth.{same_truth}
 use Rattle.denote.specs.declared.fault.Stop.{Stop}
 use Rattle.denote.specs.Evaluation.{Evaluation, ◌>>=◌}
 use Rattle.denote.specs.Stop.{Gives}
-use Rattle.update_delete.specs.Statements.{IsFilterOf}
 
 true_is : (b : Bool) (t : Truth) → (IsTrue b ↔ (t ≡ True)) → b ≡ same_truth t True
 true_is true False h = absurd (let e = h.0 refl in cc e)
@@ -29,9 +22,3 @@ onwards reply v x f h g = let is : x ≡ Ok v = h.ok in rw is g
 
 pub touched_if : (b : Bool) (t : Truth) (x : Evaluation Truth) → Gives (Ok t) x → (IsTrue b ↔ (t ≡ True)) → Gives (Ok b) (x >>= (λ t. Ok (same_truth t True)))
 touched_if b t x h e = onwards (Ok b) t x (λ t. Ok (same_truth t True)) h (record { ok = ap Ok (sym (true_is b t e)); err = tt })
-
--- the tree of a condition over a schema
-pub filter_of : {E : Type 0} (schema : Schema) (asked : Option typed_condition.Condition) (reply : Result (Option Condition) E) → ((name : List ℕ) → (described_in schema name).name ≡ name)
-    → IfOk reply (λ tree. tree ≡ option_map (tree_of_condition (described_in schema)) asked) → IfOk reply (λ tree. IsFilterOf asked tree)
-filter_of schema asked (Ok tree) names is = record { described = described_in schema; names = names; is = is }
-filter_of schema asked (Err refused) names is = tt

@@ -1,29 +1,35 @@
 -- The trees of an UPDATE and of a DELETE (ISO/IEC 9075:1992, 13.7, 13.10), and the tables that they
 -- name.
-use Rattle.std.specs.Prelude.{◌≡◌, ℕ, List, [], ◌++◌, map, Option, Some, None}
-use Rattle.std.specs.Option.{option_map}
+use Rattle.std.specs.Prelude.{◌≡◌, [], ◌++◌, map, Option, Some, None}
+use Rattle.typing.specs.declared.statement.Assignment.{Assignment}
 use Rattle.typing.specs.declared.statement.Update.{Update}
 use Rattle.typing.specs.declared.typed.Condition as typed_condition
 use Rattle.algebra.specs.declared.tree.Condition.{Condition}
-use Rattle.algebra.specs.declared.tree.StoredTable.{StoredTable}
-use Rattle.algebra.specs.Translated.{tree_of_condition, tree_of_expression}
+use Rattle.algebra.specs.declared.tree.Expression.{Expression}
+use Rattle.algebra.specs.TreeOutcome.{tree_truth}
+use Rattle.denote.specs.Meaning.{Tables, truth_at}
+use Rattle.operator_laws.specs.Same.{Agree, Each, IfBoth}
 use Rattle.tree_tables.specs.TablesRead.{Names, tables_in_condition}
-use Rattle.query_answers.specs.Sources.{tables_in_row}
+use Rattle.query_answers.specs.Sources.{MeansExpression, tables_in_row}
 use Rattle.update_delete.specs.declared.change.RowUpdate.{RowUpdate}
 
--- the tree of the condition, if there is one, whatever it knows of tables beside their names
-pub record IsFilterOf (asked : Option typed_condition.Condition) (filter : Option Condition) : Type 0 where
-  pub described : List ℕ → StoredTable
-  pub names : (name : List ℕ) → (described name).name ≡ name
-  pub is : filter ≡ option_map (tree_of_condition described) asked
+-- over these tables a tree has the truth value of a condition at each row, or the same faults
+abbrev pub MeansCondition : Tables → Condition → typed_condition.Condition → Type 0
+MeansCondition tables tree asked = Agree (tree_truth tables tree) (truth_at tables asked)
 
--- likewise the trees of an UPDATE
-pub record IsUpdateOf (u : Update) (made : RowUpdate) : Type 0 where
-  pub described : List ℕ → StoredTable
-  pub names : (name : List ℕ) → (described name).name ≡ name
-  pub filter : made.filter ≡ option_map (tree_of_condition described) u.filter
+-- and one of an assignment the value of its source
+abbrev pub MeansSource : Tables → Expression → Assignment → Type 0
+MeansSource tables tree a = MeansExpression tables tree a.source
+
+-- a tree of the condition, if there is one
+pub record IsFilterOf (tables : Tables) (asked : Option typed_condition.Condition) (filter : Option Condition) : Type 0 where
+  pub means : IfBoth (MeansCondition tables) filter asked
+
+-- likewise trees of an UPDATE
+pub record IsUpdateOf (tables : Tables) (u : Update) (made : RowUpdate) : Type 0 where
+  pub filter : IfBoth (MeansCondition tables) made.filter u.filter
   pub columns : made.columns ≡ map (λ a. a.column) u.assignments
-  pub sources : made.sources ≡ map (λ a. tree_of_expression described a.source) u.assignments
+  pub sources : Each (MeansSource tables) made.sources u.assignments
 
 -- the tables that they name
 abbrev pub tables_in_filter : Option Condition → Names

@@ -54,6 +54,7 @@ pub fn delete_rows<S: Store, C: Checks>(
     ensures refused { IfErr result (λ refusal. (reading : CheckReading) → S.is_sound store.old
         → IsSchemaOf (S.prepared store.old) (database_of (S.shows store.old).working)
         → Decided (C.decides checks.now reading) (database_of (S.shows store.old).working) delete.now.table
+        → IsGood reading (database_of (S.shows store.old).working)
         → RefusesChange reading (database_of (S.shows store.old).working) (does.Delete delete.now) refusal) }
     ensures accepted { IfOk result (λ reply. IfRefused reply (λ refusal. ⊥)) }
     ensures limits { IfErr result (TellsReached (ChangingReaches (S.counted store.new))) }
@@ -77,10 +78,12 @@ fn planned_deletion<S: Store>(
 ) -> Result<Option<Planned>, Refusal>
     ensures planned { IfOk result (λ planned. (reading : CheckReading) → S.is_sound store.old
         → IsSchemaOf (S.prepared store.old) (database_of (S.shows store.old).working)
+        → IsGood reading (database_of (S.shows store.old).working)
         → IsPlanned reading (S.shows store.old).working (does.Delete delete.now) delete.now.table planned) }
     ensures spares { IfOk result (λ planned. IfSome planned (λ p. rows_new p.changes ≡ [])) }
     ensures refused { IfErr result (λ refusal. (reading : CheckReading) → S.is_sound store.old
         → IsSchemaOf (S.prepared store.old) (database_of (S.shows store.old).working)
+        → IsGood reading (database_of (S.shows store.old).working)
         → RefusesChange reading (database_of (S.shows store.old).working) (does.Delete delete.now) refusal) }
     ensures limits { IfErr result TellsNoLimit }
     ensures device { IfErr result (λ refusal. refusal ≡ Disk → HasRisen (S.refused store.old) (S.refused store.new)) }
@@ -113,14 +116,14 @@ fn all_deletions(
 ) -> Result<Option<Planned>, Refusal>
     ensures planned { IfOk result (λ planned. (reading : CheckReading) (c : Contents)
         → IsSchemaOf schema.now (database_of c)
-        → IsFilterOf delete.now.filter filter.now
+        → IsFilterOf (rows_in (database_of c)) delete.now.filter filter.now
         → Agree (rows_lent lent.now.tables) (rows_in (database_of c)) (tables_in_filter filter.now)
         → AreCandidates (get c delete.now.table) filter.now found
         → IsPlanned reading c (does.Delete delete.now) delete.now.table planned) }
     ensures spares { IfOk result (λ planned. IfSome planned (λ p. rows_new p.changes ≡ [])) }
     ensures refused { IfErr result (λ refusal. (reading : CheckReading) (c : Contents)
         → IsSchemaOf schema.now (database_of c)
-        → IsFilterOf delete.now.filter filter.now
+        → IsFilterOf (rows_in (database_of c)) delete.now.filter filter.now
         → Agree (rows_lent lent.now.tables) (rows_in (database_of c)) (tables_in_filter filter.now)
         → AreCandidates (get c delete.now.table) filter.now found
         → RefusesChange reading (database_of c) (does.Delete delete.now) refusal) }

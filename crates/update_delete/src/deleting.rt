@@ -18,7 +18,6 @@ use crate::change::RowChange;
 use crate::listed::kept_filter;
 use crate::touched::is_touched;
 use algebra::Condition;
-use algebra_laws::evaluation_keeps_the_meaning;
 use denote::{Row, Stop};
 use items::Items;
 use query_answers::LentTables;
@@ -41,12 +40,11 @@ pub fn deletions(
         → rows.now ≡ list_filter test table.rows
         → ((row : AnyRow) → test row ≡ false → touched_given (rows_lent lent.now.tables) filter.now row ≡ Ok false)
         → Agree (rows_lent lent.now.tables) tables (tables_in_filter filter.now)
-        → IsFilterOf d.filter filter.now
+        → IsFilterOf tables d.filter filter.now
         → GivesChanges (λ changes found. AreDeletions table (spread test table.rows changes) found) result (deleted_rows tables table d) }
     ensures spares { IfOk result (λ changes. rows_new changes ≡ []) }
     ensures as_many { IfOk result (λ changes. length changes ≡ length rows.now) }
 {
-    evaluation_keeps_the_meaning();
     listings_read_their_tables();
     values_read_their_tables();
     kept_trees_mean_the_same();

@@ -6,6 +6,10 @@ ghost use Rattle.session_definitions.specs.Refusals.{IsReserved};
 ghost use Rattle.store.specs.Errors.{HasRisen};
 ghost use Rattle.algebra.specs.Described.{described_in};
 ghost use Rattle.algebra.specs.Translated.{tree_of_condition, tree_of_expression};
+ghost use Rattle.denote.specs.Database.{CheckReading, Database, IsGood, rows_in};
+ghost use Rattle.denote.specs.SchemaOf.{IsSchemaOf};
+ghost use Rattle.operator_laws.specs.Same.{Each, IfBoth};
+ghost use Rattle.rules.specs.Same.{KeepsCondition, KeepsExpression};
 ghost use Rattle.tree_tables.specs.TablesRead.{Agree};
 ghost use Rattle.transactions.specs.Refused.{TellsNoLimit};
 ghost use Rattle.query_answers.specs.Answered.{rows_found};
@@ -16,6 +20,8 @@ ghost use Rattle.update_delete.specs.Statements.{IsFilterOf, IsUpdateOf, tables_
 use crate::change::RowUpdate;
 use algebra::{Condition, Expression};
 use items::{Items, Text};
+use known_tables::described_tables_are_known;
+use planned_subqueries::{planned_expressions, planned_filter, planned_trees_mean_the_same};
 use query_answers::{LentTables, lent_tables};
 use refusals::Refusal;
 use sqlval::Schema;
@@ -25,16 +31,32 @@ use translation::{translate_condition, translate_expression};
 use tree_tables::{tables_in_condition, tables_in_expression};
 use typing::{Assignment, Update};
 
-/// The tree of the condition of an UPDATE or a DELETE that was typed over this schema. Refuses for
-/// want of memory alone.
+/// The tree of the condition of an UPDATE or a DELETE that was typed over this schema, its
+/// subqueries as those of plans. It means what the condition does over every good database of the
+/// schema. Refuses for want of memory alone.
 pub fn filter_tree(
     alloc: Global,
     schema: &Schema,
     filter: &Option<typing::Condition>,
 ) -> Result<Option<Condition>, AllocError>
-    ensures tree { IfOk result (λ tree. IsFilterOf filter.now tree) }
+    ensures tree { (reading : CheckReading) (db : Database) → IsGood reading db → IsSchemaOf schema.now db
+        → IfOk result (λ tree. IsFilterOf (rows_in db) filter.now tree) }
 {
-    translated_filter(alloc, schema, filter)
+    described_tables_are_known();
+    planned_trees_mean_the_same();
+    filter_planned(alloc, schema, filter)
+}
+
+fn filter_planned(
+    alloc: Global,
+    schema: &Schema,
+    filter: &Option<typing::Condition>,
+) -> Result<Option<Condition>, AllocError>
+    ensures { IfOk result (λ tree.
+        IfBoth KeepsCondition tree (option_map (tree_of_condition (described_in schema.now)) filter.now)) }
+{
+    let translated = translated_filter(alloc, schema, filter)?;
+    planned_filter(alloc, translated)
 }
 
 fn translated_filter(
@@ -53,17 +75,21 @@ fn translated_filter(
     }
 }
 
-/// The trees of an UPDATE that was typed over this schema. Refuses for want of memory alone.
+/// The trees of an UPDATE that was typed over this schema, their subqueries as those of plans. They
+/// mean what it says over every good database of the schema. Refuses for want of memory alone.
 pub fn update_trees(
     alloc: Global,
     schema: &Schema,
     update: &Update,
 ) -> Result<RowUpdate, AllocError>
-    ensures trees { IfOk result (λ made. IsUpdateOf update.now made) }
+    ensures trees { (reading : CheckReading) (db : Database) → IsGood reading db → IsSchemaOf schema.now db
+        → IfOk result (λ made. IsUpdateOf (rows_in db) update.now made) }
 {
+    described_tables_are_known();
+    planned_trees_mean_the_same();
     let columns = columns_of(alloc, update.assignments.as_slice())?;
-    let sources = sources_of(alloc, schema, update.assignments.as_slice())?;
-    let filter = translated_filter(alloc, schema, &update.filter)?;
+    let sources = sources_planned(alloc, schema, update.assignments.as_slice())?;
+    let filter = filter_planned(alloc, schema, &update.filter)?;
     Ok(RowUpdate {
         filter,
         columns,
@@ -79,6 +105,18 @@ fn columns_of(alloc: Global, assignments: &[Assignment]) -> Result<Items<usize>,
         columns.push(assignment.column)?;
     }
     Ok(columns)
+}
+
+fn sources_planned(
+    alloc: Global,
+    schema: &Schema,
+    assignments: &[Assignment],
+) -> Result<Items<Expression>, AllocError>
+    ensures { IfOk result (λ trees.
+        Each KeepsExpression trees (map (λ a. tree_of_expression (described_in schema.now) a.source) assignments.now)) }
+{
+    let translated = sources_of(alloc, schema, assignments)?;
+    planned_expressions(alloc, translated)
 }
 
 fn sources_of(

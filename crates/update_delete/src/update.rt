@@ -38,13 +38,13 @@ use std::alloc::Global;
 use store::{Numbered, Store};
 use typing::Update;
 
-/// UPDATE: each row that its condition touches gets the values of its sources, all at once, and
-/// where no row is touched nothing changes. Conditions and sources see the tables as they were. It
-/// is refused by a fault of its evaluation over all rows, or else by a constraint that the table
-/// would violate (23000); for want of memory, by the device or by a limit of the store. `trees` are
-/// those of the conditions of the table's CHECKs, which are evaluated at each new row; whether one
-/// is violated is decided by `checks`. It sets the mark. Where it is refused, all is as it was, but
-/// for the mark.
+/// UPDATE of a table of a good database: each row that its condition touches gets the values of its
+/// sources, all at once, and where no row is touched nothing changes. Conditions and sources see
+/// the tables as they were. It is refused by a fault of its evaluation over all rows, or else by a
+/// constraint that the table would violate (23000); for want of memory, by the device or by a limit
+/// of the store. `trees` are those of the conditions of the table's CHECKs, which are evaluated at
+/// each new row; whether one is violated is decided by `checks`. It sets the mark. Where it is
+/// refused, all is as it was, but for the mark.
 pub fn update_rows<S: Store, C: Checks>(
     alloc: Global,
     store: &mut S,
@@ -62,6 +62,7 @@ pub fn update_rows<S: Store, C: Checks>(
         → IsSchemaOf (S.prepared store.old) (database_of (S.shows store.old).working)
         → Decided (C.decides checks.now reading) (database_of (S.shows store.old).working) update.now.table
         → AreChecksFor reading (database_of (S.shows store.old).working) update.now.table trees.now
+        → IsGood reading (database_of (S.shows store.old).working)
         → RefusesChange reading (database_of (S.shows store.old).working) (does.Update update.now) refusal) }
     ensures accepted { IfOk result (λ reply. IfRefused reply (λ refusal. ⊥)) }
     ensures limits { IfErr result (TellsReached (ReplacingReaches (S.counted store.new) (S.is_sound store.old
@@ -90,10 +91,12 @@ fn planned_update<S: Store, C: Checks>(
         → IsSchemaOf (S.prepared store.old) (database_of (S.shows store.old).working)
         → Decided (C.decides checks.now reading) (database_of (S.shows store.old).working) update.now.table
         → AreChecksFor reading (database_of (S.shows store.old).working) update.now.table trees.now
+        → IsGood reading (database_of (S.shows store.old).working)
         → IsPlanned reading (S.shows store.old).working (does.Update update.now) update.now.table planned) }
     ensures refused { IfErr result (λ refusal. (reading : CheckReading) → S.is_sound store.old
         → IsSchemaOf (S.prepared store.old) (database_of (S.shows store.old).working)
         → AreChecksFor reading (database_of (S.shows store.old).working) update.now.table trees.now
+        → IsGood reading (database_of (S.shows store.old).working)
         → RefusesChange reading (database_of (S.shows store.old).working) (does.Update update.now) refusal) }
     ensures limits { IfErr result TellsNoLimit }
     ensures device { IfErr result (λ refusal. refusal ≡ Disk → HasRisen (S.refused store.old) (S.refused store.new)) }
@@ -139,13 +142,13 @@ fn all_updates<C: Checks>(
         → IsSchemaOf schema.now (database_of c)
         → Decided (C.decides checks.now reading) (database_of c) update.now.table
         → AreChecksFor reading (database_of c) update.now.table trees.now
-        → IsUpdateOf update.now made.now
+        → IsUpdateOf (rows_in (database_of c)) update.now made.now
         → Agree (rows_lent lent.now.tables) (rows_in (database_of c)) (tables_in_update made.now)
         → AreCandidates (get c update.now.table) made.now.filter found
         → IsPlanned reading c (does.Update update.now) update.now.table planned) }
     ensures refused { IfErr result (λ refusal. (reading : CheckReading) (c : Contents)
         → IsSchemaOf schema.now (database_of c) → AreChecksFor reading (database_of c) update.now.table trees.now
-        → IsUpdateOf update.now made.now
+        → IsUpdateOf (rows_in (database_of c)) update.now made.now
         → Agree (rows_lent lent.now.tables) (rows_in (database_of c)) (tables_in_update made.now)
         → AreCandidates (get c update.now.table) made.now.filter found
         → RefusesChange reading (database_of c) (does.Update update.now) refusal) }

@@ -49,7 +49,7 @@ pub fn updates(
         → ((row : AnyRow) → test row ≡ false
         → touched_given (rows_lent lent.now.tables) update.now.filter row ≡ Ok false)
         → Agree (rows_lent lent.now.tables) tables (tables_in_update update.now)
-        → IsUpdateOf u update.now → AreChecksOf conditions checks.now
+        → IsUpdateOf tables u update.now → AreChecksOf conditions checks.now
         → GivesChanges (λ changes found. AreUpdates (table_of table.now whole) (spread test whole changes) found) result (updated_rows conditions tables (table_of table.now whole) u) }
     ensures as_many { IfOk result (λ changes. length changes ≡ length rows.now) }
 {

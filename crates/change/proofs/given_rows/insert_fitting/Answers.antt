@@ -66,7 +66,7 @@ pub returns-clause-limits : goal.returns-clause-limits
 returns-clause-limits g c = tells_none (ChangeReaches (g.S.Store.counted c.args.store.now) (g.S.Store.is_sound c.args.store.now) (g.S.Store.prepared c.args.store.now) (g.S.Store.shows c.args.store.now).working (does.Insert (into c.args.name.now c.args.columns.now (from.Values (typed_rows c.args.rows))))) c.in-Err-rows_given.refusal c.in-Err-rows_given.ensures.limits
 
 pub returns-clause-device : goal.returns-clause-device
-returns-clause-device g c = λ is. absurd (c.in-Err-rows_given.ensures.device c.in-Ok.ensures.some is)
+returns-clause-device g c = λ is. absurd (c.in-Err-rows_given.ensures.device is)
 
 pub returns-in-Err-clause-refused : goal.returns-in-Err-clause-refused
 returns-in-Err-clause-refused g c = λ reading is_reading sound of good.

@@ -18,7 +18,7 @@ returns-clause-gives c = IfOk-weaker c.stored_rows.result _ _
     let is : c.as_slice.result.now ≡ constants c.args.rows = c.as_slice.ensures ∙ c.in-Ok.ensures in
     given_values reading db (into c.args.name.now c.args.columns.now (from.Values (typed_rows c.args.rows))) table there (typed_rows c.args.rows) stored refl
     (h reading db table (typed_rows c.args.rows) of there checks
-    (subst (λ (trees : List (List Expression)). AreTreesOf (typed_rows c.args.rows) trees) (sym is) (are_trees c.args.schema.now c.args.rows))
+    (subst (λ (trees : List (List Expression)). AreTreesOf (rows_in db) (typed_rows c.args.rows) trees) (sym is) (are_trees (rows_in db) c.args.rows))
     (subst (λ (trees : List (List Expression)). Agree (rows_lent c.new.result) (rows_in db) (tables_in_rows trees)) (sym is) (all_agree (rows_lent c.new.result) (rows_in db) c.args.rows))))
     c.stored_rows.ensures.gives
 
@@ -28,13 +28,6 @@ returns-clause-refused c = IfErr-weaker c.stored_rows.result _ _
     let is : c.as_slice.result.now ≡ constants c.args.rows = c.as_slice.ensures ∙ c.in-Ok.ensures in
     refuses_values reading db (into c.args.name.now c.args.columns.now (from.Values (typed_rows c.args.rows))) table there (typed_rows c.args.rows) refusal refl
     (h reading db table (typed_rows c.args.rows) of there checks
-    (subst (λ (trees : List (List Expression)). AreTreesOf (typed_rows c.args.rows) trees) (sym is) (are_trees c.args.schema.now c.args.rows))
+    (subst (λ (trees : List (List Expression)). AreTreesOf (rows_in db) (typed_rows c.args.rows) trees) (sym is) (are_trees (rows_in db) c.args.rows))
     (subst (λ (trees : List (List Expression)). Agree (rows_lent c.new.result) (rows_in db) (tables_in_rows trees)) (sym is) (all_agree (rows_lent c.new.result) (rows_in db) c.args.rows))))
     c.stored_rows.ensures.refused
-
-pub returns-clause-device : goal.returns-clause-device
-returns-clause-device c = IfErr-weaker c.stored_rows.result _ _
-    (λ refusal h some.
-    let is : c.as_slice.result.now ≡ constants c.args.rows = c.as_slice.ensures ∙ c.in-Ok.ensures in
-    h (typed_rows c.args.rows) (subst (λ (trees : List (List Expression)). AreTreesOf (typed_rows c.args.rows) trees) (sym is) (are_trees c.args.schema.now c.args.rows)) some)
-    c.stored_rows.ensures.device

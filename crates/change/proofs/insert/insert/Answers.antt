@@ -57,7 +57,7 @@ returns-clause-refused g c = λ reading is_reading sound of good.
     c.in-Err-rows_of.ensures.refused reading there.0 sound of good there.1 (c.in-Ok.ensures.decides reading db is_reading schema there.0 there.1)
 
 pub returns-clause-device : goal.returns-clause-device
-returns-clause-device g c = c.in-Err-rows_of.ensures.device c.in-Ok.ensures.some
+returns-clause-device g c = c.in-Err-rows_of.ensures.device
 
 pub returns-in-Err-clause-refused : goal.returns-in-Err-clause-refused
 returns-in-Err-clause-refused g c = λ reading is_reading sound of good.

@@ -6,11 +6,11 @@ use Rattle.change.proofs.insert.rows_of.Goals as goal
 
 pub returns-in-Values-clause-gives : goal.returns-in-Values-clause-gives
 returns-in-Values-clause-gives g c = IfOk-weaker c.value_rows.result _ _
-    (λ rows h reading table sound of good there checks. h reading table sound of there checks (c.in-Values.is ∙ ap (λ (values : List (List Expression)). from.Values values) (sym c.as_slice.ensures))) c.value_rows.ensures.gives
+    (λ rows h reading table sound of good there checks. h reading table sound of good there checks (c.in-Values.is ∙ ap (λ (values : List (List Expression)). from.Values values) (sym c.as_slice.ensures))) c.value_rows.ensures.gives
 
 pub returns-in-Values-clause-refused : goal.returns-in-Values-clause-refused
 returns-in-Values-clause-refused g c = IfErr-weaker c.value_rows.result _ _
-    (λ refusal h reading table sound of good there checks. h reading table sound of there checks (c.in-Values.is ∙ ap (λ (values : List (List Expression)). from.Values values) (sym c.as_slice.ensures))) c.value_rows.ensures.refused
+    (λ refusal h reading table sound of good there checks. h reading table sound of good there checks (c.in-Values.is ∙ ap (λ (values : List (List Expression)). from.Values values) (sym c.as_slice.ensures))) c.value_rows.ensures.refused
 
 pub returns-in-Query-clause-gives : goal.returns-in-Query-clause-gives
 returns-in-Query-clause-gives g c = IfOk-weaker c.query_rows.result _ _ (λ rows h reading table sound of good there checks. h reading table sound of good there checks c.in-Query.is) c.query_rows.ensures.gives

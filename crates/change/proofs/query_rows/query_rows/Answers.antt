@@ -25,7 +25,7 @@ returns-in-Ok-sources_of-clause-gives g c = IfOk-weaker c.stored_rows.result _ _
     let slice : c.as_slice.result.now ≡ c.in-Ok-sources_of.sources = c.as_slice.ensures in
     given_query reading db c.args.insert.now table there c.args.query.now source found.0 rows (found.2 sound c.args.query.now planned)
     (h reading db table (typed_rows found.0) lent there checks
-    (subst (λ (trees : List (List Expression)). AreTreesOf (typed_rows found.0) trees) (sym (slice ∙ found.1)) (are_trees c.schema.result.now found.0))
+    (subst (λ (trees : List (List Expression)). AreTreesOf (rows_in db) (typed_rows found.0) trees) (sym (slice ∙ found.1)) (are_trees (rows_in db) found.0))
     (subst (λ (trees : List (List Expression)). Agree (rows_lent c.new.result) (rows_in db) (tables_in_rows trees)) (sym (slice ∙ found.1)) (all_agree (rows_lent c.new.result) (rows_in db) found.0))))
     c.stored_rows.ensures.gives
 
@@ -40,18 +40,12 @@ returns-in-Ok-sources_of-clause-refused g c = IfErr-weaker c.stored_rows.result 
     let slice : c.as_slice.result.now ≡ c.in-Ok-sources_of.sources = c.as_slice.ensures in
     refuses_query reading db c.args.insert.now table there c.args.query.now source found.0 refusal (found.2 sound c.args.query.now planned)
     (h reading db table (typed_rows found.0) lent there checks
-    (subst (λ (trees : List (List Expression)). AreTreesOf (typed_rows found.0) trees) (sym (slice ∙ found.1)) (are_trees c.schema.result.now found.0))
+    (subst (λ (trees : List (List Expression)). AreTreesOf (rows_in db) (typed_rows found.0) trees) (sym (slice ∙ found.1)) (are_trees (rows_in db) found.0))
     (subst (λ (trees : List (List Expression)). Agree (rows_lent c.new.result) (rows_in db) (tables_in_rows trees)) (sym (slice ∙ found.1)) (all_agree (rows_lent c.new.result) (rows_in db) found.0))))
     c.stored_rows.ensures.refused
 
 pub returns-in-Ok-sources_of-clause-device : goal.returns-in-Ok-sources_of-clause-device
-returns-in-Ok-sources_of-clause-device g c = IfErr-weaker c.stored_rows.result _ _
-    (λ refusal h some is.
-    let found = c.in-Ok-sources_of.ensures.gives in
-    let slice : c.as_slice.result.now ≡ c.in-Ok-sources_of.sources = c.as_slice.ensures in
-    absurd (h (typed_rows found.0)
-    (subst (λ (trees : List (List Expression)). AreTreesOf (typed_rows found.0) trees) (sym (slice ∙ found.1)) (are_trees c.schema.result.now found.0)) some is))
-    c.stored_rows.ensures.device
+returns-in-Ok-sources_of-clause-device g c = IfErr-weaker c.stored_rows.result _ _ (λ refusal h is. absurd (h is)) c.stored_rows.ensures.device
 
 pub returns-clause-refused : goal.returns-clause-refused
 returns-clause-refused g c = λ reading table sound of good there checks source.

@@ -23,7 +23,7 @@ returns-in-Ok-clause-refused g c = IfErr-weaker c.delete_rows.result _ _
     (λ refusal h reading is_reading sound of good.
     let db = database_of (g.S.Store.shows c.args.store.now).working in
     let schema : IsSchemaOf c.schema.result.now db = subst (λ (s : Schema). IsSchemaOf s db) (sym c.schema.ensures) of in
-    h reading sound of (c.in-Ok.ensures.decides reading db is_reading schema))
+    h reading sound of (c.in-Ok.ensures.decides reading db is_reading schema) good)
     c.delete_rows.ensures.refused
 
 pub returns-in-Err-clause-refused : goal.returns-in-Err-clause-refused

@@ -1,4 +1,4 @@
-use Rattle.std.proofs.Common.{◌≡◌, ◌∙◌, refl, sym, subst, ℕ, List, [], Ok}
+use Rattle.std.proofs.Common.{◌≡◌, ◌∙◌, sym, subst, ℕ, List, [], Ok}
 use Rattle.std.proofs.lemmas.Result.{IfOk-weaker, IfErr-weaker}
 use Rattle.typing.specs.declared.statement.InsertSource.TheVariants as from
 use Rattle.algebra.specs.declared.tree.Condition.{Condition}
@@ -6,10 +6,9 @@ use Rattle.denote.specs.Change.{inserted_rows}
 use Rattle.denote.specs.Database.{checks_of, rows_in, table_of}
 use Rattle.denote.specs.Evaluation.{Evaluation, faults_in}
 use Rattle.sqlval.specs.Value.{Row}
-use Rattle.query_answers.specs.Lent.{rows_lent}
 use Rattle.query_answers.specs.Refused.{GivesFaults}
 use Rattle.query_answers.specs.Sources.{AreChecksOf}
-use Rattle.change.proofs.Given.{no_disk, same_rows}
+use Rattle.change.proofs.Given.{same_rows}
 use Rattle.change.proofs.Named.{declares}
 use Rattle.change.proofs.value_rows.stored_rows.Goals as goal
 
@@ -35,11 +34,4 @@ returns-in-Some-clause-refused c = IfErr-weaker c.rows_to_insert.result _ _
     subst (λ (places : List ℕ). GivesFaults (faults_in (inserted_rows conditions (rows_in db) (table_of c.in-Some.table.now []) places (from.Values values))) refusal) c.as_slice-in-Some.ensures
     (h (rows_in db) conditions values agree are (subst (λ (trees : List Condition). AreChecksOf conditions trees) (sym c.as_slice.ensures) checks)) in
     subst (λ (e : Evaluation (List Row)). GivesFaults (faults_in e) refusal) same found)
-    c.rows_to_insert.ensures.refused
-
-pub returns-in-Some-clause-device : goal.returns-in-Some-clause-device
-returns-in-Some-clause-device c = IfErr-weaker c.rows_to_insert.result _ _
-    (λ refusal h values are some.
-    no_disk (faults_in (inserted_rows some.0 (rows_lent c.args.lent.now.tables) (table_of c.in-Some.table.now []) c.as_slice-in-Some.result.now (from.Values values))) refusal
-    (h (rows_lent c.args.lent.now.tables) some.0 values (λ name among. refl) are (subst (λ (trees : List Condition). AreChecksOf some.0 trees) (sym c.as_slice.ensures) some.1)))
     c.rows_to_insert.ensures.refused

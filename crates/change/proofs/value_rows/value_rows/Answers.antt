@@ -9,30 +9,30 @@ use Rattle.change.proofs.value_rows.value_rows.Goals as goal
 
 pub returns-in-Ok-tables_named-clause-gives : goal.returns-in-Ok-tables_named-clause-gives
 returns-in-Ok-tables_named-clause-gives g c = IfOk-weaker c.stored_rows.result _ _
-    (λ rows h reading table sound of there checks source.
+    (λ rows h reading table sound of good there checks source.
     let db = database_of (g.S.Store.shows c.args.store.now).working in
     let lent : IsSchemaOf c.schema-in-Ok-tables_named.result.now db =
     subst (λ (s : Schema). IsSchemaOf s db) (sym (c.schema-in-Ok-tables_named.ensures ∙ c.tables_named.ensures.prepared)) of in
+    let known : IsSchemaOf c.schema.result.now db = subst (λ (s : Schema). IsSchemaOf s db) (sym c.schema.ensures) of in
     given_values reading db c.args.insert.now table there c.args.values.now rows source
-    (h reading db table c.args.values.now lent there checks (rw c.as_slice-in-Ok-tables_named.ensures c.in-Ok.ensures.trees)
+    (h reading db table c.args.values.now lent there checks (rw c.as_slice-in-Ok-tables_named.ensures (c.in-Ok.ensures.trees reading db good known))
     (rw c.as_slice-in-Ok-tables_named.ensures (rw c.as_slice.ensures at c.in-Ok-tables_named.ensures.lent sound))))
     c.stored_rows.ensures.gives
 
 pub returns-in-Ok-tables_named-clause-refused : goal.returns-in-Ok-tables_named-clause-refused
 returns-in-Ok-tables_named-clause-refused g c = IfErr-weaker c.stored_rows.result _ _
-    (λ refusal h reading table sound of there checks source.
+    (λ refusal h reading table sound of good there checks source.
     let db = database_of (g.S.Store.shows c.args.store.now).working in
     let lent : IsSchemaOf c.schema-in-Ok-tables_named.result.now db =
     subst (λ (s : Schema). IsSchemaOf s db) (sym (c.schema-in-Ok-tables_named.ensures ∙ c.tables_named.ensures.prepared)) of in
+    let known : IsSchemaOf c.schema.result.now db = subst (λ (s : Schema). IsSchemaOf s db) (sym c.schema.ensures) of in
     refuses_values reading db c.args.insert.now table there c.args.values.now refusal source
-    (h reading db table c.args.values.now lent there checks (rw c.as_slice-in-Ok-tables_named.ensures c.in-Ok.ensures.trees)
+    (h reading db table c.args.values.now lent there checks (rw c.as_slice-in-Ok-tables_named.ensures (c.in-Ok.ensures.trees reading db good known))
     (rw c.as_slice-in-Ok-tables_named.ensures (rw c.as_slice.ensures at c.in-Ok-tables_named.ensures.lent sound))))
     c.stored_rows.ensures.refused
 
 pub returns-in-Ok-tables_named-clause-device : goal.returns-in-Ok-tables_named-clause-device
-returns-in-Ok-tables_named-clause-device g c = IfErr-weaker c.stored_rows.result _ _
-    (λ refusal h some is. absurd (h c.args.values.now (rw c.as_slice-in-Ok-tables_named.ensures c.in-Ok.ensures.trees) some is))
-    c.stored_rows.ensures.device
+returns-in-Ok-tables_named-clause-device g c = IfErr-weaker c.stored_rows.result _ _ (λ refusal h is. absurd (h is)) c.stored_rows.ensures.device
 
 pub returns-clause-refused : goal.returns-clause-refused
-returns-clause-refused g c = λ reading table sound of there checks source. RefusesChange.withheld (c.in-Err-tables_named.ensures.refused sound)
+returns-clause-refused g c = λ reading table sound of good there checks source. RefusesChange.withheld (c.in-Err-tables_named.ensures.refused sound)

@@ -22,7 +22,7 @@ returns-in-Ok-Some-clause-changes g c = IfOk-weaker c.carry_out.result _ _
     let old = g.S.Store.shows c.args.store.now in
     let mid = g.S.Store.shows c.planned_deletion.new.store in
     let same = c.planned_deletion.ensures.shows in
-    let meant = rw c.in-Ok-Some.field-0-is at (c.in-Ok-Some.ensures.planned reading sound of) in
+    let meant = rw c.in-Ok-Some.field-0-is at (c.in-Ok-Some.ensures.planned reading sound of good) in
     let moved = subst (λ (s : Stored). IsHarmless reading s.working change c.args.delete.now.table c.in-Ok-Some.planned) (sym same) meant in
     let good_there = subst (λ (s : Stored). IsGood reading (database_of s.working)) (sym same) good in
     subst (λ (s : Stored). HasChanged reading s change reply (g.S.Store.shows c.carry_out.new.store)) same
@@ -33,11 +33,11 @@ returns-in-Ok-Some-clause-changes g c = IfOk-weaker c.carry_out.result _ _
 
 pub returns-in-Ok-Some-clause-refused : goal.returns-in-Ok-Some-clause-refused
 returns-in-Ok-Some-clause-refused g c = IfErr-weaker c.carry_out.result _ _
-    (λ refusal h reading sound of decided.
+    (λ refusal h reading sound of decided good.
     let change = does.Delete c.args.delete.now in
     let old = g.S.Store.shows c.args.store.now in
     let same = c.planned_deletion.ensures.shows in
-    let meant = rw c.in-Ok-Some.field-0-is at (c.in-Ok-Some.ensures.planned reading sound of) in
+    let meant = rw c.in-Ok-Some.field-0-is at (c.in-Ok-Some.ensures.planned reading sound of good) in
     subst (λ (s : Stored). RefusesChange reading (database_of s.working) change refusal) same
     (h reading change ((g.met.S.Store.goes_on_goes _ _ _ c.planned_deletion.ensures.goes).sound sound)
     (subst (λ (s : Stored). Decided (g.C.Checks.decides c.args.checks.now reading) (database_of s.working) c.args.delete.now.table) (sym same) decided)
@@ -47,7 +47,7 @@ returns-in-Ok-Some-clause-refused g c = IfErr-weaker c.carry_out.result _ _
 pub returns-in-Ok-None-clause-changes : goal.returns-in-Ok-None-clause-changes
 returns-in-Ok-None-clause-changes g c = λ reading sound of decided good.
     nothing reading (g.S.Store.shows c.args.store.now) (g.S.Store.shows c.planned_deletion.new.store) (does.Delete c.args.delete.now)
-    (rw c.in-Ok-None.field-0-is at (c.in-Ok-None.ensures.planned reading sound of)) c.planned_deletion.ensures.shows
+    (rw c.in-Ok-None.field-0-is at (c.in-Ok-None.ensures.planned reading sound of good)) c.planned_deletion.ensures.shows
 
 pub returns-in-Ok-Some-clause-same : goal.returns-in-Ok-Some-clause-same
 returns-in-Ok-Some-clause-same g c =
@@ -57,7 +57,7 @@ pub returns-in-Ok-Some-clause-device : goal.returns-in-Ok-Some-clause-device
 returns-in-Ok-Some-clause-device g c = IfErr-weaker c.carry_out.result _ _ (λ refusal h e. let risen = h e in omega (arith, risen, ((g.met.S.Store.goes_on_goes _ _ _ c.planned_deletion.ensures.goes).refused))) c.carry_out.ensures.device
 
 pub returns-in-Err-clause-refused : goal.returns-in-Err-clause-refused
-returns-in-Err-clause-refused g c = λ reading sound of decided. c.in-Err.ensures.refused reading sound of
+returns-in-Err-clause-refused g c = λ reading sound of decided good. c.in-Err.ensures.refused reading sound of good
 
 pub returns-in-Ok-Some-clause-limits : goal.returns-in-Ok-Some-clause-limits
 returns-in-Ok-Some-clause-limits g c =

@@ -9,7 +9,7 @@ use Rattle.update_delete.proofs.deleting.deletions.Goals as goal
 pub returns-in-Ok : goal.returns-in-Ok
 returns-in-Ok c = record {
   gives = λ tables table d test rows others agree of.
-      deletions_meant c.evaluation_keeps_the_meaning.ensures.value c.evaluation_keeps_the_meaning.ensures.truth c.values_read_their_tables.ensures c.listings_read_their_tables.ensures
+      deletions_meant c.values_read_their_tables.ensures c.listings_read_their_tables.ensures
       (rows_lent c.args.lent.now.tables) tables table d c.args.filter.now c.args.rows.now test c.all_deletions.result rows others agree of
       (deletions_stay c.kept_trees_mean_the_same.ensures.conditions (rows_lent c.args.lent.now.tables) c.in-Ok.kept c.args.filter.now c.args.rows.now c.all_deletions.result c.in-Ok.ensures c.all_deletions.ensures);
   spares = deletions_spare (rows_lent c.args.lent.now.tables) c.in-Ok.kept c.args.rows.now c.all_deletions.result c.all_deletions.ensures;

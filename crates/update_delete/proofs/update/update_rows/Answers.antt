@@ -23,7 +23,7 @@ returns-in-Ok-Some-clause-changes g c = IfOk-weaker c.carry_out.result _ _
     let old = g.S.Store.shows c.args.store.now in
     let mid = g.S.Store.shows c.planned_update.new.store in
     let same = c.planned_update.ensures.shows in
-    let meant = rw c.in-Ok-Some.field-0-is at (c.in-Ok-Some.ensures.planned reading sound of decided checks) in
+    let meant = rw c.in-Ok-Some.field-0-is at (c.in-Ok-Some.ensures.planned reading sound of decided checks good) in
     subst (λ (s : Stored). HasChanged reading s change reply (g.S.Store.shows c.carry_out.new.store)) same
     (h reading change ((g.met.S.Store.goes_on_goes _ _ _ c.planned_update.ensures.goes).sound sound)
     (subst (λ (s : Stored). Decided (g.C.Checks.decides c.args.checks.now reading) (database_of s.working) c.args.update.now.table) (sym same) decided)
@@ -33,11 +33,11 @@ returns-in-Ok-Some-clause-changes g c = IfOk-weaker c.carry_out.result _ _
 
 pub returns-in-Ok-Some-clause-refused : goal.returns-in-Ok-Some-clause-refused
 returns-in-Ok-Some-clause-refused g c = IfErr-weaker c.carry_out.result _ _
-    (λ refusal h reading sound of decided checks.
+    (λ refusal h reading sound of decided checks good.
     let change = does.Update c.args.update.now in
     let old = g.S.Store.shows c.args.store.now in
     let same = c.planned_update.ensures.shows in
-    let meant = rw c.in-Ok-Some.field-0-is at (c.in-Ok-Some.ensures.planned reading sound of decided checks) in
+    let meant = rw c.in-Ok-Some.field-0-is at (c.in-Ok-Some.ensures.planned reading sound of decided checks good) in
     subst (λ (s : Stored). RefusesChange reading (database_of s.working) change refusal) same
     (h reading change ((g.met.S.Store.goes_on_goes _ _ _ c.planned_update.ensures.goes).sound sound)
     (subst (λ (s : Stored). Decided (g.C.Checks.decides c.args.checks.now reading) (database_of s.working) c.args.update.now.table) (sym same) decided)
@@ -47,7 +47,7 @@ returns-in-Ok-Some-clause-refused g c = IfErr-weaker c.carry_out.result _ _
 pub returns-in-Ok-None-clause-changes : goal.returns-in-Ok-None-clause-changes
 returns-in-Ok-None-clause-changes g c = λ reading sound of decided checks good.
     nothing reading (g.S.Store.shows c.args.store.now) (g.S.Store.shows c.planned_update.new.store) (does.Update c.args.update.now)
-    (rw c.in-Ok-None.field-0-is at (c.in-Ok-None.ensures.planned reading sound of decided checks)) c.planned_update.ensures.shows
+    (rw c.in-Ok-None.field-0-is at (c.in-Ok-None.ensures.planned reading sound of decided checks good)) c.planned_update.ensures.shows
 
 pub returns-in-Ok-Some-clause-same : goal.returns-in-Ok-Some-clause-same
 returns-in-Ok-Some-clause-same g c =
@@ -57,7 +57,7 @@ pub returns-in-Ok-Some-clause-device : goal.returns-in-Ok-Some-clause-device
 returns-in-Ok-Some-clause-device g c = IfErr-weaker c.carry_out.result _ _ (λ refusal h e. let risen = h e in omega (arith, risen, ((g.met.S.Store.goes_on_goes _ _ _ c.planned_update.ensures.goes).refused))) c.carry_out.ensures.device
 
 pub returns-in-Err-clause-refused : goal.returns-in-Err-clause-refused
-returns-in-Err-clause-refused g c = λ reading sound of decided checks. c.in-Err.ensures.refused reading sound of checks
+returns-in-Err-clause-refused g c = λ reading sound of decided checks good. c.in-Err.ensures.refused reading sound of checks good
 
 pub returns-in-Ok-Some-clause-limits : goal.returns-in-Ok-Some-clause-limits
 returns-in-Ok-Some-clause-limits g c =
