@@ -149,7 +149,7 @@ place_send : IsSend place.the_row
 place_send = search (lists, values, plans, place_knot.send-Place) depth 40
 
 pub open_cursor_send : IsSend open_cursor.the_row
-open_cursor_send = declared_send open_cursor.the_type (search (lists, tree_send), (search (lists, tree_send), (search (place_send), tt)))
+open_cursor_send = declared_send open_cursor.the_type (search (lists, tree_send), (search (lists, tree_send), (search (lists, values), (search (place_send), tt))))
 
 declared_query_send : IsSend declared.the_row
 declared_query_send = declared_send declared.the_type (search lists, (search (query_send), (search (lists, open_cursor_send), tt)))

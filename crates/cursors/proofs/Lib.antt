@@ -1,4 +1,5 @@
 pub mod Lists
+pub mod Counts
 pub mod Steps
 pub mod Declarations
 pub mod Crossing

@@ -1,22 +1,20 @@
-//! An open cursor, whose list was made whole when it was opened.
-ghost use Rattle.std.specs.Prelude.{◌≡◌, ◌≢◌, ◌⊎◌, ◌<◌, ◌≤◌, [], ◌∷◌, true, length, IfOk, IfErr, MatchOption};
-ghost use Rattle.std.specs.Option.{option_to_list};
+//! An open cursor: its plan, how far the list of that was read, and what was read ahead.
+ghost use Rattle.std.specs.Prelude.{◌≡◌, ◌≢◌, ◌≤◌, ◌↔◌, [], true, length, IfOk, IfErr, None, Some};
 ghost use Rattle.refusals.specs.declared.refusal.Refusal.TheVariants.{Disk};
 ghost use Rattle.algebra.specs.Listing.{tree_listing};
-ghost use Rattle.algebra.specs.declared.tree.Tree.{Tree as Plan};
+ghost use Rattle.denote.specs.declared.fault.Fault.{Fault as Raised};
 ghost use Rattle.executor.specs.Reply.{outcome_of};
-ghost use Rattle.places.specs.Left.{Entries, before, left};
-ghost use Rattle.places.specs.Views.{is_whole};
 ghost use Rattle.query_answers.specs.Answered.{rows_found};
 ghost use Rattle.query_answers.specs.Planned.{StandsFor};
 ghost use Rattle.rules.specs.Same.{IsSameTree};
-ghost use Rattle.session_definitions.specs.Cursor.{having_given};
-ghost use Rattle.session_definitions.specs.Refusals.{IsReserved};
+ghost use Rattle.session_definitions.specs.Refusals.{IsReserved, refusal_of as refusal_for};
 ghost use Rattle.store.specs.Contents.{Contents};
 ghost use Rattle.store.specs.Errors.{HasRisen};
+ghost use Rattle.streams.specs.Parts.{names_in_parts};
 ghost use Rattle.transactions.specs.Refused.{TellsNoLimit};
 ghost use Rattle.cursors.specs.Opened.{BeginsAt, Fits, HasNext, IsAhead, MayTake, cursor_of};
 
+use crate::block::{next_block, none_ahead, rows_ahead};
 use algebra::Tree;
 use algebra_laws::listings_answer_outcomes;
 use denote::{Fault, Row, Rows};
@@ -26,19 +24,37 @@ use order_laws::listings_are_sorted;
 use places::{Place, first_row};
 use query_answers::{PlannedQuery, refusal_of_fault, run_plan};
 use refusals::Refusal;
-use std::alloc::Global;
+use std::alloc::{AllocError, Global};
+use std::vec::IntoIter;
 use store::Reading;
+use streams::tables_in_parts;
 
-/// A cursor that is open: the tree of its query, by which is said what it may give, the plan, and
-/// how far the list of that was given.
+/// A cursor that is open: the tree of its query, by which is said what it may give; the plan, and
+/// how far the list of that was read; and the rows that were read and are not given yet.
 #[derive(Drop)]
 pub struct OpenCursor {
     pub(crate) tree: Boxed<Tree>,
     pub(crate) plan: Boxed<Tree>,
+    pub(crate) ahead: IntoIter<Row>,
     pub(crate) place: Place,
 }
 
-/// The cursor of a list of which nothing was given yet.
+/// The cursor of a plan of which nothing was read yet.
+fn unread(alloc: Global, query: PlannedQuery) -> OpenCursor
+    ensures begins { (contents : Contents) → names_in_parts query.plan ≡ []
+        → StandsFor contents query.plan query.tree → BeginsAt result contents }
+    ensures tree { result.tree ≡ query.tree }
+{
+    let PlannedQuery { tree, plan } = query;
+    OpenCursor {
+        tree,
+        plan,
+        ahead: none_ahead(alloc),
+        place: Place::Start,
+    }
+}
+
+/// The cursor of a list that was made whole, of which nothing was given yet.
 fn at_beginning(query: PlannedQuery, listed: Listed) -> OpenCursor
     ensures begins { (contents : Contents) → outcome_of listed ≡ tree_listing (rows_found contents) query.plan []
         → IsSameTree (rows_found contents) query.plan query.tree → BeginsAt result contents }
@@ -49,13 +65,13 @@ fn at_beginning(query: PlannedQuery, listed: Listed) -> OpenCursor
     OpenCursor {
         tree,
         plan,
-        place: Place::Kept(rows.into_vec().into_iter(), fault),
+        ahead: rows_ahead(rows),
+        place: Place::Ended(fault),
     }
 }
 
-/// Opens a cursor of a query over the tables as the reading finds them, by its plan: the whole list
-/// of that is made, with the fault that ends it. It is refused for what `run_plan` is refused for.
-pub fn open_cursor<R: Reading>(
+/// A cursor whose plan's whole list is made now, with the fault that ends it.
+fn open_whole<R: Reading>(
     alloc: Global,
     reading: &mut R,
     query: PlannedQuery,
@@ -76,106 +92,130 @@ pub fn open_cursor<R: Reading>(
     }
 }
 
-/// The first row of a list that is kept, which is taken off it; `None` where no row is left.
-#[tactic(auto, using(places::proofs::Wholes::wholes))]
-fn first_kept(place: &mut Place) -> Option<Row>
-    ensures takes { MatchOption result
-        (is_whole place.old ≡ true → (entries : Entries) (plan : Plan)
-        → (left entries place.new plan ≡ left entries place.old plan) × ((left entries place.old plan).rows ≡ []))
-        (λ row. is_whole place.old ≡ true → (entries : Entries) (plan : Plan)
-        → before (row ∷ []) (left entries place.new plan) ≡ left entries place.old plan) }
-    ensures whole { is_whole place.old ≡ true → is_whole place.new ≡ true }
+/// Whether no subquery of a plan names a table.
+fn stands_alone(alloc: Global, plan: &Tree) -> Result<bool, AllocError>
+    ensures { IfOk result (λ alone. (alone ≡ true) ↔ (names_in_parts plan.now ≡ [])) }
 {
-    match std::mem::replace(place, Place::Start) {
-        Place::Kept(mut rows, fault) => match first_row(&mut rows) {
-            Some(row) => {
-                *place = Place::Kept(rows, fault);
-                Some(row)
-            }
-            None => {
-                *place = Place::Ended(fault);
-                None
-            }
-        },
-        Place::Ended(fault) => {
-            *place = Place::Ended(fault);
-            None
-        }
-        Place::Start => None,
-        Place::After(_) => None,
-        Place::Beyond(_) => None,
-        Place::Through(_) => None,
-        Place::Among(_, _) => None,
-        Place::Seen(_, _) => None,
-        Place::Testing(_) => None,
-        Place::Pairs { .. } => None,
-        Place::Keyed { .. } => None,
+    match tables_in_parts(alloc, plan) {
+        Ok(names) => Ok(names.is_empty()),
+        Err(error) => Err(error),
     }
 }
 
-/// The fault that ends a list that is kept.
-#[tactic(auto, using(places::proofs::Wholes::wholes))]
-fn kept_fault(place: &Place) -> Option<Fault>
-    ensures { is_whole place.now ≡ true → (entries : Entries) (plan : Plan)
-        → (left entries place.now plan).faults ≡ option_to_list result }
+/// Opens a cursor of a query over the tables as the reading finds them, by its plan. Where no
+/// subquery of that names a table nothing is read; the list of any other plan is made whole. It is
+/// refused for want of memory, and for what `run_plan` is refused for.
+pub fn open_cursor<R: Reading>(
+    alloc: Global,
+    reading: &mut R,
+    query: PlannedQuery,
+) -> Result<OpenCursor, Refusal>
+    ensures begins { IfOk result (λ cursor. R.is_sound reading.old
+        → StandsFor (R.shows reading.old).contents query.plan query.tree
+        → BeginsAt cursor (R.shows reading.old).contents) }
+    ensures tree { IfOk result (λ cursor. cursor.tree ≡ query.tree) }
+    ensures unread { names_in_parts query.plan ≡ [] → reading.new ≡ reading.old }
+    ensures refused { IfErr result (λ refusal. R.is_sound reading.old → IsReserved refusal) }
+    ensures limits { IfErr result TellsNoLimit }
+    ensures counts { IfErr result (λ refusal. refusal ≡ Disk
+        → HasRisen (R.shows reading.old).refused (R.shows reading.new).refused) }
+    ensures follows { R.follows reading.old reading.new }
 {
-    match place {
-        Place::Kept(_, fault) => *fault,
-        Place::Ended(fault) => *fault,
-        Place::Start => None,
-        Place::After(_) => None,
-        Place::Beyond(_) => None,
-        Place::Through(_) => None,
-        Place::Among(_, _) => None,
-        Place::Seen(_, _) => None,
-        Place::Testing(_) => None,
-        Place::Pairs { .. } => None,
-        Place::Keyed { .. } => None,
+    match stands_alone(alloc, query.plan.get()) {
+        Err(_) => Err(Refusal::Memory),
+        Ok(alone) => {
+            if alone {
+                Ok(unread(alloc, query))
+            } else {
+                open_whole(alloc, reading, query)
+            }
+        }
+    }
+}
+
+/// The end of a list, or the fault that ended it.
+fn at_end(fault: Option<Fault>) -> Result<Option<Row>, Refusal>
+    ensures end { IfOk result (λ next. (next ≡ None) × (fault ≡ None)) }
+    ensures refused { IfErr result (λ refusal. (raised : Raised) × (refusal ≡ refusal_for raised) × (fault ≡ Some raised)) }
+    ensures limits { IfErr result TellsNoLimit }
+    ensures device { IfErr result (λ refusal. refusal ≢ Disk) }
+{
+    match fault {
+        None => Ok(None),
+        Some(fault) => Err(refusal_of_fault(fault)),
     }
 }
 
 /// The next row of a cursor; where none is left the end, which is `None`, or the fault of its
-/// query, as often as it is asked for. Takes no memory.
-pub fn next_row(cursor: &mut OpenCursor) -> Result<Option<Row>, Fault>
-    ensures next { (contents : Contents) → Fits cursor.old contents
-        → HasNext result (cursor_of cursor.old contents) (cursor_of cursor.new contents) }
-    ensures fits { (contents : Contents) → Fits cursor.old contents → Fits cursor.new contents }
+/// query, as often as it is asked for. Where no row is ahead blocks are read until one is: so at
+/// most a block was read ahead of what was given. It is refused for what the reading is refused
+/// for, too, and nothing is known of the cursor then.
+pub fn next_row<R: Reading>(
+    alloc: Global,
+    reading: &mut R,
+    cursor: &mut OpenCursor,
+) -> Result<Option<Row>, Refusal>
+    ensures next { IfOk result (λ next. R.is_sound reading.old → Fits cursor.old (R.shows reading.old).contents
+        → HasNext next (cursor_of cursor.old (R.shows reading.old).contents) (cursor_of cursor.new (R.shows reading.old).contents)) }
+    ensures fits { IfOk result (λ next. R.is_sound reading.old → Fits cursor.old (R.shows reading.old).contents
+        → Fits cursor.new (R.shows reading.old).contents) }
+    ensures refused { IfErr result (λ refusal. R.is_sound reading.old → Fits cursor.old (R.shows reading.old).contents
+        → MayTake refusal 1 (cursor_of cursor.old (R.shows reading.old).contents)) }
+    ensures limits { IfErr result TellsNoLimit }
+    ensures counts { IfErr result (λ refusal. refusal ≡ Disk
+        → HasRisen (R.shows reading.old).refused (R.shows reading.new).refused) }
+    ensures follows { R.follows reading.old reading.new }
 {
     listings_answer_outcomes();
     listings_are_sorted();
-    match first_kept(&mut cursor.place) {
-        Some(row) => Ok(Some(row)),
-        None => match kept_fault(&cursor.place) {
-            None => Ok(None),
-            Some(fault) => Err(fault),
-        },
+    for _ in 0..u64::MAX {
+        match first_row(&mut cursor.ahead) {
+            Some(row) => return Ok(Some(row)),
+            None => match cursor.place {
+                Place::Ended(fault) => return at_end(fault),
+                _ => match next_block(alloc, reading, cursor.plan.get(), &mut cursor.place) {
+                    Ok(rows) => cursor.ahead = rows,
+                    Err(refusal) => return Err(refusal),
+                },
+            },
+        }
     }
+    Err(Refusal::Memory)
 }
 
 /// The next rows of a cursor: so many; or fewer, and then the end is reached. It is refused by the
-/// fault of its query that stands before the last of them, and for want of memory.
-pub fn next_rows(alloc: Global, cursor: &mut OpenCursor, count: u64) -> Result<Rows, Refusal>
-    ensures rows { IfOk result (λ rows. (contents : Contents) → Fits cursor.old contents
-        → IsAhead rows count (cursor_of cursor.old contents) (cursor_of cursor.new contents)) }
+/// fault of its query that stands before the last of them, for what the reading is refused for, and
+/// for want of memory. Nothing is known of the cursor then.
+pub fn next_rows<R: Reading>(
+    alloc: Global,
+    reading: &mut R,
+    cursor: &mut OpenCursor,
+    count: u64,
+) -> Result<Rows, Refusal>
+    ensures rows { IfOk result (λ rows. R.is_sound reading.old → Fits cursor.old (R.shows reading.old).contents
+        → IsAhead rows count (cursor_of cursor.old (R.shows reading.old).contents) (cursor_of cursor.new (R.shows reading.old).contents)) }
     ensures most { IfOk result (λ rows. length rows ≤ count) }
-    ensures fits { (contents : Contents) → Fits cursor.old contents → Fits cursor.new contents }
-    ensures refused { IfErr result (λ refusal. (contents : Contents) → Fits cursor.old contents
-        → MayTake refusal count (cursor_of cursor.old contents)) }
+    ensures fits { IfOk result (λ rows. R.is_sound reading.old → Fits cursor.old (R.shows reading.old).contents
+        → Fits cursor.new (R.shows reading.old).contents) }
+    ensures refused { IfErr result (λ refusal. R.is_sound reading.old → Fits cursor.old (R.shows reading.old).contents
+        → MayTake refusal count (cursor_of cursor.old (R.shows reading.old).contents)) }
     ensures limits { IfErr result TellsNoLimit }
-    ensures device { IfErr result (λ refusal. refusal ≢ Disk) }
+    ensures counts { IfErr result (λ refusal. refusal ≡ Disk
+        → HasRisen (R.shows reading.old).refused (R.shows reading.new).refused) }
+    ensures follows { R.follows reading.old reading.new }
 {
     listings_answer_outcomes();
     listings_are_sorted();
     let mut rows = Items::new(alloc);
     for taken in 0..count {
-        match next_row(cursor) {
+        match next_row(alloc, reading, cursor) {
             Ok(Some(row)) => {
                 if rows.push(row).is_err() {
                     return Err(Refusal::Memory);
                 }
             }
             Ok(None) => return Ok(rows),
-            Err(fault) => return Err(refusal_of_fault(fault)),
+            Err(refusal) => return Err(refusal),
         }
     }
     Ok(rows)

@@ -1,6 +1,7 @@
 //! The cursors of a session: the queries that it declared, and those that are open.
 #![tactic(auto)]
 
+mod block;
 mod cursor;
 mod held;
 mod named;

@@ -1,5 +1,5 @@
 -- DECLARE, OPEN, FETCH and CLOSE are steps.
-use Rattle.std.proofs.Common.{◌≡◌, ◌⊎◌, ◌<◌, ◌≤◌, ℕ, Bool, true, false, cond, [], ◌∷◌, Option, Some, None, Ok, refl, sym, ap, subst, ◌∙◌, inl, inr, is_some}
+use Rattle.std.proofs.Common.{◌≡◌, ◌⊎◌, ◌<◌, ◌≤◌, ℕ, Bool, true, false, cond, [], ◌∷◌, Option, Some, None, refl, sym, ap, subst, ◌∙◌, inl, inr, is_some}
 use Rattle.std.proofs.lemmas.Cmp.{nat_list_cmp_total}
 use Rattle.std.specs.FinMap.{FinMap, contains_key, get, get-empty, get-insert, get-remove, insert, len, nat_cmp-IsAntisymmetric, remove, same_map, slice_cmp-IsAntisymmetric}
 use Rattle.std.specs.Ordering.{eq_by_cmp, is_eq}
@@ -13,23 +13,21 @@ use Rattle.sqlval.specs.Value.{Row}
 use Rattle.lexer.specs.Token.{Bytes}
 use Rattle.ast.specs.declared.statement.DeclareCursor.{DeclareCursor}
 use Rattle.ast.specs.declared.statement.Statement.TheVariants as asks
-use Rattle.denote.specs.declared.fault.Fault.{Fault}
 use Rattle.denote.specs.Database.{Name}
 use Rattle.replies.specs.declared.reply.Reply.TheVariants as says
 use Rattle.statement_definitions.specs.Reading.{IsRead}
 use Rattle.statement_definitions.specs.Rollback.{IsRollback}
 use Rattle.session_definitions.specs.Asked.{Asked}
-use Rattle.session_definitions.specs.Cursor.{IsAtEnd, MayGive, MayRaise, having_given}
+use Rattle.session_definitions.specs.Cursor.{IsAtEnd, MayGive, having_given}
 use Rattle.session_definitions.specs.Effect.{Effect}
-use Rattle.session_definitions.specs.Refusals.{refusal_of}
 use Rattle.session_definitions.specs.Rules.{Rules}
 use Rattle.session_definitions.specs.Statements.{ClosesIn, Closes, Declares, Fetches, FetchesIn, most_cursors}
-use Rattle.session_definitions.specs.Step.{Replies}
+use Rattle.session_definitions.specs.Step.{Replies, Withholds}
 use Rattle.session_definitions.specs.Transactions.{active, is_open_in, with_cursor, without_cursor}
 use Rattle.session_definitions.specs.World.{Cursor, Transaction}
 use Rattle.store.specs.Contents.{Contents}
 use Rattle.store.specs.Stored.{Found, Stored}
-use Rattle.cursors.specs.Opened.{HasNext}
+use Rattle.cursors.specs.Opened.{HasNext, MayTake}
 use Rattle.sessions.specs.Opened.{told}
 use Rattle.transactions.specs.Moves.{IsClosedIn, Moves}
 use Rattle.transactions.specs.Orderly.{IsOrderly}
@@ -186,18 +184,25 @@ module _ (rules : Rules) (st : Stored) (w : Option ℕ) (s : ℕ) (kept other : 
           as_it_was : active (session_of st w s kept) (transaction_of st w s kept f) ≡ session_of st w s kept
           as_it_was = ap (λ o. active (session_in st w s kept o) (transaction_of st w s kept f)) active_there ∙ ap (session_in st w s kept) (sym active_there)
 
-      pub takes : (next : Option Row) (after : Cursor) → HasNext (Ok next) cursor after
+      pub takes : (next : Option Row) (after : Cursor) → HasNext next cursor after
           → other.cursors (read_by st w s f) ≡ insert (remove (kept.cursors (read_by st w s f)) name) name after
           → Moves rules s text (told next) st w kept st w (settled (get st.readers s) other)
       takes None after step is = ends step.0 (is ∙ ap (insert (remove (kept.cursors (read_by st w s f)) name) name) step.1)
       takes (Some row) after step is = gives row step.0 (is ∙ ap (insert (remove (kept.cursors (read_by st w s f)) name) name) step.1)
 
-      pub raises : (fault : Fault) → MayRaise cursor fault → other.cursors (read_by st w s f) ≡ remove (kept.cursors (read_by st w s f)) name
-          → Moves rules s text (says.Refused (refusal_of fault)) st w kept st w (settled (get st.readers s) other)
-      raises fault may is =
-          becomes_still rules st w s kept other (Asked.Text text) (says.Refused (refusal_of fault)) (active (session_of st w s kept) (without_cursor (transaction_of st w s kept f) name)) st h
-          (fetched (says.Refused (refusal_of fault)) _ read (FetchesIn.raises cursor fault there may refl refl))
-          (with_cursors (remove (kept.cursors (read_by st w s f)) name) mode declared is unnamed) refl
+      -- a fault, or what may stand in place of any reply
+      pub takes_not : (refusal : Refusal) → MayTake refusal 1 cursor → other.cursors (read_by st w s f) ≡ remove (kept.cursors (read_by st w s f)) name
+          → Moves rules s text (says.Refused refusal) st w kept st w (settled (get st.readers s) other)
+      takes_not refusal may is =
+          becomes_still rules st w s kept other (Asked.Text text) (says.Refused refusal) (active (session_of st w s kept) (without_cursor (transaction_of st w s kept f) name)) st h
+          (as_refused may) (with_cursors (remove (kept.cursors (read_by st w s f)) name) mode declared is unnamed) refl
+        where
+          as_refused : MayTake refusal 1 cursor
+              → Answered rules st w s kept (Asked.Text text) (says.Refused refusal) (Effect.Becomes (active (session_of st w s kept) (without_cursor (transaction_of st w s kept f) name)))
+          as_refused (inl reserved) =
+              Replies.withheld (Withholds.closes refusal (transaction_of st w s kept f) name reserved read (has_transaction st w s kept f active_there) (ap is_some there) refl refl)
+          as_refused (inr raised) =
+              fetched (says.Refused refusal) _ read (FetchesIn.raises cursor raised.1.0 there raised.1.2 (ap (λ (r : Refusal). says.Refused r) raised.1.1) refl)
 
     pub closes : IsRead text (asks.CloseCursor name) → contains_key (kept.cursors (read_by st w s f)) name ≡ true
         → other.mode ≡ kept.mode → other.declared ≡ kept.declared → other.unnamed (read_by st w s f) ≡ kept.unnamed (read_by st w s f)

@@ -12,9 +12,6 @@ use Rattle.sqlval.specs.declared.schema.Schema.{Schema}
 use Rattle.lexer.specs.Token.{Bytes, IsFault}
 use Rattle.ast.specs.declared.statement.Statement.{Statement}
 use Rattle.statement_definitions.specs.Reading.{IsUnread}
-use Rattle.denote.specs.declared.fault.Fault.{Fault}
-use Rattle.denote.specs.declared.fault.Fault.TheVariants as fault
-use Rattle.session_definitions.specs.Refusals.{refusal_of}
 use Rattle.typing.specs.declared.statement.Typed.{Typed}
 use Rattle.typing.specs.Built.{is_built}
 use Rattle.typing.specs.Finding.{Finding, reasons_in}
@@ -120,12 +117,3 @@ never_counts _ k m h = tt
 pub declaring : (A B : Type 0) (refusal : Refusal) → (refusal ≡ refused.Memory) ⊎ ((refusal ≡ refused.Exceeded which.Cursors) × A × B) → refusal ≢ refused.Disk
 declaring A B refusal (inl e) is = cc
 declaring A B refusal (inr h) is = let e : refusal ≡ refused.Exceeded which.Cursors = h.0 in cc
-
--- a fault of a query
-pub fault_counts_not : (fault : Fault) → refusal_of fault ≢ refused.Disk
-fault_counts_not fault.ManyRows is = cc
-fault_counts_not fault.TextTooLong is = cc
-fault_counts_not fault.OutOfRange is = cc
-fault_counts_not fault.DivisionByZero is = cc
-fault_counts_not fault.Record is = cc
-fault_counts_not fault.Key is = cc

@@ -1,5 +1,5 @@
 -- FETCH and CLOSE take the cursor out of those that a session keeps.
-use Rattle.std.proofs.Common.{◌≡◌, ℕ, Bool, true, false, Option, Some, None, refl, sym, ap, subst, ◌∙◌, is_some}
+use Rattle.std.proofs.Common.{◌≡◌, ℕ, Bool, true, false, cond, Option, Some, None, refl, sym, ap, subst, ◌∙◌, is_some}
 use Rattle.std.specs.Prelude.{IsSome, MatchOption, ⊤}
 use Rattle.std.specs.FinMap.{contains_key, get, insert, remove}
 use Rattle.lexer.specs.Token.{Bytes}
@@ -9,10 +9,13 @@ use Rattle.replies.specs.declared.reply.Reply.{Reply}
 use Rattle.replies.specs.declared.reply.Reply.TheVariants as says
 use Rattle.statement_definitions.specs.Reading.{IsRead}
 use Rattle.session_definitions.specs.Rules.{Rules}
+use Rattle.session_definitions.specs.World.{is_session}
+use Rattle.store.specs.declared.view.View.{View}
 use Rattle.store.specs.Contents.{Contents}
 use Rattle.store.specs.Stored.{Found, Stored}
+use Rattle.store.specs.View.{found_in, seen_by}
 use Rattle.transactions.specs.Orderly.{IsOrderly}
-use Rattle.transactions.specs.Shown.{read_by}
+use Rattle.transactions.specs.Shown.{read_by, view_in}
 use Rattle.cursors.specs.declared.cursor.OpenCursor.{OpenCursor}
 use Rattle.cursors.specs.declared.held.Cursors.{Cursors}
 use Rattle.cursors.specs.ByName.{FitsIf, IsShut, StandsOver, cursor_if, declared_of, opened_of, put_if}
@@ -22,7 +25,7 @@ use Rattle.sessions.specs.Held.{FitsIn, Holds, HoldsIn, Leaves}
 use Rattle.sessions.specs.Numbers.{kept_of}
 use Rattle.sessions.specs.Opened.{GivesNext}
 use Rattle.session_definitions.specs.Asked.{Asked}
-use Rattle.sessions.proofs.CursorSteps.{closes, raises, remove_twice, takes}
+use Rattle.sessions.proofs.CursorSteps.{closes, remove_twice, takes, takes_not}
 
 -- what an exchange does
 pub record Exchanged (old new : Cursors) (name : Name) (given held : Option OpenCursor) : Type 0 where
@@ -57,6 +60,14 @@ not_there (Some x) e = cc
 
 pub none_not : {X : Type 0} (held : Option OpenCursor) → held ≡ None → is_some held ≡ true → X
 none_not held e is = let bad : false ≡ true = sym (ap is_some e) ∙ is in absurd (cc)
+
+-- what a session with a transaction sees is what that reads
+pub seen_as : (st : Stored) (w : Option ℕ) (s : ℕ) (view : View) (f : Found) → view ≡ view_in w s → get st.readers s ≡ Some f → seen_by st view ≡ read_by st w s f
+seen_as st w s view f seen active = ap (seen_by st) seen ∙ by (is_session s w)
+  where
+    by : (b : Bool) → seen_by st (cond b View.Working (View.Found s)) ≡ cond b st.working f.contents
+    by true = refl
+    by false = ap (λ o. found_in st.last o) active
 
 module _ (rules : Rules) (st : Stored) (w : Option ℕ) (s : ℕ) (text : Bytes) (h : IsOrderly st w) (slot : Slot) (holds : Holds st w s slot.cursors) (name : Name)
     (mid : Cursors) (held : Option OpenCursor) (first : Exchanged slot.cursors mid name None held) (cursor : OpenCursor) (is : held ≡ Some cursor) where
@@ -110,7 +121,7 @@ module _ (rules : Rules) (st : Stored) (w : Option ℕ) (s : ℕ) (text : Bytes)
         → Leaves rules s (Asked.Text text) reply st w slot st w (after new)
     fetches_in read None reply gives new was second =
         subst (λ (r : Reply). Leaves rules s (Asked.Text text) r st w slot st w (after new)) (sym gives.1) (record {
-          moves = raises rules st w s (kept_of slot) (kept_of (after new)) text h f active name read (cursor_of cursor (read_by st w s f)) there refl (second.declared ∙ first.declared)
+          moves = takes_not rules st w s (kept_of slot) (kept_of (after new)) text h f active name read (cursor_of cursor (read_by st w s f)) there refl (second.declared ∙ first.declared)
               (ap (λ (o : Option OpenCursor). cursor_if o (read_by st w s f)) (second.unnamed ∙ first.unnamed)) gives.0 gives.2
               (second.opened (read_by st w s f) declared_mid ∙ ap (λ m. remove m name) taken_out ∙ remove_twice (opened_of slot.cursors (read_by st w s f)) name);
           fits = subst (λ o. FitsIn st w s o new) (sym active) (second.fits (read_by st w s f) mid_stands tt);
@@ -126,25 +137,28 @@ module _ (rules : Rules) (st : Stored) (w : Option ℕ) (s : ℕ) (text : Bytes)
   pub closing : IsRead text (asks.CloseCursor name) → Leaves rules s (Asked.Text text) says.Done st w slot st w (after mid)
   closing read = let found = active_in (get st.readers s) holds in closes_in found.0 found.1 read
 
-  pub fetching : IsRead text (asks.Fetch name) → (left : Option OpenCursor) (reply : Reply)
-      → ((contents : Contents) → Fits cursor contents → GivesNext cursor left reply contents)
+  pub fetching : (view : View) → view ≡ view_in w s → IsRead text (asks.Fetch name) → (left : Option OpenCursor) (reply : Reply)
+      → (Fits cursor (seen_by st view) → GivesNext cursor left reply (seen_by st view))
       → (new : Cursors) (was : Option OpenCursor) → Exchanged mid new name left was
       → Leaves rules s (Asked.Text text) reply st w slot st w (after new)
-  fetching read left reply gives =
+  fetching view seen read left reply gives =
       let found = active_in (get st.readers s) holds in
-      fetches_in found.0 found.1 read left reply (gives (read_by st w s found.0) (fits found.0 found.1))
+      let here = seen_as st w s view found.0 seen found.1 in
+      fetches_in found.0 found.1 read left reply
+      (subst (λ (contents : Contents). Fits cursor contents → GivesNext cursor left reply contents) here gives (fits found.0 found.1))
 
--- FETCH, whatever stood there
+-- FETCH, whatever stood there, over a store that shows the same behind it
 pub fetching_held : (rules : Rules) (st : Stored) (w : Option ℕ) (s : ℕ) (text : Bytes) → IsOrderly st w → (slot : Slot) → Holds st w s slot.cursors → (name : Name) (mid : Cursors)
     (held : Option OpenCursor) → Exchanged slot.cursors mid name None held → (b : Bool) → IsOpenAs slot.cursors name b → b ≡ true → IsRead text (asks.Fetch name)
-    → (left : Option OpenCursor) (reply : Reply)
-    → MatchOption held ⊤ (λ cursor. (contents : Contents) → Fits cursor contents → GivesNext cursor left reply contents)
-    → (new : Cursors) (was : Option OpenCursor) → Exchanged mid new name left was
-    → Leaves rules s (Asked.Text text) reply st w slot st w (record slot { cursors = new })
-fetching_held rules st w s text h slot holds name mid held first b is opened read left reply gives new was second =
+    → (view : View) → view ≡ view_in w s → (Sound : Type 0) → Sound → (left : Option OpenCursor) (reply : Reply)
+    → MatchOption held ⊤ (λ cursor. Sound → Fits cursor (seen_by st view) → GivesNext cursor left reply (seen_by st view))
+    → (new : Cursors) (was : Option OpenCursor) → Exchanged mid new name left was → (behind : Stored) → behind ≡ st
+    → Leaves rules s (Asked.Text text) reply st w slot behind w (record slot { cursors = new })
+fetching_held rules st w s text h slot holds name mid held first b is opened read view seen Sound sound left reply gives new was second behind same =
     let found = is_held held (stood slot.cursors mid name None held b st.last first is ∙ opened) in
-    fetching rules st w s text h slot holds name mid held first found.0 found.1 read left reply
-    (subst (λ (o : Option OpenCursor). MatchOption o ⊤ (λ cursor. (contents : Contents) → Fits cursor contents → GivesNext cursor left reply contents)) found.1 gives) new was second
+    subst (λ (x : Stored). Leaves rules s (Asked.Text text) reply st w slot x w (record slot { cursors = new })) (sym same)
+    (fetching rules st w s text h slot holds name mid held first found.0 found.1 view seen read left reply
+    ((subst (λ (o : Option OpenCursor). MatchOption o ⊤ (λ cursor. Sound → Fits cursor (seen_by st view) → GivesNext cursor left reply (seen_by st view))) found.1 gives) sound) new was second)
 
 -- CLOSE, whatever stood there
 pub closing_held : (rules : Rules) (st : Stored) (w : Option ℕ) (s : ℕ) (text : Bytes) → IsOrderly st w → (slot : Slot) → Holds st w s slot.cursors → (name : Name) (mid : Cursors)

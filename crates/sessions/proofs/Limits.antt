@@ -12,9 +12,6 @@ use Rattle.lexer.specs.Token.{Bytes, IsFault}
 use Rattle.ast.specs.declared.statement.Statement.{Statement}
 use Rattle.ast.specs.declared.statement.Statement.TheVariants as asks
 use Rattle.statement_definitions.specs.Reading.{IsUnread}
-use Rattle.denote.specs.declared.fault.Fault.{Fault}
-use Rattle.denote.specs.declared.fault.Fault.TheVariants as fault
-use Rattle.session_definitions.specs.Refusals.{refusal_of}
 use Rattle.typing.specs.declared.statement.Typed.{Typed}
 use Rattle.typing.specs.Built.{is_built}
 use Rattle.typing.specs.Finding.{Finding, reasons_in}
@@ -129,12 +126,3 @@ typed_tells x schema _ reasoned h = tt
 pub declaring_tells : (A B : Type 0) (refusal : Refusal) → (refusal ≡ refused.Memory) ⊎ ((refusal ≡ refused.Exceeded limit.Cursors) × A × B) → TellsNoLimit refusal
 declaring_tells A B refusal (inl e) = subst TellsNoLimit (sym e) tt
 declaring_tells A B refusal (inr h) = subst TellsNoLimit (sym h.0) tt
-
--- a fault of a query
-pub fault_tells : (fault : Fault) → TellsNoLimit (refusal_of fault)
-fault_tells fault.ManyRows = tt
-fault_tells fault.TextTooLong = tt
-fault_tells fault.OutOfRange = tt
-fault_tells fault.DivisionByZero = tt
-fault_tells fault.Record = tt
-fault_tells fault.Key = tt

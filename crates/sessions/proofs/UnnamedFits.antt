@@ -31,7 +31,7 @@ use Rattle.sessions.specs.declared.slots.Slot.{Slot}
 use Rattle.sessions.specs.Held.{FitsIn, Holds, HoldsIn, Leaves}
 use Rattle.sessions.specs.Numbers.{kept_of}
 use Rattle.sessions.specs.Opened.{GivesRows, OpensAs}
-use Rattle.sessions.proofs.Exchanges.{none_not}
+use Rattle.sessions.proofs.Exchanges.{none_not, seen_as}
 use Rattle.sessions.proofs.Holding.{closed_in, fits_put, fits_same, kept_alike}
 use Rattle.sessions.proofs.QuerySteps.{sees_contents}
 use Rattle.sessions.proofs.UnnamedOpens.{moves}
@@ -155,29 +155,32 @@ module _ (rules : Rules) (st : Stored) (w : Option ℕ) (s : ℕ) (h : IsOrderly
     pub closing : Leaves rules s Asked.Close says.Done st w slot st w (after slot mid)
     closing = let found = active_in (get st.readers s) holds in closes_in found.0 found.1
 
-    pub taking : (count : ℕ) (left : Option OpenCursor) (reply : Reply)
-        → ((contents : Contents) → Fits cursor contents → GivesRows cursor count left reply contents)
+    pub taking : (count : ℕ) (view : View) → view ≡ view_in w s → (left : Option OpenCursor) (reply : Reply)
+        → (Fits cursor (seen_by st view) → GivesRows cursor count left reply (seen_by st view))
         → (new : Cursors) (was : Option OpenCursor) → Replaced mid new left was
         → Leaves rules s (Asked.Rows count) reply st w slot st w (after slot new)
-    taking count left reply gives =
+    taking count view seen left reply gives =
         let found = active_in (get st.readers s) holds in
-        takes_in found.0 found.1 count left reply (gives (read_by st w s found.0) (fits found.0 found.1))
+        let here = seen_as st w s view found.0 seen found.1 in
+        takes_in found.0 found.1 count left reply
+        (subst (λ (contents : Contents). Fits cursor contents → GivesRows cursor count left reply contents) here gives (fits found.0 found.1))
 
   -- whatever was open
-  pub taking_held : (count : ℕ) (left : Option OpenCursor) (reply : Reply)
-      → MatchOption held ((left ≡ None) × (reply ≡ says.Refused CursorState)) (λ cursor. (contents : Contents) → Fits cursor contents → GivesRows cursor count left reply contents)
-      → (new : Cursors) (was : Option OpenCursor) → Replaced mid new left was
-      → Leaves rules s (Asked.Rows count) reply st w slot st w (after slot new)
-  taking_held count left reply = by held refl
-    where
-      by : (o : Option OpenCursor) → held ≡ o
-          → MatchOption held ((left ≡ None) × (reply ≡ says.Refused CursorState)) (λ cursor. (contents : Contents) → Fits cursor contents → GivesRows cursor count left reply contents)
-          → (new : Cursors) (was : Option OpenCursor) → Replaced mid new left was
-          → Leaves rules s (Asked.Rows count) reply st w slot st w (after slot new)
-      by None is gives new was second =
-          let refuses : (left ≡ None) × (reply ≡ says.Refused CursorState) = rw is at gives in
-          taking_none is count reply refuses.1 new was (subst (λ (l : Option OpenCursor). Replaced mid new l was) refuses.0 second)
-      by (Some cursor) is gives new was second = taking cursor is count left reply (rw is at gives) new was second
+  module _ (count : ℕ) (view : View) (seen : view ≡ view_in w s) (Sound : Type 0) (sound : Sound) (left : Option OpenCursor) (reply : Reply) where
+    abbrev Taken : Option OpenCursor → Type 0
+    Taken o = MatchOption o ((left ≡ None) × (reply ≡ says.Refused CursorState))
+        (λ cursor. Sound → Fits cursor (seen_by st view) → GivesRows cursor count left reply (seen_by st view))
+
+    taking_as : (o : Option OpenCursor) → held ≡ o → Taken o → (new : Cursors) (was : Option OpenCursor) → Replaced mid new left was
+        → Leaves rules s (Asked.Rows count) reply st w slot st w (after slot new)
+    taking_as None is gives new was second = taking_none is count reply gives.1 new was (subst (λ (l : Option OpenCursor). Replaced mid new l was) gives.0 second)
+    taking_as (Some cursor) is gives new was second = taking cursor is count view seen left reply (gives sound) new was second
+
+    -- over a store that shows the same behind it
+    pub taking_held : Taken held → (new : Cursors) (was : Option OpenCursor) → Replaced mid new left was → (behind : Stored) → behind ≡ st
+        → Leaves rules s (Asked.Rows count) reply st w slot behind w (after slot new)
+    taking_held gives new was second behind same =
+        subst (λ (x : Stored). Leaves rules s (Asked.Rows count) reply st w slot x w (after slot new)) (sym same) (taking_as held refl gives new was second)
 
 -- ---- it is opened
 

@@ -13,7 +13,6 @@ use Rattle.session_definitions.specs.Asked.{Asked}
 use Rattle.session_definitions.specs.Calls.{ClosesQuery, ClosesQueryIn, TakesIn, TakesRows}
 use Rattle.session_definitions.specs.Cursor.{IsAtEnd, having_given}
 use Rattle.session_definitions.specs.Effect.{Effect}
-use Rattle.session_definitions.specs.Refusals.{IsReserved}
 use Rattle.session_definitions.specs.Rules.{Rules}
 use Rattle.session_definitions.specs.Transactions.{active, with_unnamed}
 use Rattle.session_definitions.specs.World.{Cursor, Session, Transaction}
@@ -77,7 +76,7 @@ module _ (rules : Rules) (st : Stored) (w : Option ℕ) (s : ℕ) (kept other : 
       (taken count (says.Refused refusal) _ (as_refused may)) (with_other None is) refl
     where
       as_refused : MayTake refusal count cursor → TakesIn (session_of st w s kept) (transaction_of st w s kept f) count (says.Refused refusal) (now_is None)
-      as_refused (inl memory) = TakesIn.withheld refusal cursor there (subst IsReserved (sym memory) tt) refl refl
+      as_refused (inl reserved) = TakesIn.withheld refusal cursor there reserved refl refl
       as_refused (inr raised) = TakesIn.raises cursor raised.1.0 there raised.0 raised.1.2 (ap (λ (r : Refusal). says.Refused r) raised.1.1) refl
 
   pub closes_query : is_some (kept.unnamed (read_by st w s f)) ≡ true → other.unnamed (read_by st w s f) ≡ None

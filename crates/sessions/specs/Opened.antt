@@ -1,6 +1,6 @@
 -- What OPEN gives over what is read, and what its query may be refused for (ISO/IEC 9075:1992,
 -- 13.2); and what FETCH says of a row (13.3).
-use Rattle.std.specs.Prelude.{◌≡◌, ℕ, List, Option, None, Some, Ok}
+use Rattle.std.specs.Prelude.{◌≡◌, ℕ, List, Option, None, Some}
 use Rattle.refusals.specs.declared.refusal.Refusal.{Refusal}
 use Rattle.ast.specs.declared.statement.OrderedQuery.{OrderedQuery}
 use Rattle.sqlval.specs.Value.{Row}
@@ -9,11 +9,9 @@ use Rattle.replies.specs.declared.reply.Reply.TheVariants as says
 use Rattle.ast.specs.declared.statement.Statement.TheVariants as asks
 use Rattle.typing.specs.declared.statement.Typed.TheVariants as does
 use Rattle.typing.specs.declared.typed.OrderedQuery as typed
-use Rattle.denote.specs.declared.fault.Fault.{Fault}
 use Rattle.denote.specs.Database.{Database}
 use Rattle.denote.specs.Query.{denotes}
-use Rattle.session_definitions.specs.Cursor.{MayRaise}
-use Rattle.session_definitions.specs.Refusals.{IsReserved, refusal_of}
+use Rattle.session_definitions.specs.Refusals.{IsReserved}
 use Rattle.session_definitions.specs.Rules.{Rules, Means, IsReason}
 use Rattle.store.specs.Contents.{Contents, database_of}
 use Rattle.cursors.specs.declared.cursor.OpenCursor.{OpenCursor}
@@ -36,12 +34,12 @@ abbrev pub told : Option Row → Reply
 told None = says.EndOfRows
 told (Some row) = says.Row row
 
--- what FETCH gives of a cursor, and leaves of it: a fault leaves nothing
+-- what FETCH gives of a cursor, and leaves of it: a refusal leaves nothing
 abbrev pub GivesNext : OpenCursor → Option OpenCursor → Reply → Contents → Type 0
 GivesNext cursor None reply contents =
-    (fault : Fault) × (reply ≡ says.Refused (refusal_of fault)) × MayRaise (cursor_of cursor contents) fault
+    (refusal : Refusal) × (reply ≡ says.Refused refusal) × MayTake refusal 1 (cursor_of cursor contents)
 GivesNext cursor (Some to) reply contents =
-    (next : Option Row) × (reply ≡ told next) × HasNext (Ok next) (cursor_of cursor contents) (cursor_of to contents)
+    (next : Option Row) × (reply ≡ told next) × HasNext next (cursor_of cursor contents) (cursor_of to contents)
     × Fits to contents
 
 -- what so many rows at once give of a cursor, and leave of it: a refusal leaves nothing

@@ -175,8 +175,9 @@ impl<S: Store, L: Language + Changes<S>> Core<S, L> {
     }
 
     /// So many of the next rows of the query that was opened, or fewer and then the end is reached;
-    /// 24000 where none is open. A refusal stands in place of its rows, and closes it. The writer
-    /// and other sessions stay as they were, also over a damaged store.
+    /// 24000 where none is open. A refusal stands in place of its rows, and closes it. It reads, and
+    /// changes nothing of the store; the writer and other sessions stay as they were, also over a
+    /// damaged store.
     pub fn take_rows(&mut self, session: SessionId, count: u64) -> Reply
         ensures step { (rules : Rules) → IsSound S.is_sound S.shows self.old
             → is_live (world_of S.shows self.old) (number_of session) ≡ true
@@ -185,17 +186,25 @@ impl<S: Store, L: Language + Changes<S>> Core<S, L> {
         ensures ended { is_live (world_of S.shows self.old) (number_of session) ≡ false
             → (result ≡ Reply.Refused (Invalid reason.Session)) × (self.new ≡ self.old) }
         ensures live { StandAlike (world_of S.shows self.old) (world_of S.shows self.new) }
-        ensures device { IfRefused result (λ refusal. refusal ≢ Disk) }
+        ensures device { Counts result (S.refused self.old.store) (S.refused self.new.store) }
         ensures limits { IfRefused result TellsNoLimit }
         ensures told { TellsRows count result }
         ensures others { OthersStay (number_of session) (world_of S.shows self.old) (world_of S.shows self.new) }
-        ensures untouched { self.new.store ≡ self.old.store }
+        ensures goes { S.goes_on self.old.store self.new.store Going.reads }
+        ensures counts { S.refused self.old.store ≤ S.refused self.new.store }
     {
         if !self.slots.stands(session.number) {
             return Reply::Refused(Refusal::Invalid(Reason::Session));
         }
         let mut slot = self.slots.take(self.alloc, session.number);
-        let reply = take_rows(self.alloc, &mut slot, count);
+        let reply = take_rows(
+            self.alloc,
+            &mut self.store,
+            self.writer,
+            &mut slot,
+            session.number,
+            count,
+        );
         settle(&self.store, &mut slot, session.number);
         self.slots.set(session.number, Some(slot));
         reply

@@ -1,5 +1,5 @@
 //! DECLARE, OPEN, FETCH and CLOSE in a session.
-ghost use Rattle.std.specs.Prelude.{◌≡◌, ◌≢◌, ℕ, true, false, [], IfOk, IfErr, MatchOption, MatchResult, None, Option, ⊤};
+ghost use Rattle.std.specs.Prelude.{◌≡◌, ◌≢◌, ℕ, true, false, IfOk, IfErr, MatchOption, MatchResult, None, Option, ⊤};
 ghost use Rattle.std.specs.FinMap.{get};
 ghost use Rattle.ast.specs.declared.statement.Statement.TheVariants as asks;
 ghost use Rattle.lexer.specs.Token.{Bytes};
@@ -12,14 +12,14 @@ ghost use Rattle.session_definitions.specs.Rules.{Rules, AreRules};
 ghost use Rattle.statement_definitions.specs.Reading.{IsRead};
 ghost use Rattle.statement_definitions.specs.Rollback.{IsRollback};
 ghost use Rattle.refusals.specs.declared.refusal.Refusal.TheVariants.{Disk};
-ghost use Rattle.store.specs.Contents.{Contents, database_of};
+ghost use Rattle.store.specs.Contents.{database_of};
 ghost use Rattle.store.specs.Errors.{HasRisen};
 ghost use Rattle.store.specs.Going.{Going};
 ghost use Rattle.store.specs.Stored.{SameButMark, Stored};
 ghost use Rattle.store.specs.View.{seen_by};
 ghost use Rattle.transactions.specs.Orderly.{IsOrderly};
 ghost use Rattle.transactions.specs.Refused.{Counts, IfRefused, TellsNoLimit};
-ghost use Rattle.cursors.specs.Opened.{BeginsAt, Fits, cursor_of};
+ghost use Rattle.cursors.specs.Opened.{BeginsAt, Fits, HasNext, MayTake, cursor_of};
 ghost use Rattle.sessions.specs.Held.{Holds, Leaves};
 ghost use Rattle.sessions.specs.Kinds.{is_declare, is_fetch, is_of_cursor};
 ghost use Rattle.sessions.specs.Numbers.{kept_of};
@@ -33,7 +33,7 @@ use ast::{DeclareCursor, OrderedQuery, Statement};
 use cursors::{OpenCursor, next_row, open_cursor};
 use denote::Row;
 use lexer::Name;
-use query_answers::{plan_beside_tree, refusal_of_fault};
+use query_answers::plan_beside_tree;
 use refusals::Refusal;
 use replies::Reply;
 use std::alloc::Global;
@@ -76,21 +76,30 @@ pub(crate) fn declare(slot: &mut Slot, cursor: DeclareCursor) -> Reply
     }
 }
 
-/// FETCH: the next row, the end, or the fault of the query, which closes the cursor. Takes no
-/// memory.
-fn fetch(slot: &mut Slot, name: &Name) -> Reply
-    ensures leaves { (rules : Rules) (text : Bytes) (st : Stored) (w : Option ℕ) (s : ℕ)
-        → IsRead text (asks.Fetch name.now)
-        → IsOrderly st w → Holds st w s slot.old.cursors
-        → Leaves rules s (Asked.Text text) result st w slot.old st w slot.new }
-    ensures device { IfRefused result (λ refusal. refusal ≢ Disk) }
+/// FETCH: the next row, the end, or the fault of the query, which closes the cursor; so does any
+/// other refusal of an open one. It reads what the session's transaction reads, and changes
+/// nothing.
+fn fetch<S: Store>(
+    alloc: Global,
+    store: &mut S,
+    writer: Option<u64>,
+    slot: &mut Slot,
+    session: u64,
+    name: &Name,
+) -> Reply
+    ensures leaves { (rules : Rules) (text : Bytes) → IsRead text (asks.Fetch name.now)
+        → S.is_sound store.old → IsOrderly (S.shows store.old) writer
+        → Holds (S.shows store.old) writer session slot.old.cursors
+        → Leaves rules session (Asked.Text text) result (S.shows store.old) writer slot.old (S.shows store.new) writer slot.new }
+    ensures device { Counts result (S.refused store.old) (S.refused store.new) }
     ensures limits { IfRefused result TellsNoLimit }
+    ensures goes { S.goes_on store.old store.new Going.reads }
 {
     if !slot.cursors.is_open(name) {
         return Reply::Refused(Refusal::CursorState);
     }
     let held = slot.cursors.exchange(name, None);
-    let AfterFetch { left, reply } = fetched(held);
+    let AfterFetch { left, reply } = fetched(alloc, store, view_of(writer, session), held);
     let was = slot.cursors.exchange(name, left);
     let_go(was, reply)
 }
@@ -102,33 +111,72 @@ pub(crate) struct AfterFetch {
     pub(crate) reply: Reply,
 }
 
-/// A FETCH of what stood under a name.
-fn fetched(held: Option<OpenCursor>) -> AfterFetch
-    ensures gives { MatchOption held ⊤ (λ cursor. (contents : Contents) → Fits cursor contents
-        → GivesNext cursor result.left result.reply contents) }
-    ensures device { IfRefused result.reply (λ refusal. refusal ≢ Disk) }
+/// A FETCH of what stood under a name, over a version of the store.
+fn fetched<S: Store>(
+    alloc: Global,
+    store: &mut S,
+    view: View,
+    held: Option<OpenCursor>,
+) -> AfterFetch
+    ensures gives { MatchOption held ⊤ (λ cursor. S.is_sound store.old
+        → Fits cursor (seen_by (S.shows store.old) view)
+        → GivesNext cursor result.left result.reply (seen_by (S.shows store.old) view)) }
+    ensures device { Counts result.reply (S.refused store.old) (S.refused store.new) }
     ensures limits { IfRefused result.reply TellsNoLimit }
+    ensures shows { S.shows store.new ≡ S.shows store.old }
+    ensures goes { S.goes_on store.old store.new Going.reads }
 {
     match held {
-        Some(cursor) => fetched_from(cursor),
+        Some(cursor) => fetched_from(alloc, store, view, cursor),
         None => refused(Refusal::CursorState),
     }
 }
 
-/// The next row of a cursor, or its end; or its fault, and then nothing is left of it.
-fn fetched_from(cursor: OpenCursor) -> AfterFetch
-    ensures gives { (contents : Contents) → Fits cursor contents → GivesNext cursor result.left result.reply contents }
-    ensures device { IfRefused result.reply (λ refusal. refusal ≢ Disk) }
+/// The next row of a cursor, or its end; or a refusal, and then nothing is left of it.
+fn fetched_from<S: Store>(
+    alloc: Global,
+    store: &mut S,
+    view: View,
+    cursor: OpenCursor,
+) -> AfterFetch
+    ensures gives { S.is_sound store.old → Fits cursor (seen_by (S.shows store.old) view)
+        → GivesNext cursor result.left result.reply (seen_by (S.shows store.old) view) }
+    ensures device { Counts result.reply (S.refused store.old) (S.refused store.new) }
     ensures limits { IfRefused result.reply TellsNoLimit }
+    ensures shows { S.shows store.new ≡ S.shows store.old }
+    ensures goes { S.goes_on store.old store.new Going.reads }
 {
     let mut cursor = cursor;
-    match next_row(&mut cursor) {
+    match next_seen(alloc, store, view, &mut cursor) {
         Ok(next) => AfterFetch {
             left: Some(cursor),
             reply: reply_of_next(next),
         },
-        Err(fault) => refused(refusal_of_fault(fault)),
+        Err(refusal) => refused(refusal),
     }
+}
+
+/// The next row of a cursor over a version of the store, or its end.
+fn next_seen<S: Store>(
+    alloc: Global,
+    store: &mut S,
+    view: View,
+    cursor: &mut OpenCursor,
+) -> Result<Option<Row>, Refusal>
+    ensures next { IfOk result (λ next. S.is_sound store.old → Fits cursor.old (seen_by (S.shows store.old) view)
+        → HasNext next (cursor_of cursor.old (seen_by (S.shows store.old) view)) (cursor_of cursor.new (seen_by (S.shows store.old) view))) }
+    ensures fits { IfOk result (λ next. S.is_sound store.old → Fits cursor.old (seen_by (S.shows store.old) view)
+        → Fits cursor.new (seen_by (S.shows store.old) view)) }
+    ensures refused { IfErr result (λ refusal. S.is_sound store.old
+        → Fits cursor.old (seen_by (S.shows store.old) view)
+        → MayTake refusal 1 (cursor_of cursor.old (seen_by (S.shows store.old) view))) }
+    ensures device { IfErr result (λ refusal. refusal ≡ Disk → HasRisen (S.refused store.old) (S.refused store.new)) }
+    ensures limits { IfErr result TellsNoLimit }
+    ensures shows { S.shows store.new ≡ S.shows store.old }
+    ensures goes { S.goes_on store.old store.new Going.reads }
+{
+    let mut seen = Seen { store, view };
+    next_row(alloc, &mut seen, cursor)
 }
 
 /// A FETCH that is refused leaves no cursor.
@@ -302,7 +350,7 @@ pub(crate) fn cursor_call<S: Store, L: Language>(
 {
     match statement {
         Statement::OpenCursor(name) => open(alloc, language, store, writer, slot, session, name),
-        Statement::Fetch(name) => fetch(slot, name),
+        Statement::Fetch(name) => fetch(alloc, store, writer, slot, session, name),
         Statement::CloseCursor(name) => close(slot, name),
         _ => Reply::Refused(Refusal::NotSupported),
     }

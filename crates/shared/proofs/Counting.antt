@@ -1,5 +1,5 @@
 -- X0002 is told only where the device refused a call.
-use Rattle.std.proofs.Common.{◌≡◌, ◌≢◌, ◌∙◌, ℕ, ◌+◌, ◌-◌, ◌^◌, ◌≤◌, Bool, true, false, List, [], ◌∷◌, ◌++◌, Ok, Err, length, refl, sym, arith}
+use Rattle.std.proofs.Common.{◌≡◌, ◌∙◌, ℕ, ◌+◌, ◌-◌, ◌^◌, ◌≤◌, Bool, true, false, List, [], ◌∷◌, ◌++◌, Ok, Err, length, refl, sym, arith}
 use Rattle.std.specs.Prelude.{min}
 use Rattle.std.proofs.Math.Nat.{le_refl, le_trans}
 use Rattle.refusals.specs.declared.refusal.Refusal.{Refusal}
@@ -115,11 +115,7 @@ same_count m n is = omega (arith, is)
 pub not_disk : (refusal : Refusal) (m n : ℕ) → refusal ≡ Exceeded limit.Sessions → refusal ≡ Disk → HasRisen m n
 not_disk refusal m n is disk = let bad : Exceeded limit.Sessions ≡ Disk = sym is ∙ disk in absurd (cc)
 
--- the calls of a query in turns that leave the store as it was are refused by no device
-pub never_disk : (reply : Reply) (m n : ℕ) → IfRefused reply (λ refusal. refusal ≢ Disk) → Counts reply m n
-never_disk (says_so.Refused refusal) m n h = λ is. absurd (h is)
-never_disk _ m n h = tt
-
+-- a call that is refused by the state of cursors alone is refused by no device
 pub closing_disk : (reply : Reply) (m n : ℕ) → IfRefused reply (λ refusal. refusal ≡ CursorState) → Counts reply m n
 closing_disk (says_so.Refused refusal) m n h = λ is. let bad : CursorState ≡ Disk = sym h ∙ is in absurd (cc)
 closing_disk _ m n h = tt

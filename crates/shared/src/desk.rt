@@ -178,7 +178,8 @@ impl<S: Store, L: Language + Changes<S>, J: Room> Desk<S, L, J> {
         reply
     }
 
-    /// Takes so many of the next rows of the query that the session has open.
+    /// Takes so many of the next rows of the query that the session has open. X0002 is told only
+    /// where this call was refused by the device.
     pub(crate) fn take_rows<R: Wait>(
         &mut self,
         rt: &R,
@@ -189,6 +190,7 @@ impl<S: Store, L: Language + Changes<S>, J: Room> Desk<S, L, J> {
         requires { cell.now.table.shared.table_id ≡ J.table }
         ensures turn { Turn J.premise J.start J.refused me.old (question.Rows count) result me.new }
         ensures told { TellsRows count result }
+        ensures device { Counts result self.old.refused self.new.refused }
     {
         databases_stay_good();
         take_in(rt, cell, &mut self.keeper, &mut me.token);

@@ -1,5 +1,6 @@
 use Rattle.std.proofs.Common.{◌≡◌, false, refl, ap, subst}
 use Rattle.statement_definitions.specs.Reading.{IsRead}
+use Rattle.store.specs.Going.{Going}
 use Rattle.store.specs.Stored.{SameButMark}
 use Rattle.transactions.proofs.Orders.{same}
 use Rattle.sessions.specs.Kinds.{is_fetch}
@@ -15,14 +16,17 @@ returns-in-OpenCursor-clause-leaves g c = λ rules text are read of declares oth
 
 pub returns-in-Fetch-clause-leaves : goal.returns-in-Fetch-clause-leaves
 returns-in-Fetch-clause-leaves g c = λ rules text are read of declares other sound order holds good.
-    c.fetch.ensures.leaves rules text (g.S.Store.shows c.args.store.now) c.args.writer c.args.session (subst (IsRead text) c.in-Fetch.is read) order holds
+    c.fetch.ensures.leaves rules text (subst (IsRead text) c.in-Fetch.is read) sound order holds
 
 pub returns-in-CloseCursor-clause-leaves : goal.returns-in-CloseCursor-clause-leaves
 returns-in-CloseCursor-clause-leaves g c = λ rules text are read of declares other sound order holds good.
     c.close.ensures.leaves rules text (g.S.Store.shows c.args.store.now) c.args.writer c.args.session (subst (IsRead text) c.in-CloseCursor.is read) order holds
 
 pub returns-in-Fetch-clause-device : goal.returns-in-Fetch-clause-device
-returns-in-Fetch-clause-device g c = never_counts c.fetch.result _ _ c.fetch.ensures.device
+returns-in-Fetch-clause-device g c = c.fetch.ensures.device
+
+pub returns-in-Fetch-clause-goes : goal.returns-in-Fetch-clause-goes
+returns-in-Fetch-clause-goes g c = g.met.S.Store.goes_on_trans _ _ _ Going.keeps Going.reads (g.met.S.Store.goes_on_refl _ Going.keeps) c.fetch.ensures.goes
 
 pub returns-in-CloseCursor-clause-device : goal.returns-in-CloseCursor-clause-device
 returns-in-CloseCursor-clause-device g c = never_counts c.close.result _ _ c.close.ensures.device

@@ -7,14 +7,17 @@ use Rattle.sessions.proofs.Holding.{closed_in, fits_same}
 use Rattle.sessions.proofs.cursor_calls.fetch.Goals as goal
 
 pub returns-then-not-is_open-clause-leaves : goal.returns-then-not-is_open-clause-leaves
-returns-then-not-is_open-clause-leaves c = λ rules text st w s read order holds. record {
-  moves = fetches_none rules st w s (kept_of c.args.slot.now) text order (closed_in st w s _ c.args.slot.now holds) c.args.name.now read
-      (λ contents. not_there _ (sym (c.is_open.ensures contents) ∙ c.if-not-is_open.true));
-  fits = fits_same st st w w s c.args.slot.now.cursors (same st st refl) refl holds;
-}
+returns-then-not-is_open-clause-leaves g c = λ rules text read sound order holds.
+    let st = g.S.Store.shows c.args.store.now in
+    record {
+      moves = fetches_none rules st c.args.writer c.args.session (kept_of c.args.slot.now) text order (closed_in st c.args.writer c.args.session _ c.args.slot.now holds) c.args.name.now read
+          (λ contents. not_there _ (sym (c.is_open.ensures contents) ∙ c.if-not-is_open.true));
+      fits = fits_same st st c.args.writer c.args.writer c.args.session c.args.slot.now.cursors (same st st refl) refl holds;
+    }
 
 pub returns-clause-leaves : goal.returns-clause-leaves
-returns-clause-leaves c = λ rules text st w s read order holds.
+returns-clause-leaves g c = λ rules text read sound order holds.
+    let st = g.S.Store.shows c.args.store.now in
     let first : Exchanged c.args.slot.now.cursors c.exchange-held.new.self c.args.name.now None c.exchange-held.result = record {
       opened = c.exchange-held.ensures.opened;
       was = c.exchange-held.ensures.was;
@@ -36,11 +39,15 @@ returns-clause-leaves c = λ rules text st w s read order holds.
       found = c.exchange-was.ensures.found;
     } in
     rw c.let_go.ensures
-    (fetching_held rules st w s text order c.args.slot.now holds c.args.name.now c.exchange-held.new.self c.exchange-held.result first c.is_open.result c.is_open.ensures c.if-not-is_open.false
-    read c.fetched-left.result.left c.fetched-left.result.reply c.fetched-left.ensures.gives c.exchange-was.new.self c.exchange-was.result second)
+    (fetching_held rules st c.args.writer c.args.session text order c.args.slot.now holds c.args.name.now c.exchange-held.new.self c.exchange-held.result first c.is_open.result c.is_open.ensures c.if-not-is_open.false
+    read c.view_of.result c.view_of.ensures (g.S.Store.is_sound c.args.store.now) sound c.fetched-left.result.left c.fetched-left.result.reply c.fetched-left.ensures.gives
+    c.exchange-was.new.self c.exchange-was.result second (g.S.Store.shows c.fetched-left.new.store) c.fetched-left.ensures.shows)
 
 pub returns-clause-device : goal.returns-clause-device
-returns-clause-device c = rw c.let_go.ensures c.fetched-left.ensures.device
+returns-clause-device g c = rw c.let_go.ensures c.fetched-left.ensures.device
 
 pub returns-clause-limits : goal.returns-clause-limits
-returns-clause-limits c = rw c.let_go.ensures c.fetched-left.ensures.limits
+returns-clause-limits g c = rw c.let_go.ensures c.fetched-left.ensures.limits
+
+pub returns-clause-goes : goal.returns-clause-goes
+returns-clause-goes g c = c.fetched-left.ensures.goes

@@ -3,7 +3,7 @@ use Rattle.std.specs.FinMap.{get}
 use Rattle.session_definitions.specs.Asked.{Asked}
 use Rattle.session_definitions.specs.Step.{StepOf}
 use Rattle.session_definitions.specs.World.{is_live}
-use Rattle.store.specs.Stored.{SameButMark}
+use Rattle.store.specs.Stored.{SameButMark, Stored}
 use Rattle.transactions.specs.Shown.{Slots, settled, shown}
 use Rattle.transactions.proofs.Orders.{same}
 use Rattle.sessions.specs.declared.slots.Slot.{Slot}
@@ -23,12 +23,12 @@ returns-then-not-stands-clause-step g c = λ rules sound live.
 pub returns-clause-step : goal.returns-clause-step
 returns-clause-step g c = λ rules sound live.
     let st = g.S.Store.shows c.args.self.now.store in
-    let new = g.S.Store.shows c.args.self.now.store in
+    let new = g.S.Store.shows c.take_rows-reply.new.store in
     let all = c.args.self.now.slots.all in
     let n = c.args.session.number in
     let slot = c.take-slot.result in
     let is = c.take-slot.ensures.is in
-    let leaves = c.take_rows-reply.ensures.leaves rules st c.args.self.now.writer n sound.order (sound.held n slot is) in
+    let leaves = c.take_rows-reply.ensures.leaves rules sound.store sound.order (sound.held n slot is) in
     let put = put_back c.set.new.self.all c.take-slot.new.self.all all n c.settle.new.slot c.take-slot.ensures.left c.set.ensures in
     subst (λ (slots : Slots). StepOf rules (shown st c.args.self.now.writer (kept_in all)) n (Asked.Rows c.args.count) c.take_rows-reply.result (shown new c.args.self.now.writer slots))
     (sym (put_as c.set.new.self.all all n c.settle.new.slot (settled (get new.readers n) (kept_of c.take_rows-reply.new.slot)) put c.settle.ensures.kept))
@@ -37,16 +37,16 @@ returns-clause-step g c = λ rules sound live.
 pub returns-clause-sound : goal.returns-clause-sound
 returns-clause-sound g c = λ sound.
     let st = g.S.Store.shows c.args.self.now.store in
-    let new = g.S.Store.shows c.args.self.now.store in
+    let new = g.S.Store.shows c.take_rows-reply.new.store in
     let all = c.args.self.now.slots.all in
     let n = c.args.session.number in
     let slot = c.take-slot.result in
     let is = c.take-slot.ensures.is in
-    let leaves = c.take_rows-reply.ensures.leaves some_rules st c.args.self.now.writer n sound.order (sound.held n slot is) in
+    let leaves = c.take_rows-reply.ensures.leaves some_rules sound.store sound.order (sound.held n slot is) in
     let put = put_back c.set.new.self.all c.take-slot.new.self.all all n c.settle.new.slot c.take-slot.ensures.left c.set.ensures in
     let within = held_within all n slot is in
     record {
-      store = sound.store;
+      store = (g.met.S.Store.goes_on_goes _ _ _ c.take_rows-reply.ensures.goes).sound sound.store;
       order = leaves.moves.order;
       readers = λ q none. held_readers st new all n (Some c.settle.new.slot) within leaves.moves.others sound.readers
           (λ gone. let bad : Some c.settle.new.slot ≡ None = gone in absurd (cc)) q (subst (λ (held : Held). held_at held q ≡ None) put none);
@@ -64,7 +64,7 @@ returns-clause-ended g c = λ dead.
 pub returns-clause-live : goal.returns-clause-live
 returns-clause-live g c = λ q.
     let st = g.S.Store.shows c.args.self.now.store in
-    let new = g.S.Store.shows c.args.self.now.store in
+    let new = g.S.Store.shows c.take_rows-reply.new.store in
     let all = c.args.self.now.slots.all in
     let n = c.args.session.number in
     let put = put_back c.set.new.self.all c.take-slot.new.self.all all n c.settle.new.slot c.take-slot.ensures.left c.set.ensures in
@@ -84,9 +84,14 @@ returns-clause-others g c =
     let w = c.args.self.now.writer in
     let all = c.args.self.now.slots.all in
     let n = c.args.session.number in
+    let same = (g.met.S.Store.goes_on_goes _ _ _ c.take_rows-reply.ensures.goes).stays.shows in
     let put = put_back c.set.new.self.all c.take-slot.new.self.all all n c.settle.new.slot c.take-slot.ensures.left c.set.ensures in (
       refl,
-      subst (λ (slots : Slots). (q : ℕ) → q ≢ n → get (shown st w slots).sessions q ≡ get (shown st w (kept_in all)).sessions q)
+      subst (λ (x : Stored). (q : ℕ) → q ≢ n → get (shown x w (kept_in c.set.new.self.all)).sessions q ≡ get (shown st w (kept_in all)).sessions q) (sym same)
+          (subst (λ (slots : Slots). (q : ℕ) → q ≢ n → get (shown st w slots).sessions q ≡ get (shown st w (kept_in all)).sessions q)
           (sym (put_as c.set.new.self.all all n c.settle.new.slot (kept_of c.settle.new.slot) put refl))
-          (others_stay st w (kept_in all) n (Some (kept_of c.settle.new.slot))),
+          (others_stay st w (kept_in all) n (Some (kept_of c.settle.new.slot)))),
     )
+
+pub returns-clause-counts : goal.returns-clause-counts
+returns-clause-counts g c = (g.met.S.Store.goes_on_goes _ _ _ c.take_rows-reply.ensures.goes).refused

@@ -6,7 +6,6 @@ use Rattle.shared.specs.declared.event.Act.TheVariants.{Says}
 use Rattle.shared.specs.declared.rule.View.{View}
 use Rattle.shared.specs.History.{event}
 use Rattle.shared.specs.Views.{Told, caller_in, extended, keeper_in}
-use Rattle.shared.proofs.Counting.{never_disk, same_count}
 use Rattle.shared.proofs.Goods.{says_on}
 use Rattle.shared.proofs.Questions.{IsAsked, TakenIn, desk_asked, turn_asked}
 use Rattle.shared.proofs.desk.Desk.take_rows.Goals as goal
@@ -29,8 +28,8 @@ invariant_of-self g c =
       live = c.take_rows-reply.ensures.live;
       on = λ stands. says_on g.S.Store.is_sound shows old new c.me.inside.id (question.Rows c.args.count) c.take_rows-reply.result stands
           (λ rules are sound live good. c.take_rows-reply.ensures.step rules sound live) (λ rules are sound good. c.take_rows-reply.ensures.sound sound);
-      counts = same_count _ _ (ap g.S.Store.refused c.take_rows-reply.ensures.untouched);
-      device = never_disk c.take_rows-reply.result (g.S.Store.refused old.store) n c.take_rows-reply.ensures.device;
+      counts = c.take_rows-reply.ensures.counts;
+      device = c.take_rows-reply.ensures.device;
       limits = c.take_rows-reply.ensures.limits;
     } in
     let x = r.1 ∙ ap (λ (v : View). keeper_in (extended (event v.who act n) v)) t.view in
@@ -55,8 +54,8 @@ returns-clause-turn g c =
       live = c.take_rows-reply.ensures.live;
       on = λ stands. says_on g.S.Store.is_sound shows old new c.me.inside.id (question.Rows c.args.count) c.take_rows-reply.result stands
           (λ rules are sound live good. c.take_rows-reply.ensures.step rules sound live) (λ rules are sound good. c.take_rows-reply.ensures.sound sound);
-      counts = same_count _ _ (ap g.S.Store.refused c.take_rows-reply.ensures.untouched);
-      device = never_disk c.take_rows-reply.result (g.S.Store.refused old.store) n c.take_rows-reply.ensures.device;
+      counts = c.take_rows-reply.ensures.counts;
+      device = c.take_rows-reply.ensures.device;
       limits = c.take_rows-reply.ensures.limits;
     } in
     let x = c.record.ensures.caller.2 ∙ ap (λ (v : View). caller_in (extended (event v.who act n) v)) t.view in

@@ -1,0 +1,27 @@
+use Rattle.std.proofs.Common.{Option, sym, subst}
+use Rattle.std.specs.Prelude.{◌≡◌, MatchOption, None}
+use Rattle.refusals.specs.declared.refusal.Refusal.TheVariants.{CursorState}
+use Rattle.replies.specs.declared.reply.Reply.TheVariants as says
+use Rattle.store.specs.View.{seen_by}
+use Rattle.cursors.specs.declared.cursor.OpenCursor.{OpenCursor}
+use Rattle.cursors.specs.Opened.{Fits}
+use Rattle.sessions.specs.Opened.{GivesRows}
+use Rattle.sessions.proofs.query_calls.taken.Goals as goal
+
+pub returns-in-Some-clause-gives : goal.returns-in-Some-clause-gives
+returns-in-Some-clause-gives g c =
+    subst (λ (o : Option OpenCursor). MatchOption o ((c.taken_from.result.left ≡ None) × (c.taken_from.result.reply ≡ says.Refused CursorState))
+    (λ cursor. g.S.Store.is_sound c.args.store.now → Fits cursor (seen_by (g.S.Store.shows c.args.store.now) c.args.view)
+    → GivesRows cursor c.args.count c.taken_from.result.left c.taken_from.result.reply (seen_by (g.S.Store.shows c.args.store.now) c.args.view))) (sym c.in-Some.is) c.taken_from.ensures.gives
+
+pub returns-in-Some-clause-told : goal.returns-in-Some-clause-told
+returns-in-Some-clause-told g c = c.taken_from.ensures.told
+
+pub returns-in-Some-clause-device : goal.returns-in-Some-clause-device
+returns-in-Some-clause-device g c = c.taken_from.ensures.device
+
+pub returns-in-Some-clause-limits : goal.returns-in-Some-clause-limits
+returns-in-Some-clause-limits g c = c.taken_from.ensures.limits
+
+pub returns-in-None-clause-device : goal.returns-in-None-clause-device
+returns-in-None-clause-device g c = rw c.refused.ensures.reply (λ is. absurd (cc))
