@@ -1,5 +1,5 @@
 -- A whole text: what is read is in the grammar.
-use Rattle.std.proofs.Common.{◌≡◌, ℕ, zero, suc, true, false, cond, [], ◌∷◌, Option, Some, None, refl, ap, inl, inr}
+use Rattle.std.proofs.Common.{◌≡◌, ℕ, zero, suc, true, false, cond, [], ◌∷◌, Option, Some, None, Result, Ok, Err, IsOk, IfSome, refl, ap, subst, inl, inr}
 use Rattle.std.specs.Prelude.{◌⊎◌, ◌&&◌}
 use Rattle.lexer.specs.declared.kinds.Kind.{Kind}
 use Rattle.lexer.specs.declared.kinds.Kind.TheVariants as kind
@@ -12,7 +12,9 @@ use Rattle.ast.specs.Notation.{Tokens}
 use Rattle.ast.specs.Words.{SEMICOLON}
 use Rattle.ast.specs.Expressions.{Within, Nested}
 use Rattle.ast.specs.Grammar.{nested_at, IsText, IsConditionText}
-use Rattle.parse_terminals.specs.Readers.{is_symbol}
+use Rattle.parse_terminals.specs.declared.error.ParseError.{ParseError}
+use Rattle.parse_terminals.specs.declared.error.ParseError.TheVariants.{Syntax}
+use Rattle.parse_terminals.specs.Readers.{is_symbol, GivesAll, Outcome}
 use Rattle.parse_expressions.specs.ReadExpressions.{Inner}
 use Rattle.parse_statements.specs.ReadStatements.{statement, text, condition_text, is_end, is_nothing}
 use Rattle.parse_expressions.specs.Levels.{inner_at}
@@ -79,3 +81,17 @@ condition_found limit some depth ts x e =
       | true ↦ λ k f. found (λ y. IsConditionText limit ts y.0) a.0 x f (record { depth = depth; condition = rw (nothing_left a.0.1 k) at h })
       | false ↦ λ k f. cc
     ] refl a.2
+
+-- What was found, where something was.
+pub what_was_found : {A : Type 0} → (r : Result A ParseError) → (read : Outcome A) → IsOk r → GivesAll r read
+  → (x : A) × (rest : Tokens) × (read ≡ Some (x, rest))
+what_was_found (Ok x) read _ gives = (x, gives.0, gives.1)
+what_was_found (Err e) read nothing _ = absurd (cc)
+
+-- Nothing can be read, where nothing was found for that reason.
+pub nothing_found : {A : Type 0} → (r : Result A ParseError) → (read : Outcome A) → (why : Option ParseError) → {e : ParseError}
+  → IfSome why (λ refused. r ≡ Err refused) → why ≡ Some e → e ≡ Syntax → GivesAll r read → read ≡ None
+nothing_found r read why {e} refused is syntax gives =
+    let fails : r ≡ Err e = subst (λ (w : Option ParseError). IfSome w (λ refused. r ≡ Err refused)) is refused in
+    let none : GivesAll (Err e) read = subst (λ (it : Result _ ParseError). GivesAll it read) fails gives in
+    none syntax

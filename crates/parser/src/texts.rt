@@ -1,6 +1,6 @@
 //! Whole texts of tokens.
 
-ghost use Rattle.std.specs.Prelude.{◌≡◌, ◌⊎◌, ◌↔◌, if◌then◌else◌, true, false, IfOk, IfErr, Some, None, Ok, Err};
+ghost use Rattle.std.specs.Prelude.{◌≡◌, ◌⊎◌, ◌↔◌, if◌then◌else◌, true, false, IfOk, IfErr, IfSome, IsOk, Some, None, Ok, Err};
 ghost use Rattle.ast.specs.Grammar.{IsText, IsConditionText};
 ghost use Rattle.ast.specs.Nesting.{IsNestedWithin};
 ghost use Rattle.ast.specs.declared.statement.Statement.{Statement};
@@ -8,6 +8,7 @@ ghost use Rattle.ast.specs.declared.tree.Condition.{Condition};
 ghost use Rattle.refusals.specs.declared.reason.Reason.TheVariants.{Syntax};
 ghost use Rattle.refusals.specs.declared.refusal.Refusal.TheVariants.{Exceeded, Invalid, Memory};
 ghost use Rattle.refusals.specs.declared.limit.Limit.TheVariants.{Chain, Nesting};
+ghost use Rattle.parse_terminals.specs.declared.error.ParseError.TheVariants.{Syntax as NotFound};
 ghost use Rattle.parse_terminals.specs.Readers.{kinds, GivesAll};
 ghost use Rattle.parse_statements.specs.ReadStatements as statements;
 ghost use Rattle.parser.specs.Shallow.{is_shallow};
@@ -82,6 +83,28 @@ fn condition_text(
     Ok(condition)
 }
 
+/// Why nothing was found, where that is so. What was found goes.
+fn refused<T: Drop>(found: Result<T, ParseError>) -> Option<ParseError>
+    ensures found { result ≡ None → IsOk found }
+    ensures refused { IfSome result (λ refused. found ≡ Err refused) }
+{
+    match found {
+        Ok(_) => None,
+        Err(refused) => Some(refused),
+    }
+}
+
+/// What is told where nothing was found.
+fn refusal_of(refused: ParseError) -> Refusal
+    ensures syntax { result ≡ Invalid Syntax → refused ≡ NotFound }
+    ensures refusal { (result ≡ Memory) ⊎ (result ≡ Invalid Syntax) }
+{
+    match refused {
+        ParseError::Memory => Refusal::Memory,
+        ParseError::Syntax => Refusal::Invalid(Reason::Syntax),
+    }
+}
+
 /// Why the tokens are no statement with chains within the limit.
 fn statement_refusal(alloc: Global, tokens: &[Token]) -> Refusal
     ensures chain { result ≡ Exceeded Chain → HasStatement None (kinds tokens.now) }
@@ -89,13 +112,10 @@ fn statement_refusal(alloc: Global, tokens: &[Token]) -> Refusal
         → ¬ HasStatement None (kinds tokens.now) }
     ensures refusal { (result ≡ Memory) ⊎ (result ≡ Invalid Syntax) ⊎ (result ≡ Exceeded Chain) }
 {
-    let refused = match text(alloc, None, MAXIMUM_NESTING + 1, tokens) {
-        Ok(_found) => return Refusal::Exceeded(Limit::Chain),
-        Err(refused) => refused,
-    };
-    match refused {
-        ParseError::Memory => Refusal::Memory,
-        ParseError::Syntax => Refusal::Invalid(Reason::Syntax),
+    let found = text(alloc, None, MAXIMUM_NESTING + 1, tokens);
+    match refused(found) {
+        None => Refusal::Exceeded(Limit::Chain),
+        Some(refused) => refusal_of(refused),
     }
 }
 
@@ -106,13 +126,10 @@ fn condition_refusal(alloc: Global, tokens: &[Token]) -> Refusal
         → ¬ HasCondition None (kinds tokens.now) }
     ensures refusal { (result ≡ Memory) ⊎ (result ≡ Invalid Syntax) ⊎ (result ≡ Exceeded Chain) }
 {
-    let refused = match condition_text(alloc, None, MAXIMUM_NESTING + 1, tokens) {
-        Ok(_found) => return Refusal::Exceeded(Limit::Chain),
-        Err(refused) => refused,
-    };
-    match refused {
-        ParseError::Memory => Refusal::Memory,
-        ParseError::Syntax => Refusal::Invalid(Reason::Syntax),
+    let found = condition_text(alloc, None, MAXIMUM_NESTING + 1, tokens);
+    match refused(found) {
+        None => Refusal::Exceeded(Limit::Chain),
+        Some(refused) => refusal_of(refused),
     }
 }
 
