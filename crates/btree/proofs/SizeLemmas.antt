@@ -59,3 +59,20 @@ cut_at_most cells most w l f =
 
 pub front_fits : (cells : List (List ℕ)) (most middle : ℕ) → most < middle → size_of (take (middle - 1) cells) < 2040 → Fits (take most cells)
 front_fits cells most middle l f = let m = size_grows most (middle - 1) cells (omega arith) in omega (arith, m, f)
+
+-- what is left behind the middle takes a quarter of a page
+pub middle_fills : (cells : List (List ℕ)) (middle : ℕ) → IsOverfull cells → 0 < middle → size_of (take (middle - 1) cells) < 2040 → 2040 ≤ size_of (take middle cells)
+    → (2040 ≤ size_of (take middle cells)) × (1028 ≤ size_of (drop middle cells))
+middle_fills cells zero w l f b = absurd (omega arith)
+middle_fills cells (suc m) w l f b =
+    let e : suc m - 1 ≡ m = omega arith in
+    let p : size_of (take m cells) < 2040 = subst (λ n. size_of (take n cells) < 2040) e f in
+    (b, omega (arith, size_step m cells w.small, size_parts (suc m) cells, p, w.over))
+
+-- cells that are too many are not all in the first half and two more
+pub middle_within : (cells : List (List ℕ)) (most middle : ℕ) → IsOverfull cells → length cells ≤ most + 2 → most < middle → size_of (take (middle - 1) cells) < 2040 → ⊥
+middle_within cells most middle w l h f =
+    let front = size_grows most (middle - 1) cells (omega arith) in
+    let rest = size_small (drop most cells) (small_drop most cells w.small) in
+    let n : length (drop most cells) ≡ length cells - most = length-drop most cells in
+    omega (arith, front, f, rest, n, l, size_parts most cells, w.over)

@@ -95,12 +95,16 @@ fn middle_of(cells: &[&[u8]]) -> usize
 }
 
 /// Where to cut cells so that at most so many are in the first part. At the right edge of a tree
-/// the first part keeps all that fits.
+/// the first part keeps all that fits; elsewhere it takes half of a page at least, and the second
+/// part a quarter.
 fn place_to_cut(cells: &[&[u8]], is_last: bool, most: usize) -> usize
     requires { most < length cells.now }
     ensures within { result ≤ most }
     ensures fits { length cells.now ≤ most + 2 → IsOverfull (lent cells.now)
         → (0 < result) × Fits (take result (lent cells.now)) × Fits (drop result (lent cells.now)) }
+    ensures filled { is_last ≡ false → length cells.now ≤ most + 2 → IsOverfull (lent cells.now)
+        → (2040 ≤ size_of (take result (lent cells.now))) × (1028 ≤ size_of (drop result (lent cells.now))) }
+    ensures full { is_last ≡ true → Fits (take most (lent cells.now)) → result ≡ most }
 {
     let middle = middle_of(cells);
     if most < middle {
@@ -113,11 +117,16 @@ fn place_to_cut(cells: &[&[u8]], is_last: bool, most: usize) -> usize
 }
 
 /// Where cells that are too many for a page are cut in two parts that fit, of which the second has
-/// at least so many cells.
+/// at least so many cells. At the right edge of a tree the first part keeps all other cells, where
+/// they fit; elsewhere it takes half of a page at least, and the second part a quarter.
 pub(crate) fn cut_of(cells: &[&[u8]], is_last: bool, least: usize) -> Option<usize>
     ensures cut { IfSome result (λ at. (0 < at) × (at + least ≤ length cells.now) × (0 < least)
         × Fits (take at (lent cells.now)) × Fits (drop at (lent cells.now))) }
     ensures found { 0 < least → least ≤ 2 → IsOverfull (lent cells.now) → IsSome result }
+    ensures filled { IfSome result (λ at. is_last ≡ false → least ≤ 2 → IsOverfull (lent cells.now)
+        → (2040 ≤ size_of (take at (lent cells.now))) × (1028 ≤ size_of (drop at (lent cells.now)))) }
+    ensures full { IfSome result (λ at. is_last ≡ true → Fits (take (length cells.now - least) (lent cells.now))
+        → at ≡ length cells.now - least) }
 {
     if least == 0 || cells.len() <= least {
         return None;
