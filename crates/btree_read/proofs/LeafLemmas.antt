@@ -22,22 +22,22 @@ use Rattle.btree_read.specs.Leaves.{Names, LeadsOn, SeesBelow, HasNoLinkedTree, 
 
 -- ---- leaves that lead on
 
-leads_join : (xs ys : List (ℕ × ℕ)) (from mid to : Option ℕ) → LeadsOn xs from mid → LeadsOn ys mid to → LeadsOn (xs ++ ys) from to
+pub leads_join : (xs ys : List (ℕ × ℕ)) (from mid to : Option ℕ) → LeadsOn xs from mid → LeadsOn ys mid to → LeadsOn (xs ++ ys) from to
 leads_join [] ys from mid to h g = subst (λ o. LeadsOn ys o to) (sym h) g
 leads_join (x ∷ xs) ys from mid to h g = (h.0, leads_join xs ys (Some x.1) mid to h.1 g)
 
-record AreMeeting (xs ys : List (ℕ × ℕ)) (from to : Option ℕ) : Type 0 where
+pub record AreMeeting (xs ys : List (ℕ × ℕ)) (from to : Option ℕ) : Type 0 where
   pub mid : Option ℕ
   pub left : LeadsOn xs from mid
   pub right : LeadsOn ys mid to
 
-leads_cut : (xs ys : List (ℕ × ℕ)) (from to : Option ℕ) → LeadsOn (xs ++ ys) from to → AreMeeting xs ys from to
+pub leads_cut : (xs ys : List (ℕ × ℕ)) (from to : Option ℕ) → LeadsOn (xs ++ ys) from to → AreMeeting xs ys from to
 leads_cut [] ys from to h = record { mid = from; left = refl; right = h }
 leads_cut (x ∷ xs) ys from to h =
     let w = leads_cut xs ys (Some x.1) to h.1 in
     record { mid = w.mid; left = (h.0, w.left); right = w.right }
 
-leads_one : (xs : List (ℕ × ℕ)) (from a b : Option ℕ) → LeadsOn xs from a → LeadsOn xs from b → a ≡ b
+pub leads_one : (xs : List (ℕ × ℕ)) (from a b : Option ℕ) → LeadsOn xs from a → LeadsOn xs from b → a ≡ b
 leads_one [] from a b h g = sym h ∙ g
 leads_one (x ∷ xs) from a b h g = leads_one xs (Some x.1) a b h.1 g.1
 
@@ -54,12 +54,12 @@ leads_none xs first others from to e h =
     let g : Leads from (first ∷ others) to = subst (λ ls. Leads from ls to) e h in
     subst (λ ls. LeadsOn ls None (Some to)) (sym e) (tt, leads_known others first.1 to g.1)
 
-record HasFirst (xs : List (ℕ × ℕ)) : Type 0 where
+pub record HasFirst (xs : List (ℕ × ℕ)) : Type 0 where
   pub first : ℕ × ℕ
   pub others : List (ℕ × ℕ)
   pub is : xs ≡ first ∷ others
 
-first_leaf : (d : ℕ) (t : Tree d) → HasFirst (leaves_of d t)
+pub first_leaf : (d : ℕ) (t : Tree d) → HasFirst (leaves_of d t)
 first_leaf zero t = record { first = (t.page, t.next); others = []; is = refl }
 first_leaf (suc d) t =
     let w = first_leaf d t.first in
@@ -225,7 +225,7 @@ seen_inner pages page view n was now s k all f (suc d) t lo hi u =
 
 -- ---- at the root
 
-tree_leads : (pages : PageMap) (r : ℕ) (owned : List ℕ) (entries : List Entry) (w : IsTree pages (suc r) owned entries) → LeadsOn (leaves_of w.depth w.tree) None (Some 0)
+pub tree_leads : (pages : PageMap) (r : ℕ) (owned : List ℕ) (entries : List Entry) (w : IsTree pages (suc r) owned entries) → LeadsOn (leaves_of w.depth w.tree) None (Some 0)
 tree_leads pages r owned entries w =
     let x = first_leaf w.depth w.tree in
     leads_none (leaves_of w.depth w.tree) x.first x.others w.leftmost 0 x.is w.links

@@ -10,6 +10,7 @@ pub mod LastLemmas
 pub mod CountLemmas
 pub mod LeafLemmas
 pub mod BlockLemmas
+pub mod SeenLemmas
 pub mod EntryLemmas
 pub mod AscendLemmas
 pub mod NearLemmas

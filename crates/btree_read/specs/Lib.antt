@@ -4,4 +4,5 @@ pub mod Sorted
 pub mod Tree
 pub mod Search
 pub mod Leaves
+pub mod Blocks
 pub mod Near

@@ -49,7 +49,7 @@ fn scan_below<R: PageReader>(
 }
 
 /// Whether the last leaf names no leaf behind it.
-fn has_ended(named: Option<u32>) -> bool
+pub(crate) fn has_ended(named: Option<u32>) -> bool
     ensures yes { result ≡ true → named ≡ Some 0 }
     ensures other { result ≡ false → named ≡ Some 0 → ⊥ }
 {

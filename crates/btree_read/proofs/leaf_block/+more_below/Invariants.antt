@@ -1,0 +1,15 @@
+use Rattle.std.proofs.Common.{◌≡◌, ◌≤◌, ◌+◌}
+use Rattle.btree_read.proofs.SeenLemmas.{StaysMore}
+use Rattle.btree_read.proofs.leaf_block.+more_below.Given as goal
+
+abbrev pub decreases-more_below : goal.decreases-more_below
+decreases-more_below g l = l.levels
+
+abbrev pub invariant-loop-i : goal.invariant-loop-i
+invariant-loop-i g l = record {
+  same : g.R.PageReader.pages l.space ≡ g.R.PageReader.pages l.fn.space;
+  stays : StaysMore (g.R.PageReader.pages l.fn.space) l.page l.fn.seen l.seen (l.i + 1);
+  whole : g.R.PageReader.is_whole l.fn.space → g.R.PageReader.is_whole l.space;
+  rising : g.R.PageReader.refused l.fn.space ≤ g.R.PageReader.refused l.space;
+  follows : g.R.PageReader.follows l.fn.space l.space;
+}
