@@ -3,7 +3,6 @@ pub mod WalkLemmas
 pub mod SoughtLemmas
 pub mod StepLemmas
 pub mod StandLemmas
-pub mod FirstLemmas
 pub mod PlaceLemmas
 pub mod BlockLemmas
 pub mod AheadLemmas

@@ -17,7 +17,6 @@ ghost use Rattle.index_lookups.specs.Begun.{MaySkip, MayPass, rows_within, block
 
 use crate::lookups::{no_rows, start_above, start_of};
 use crate::places::{Place, index_at};
-use crate::scanning::rows_after;
 use crate::sought::Sought;
 use crate::walking::{FIRST, some_from};
 use btree_read::{Start, entries_from};
@@ -30,11 +29,11 @@ use std::alloc::Global;
 use std::ops::Bound;
 use store::{Numbered, Position};
 use stored_tables::find_table;
+use tablestore::some_rows;
 
 /// The first rows above a number of the table of a name, at most so many; none where no table has
-/// the name. Wherever a schema lies they have the types of the table's columns. Above a number it
-/// reads the pages on one way down, and those behind it that have such rows; for the first rows it
-/// looks at all leaves of the table once, and so finds those that do not hang together.
+/// the name. Wherever a schema lies they have the types of the table's columns. It reads the pages
+/// on one way down, and those of the leaves behind it, until there are so many rows.
 ///
 /// Refused as `seek` is.
 pub fn scan_block<R: PageReader>(
@@ -59,7 +58,7 @@ pub fn scan_block<R: PageReader>(
     match find_table(space, alloc, known, root, name) {
         Ok(Some(table)) => {
             let columns = table.columns.as_slice();
-            rows_after(space, alloc, table.root, columns, after, most)
+            some_rows(space, alloc, table.root, columns, after, most)
         }
         Ok(None) => Ok(no_rows(alloc)),
         Err(fault) => Err(fault),

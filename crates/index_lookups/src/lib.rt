@@ -5,7 +5,6 @@ mod blocks;
 mod keys;
 mod lookups;
 mod places;
-mod scanning;
 mod sought;
 mod walking;
 

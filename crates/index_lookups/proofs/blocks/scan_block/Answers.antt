@@ -18,29 +18,29 @@ use Rattle.index_lookups.proofs.blocks.scan_block.Goals as goal
 pub returns-in-Ok-Some-clause-rows : goal.returns-in-Ok-Some-clause-rows
 returns-in-Ok-Some-clause-rows g c = λ tables h.
     let r = rows_found (g.R.PageReader.pages c.args.space.now) c.args.root c.args.name.now tables c.in-Ok-Some.table h (sym (c.in-Ok-Some.ensures.found h.owned (declared_of tables) h.trees.each.0) ∙ c.in-Ok-Some.field-0-is) in
-    c.rows_after.ensures.found r.0 (entries_of (get (contents_of tables) c.args.name.now)) (subst (λ (cs : List Column). HoldsFitting (g.R.PageReader.pages c.find_table.new.space) c.in-Ok-Some.table.root r.0 cs (entries_of (get (contents_of tables) c.args.name.now))) (sym c.as_slice-columns.ensures)
+    c.some_rows.ensures.found r.0 (entries_of (get (contents_of tables) c.args.name.now)) (subst (λ (cs : List Column). HoldsFitting (g.R.PageReader.pages c.find_table.new.space) c.in-Ok-Some.table.root r.0 cs (entries_of (get (contents_of tables) c.args.name.now))) (sym c.as_slice-columns.ensures)
     (subst (λ (p : PageMap). HoldsFitting p c.in-Ok-Some.table.root r.0 c.in-Ok-Some.table.columns (entries_of (get (contents_of tables) c.args.name.now))) (sym c.find_table.ensures.same) r.1))
 
 pub returns-in-Ok-Some-clause-typed : goal.returns-in-Ok-Some-clause-typed
 returns-in-Ok-Some-clause-typed g c = λ owned tables h.
-    subst (λ (found : Option Table). IfOk c.rows_after.result (λ rows. AreTyped found rows.rows)) (sym c.in-Ok-Some.field-0-is ∙ c.in-Ok-Some.ensures.found owned tables h)
-    (subst (λ (cs : List Column). IfOk c.rows_after.result (λ rows. AllByRecursion (RowFits cs) rows.rows)) c.as_slice-columns.ensures c.rows_after.ensures.typed)
+    subst (λ (found : Option Table). IfOk c.some_rows.result (λ rows. AreTyped found rows.rows)) (sym c.in-Ok-Some.field-0-is ∙ c.in-Ok-Some.ensures.found owned tables h)
+    (subst (λ (cs : List Column). IfOk c.some_rows.result (λ rows. AllByRecursion (RowFits cs) rows.rows)) c.as_slice-columns.ensures c.some_rows.ensures.typed)
 
 pub returns-in-Ok-Some-clause-refusal : goal.returns-in-Ok-Some-clause-refusal
 returns-in-Ok-Some-clause-refusal g c =
-    reads_later c.rows_after.result (HoldsNoFitting (g.R.PageReader.pages c.find_table.new.space) c.in-Ok-Some.table.root c.as_slice-columns.result.now) (HoldsNoDatabase (g.R.PageReader.pages c.args.space.now) c.args.root)
-    (g.R.PageReader.refused c.args.space.now) (g.R.PageReader.refused c.find_table.new.space) (g.R.PageReader.refused c.rows_after.new.space)
+    reads_later c.some_rows.result (HoldsNoFitting (g.R.PageReader.pages c.find_table.new.space) c.in-Ok-Some.table.root c.as_slice-columns.result.now) (HoldsNoDatabase (g.R.PageReader.pages c.args.space.now) c.args.root)
+    (g.R.PageReader.refused c.args.space.now) (g.R.PageReader.refused c.find_table.new.space) (g.R.PageReader.refused c.some_rows.new.space)
     (λ none tables h.
     let r = rows_found (g.R.PageReader.pages c.args.space.now) c.args.root c.args.name.now tables c.in-Ok-Some.table h (sym (c.in-Ok-Some.ensures.found h.owned (declared_of tables) h.trees.each.0) ∙ c.in-Ok-Some.field-0-is) in
     none r.0 (entries_of (get (contents_of tables) c.args.name.now)) (subst (λ (cs : List Column). HoldsFitting (g.R.PageReader.pages c.find_table.new.space) c.in-Ok-Some.table.root r.0 cs (entries_of (get (contents_of tables) c.args.name.now))) (sym c.as_slice-columns.ensures)
     (subst (λ (p : PageMap). HoldsFitting p c.in-Ok-Some.table.root r.0 c.in-Ok-Some.table.columns (entries_of (get (contents_of tables) c.args.name.now))) (sym c.find_table.ensures.same) r.1)))
-    c.find_table.ensures.rising c.rows_after.ensures.refusal
+    c.find_table.ensures.rising c.some_rows.ensures.refusal
 
 pub returns-in-Ok-Some-clause-whole : goal.returns-in-Ok-Some-clause-whole
-returns-in-Ok-Some-clause-whole g c = λ whole. c.rows_after.ensures.whole (c.find_table.ensures.whole whole)
+returns-in-Ok-Some-clause-whole g c = λ whole. c.some_rows.ensures.whole (c.find_table.ensures.whole whole)
 
 pub returns-in-Ok-Some-clause-follows : goal.returns-in-Ok-Some-clause-follows
-returns-in-Ok-Some-clause-follows g c = g.met.R.PageReader.follows_trans _ _ _ c.find_table.ensures.follows c.rows_after.ensures.follows
+returns-in-Ok-Some-clause-follows g c = g.met.R.PageReader.follows_trans _ _ _ c.find_table.ensures.follows c.some_rows.ensures.follows
 
 pub returns-in-Ok-None-clause-rows : goal.returns-in-Ok-None-clause-rows
 returns-in-Ok-None-clause-rows g c = λ tables h.
