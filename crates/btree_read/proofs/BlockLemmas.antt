@@ -30,11 +30,6 @@ no_room zero xs ys h = refl
 no_room (suc n) [] ys h = absurd (omega (arith, h))
 no_room (suc n) (x ∷ xs) ys h = ap (λ zs. x ∷ zs) (no_room n xs ys (omega (arith, h)))
 
-pub at_most : {A : Type 0} (n : ℕ) (xs : List A) → length (take n xs) ≤ n
-at_most zero xs = omega arith
-at_most (suc n) [] = omega arith
-at_most (suc n) (x ∷ xs) = let rest = at_most n xs in omega (arith, rest)
-
 pub all_room : {A : Type 0} (n : ℕ) (xs : List A) → length xs ≤ n → take n xs ≡ xs
 all_room zero [] h = refl
 all_room zero (x ∷ xs) h = absurd (omega (arith, h))
@@ -47,11 +42,22 @@ pub more_taken : {A : Type 0} (n : ℕ) (was now later xs ys : List A) → now �
 more_taken n was now later xs ys a b =
     b ∙ ap (λ zs. take n (zs ++ ys)) a ∙ room_left n (was ++ xs) ys ∙ ap (take n) (append_assoc was xs ys)
 
--- where there is no room nothing is taken
-pub none_taken : {A : Type 0} (n : ℕ) (xs ys : List A) → length xs ≤ n → n ≤ length xs → xs ≡ take n (xs ++ ys)
-none_taken n xs ys few full =
-    let all = all_room n xs few in
-    sym (no_room n xs ys (subst (λ zs. n ≤ length zs) (sym all) full) ∙ all)
+-- where there are enough nothing more is taken
+pub enough : {A : Type 0} (n : ℕ) (was now xs ys : List A) → n ≤ length now → now ≡ take n (was ++ xs) → now ≡ take n (was ++ (xs ++ ys))
+enough n was now xs ys full e =
+    e ∙ sym (no_room n (was ++ xs) ys (subst (λ zs. n ≤ length zs) e full)) ∙ ap (take n) (append_assoc was xs ys)
+
+take_and_drop : (n : ℕ) (cells : List (List ℕ)) → take n cells ++ drop n cells ≡ cells
+take_and_drop zero cells = refl
+take_and_drop (suc n) [] = refl
+take_and_drop (suc n) (x ∷ cells) = ap (λ xs. x ∷ xs) (take_and_drop n cells)
+
+map_parts : (xs ys : List (List ℕ)) → map entry_of xs ++ map entry_of ys ≡ map entry_of (xs ++ ys)
+map_parts [] ys = refl
+map_parts (x ∷ xs) ys = ap (λ zs. entry_of x ∷ zs) (map_parts xs ys)
+
+pub parts_of : (n : ℕ) (cells : List (List ℕ)) → map entry_of (take n cells) ++ map entry_of (drop n cells) ≡ map entry_of cells
+parts_of n cells = map_parts (take n cells) (drop n cells) ∙ ap (map entry_of) (take_and_drop n cells)
 
 -- the next of the cells behind a place
 next_cell : (cells : List (List ℕ)) (n m at : ℕ) → at ≡ n + m → at < length cells
@@ -139,10 +145,6 @@ taken_leaf pages page view start k most was now (Ok x) s kind h zero t lo hi u =
 taken_leaf pages page view start k most was now (Err e) s kind h zero t lo hi u = tt
 taken_leaf pages page view start k most was now result s kind h (suc d) t lo hi u = absurd (no_inner pages page view d t lo hi s kind u)
 
-pub taken_full : (pages : PageMap) (page : ℕ) (start : Start) (k : Key) (most : ℕ) (was : List Entry) → length was ≤ most → most ≤ length was
-    → TakesBelow pages page start k most was was (Ok tt)
-taken_full pages page start k most was few full d t lo hi u = none_taken most was (from_on start k (entries_of d t)) few full
-
 module _ (pages mid : PageMap) (page : ℕ) (view : PageView) (child at : ℕ) (start : Start) (k : Key) (most : ℕ) (was now : List Entry)
     (e : mid ≡ pages) (sees : Sees pages page view) (kind : view.kind ≡ Inner) (inside : at ≤ length view.cells)
     (c : child ≡ child_at view.link (map branch_of view.cells) at) where
@@ -177,6 +179,19 @@ taken_inner pages page view n start k most was now s kind all f (suc d) t lo hi 
     let e : n + 1 ≡ suc (length t.rest) = add-one n ∙ ap suc (all ∙ m) in
     subst (StaysTaken pages page start k most was now) e f d t lo hi u
     ∙ ap (λ es. take most (was ++ from_on start k es)) (firsts_all (entries_of d) t.first t.rest)
+
+-- where there are enough, the other children are not looked at
+pub taken_enough : (pages : PageMap) (page : ℕ) (view : PageView) (at : ℕ) (start : Start) (k : Key) (most : ℕ) (was now : List Entry)
+    → Sees pages page view → view.kind ≡ Inner → at ≤ length view.cells → most ≤ length now → StaysTaken pages page start k most was now at
+    → TakesBelow pages page start k most was now (Ok tt)
+taken_enough pages page view at start k most was now s kind within full f zero t lo hi u = absurd (no_leaf pages page view t lo hi s kind u)
+taken_enough pages page view at start k most was now s kind within full f (suc d) t lo hi u =
+    let m = as_many pages page view d t lo hi s kind u in
+    let b = next_child (entries_of d) t.first t.rest at (omega (arith, within, m)) in
+    let xs : List Entry = firsts (entries_of d) t.first t.rest at in
+    let ys : List Entry = entries_of d (kid_at t.first t.rest at) ++ b.after in
+    enough most was now (from_on start k xs) (from_on start k ys) full (f d t lo hi u)
+    ∙ ap (λ es. take most (was ++ es)) (sym (ap (from_on start k) b.all ∙ from_append start k xs ys))
 
 -- ---- at the root
 

@@ -10,14 +10,13 @@ use Rattle.sqlrecord.specs.Page.{PageView, key_of}
 use Rattle.btree_read.specs.declared.entry.Entry.{Entry}
 use Rattle.btree_read.specs.declared.entry.Start.{Start}
 use Rattle.btree_read.specs.declared.entry.Start.TheVariants.{At, Behind}
-use Rattle.btree_read.specs.declared.leaf_block.Block.{Block}
 use Rattle.btree_read.specs.declared.leaf_block.Seen.{Seen}
-use Rattle.btree_read.specs.Blocks.{entries_in_block, IsWanted, SeesSome, SeesMore, LeadTo, Begins, BeginsBelow, HasNoLinkedLeaves, HasFirst}
+use Rattle.btree_read.specs.Blocks.{IsWanted, SeesSome, SeesMore, LeadTo, Begins, BeginsBelow, HasNoLinkedLeaves, HasFirst}
 use Rattle.btree_read.specs.Leaves.{Names, LeadsOn}
 use Rattle.btree_read.specs.Nodes.{Key, Node, HasNode, precedes, entry_of, branch_of}
 use Rattle.btree_read.specs.Search.{IsUnder, IsNoTree, HasNoTree, Sees, child_at, route_of}
 use Rattle.btree_read.specs.Sorted.{from_on, is_from}
-use Rattle.btree_read.specs.Tree.{Tree, Chain, Ordered, kids, entries_of, leaves_of, IsTree}
+use Rattle.btree_read.specs.Tree.{Tree, Chain, Ordered, entries_of, leaves_of}
 use Rattle.btree_read.proofs.BlockLemmas.{room_left, no_room, from_append, none_from, from_place, before_way}
 use Rattle.btree_read.proofs.ChainLemmas.{all_behind, way, flat, within_tree, within_chain}
 use Rattle.btree_read.proofs.Kids.{kid_at, low_at, high_at}

@@ -1,6 +1,6 @@
 //! Entries from a key on, at most so many: one way down, and then from leaf to leaf.
 
-ghost use Rattle.std.specs.Prelude.{◌≡◌, ◌<◌, ◌≤◌, ◌++◌, ◌∷◌, [], map, take, length, slice_index_or, IfErr, OnOk};
+ghost use Rattle.std.specs.Prelude.{◌≡◌, ◌≤◌, ◌++◌, map, take, length, IfErr, OnOk};
 ghost use Rattle.page_space.specs.Space.{ReadRefused};
 ghost use Rattle.btree_read.specs.Nodes.{entry_of};
 ghost use Rattle.btree_read.specs.Search.{AnswersAt, HasNoTree, IsNoTree, TakesBelow};
@@ -14,24 +14,6 @@ use items::Items;
 use page_space::{PAGE_SIZE, PageReader, SpaceError};
 use sqlrecord::{PageKind, SlotPage};
 use std::alloc::{AllocError, Global};
-
-/// Puts an entry of a leaf behind others, unless there are so many.
-fn put_if_room(
-    alloc: Global,
-    leaf: &SlotPage<'_>,
-    place: usize,
-    most: usize,
-    entries: &mut Items<Entry>,
-) -> Result<(), AllocError>
-    requires place { place < length leaf.now.cells }
-    requires few { length entries.old ≤ most }
-    ensures { OnOk result (entries.new ≡ take most (entries.old ++ entry_of (slice_index_or leaf.now.cells place []) ∷ [])) }
-{
-    if entries.len() >= most {
-        return Ok(());
-    }
-    entries.push(entry_at(alloc, leaf, place)?)
-}
 
 /// Puts the entries of a leaf from there on behind others, until there are so many.
 fn take_from(
@@ -48,7 +30,10 @@ fn take_from(
 {
     let first = first_place(leaf, start, key);
     for i in first..leaf.len() {
-        put_if_room(alloc, leaf, i, most, entries)?;
+        if entries.len() >= most {
+            return Ok(());
+        }
+        entries.push(entry_at(alloc, leaf, i)?)?;
     }
     Ok(())
 }
@@ -73,9 +58,6 @@ fn some_below<R: PageReader>(
     ensures rising { R.refused space.old ≤ R.refused space.new }
     ensures follows { R.follows space.old space.new }
 {
-    if found.len() >= most {
-        return Ok(());
-    }
     let mut buffer = [0; PAGE_SIZE];
     let node = read_node(space, page, &mut buffer)?;
     match node.kind() {
@@ -88,6 +70,9 @@ fn some_below<R: PageReader>(
             let first = child_at(&node, at);
             some_below(space, alloc, first, levels - 1, start, key, most, found)?;
             for i in at..node.len() {
+                if found.len() >= most {
+                    return Ok(());
+                }
                 let child = child_at(&node, i + 1);
                 some_below(space, alloc, child, levels - 1, start, key, most, found)?;
             }

@@ -1,8 +1,7 @@
 //! The first entries from a key on, at most so many, as they lie in their leaves: one way down, and
 //! then from leaf to leaf, the link of each leaf compared with the leaf that follows.
 
-ghost use Rattle.std.specs.Prelude.{◌≡◌, ◌<◌, ◌≤◌, ◌-◌, ◌++◌, ◌∷◌, [], None, Some, true, map, take, length, IfOk, IfErr, OnOk};
-ghost use Rattle.sqlrecord.specs.declared.kind.PageKind.TheVariants.{Leaf};
+ghost use Rattle.std.specs.Prelude.{◌≡◌, ◌<◌, ◌≤◌, ◌-◌, ◌++◌, ◌∷◌, [], None, Some, true, map, length, IfOk, IfErr, OnOk};
 ghost use Rattle.page_space.specs.Space.{ReadRefused};
 ghost use Rattle.btree_read.specs.Nodes.{entry_of};
 ghost use Rattle.btree_read.specs.Search.{IsNoTree};
@@ -70,7 +69,8 @@ fn see_first(
     requires entries { seen.old.walk.entries ≡ [] }
     requires named { seen.old.walk.named ≡ None }
     ensures begins { IfOk result (λ first.
-        Begins seen.old.wanted (from_on start key.now (map entry_of leaf.now.cells)) ((page, leaf.now.link) ∷ []) first seen.new) }
+        Begins seen.old.wanted (from_on start key.now (map entry_of leaf.now.cells))
+        ((page, leaf.now.link) ∷ []) first seen.new) }
     ensures refusal { IfErr result (ReadRefused ⊥ 0 0) }
 {
     match see_leaf(alloc, page, leaf, &mut seen.walk) {

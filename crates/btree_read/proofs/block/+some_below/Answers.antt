@@ -1,5 +1,5 @@
-use Rattle.std.proofs.Common.{refl, le_trans, ◌+◌, ◌∙◌, Ok, sym, arith}
-use Rattle.btree_read.proofs.BlockLemmas.{child_taken, first_taken, one_further, taken_inner, taken_leaf}
+use Rattle.std.proofs.Common.{le_trans, ◌+◌, ◌∙◌, Ok, sym, arith}
+use Rattle.btree_read.proofs.BlockLemmas.{child_taken, first_taken, one_further, taken_enough, taken_inner, taken_leaf}
 use Rattle.btree_read.proofs.NodeLemmas.{harm_weaker, read_refused, never_ok, err_passed, memory_passed}
 use Rattle.btree_read.proofs.PlaceLemmas.{route_at}
 use Rattle.btree_read.proofs.SearchLemmas.{no_child_no_tree, no_level_left, no_node_no_tree}
@@ -193,20 +193,28 @@ returns-after-loop-i-clause-rising g t c = c.loop-i.invariant.rising
 pub returns-after-loop-i-clause-follows : goal.returns-after-loop-i-clause-follows
 returns-after-loop-i-clause-follows g t c = c.loop-i.invariant.follows
 
+pub returns-then-len-most-clause-taken : goal.returns-then-len-most-clause-taken
+returns-then-len-most-clause-taken g t c =
+    taken_enough _ _ _ (c.loop-i.i + 1) c.args.start c.args.key.now c.args.most c.args.found.now c.loop-i.found c.in_ok-node.ensures.node (sym c.in-Inner.ensures)
+    (omega (arith, c.loop-i-test.true, c.loop-i.auto.i-end, c.len-i-end.ensures.length)) (omega (arith, c.if-len-most.true)) c.loop-i.invariant.stays
+
 pub returns-then-len-most-clause-few : goal.returns-then-len-most-clause-few
-returns-then-len-most-clause-few g t c = c.requires
+returns-then-len-most-clause-few g t c = c.loop-i.invariant.few
 
 pub returns-then-len-most-clause-same : goal.returns-then-len-most-clause-same
-returns-then-len-most-clause-same g t c = refl
+returns-then-len-most-clause-same g t c = c.loop-i.invariant.same
 
 pub returns-then-len-most-clause-whole : goal.returns-then-len-most-clause-whole
-returns-then-len-most-clause-whole g t c = λ w. w
+returns-then-len-most-clause-whole g t c = c.loop-i.invariant.whole
 
 pub returns-then-len-most-clause-refusal : goal.returns-then-len-most-clause-refusal
 returns-then-len-most-clause-refusal g t c = tt
 
+pub returns-then-len-most-clause-rising : goal.returns-then-len-most-clause-rising
+returns-then-len-most-clause-rising g t c = c.loop-i.invariant.rising
+
 pub returns-then-len-most-clause-follows : goal.returns-then-len-most-clause-follows
-returns-then-len-most-clause-follows g t c = g.met.R.PageReader.follows_refl _
+returns-then-len-most-clause-follows g t c = c.loop-i.invariant.follows
 
 pub kind-requires : goal.kind-requires
 kind-requires g t c = tt
