@@ -1,5 +1,5 @@
 //! Rows from the entries of a tree.
-ghost use Rattle.std.specs.Prelude.{◌≡◌, ◌++◌, ◌<◌, ◌^◌, true, List, ℕ, Option, Some, map, IfOk, IfSome, OnOk};
+ghost use Rattle.std.specs.Prelude.{◌≡◌, ◌++◌, ◌∷◌, [], ◌+◌, ◌-◌, ◌<◌, ◌^◌, true, List, ℕ, Option, Some, map, take, drop, length, get_or, IfOk, IfSome, OnOk};
 ghost use Rattle.std.specs.List.{AllByRecursion};
 ghost use Rattle.std.specs.Option.{option_map};
 ghost use Rattle.sqlval.specs.Value.{Row as AnyRow};
@@ -7,13 +7,14 @@ ghost use Rattle.sqlrecord.specs.Key.{number_code};
 ghost use Rattle.sqlrecord.specs.Row.{IsCodeOf, row_code};
 ghost use Rattle.btree_read.specs.declared.entry.Entry.{Entry as AnyEntry};
 ghost use Rattle.btree_read.specs.Nodes.{entry_of as cell_entry};
+ghost use Rattle.btree_read.specs.Blocks.{entries_in_block};
 ghost use Rattle.store.specs.Contents as stored;
 ghost use Rattle.store.specs.View.{AreEntries, IsEntry, entry_of};
 ghost use Rattle.tablestore.specs.Held.{row_entry, entries_of, IsKept, AreKept, AreLeft, RowFits, Fits, AreFitting, IsNumbered, Gives};
 
 use crate::fitting::fits_columns;
 use crate::number::NUMBERS;
-use btree_read::{Entries, Entry};
+use btree_read::{Block, Entries, Entry};
 use denote::Row;
 use items::Items;
 use sqlrecord::{DecodeError, SlotPage, decode_row, row_number_of};
@@ -92,6 +93,28 @@ pub(crate) fn row_of_entry(
     }
 }
 
+/// Puts the row of a cell of a leaf behind others, with its number.
+fn put_row(
+    alloc: Global,
+    columns: &[Column],
+    leaf: &SlotPage<'_>,
+    place: usize,
+    found: &mut Numbered,
+) -> Result<(), DecodeError>
+    requires { place < length leaf.now.cells }
+    ensures kept { (more : List AnyEntry) (all : List stored.Entry)
+        → AreLeft columns.now found.old (cell_entry (get_or leaf.now.cells place []) ∷ more) all
+        → Gives result (λ read. AreLeft columns.now found.new more all) }
+    ensures one { OnOk result (length found.new.rows ≡ length found.old.rows + 1) }
+    ensures typed { AllByRecursion (RowFits columns.now) found.old.rows
+        → OnOk result (AllByRecursion (RowFits columns.now) found.new.rows) }
+{
+    let row = row_of_parts(alloc, columns, leaf.key(place), leaf.value(place))?;
+    found.numbers.push(row.number)?;
+    found.rows.push(row.row)?;
+    Ok(())
+}
+
 /// Puts the rows of a leaf behind others, with their numbers.
 fn put_rows(
     alloc: Global,
@@ -106,9 +129,34 @@ fn put_rows(
         → OnOk result (AllByRecursion (RowFits columns.now) found.new.rows) }
 {
     for i in 0..leaf.len() {
-        let row = row_of_parts(alloc, columns, leaf.key(i), leaf.value(i))?;
-        found.numbers.push(row.number)?;
-        found.rows.push(row.row)?;
+        put_row(alloc, columns, leaf, i, found)?;
+    }
+    Ok(())
+}
+
+/// Puts the rows of a leaf behind others, with their numbers, but for the first ones, which are
+/// passed over, until there are so many.
+fn put_some(
+    alloc: Global,
+    columns: &[Column],
+    leaf: &SlotPage<'_>,
+    passed: usize,
+    most: usize,
+    found: &mut Numbered,
+) -> Result<(), DecodeError>
+    ensures kept { (more : List AnyEntry) (all : List stored.Entry)
+        → AreLeft columns.now found.old
+        (take (most - length found.old.rows) (drop passed (map cell_entry leaf.now.cells ++ more))) all
+        → Gives result (λ read. AreLeft columns.now found.new
+        (take (most - length found.new.rows) (drop (passed - length leaf.now.cells) more)) all) }
+    ensures typed { AllByRecursion (RowFits columns.now) found.old.rows
+        → OnOk result (AllByRecursion (RowFits columns.now) found.new.rows) }
+{
+    for i in passed..leaf.len() {
+        if found.rows.len() >= most {
+            return Ok(());
+        }
+        put_row(alloc, columns, leaf, i, found)?;
     }
     Ok(())
 }
@@ -135,24 +183,29 @@ pub(crate) fn rows_of_leaves(
     Ok(found)
 }
 
-/// The rows of entries, with their numbers.
-pub(crate) fn rows_of_entries(
+/// The rows of a block of at most so many, with their numbers.
+pub(crate) fn rows_of_block(
     alloc: Global,
     columns: &[Column],
-    entries: &[Entry],
+    block: &Block,
+    most: usize,
 ) -> Result<Numbered, DecodeError>
-    ensures kept { (all : List stored.Entry) → AreKept all → AreFitting columns.now all → entries.now ≡ entries_of all
-        → Gives result (λ found. AreEntries found all) }
+    ensures kept { (all : List stored.Entry) → AreKept all → AreFitting columns.now all
+        → entries_in_block most block.now ≡ entries_of all → Gives result (λ found. AreEntries found all) }
     ensures typed { IfOk result (λ found. AllByRecursion (RowFits columns.now) found.rows) }
 {
-    let mut numbers = Items::new(alloc);
-    let mut rows = Items::new(alloc);
-    for entry in entries {
-        let found = row_of_entry(alloc, columns, entry)?;
-        numbers.push(found.number)?;
-        rows.push(found.row)?;
+    let mut found = Numbered {
+        numbers: Items::new(alloc),
+        rows: Items::new(alloc),
+    };
+    let mut passed = block.first;
+    let leaves = block.leaves.leaves();
+    for leaf in leaves {
+        let page = leaf.page();
+        put_some(alloc, columns, &page, passed, most, &mut found)?;
+        passed = passed.saturating_sub(page.len());
     }
-    Ok(Numbered { numbers, rows })
+    Ok(found)
 }
 
 /// The row of an entry, where one was found.

@@ -6,12 +6,12 @@ ghost use Rattle.store.specs.Contents as stored;
 ghost use Rattle.store.specs.View.{AreEntries, IsEntry, entry_of};
 ghost use Rattle.store.specs.Indexes.{entry_after, some_after};
 ghost use Rattle.page_space.specs.Space.{ReadRefused};
+ghost use Rattle.btree_read.specs.Blocks.{entries_in_block};
 ghost use Rattle.btree_read.specs.Near.{LiesIn};
 ghost use Rattle.tablestore.specs.Held.{entries_of, row_entry, HoldsRows, HoldsNoRows, HoldsFitting, HoldsNoFitting, RowFits, Fits};
 
-use crate::decoding::{row_found, rows_of_entries, rows_of_leaves};
-use btree_read::{Entry, LastLeaf, Start, entries_from, seek};
-use items::Items;
+use crate::decoding::{row_found, rows_of_block, rows_of_leaves};
+use btree_read::{Block, Entry, LastLeaf, Start, block_from, seek};
 use page_space::{PageReader, SpaceError};
 use sqlrecord::DecodeError;
 use sqlval::Column;
@@ -192,23 +192,23 @@ pub fn next_near<R: PageReader>(
     }
 }
 
-/// The first entries above a row number, at most so many.
-fn entries_above<R: PageReader>(
+/// The block of the first entries above a row number, at most so many.
+fn block_above<R: PageReader>(
     space: &mut R,
     alloc: Global,
     root: u32,
     number: u64,
     most: usize,
-) -> Result<Items<Entry>, SpaceError>
+) -> Result<Block, SpaceError>
     ensures found { (owned : List ℕ) (rows : List stored.Entry) → HoldsRows (R.pages space.old) root owned rows
-        → IfOk result (λ found. found ≡ entries_of (some_after (Some number) most rows)) }
+        → IfOk result (λ found. entries_in_block most found ≡ entries_of (some_after (Some number) most rows)) }
     ensures same { R.pages space.new ≡ R.pages space.old }
     ensures whole { R.is_whole space.old → R.is_whole space.new }
     ensures refusal { IfErr result (ReadRefused (HoldsNoRows (R.pages space.old) root) (R.refused space.old) (R.refused space.new)) }
     ensures rising { R.refused space.old ≤ R.refused space.new }
     ensures follows { R.follows space.old space.new }
 {
-    entries_from(
+    block_from(
         space,
         alloc,
         root,
@@ -218,16 +218,16 @@ fn entries_above<R: PageReader>(
     )
 }
 
-/// The first entries above a row number, or the first of all, at most so many.
-fn entries_behind<R: PageReader>(
+/// The block of the first entries above a row number, or of the first of all, at most so many.
+fn block_behind<R: PageReader>(
     space: &mut R,
     alloc: Global,
     root: u32,
     after: Option<u64>,
     most: usize,
-) -> Result<Items<Entry>, SpaceError>
+) -> Result<Block, SpaceError>
     ensures found { (owned : List ℕ) (rows : List stored.Entry) → HoldsRows (R.pages space.old) root owned rows
-        → IfOk result (λ found. found ≡ entries_of (some_after after most rows)) }
+        → IfOk result (λ found. entries_in_block most found ≡ entries_of (some_after after most rows)) }
     ensures same { R.pages space.new ≡ R.pages space.old }
     ensures whole { R.is_whole space.old → R.is_whole space.new }
     ensures refusal { IfErr result (ReadRefused (HoldsNoRows (R.pages space.old) root) (R.refused space.old) (R.refused space.new)) }
@@ -235,8 +235,8 @@ fn entries_behind<R: PageReader>(
     ensures follows { R.follows space.old space.new }
 {
     match after {
-        None => entries_from(space, alloc, root, Start::At, &[], most),
-        Some(number) => entries_above(space, alloc, root, number, most),
+        None => block_from(space, alloc, root, Start::At, &[], most),
+        Some(number) => block_above(space, alloc, root, number, most),
     }
 }
 
@@ -263,8 +263,8 @@ pub fn some_rows<R: PageReader>(
     ensures rising { R.refused space.old ≤ R.refused space.new }
     ensures follows { R.follows space.old space.new }
 {
-    let entries = entries_behind(space, alloc, root, after, most)?;
-    match rows_of_entries(alloc, columns, entries.as_slice()) {
+    let block = block_behind(space, alloc, root, after, most)?;
+    match rows_of_block(alloc, columns, &block, most) {
         Ok(found) => Ok(found),
         Err(DecodeError::OutOfMemory) => Err(SpaceError::Memory),
         Err(DecodeError::Damaged) => Err(SpaceError::Damaged),
