@@ -177,7 +177,7 @@ fn is_cut_off(wanted: usize, named: Option<u32>) -> bool
 /// The first entries from there on of the tree at a root, in order, at most so many, as they lie in
 /// their leaves; none in root 0, the tree without entries. It reads the pages on one way down, and
 /// those of the leaves behind it, until there are enough. Refused as `scan` is: also where a leaf
-/// that it sees does not name the one that follows, or the last one of the tree names one.
+/// that it sees does not name the next one, or names one where none follows and more are wanted.
 pub fn block_from<R: PageReader>(
     space: &mut R,
     alloc: Global,
