@@ -9,3 +9,4 @@ pub mod Nodes
 pub mod ReadNodes
 pub mod TableReads
 pub mod Counting
+pub mod Passing

@@ -3,3 +3,4 @@ pub mod Blocks
 pub mod Numbers
 pub mod Parts
 pub mod Reads
+pub mod Sides

@@ -8,6 +8,7 @@ mod made;
 mod named;
 mod pairs;
 mod ranges;
+mod sides;
 mod step;
 mod steps;
 mod tables;

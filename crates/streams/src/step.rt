@@ -1,12 +1,13 @@
 //! What a step of a plan gives.
-ghost use Rattle.std.specs.Prelude.{◌≡◌, ℕ, IfOk, IfErr};
+ghost use Rattle.std.specs.Prelude.{◌≡◌, ℕ, IfOk, IfErr, Ok, Err, Some};
+ghost use Rattle.places.specs.declared.place.Place.TheVariants as p;
 ghost use Rattle.algebra.specs.declared.tree.Tree.{Tree};
 ghost use Rattle.denote.specs.Outcome.{Outcome};
 ghost use Rattle.places.specs.Left.{Entries};
 ghost use Rattle.streams.specs.Reads.{RowsRead, StepReads};
 ghost use Rattle.streams.specs.Steps.{IsPassed, RowsGive, StepGives};
 
-use denote::Rows;
+use denote::{Fault, Rows};
 use places::Place;
 use store::StoreError;
 
@@ -35,4 +36,28 @@ pub(crate) fn put_step(
         }
         Err(error) => Err(error),
     }
+}
+
+/// What was made; what was there to make it goes.
+pub(crate) fn beside<A, T: Drop>(made: A, _rest: T) -> A
+    ensures { result ≡ made }
+{
+    made
+}
+
+/// A refusal; what was there for the step goes.
+pub(crate) fn refused<T: Drop>(error: StoreError, _rest: T) -> Result<Step, StoreError>
+    ensures { result ≡ Err error }
+{
+    Err(error)
+}
+
+/// A step whose list a fault ends; what was there for more of it goes.
+pub(crate) fn ended<T: Drop>(rows: Rows, fault: Fault, _rest: T) -> Result<Step, StoreError>
+    ensures { result ≡ Ok (record { rows = rows; place = p.Ended (Some fault) }) }
+{
+    Ok(Step {
+        rows,
+        place: Place::Ended(Some(fault)),
+    })
 }

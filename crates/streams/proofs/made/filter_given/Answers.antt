@@ -1,4 +1,4 @@
-use Rattle.std.proofs.Common.{◌≡◌, ap, [], ◌≤◌, ◌+◌, arith}
+use Rattle.std.proofs.Common.{◌≡◌, ap, [], ◌≤◌, ◌+◌, arith, refl, inl, inr}
 use Rattle.algebra.specs.Listing.{ended, onwards, row_by_row, truth_listing}
 use Rattle.algebra.specs.declared.tree.Tree.TheVariants as t
 use Rattle.denote.specs.From.{kept_row}
@@ -30,3 +30,21 @@ returns-in-Ok-filtered_moving-clause-reads g c = λ entries below count limit gi
     let next = read-on entries (t.Filter c.args.condition.now below) c.above.result (above c.args.inner) count (to_read entries c.args.inner below) limit c.above.ensures
     (above_read entries c.args.inner (t.Filter c.args.condition.now below) below (λ place goes. read_filter entries place c.args.condition.now below goes)) here in
     c.settled.ensures.reads entries (t.Filter c.args.condition.now below) count limit (omega (arith, here)) next
+
+pub returns-in-Err-clause-rows : goal.returns-in-Err-clause-rows
+returns-in-Err-clause-rows g c = λ entries below meant same given. rw c.refused.ensures tt
+
+pub returns-in-Err-clause-reads : goal.returns-in-Err-clause-reads
+returns-in-Err-clause-reads g c = λ entries below count limit given. rw c.refused.ensures tt
+
+pub returns-in-Err-clause-refused : goal.returns-in-Err-clause-refused
+returns-in-Err-clause-refused g c = rw c.refused.ensures (inr c.in-Err.is)
+
+pub returns-in-Err-filtered_moving-clause-rows : goal.returns-in-Err-filtered_moving-clause-rows
+returns-in-Err-filtered_moving-clause-rows g c = λ entries below meant same given. rw c.refused-in-Err-filtered_moving.ensures tt
+
+pub returns-in-Err-filtered_moving-clause-reads : goal.returns-in-Err-filtered_moving-clause-reads
+returns-in-Err-filtered_moving-clause-reads g c = λ entries below count limit given. rw c.refused-in-Err-filtered_moving.ensures tt
+
+pub returns-in-Err-filtered_moving-clause-refused : goal.returns-in-Err-filtered_moving-clause-refused
+returns-in-Err-filtered_moving-clause-refused g c = rw c.refused-in-Err-filtered_moving.ensures (inl refl)

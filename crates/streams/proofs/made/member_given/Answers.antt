@@ -1,4 +1,4 @@
-use Rattle.std.proofs.Common.{◌≡◌, ap, [], ◌≤◌, ◌+◌, arith}
+use Rattle.std.proofs.Common.{◌≡◌, ap, [], ◌≤◌, ◌+◌, arith, refl, inl, inr}
 use Rattle.algebra.specs.Joined.{is_member}
 use Rattle.algebra.specs.Listing.{ended, onwards, row_by_row, value_listing}
 use Rattle.algebra.specs.declared.tree.Tree.TheVariants as t
@@ -33,3 +33,12 @@ returns-in-Ok-members_kept-clause-reads g c = λ entries others below count limi
     let next = read-on entries tree c.member_place.result (asked_above c.args.members c.args.inner) count (to_read entries c.args.inner below) limit c.member_place.ensures
     (asked_read entries c.args.members c.args.inner c.args.operand.now c.args.negated others below) here in
     c.settled.ensures.reads entries tree count limit (omega (arith, here)) next
+
+pub returns-in-Err-clause-rows : goal.returns-in-Err-clause-rows
+returns-in-Err-clause-rows g c = λ entries others below meant same given. rw c.refused.ensures tt
+
+pub returns-in-Err-clause-reads : goal.returns-in-Err-clause-reads
+returns-in-Err-clause-reads g c = λ entries others below count limit given. rw c.refused.ensures tt
+
+pub returns-in-Err-clause-refused : goal.returns-in-Err-clause-refused
+returns-in-Err-clause-refused g c = rw c.refused.ensures (inr c.in-Err.is)

@@ -1,4 +1,4 @@
-use Rattle.std.proofs.Common.{◌≡◌, ap, [], map, ◌≤◌, ◌+◌, arith}
+use Rattle.std.proofs.Common.{◌≡◌, ap, [], map, ◌≤◌, ◌+◌, arith, refl, inl, inr}
 use Rattle.algebra.specs.Listing.{ended, onwards, row_by_row, value_listing}
 use Rattle.algebra.specs.declared.tree.Tree.TheVariants as t
 use Rattle.denote.specs.Select.{shown_row}
@@ -30,3 +30,12 @@ returns-in-Ok-projected-clause-reads g c = λ entries below count limit given.
     let next = read-on entries (t.Project c.args.items.now below) c.above.result (above c.args.inner) count (to_read entries c.args.inner below) limit c.above.ensures
     (above_read entries c.args.inner (t.Project c.args.items.now below) below (λ place goes. read_project entries place c.args.items.now below goes)) here in
     c.settled.ensures.reads entries (t.Project c.args.items.now below) count limit (omega (arith, here)) next
+
+pub returns-in-Err-clause-rows : goal.returns-in-Err-clause-rows
+returns-in-Err-clause-rows g c = λ entries below meant same given. rw c.refused.ensures tt
+
+pub returns-in-Err-clause-reads : goal.returns-in-Err-clause-reads
+returns-in-Err-clause-reads g c = λ entries below count limit given. rw c.refused.ensures tt
+
+pub returns-in-Err-clause-refused : goal.returns-in-Err-clause-refused
+returns-in-Err-clause-refused g c = rw c.refused.ensures (inr c.in-Err.is)
