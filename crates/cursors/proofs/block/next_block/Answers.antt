@@ -33,3 +33,15 @@ returns-else-is_whole-clause-rows g c = goes_by_itself _ c.args.plan.now c.args.
 pub returns-else-is_whole-clause-goes_on : goal.returns-else-is_whole-clause-goes_on
 returns-else-is_whole-clause-goes_on g c = goes_by_itself _ c.args.plan.now c.args.place.now (g.R.Reading.shows c.args.reading.now).contents c.plan_block.result _
     (sym c.is_whole.ensures ∙ c.if-is_whole.false) (λ sound alone indexed. all_ok c.plan_block.result (λ rows. inr (alone, indexed)))
+
+pub returns-else-is_whole-clause-refused : goal.returns-else-is_whole-clause-refused
+returns-else-is_whole-clause-refused g c = c.plan_block.ensures.refused
+
+pub returns-else-is_whole-clause-limits : goal.returns-else-is_whole-clause-limits
+returns-else-is_whole-clause-limits g c = c.plan_block.ensures.limits
+
+pub returns-else-is_whole-clause-counts : goal.returns-else-is_whole-clause-counts
+returns-else-is_whole-clause-counts g c = c.plan_block.ensures.counts
+
+pub returns-else-is_whole-clause-follows : goal.returns-else-is_whole-clause-follows
+returns-else-is_whole-clause-follows g c = c.plan_block.ensures.follows

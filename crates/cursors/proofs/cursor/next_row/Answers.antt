@@ -80,3 +80,30 @@ returns-clause-refused g c = λ sound fits. inl tt
 
 pub returns-clause-follows : goal.returns-clause-follows
 returns-clause-follows g c = c.loop.invariant.0
+
+pub returns-in-Some-clause-refused : goal.returns-in-Some-clause-refused
+returns-in-Some-clause-refused g c = tt
+
+pub returns-in-Some-clause-limits : goal.returns-in-Some-clause-limits
+returns-in-Some-clause-limits g c = tt
+
+pub returns-in-Some-clause-counts : goal.returns-in-Some-clause-counts
+returns-in-Some-clause-counts g c = tt
+
+pub returns-in-Err-clause-next : goal.returns-in-Err-clause-next
+returns-in-Err-clause-next g c = tt
+
+pub returns-in-Err-clause-fits : goal.returns-in-Err-clause-fits
+returns-in-Err-clause-fits g c = tt
+
+pub returns-clause-next : goal.returns-clause-next
+returns-clause-next g c = tt
+
+pub returns-clause-fits : goal.returns-clause-fits
+returns-clause-fits g c = tt
+
+pub returns-clause-limits : goal.returns-clause-limits
+returns-clause-limits g c = tt
+
+pub returns-clause-counts : goal.returns-clause-counts
+returns-clause-counts g c = λ is. absurd (cc)

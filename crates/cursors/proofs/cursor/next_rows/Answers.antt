@@ -72,3 +72,48 @@ returns-in-Ok-None-clause-most g c = omega (arith, c.loop-taken.invariant.2, c.l
 
 pub returns-clause-most : goal.returns-clause-most
 returns-clause-most g c = omega (arith, c.loop-taken.invariant.2, c.loop-taken-test.false, c.loop-taken.auto.taken-end)
+
+pub returns-then-is_err-clause-rows : goal.returns-then-is_err-clause-rows
+returns-then-is_err-clause-rows g c = tt
+
+pub returns-then-is_err-clause-most : goal.returns-then-is_err-clause-most
+returns-then-is_err-clause-most g c = tt
+
+pub returns-then-is_err-clause-fits : goal.returns-then-is_err-clause-fits
+returns-then-is_err-clause-fits g c = tt
+
+pub returns-then-is_err-clause-limits : goal.returns-then-is_err-clause-limits
+returns-then-is_err-clause-limits g c = tt
+
+pub returns-then-is_err-clause-counts : goal.returns-then-is_err-clause-counts
+returns-then-is_err-clause-counts g c = λ is. absurd (cc)
+
+pub returns-in-Ok-None-clause-refused : goal.returns-in-Ok-None-clause-refused
+returns-in-Ok-None-clause-refused g c = tt
+
+pub returns-in-Ok-None-clause-limits : goal.returns-in-Ok-None-clause-limits
+returns-in-Ok-None-clause-limits g c = tt
+
+pub returns-in-Ok-None-clause-counts : goal.returns-in-Ok-None-clause-counts
+returns-in-Ok-None-clause-counts g c = tt
+
+pub returns-in-Err-clause-rows : goal.returns-in-Err-clause-rows
+returns-in-Err-clause-rows g c = tt
+
+pub returns-in-Err-clause-most : goal.returns-in-Err-clause-most
+returns-in-Err-clause-most g c = tt
+
+pub returns-in-Err-clause-fits : goal.returns-in-Err-clause-fits
+returns-in-Err-clause-fits g c = tt
+
+pub returns-in-Err-clause-limits : goal.returns-in-Err-clause-limits
+returns-in-Err-clause-limits g c = c.in-Err.ensures.limits
+
+pub returns-clause-refused : goal.returns-clause-refused
+returns-clause-refused g c = tt
+
+pub returns-clause-limits : goal.returns-clause-limits
+returns-clause-limits g c = tt
+
+pub returns-clause-counts : goal.returns-clause-counts
+returns-clause-counts g c = tt
