@@ -1,5 +1,5 @@
 -- A refusal of the device comes only where its count of refused calls rose.
-use Rattle.std.proofs.Common.{◌≡◌, ◌≢◌, ◌⊎◌, inl, inr, ℕ, ◌+◌, ◌^◌, ◌-◌, ◌≤◌, Bool, true, false, cond, List, [], ◌∷◌, Ok, Err, Contains, refl, sym, subst, ◌∙◌, arith}
+use Rattle.std.proofs.Common.{◌≡◌, ◌≢◌, ◌⊎◌, inl, inr, ℕ, ◌+◌, ◌^◌, ◌-◌, ◌≤◌, Bool, true, false, cond, List, [], ◌∷◌, Result, Ok, Err, IfErr, Contains, refl, sym, subst, ◌∙◌, arith}
 use Rattle.std.specs.Prelude.{min}
 use Rattle.std.specs.List.{list_all}
 use Rattle.std.proofs.lemmas.List.Elements.{All-contains}
@@ -112,6 +112,12 @@ counts_none _ k m h = tt
 pub never_counts : (reply : Reply) (k m : ℕ) → IfRefused reply (λ refusal. refusal ≢ refused.Disk) → Counts reply k m
 never_counts (says.Refused refusal) k m h = λ is. absurd (h is)
 never_counts _ k m h = tt
+
+-- and a result whose error it never is
+pub never_err : {A : Type 0} (result : Result A Refusal) (k m : ℕ) → IfErr result (λ refusal. refusal ≢ refused.Disk)
+    → IfErr result (λ refusal. refusal ≡ refused.Disk → HasRisen k m)
+never_err (Ok a) k m h = tt
+never_err (Err refusal) k m h = λ is. absurd (h is)
 
 -- DECLARE
 pub declaring : (A B : Type 0) (refusal : Refusal) → (refusal ≡ refused.Memory) ⊎ ((refusal ≡ refused.Exceeded which.Cursors) × A × B) → refusal ≢ refused.Disk

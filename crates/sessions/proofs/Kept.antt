@@ -1,5 +1,5 @@
 -- What a refused call leaves.
-use Rattle.std.proofs.Common.{◌≡◌, ◌≢◌, ℕ, true, false, Option, None, Some, refl, sym, ap, ◌∙◌}
+use Rattle.std.proofs.Common.{◌≡◌, ◌≢◌, ℕ, true, false, Option, None, Some, Result, Ok, Err, OnErr, refl, sym, ap, subst, ◌∙◌}
 use Rattle.std.specs.Prelude.{slice_set}
 use Rattle.std.specs.FinMap.{get}
 use Rattle.refusals.specs.declared.refusal.Refusal.{Refusal}
@@ -68,6 +68,11 @@ world_kept st new w v slots s kept kept_new is k f g =
 
     here : session_of new w s (settled (get new.readers s) kept) ≡ session_of st w s kept
     here = session_settled new w s kept (get new.readers s) ∙ same_session st new w s kept k
+
+-- what is left of a call that is refused behind one that shows the same
+pub same_after : {A : Type 0} (result : Result A Refusal) (st mid new : Stored) → mid ≡ st → OnErr result (SameButMark mid new) → OnErr result (SameButMark st new)
+same_after (Ok a) st mid new e h = tt
+same_after (Err refusal) st mid new e h = subst (λ (x : Stored). SameButMark x new) e h
 
 -- what is told of a row is no refusal
 pub never_told : (next : Option Row) (P : Refusal → Type 0) → IfRefused (told next) P

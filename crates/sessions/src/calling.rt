@@ -28,6 +28,7 @@ use crate::change::change;
 use crate::changes::Changes;
 use crate::cursor_calls::{cursor_call, declare, declared_in};
 use crate::explaining::explain_query;
+use crate::falling::let_fall;
 use crate::kind::{Kind, kind_of};
 use crate::language::Language;
 use crate::query::query;
@@ -84,7 +85,11 @@ pub(crate) fn call<S: Store, L: Language + Changes<S>>(
     match language.read(alloc, text) {
         Ok(statement) => match declared_in(statement) {
             Ok(cursor) => declare(slot, cursor),
-            Err(statement) => carry_out(alloc, language, store, writer, slot, session, &statement),
+            Err(statement) => {
+                let reply = carry_out(alloc, language, store, writer, slot, session, &statement);
+                let_fall(statement);
+                reply
+            }
         },
         Err(refusal) => Reply::Refused(refusal),
     }

@@ -27,6 +27,7 @@ ghost use Rattle.sessions.specs.Kinds.{is_change};
 ghost use Rattle.sessions.specs.Seen.{seen_in};
 
 use crate::changes::Changes;
+use crate::falling::let_fall;
 use crate::language::{Language, typed_by};
 use crate::slots::Slot;
 use ast::{AccessMode, Statement};
@@ -164,6 +165,9 @@ fn change_of(typed: Typed) -> Option<Change>
 {
     match typed {
         Typed::Change(change) => Some(change),
-        _ => None,
+        other => {
+            let_fall(other);
+            None
+        }
     }
 }

@@ -26,6 +26,7 @@ ghost use Rattle.sessions.specs.Numbers.{kept_of};
 ghost use Rattle.sessions.specs.Seen.{seen_in};
 ghost use Rattle.sessions.specs.Opened.{GivesNext, OpensAs, RefusesOpening, told};
 
+use crate::falling::let_fall;
 use crate::language::{Language, query_typed_by};
 use crate::slots::Slot;
 use algebra_laws::translation_keeps_the_meaning;
@@ -246,7 +247,11 @@ pub(crate) fn opened<S: Store, L: Language>(
         return Err(refusal_of(error));
     }
     match query_typed_by(alloc, language, query, store.schema()) {
-        Ok(typed) => opened_typed(alloc, store, view, &typed),
+        Ok(typed) => {
+            let cursor = opened_typed(alloc, store, view, &typed);
+            let_fall(typed);
+            cursor
+        }
         Err(refusal) => Err(refusal),
     }
 }

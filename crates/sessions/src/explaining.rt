@@ -25,6 +25,7 @@ ghost use Rattle.typing.specs.declared.typed.OrderedQuery.{OrderedQuery as Query
 ghost use Rattle.sessions.specs.Explained.{IfLines, RefusesLines, ShowsLines};
 ghost use Rattle.sessions.specs.Seen.{seen_in};
 
+use crate::falling::let_fall;
 use crate::language::{Language, typed_by};
 use ast::Statement;
 use items::{Items, Text};
@@ -99,7 +100,11 @@ fn lines_seen<S: Store, L: Language>(
     }
     let schema = store.schema();
     match typed_by(alloc, language, statement, schema) {
-        Ok(typed) => lines_of(alloc, schema, &typed),
+        Ok(typed) => {
+            let lines = lines_of(alloc, schema, &typed);
+            let_fall(typed);
+            lines
+        }
         Err(refusal) => Err(refusal),
     }
 }

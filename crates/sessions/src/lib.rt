@@ -8,6 +8,7 @@ mod changes;
 mod core_of;
 mod cursor_calls;
 mod explaining;
+mod falling;
 mod inserting;
 mod kind;
 mod language;

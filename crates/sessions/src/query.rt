@@ -27,6 +27,7 @@ ghost use Rattle.transactions.specs.Refused.{Counts, IfRefused, TellsNoLimit};
 ghost use Rattle.sessions.specs.Answered.{GivesRows, RefusesQuery};
 ghost use Rattle.sessions.specs.Seen.{seen_in};
 
+use crate::falling::let_fall;
 use crate::language::{Language, typed_by};
 use ast::Statement;
 use denote::Rows;
@@ -100,7 +101,11 @@ fn rows_seen<S: Store, L: Language>(
         return Err(refusal_of(error));
     }
     match typed_by(alloc, language, statement, store.schema()) {
-        Ok(typed) => evaluate(alloc, store, view, &typed),
+        Ok(typed) => {
+            let rows = evaluate(alloc, store, view, &typed);
+            let_fall(typed);
+            rows
+        }
         Err(refusal) => Err(refusal),
     }
 }
@@ -132,7 +137,9 @@ fn evaluate<S: Store>(
                 Err(_) => return Err(Refusal::Memory),
             };
             let mut seen = Seen { store, view };
-            answer(alloc, &mut seen, &plan)
+            let rows = answer(alloc, &mut seen, &plan);
+            let_fall(plan);
+            rows
         }
         _ => Err(Refusal::NotSupported),
     }

@@ -22,6 +22,7 @@ ghost use Rattle.sessions.specs.Opened.{GivesRows};
 ghost use Rattle.sessions.specs.Turned.{TellsOpening, TellsRows};
 
 use crate::cursor_calls::{AfterFetch, let_go, opened, refused};
+use crate::falling::let_fall;
 use crate::language::Language;
 use crate::slots::Slot;
 use ast::{OrderedQuery, Statement};
@@ -38,7 +39,11 @@ pub(crate) fn is_query<L: Language>(alloc: Global, language: &L, text: &[u8]) ->
     ensures { IsTrue result → IsQueryText text.now }
 {
     match language.read(alloc, text) {
-        Ok(statement) => asks_a_query(&statement),
+        Ok(statement) => {
+            let asks = asks_a_query(&statement);
+            let_fall(statement);
+            asks
+        }
         Err(_) => false,
     }
 }
@@ -77,7 +82,9 @@ pub(crate) fn open_query<S: Store, L: Language>(
 {
     match language.read(alloc, text) {
         Ok(statement) => {
-            open_statement(alloc, language, store, writer, slot, session, &statement)
+            let reply = open_statement(alloc, language, store, writer, slot, session, &statement);
+            let_fall(statement);
+            reply
         }
         Err(refusal) => Reply::Refused(refusal),
     }
@@ -272,5 +279,7 @@ pub(crate) fn close_query(slot: &mut Slot) -> Reply
 fn was_open(held: Option<OpenCursor>) -> bool
     ensures { result ≡ is_some held }
 {
-    held.is_some()
+    let open = held.is_some();
+    let_fall(held);
+    open
 }

@@ -4,6 +4,7 @@ ghost use Rattle.cursors.specs.ByName.{IsShut};
 ghost use Rattle.transactions.specs.Shown.{fresh};
 ghost use Rattle.sessions.specs.Numbers.{held_at, kept_of, no_slots};
 
+use crate::falling::let_fall;
 use ast::AccessMode;
 use cursors::Cursors;
 use std::alloc::Global;
@@ -78,7 +79,8 @@ impl Slots {
         requires { number < 64 }
         ensures { self.new.all ≡ slice_set self.old.all number slot }
     {
-        self.all[number as usize] = slot;
+        let was = std::mem::replace(&mut self.all[number as usize], slot);
+        let_fall(was);
     }
 
     /// The least number without a session.

@@ -80,29 +80,29 @@ returns-in-Ok-declared_in-clause-kept g c =
 
 pub returns-in-Err-declared_in-clause-leaves : goal.returns-in-Err-declared_in-clause-leaves
 returns-in-Err-declared_in-clause-leaves g c = λ rules are sound order holds good.
-    c.carry_out.ensures.leaves rules c.args.text.now are (subst (IsRead c.args.text.now) (sym c.in-Err-declared_in.ensures.0) c.in-Ok.ensures.read) (ap is_declare c.in-Err-declared_in.ensures.0 ∙ c.in-Err-declared_in.ensures.1)
+    c.carry_out-reply.ensures.leaves rules c.args.text.now are (subst (IsRead c.args.text.now) (sym c.in-Err-declared_in.ensures.0) c.in-Ok.ensures.read) (ap is_declare c.in-Err-declared_in.ensures.0 ∙ c.in-Err-declared_in.ensures.1)
     (λ is. let bad : false ≡ true = (rw c.if-is_rollback.false at c.is_rollback.ensures).1 is in cc) sound order holds good
 
 pub returns-in-Err-declared_in-clause-explained : goal.returns-in-Err-declared_in-clause-explained
 returns-in-Err-declared_in-clause-explained g c = λ x read sound.
-    c.carry_out.ensures.explained x (c.in-Err-declared_in.ensures.0 ∙ c.in-Ok.ensures.only (asks.Explain x) read) sound
+    c.carry_out-reply.ensures.explained x (c.in-Err-declared_in.ensures.0 ∙ c.in-Ok.ensures.only (asks.Explain x) read) sound
 
 pub returns-in-Err-declared_in-clause-limits : goal.returns-in-Err-declared_in-clause-limits
 returns-in-Err-declared_in-clause-limits g c =
     told_wider (StatementReaches (g.S.Store.counted c.args.store.now) (g.S.Store.shows c.args.store.now).commits c.in-Err-declared_in.statement) (CallReaches (g.S.Store.counted c.args.store.now) (g.S.Store.shows c.args.store.now).commits c.args.text.now)
-    (λ which reaches. (c.in-Err-declared_in.statement, (subst (IsRead c.args.text.now) (sym c.in-Err-declared_in.ensures.0) c.in-Ok.ensures.read), reaches)) c.carry_out.result c.carry_out.ensures.limits
+    (λ which reaches. (c.in-Err-declared_in.statement, (subst (IsRead c.args.text.now) (sym c.in-Err-declared_in.ensures.0) c.in-Ok.ensures.read), reaches)) c.carry_out-reply.result c.carry_out-reply.ensures.limits
 
 pub returns-in-Err-declared_in-clause-commits : goal.returns-in-Err-declared_in-clause-commits
 returns-in-Err-declared_in-clause-commits g c =
-    commits_as_writer (g.S.Store.goes_on c.args.store.now c.carry_out.new.store Going.changes) c.args.text.now c.in-Err-declared_in.statement (is_session c.args.session c.args.writer.now)
-    (subst (IsRead c.args.text.now) (sym c.in-Err-declared_in.ensures.0) c.in-Ok.ensures.read) c.carry_out.ensures.commits
+    commits_as_writer (g.S.Store.goes_on c.args.store.now c.carry_out-reply.new.store Going.changes) c.args.text.now c.in-Err-declared_in.statement (is_session c.args.session c.args.writer.now)
+    (subst (IsRead c.args.text.now) (sym c.in-Err-declared_in.ensures.0) c.in-Ok.ensures.read) c.carry_out-reply.ensures.commits
 
 pub returns-in-Err-declared_in-clause-kept : goal.returns-in-Err-declared_in-clause-kept
 returns-in-Err-declared_in-clause-kept g c =
-    refused_alike c.carry_out.result
-    (Keeps c.in-Err-declared_in.statement (g.S.Store.shows c.args.store.now) c.args.writer.now (kept_of c.args.slot.now) (g.S.Store.shows c.carry_out.new.store) c.carry_out.new.writer (kept_of c.carry_out.new.slot))
-    (λ refusal. refusal ≢ SerializationFailure → (IsFetchText c.args.text.now → ⊥) → SameButMark (g.S.Store.shows c.args.store.now) (g.S.Store.shows c.carry_out.new.store) × (c.carry_out.new.writer ≡ c.args.writer.now) × (kept_of c.carry_out.new.slot ≡ kept_of c.args.slot.now))
-    (λ refusal k other fetch. k other (no_fetch_text c.in-Err-declared_in.statement c.args.text.now (subst (IsRead c.args.text.now) (sym c.in-Err-declared_in.ensures.0) c.in-Ok.ensures.read) fetch)) c.carry_out.ensures.kept
+    refused_alike c.carry_out-reply.result
+    (Keeps c.in-Err-declared_in.statement (g.S.Store.shows c.args.store.now) c.args.writer.now (kept_of c.args.slot.now) (g.S.Store.shows c.carry_out-reply.new.store) c.carry_out-reply.new.writer (kept_of c.carry_out-reply.new.slot))
+    (λ refusal. refusal ≢ SerializationFailure → (IsFetchText c.args.text.now → ⊥) → SameButMark (g.S.Store.shows c.args.store.now) (g.S.Store.shows c.carry_out-reply.new.store) × (c.carry_out-reply.new.writer ≡ c.args.writer.now) × (kept_of c.carry_out-reply.new.slot ≡ kept_of c.args.slot.now))
+    (λ refusal k other fetch. k other (no_fetch_text c.in-Err-declared_in.statement c.args.text.now (subst (IsRead c.args.text.now) (sym c.in-Err-declared_in.ensures.0) c.in-Ok.ensures.read) fetch)) c.carry_out-reply.ensures.kept
 
 -- ---- what is no statement
 
@@ -125,3 +125,39 @@ returns-in-Err-clause-commits g c = inl (g.met.S.Store.goes_on_refl _ Going.chan
 
 pub returns-in-Err-clause-kept : goal.returns-in-Err-clause-kept
 returns-in-Err-clause-kept g c = λ other fetch. (same (g.S.Store.shows c.args.store.now) (g.S.Store.shows c.args.store.now) refl, refl, refl)
+
+pub returns-then-is_rollback-clause-rolled_back : goal.returns-then-is_rollback-clause-rolled_back
+returns-then-is_rollback-clause-rolled_back g c = λ is. c.roll_back.ensures.done
+
+pub returns-in-Ok-declared_in-clause-rolled_back : goal.returns-in-Ok-declared_in-clause-rolled_back
+returns-in-Ok-declared_in-clause-rolled_back g c = λ is. let bad : false ≡ true = (rw c.if-is_rollback.false at c.is_rollback.ensures).1 is in absurd (cc)
+
+pub returns-in-Ok-declared_in-clause-idle : goal.returns-in-Ok-declared_in-clause-idle
+returns-in-Ok-declared_in-clause-idle g c = λ unchanged. refl
+
+pub returns-in-Ok-declared_in-clause-goes : goal.returns-in-Ok-declared_in-clause-goes
+returns-in-Ok-declared_in-clause-goes g c = g.met.S.Store.goes_on_refl _ (Going.writes ((g.S.Store.shows c.args.store.now).working ∷ []))
+
+pub returns-in-Err-declared_in-clause-device : goal.returns-in-Err-declared_in-clause-device
+returns-in-Err-declared_in-clause-device g c = c.carry_out-reply.ensures.device
+
+pub returns-in-Err-declared_in-clause-rolled_back : goal.returns-in-Err-declared_in-clause-rolled_back
+returns-in-Err-declared_in-clause-rolled_back g c = λ is. let bad : false ≡ true = (rw c.if-is_rollback.false at c.is_rollback.ensures).1 is in absurd (cc)
+
+pub returns-in-Err-declared_in-clause-idle : goal.returns-in-Err-declared_in-clause-idle
+returns-in-Err-declared_in-clause-idle g c = c.carry_out-reply.ensures.idle
+
+pub returns-in-Err-declared_in-clause-goes : goal.returns-in-Err-declared_in-clause-goes
+returns-in-Err-declared_in-clause-goes g c = c.carry_out-reply.ensures.goes
+
+pub returns-in-Err-clause-explained : goal.returns-in-Err-clause-explained
+returns-in-Err-clause-explained g c = λ x read sound. tt
+
+pub returns-in-Err-clause-rolled_back : goal.returns-in-Err-clause-rolled_back
+returns-in-Err-clause-rolled_back g c = λ is. let bad : false ≡ true = (rw c.if-is_rollback.false at c.is_rollback.ensures).1 is in absurd (cc)
+
+pub returns-in-Err-clause-idle : goal.returns-in-Err-clause-idle
+returns-in-Err-clause-idle g c = λ unchanged. refl
+
+pub returns-in-Err-clause-goes : goal.returns-in-Err-clause-goes
+returns-in-Err-clause-goes g c = g.met.S.Store.goes_on_refl _ (Going.writes ((g.S.Store.shows c.args.store.now).working ∷ []))

@@ -223,3 +223,27 @@ returns-in-Rollback-clause-idle g c = λ unchanged. (g.met.S.Store.goes_on_goes 
 
 pub returns-in-Explain-clause-idle : goal.returns-in-Explain-clause-idle
 returns-in-Explain-clause-idle g c = λ unchanged. (g.met.S.Store.goes_on_goes _ _ _ c.explain_query.ensures.goes).stays.writes
+
+pub returns-in-Query-clause-device : goal.returns-in-Query-clause-device
+returns-in-Query-clause-device g c = c.query.ensures.device
+
+pub returns-in-Change-clause-device : goal.returns-in-Change-clause-device
+returns-in-Change-clause-device g c = c.change.ensures.device
+
+pub returns-in-Commit-clause-device : goal.returns-in-Commit-clause-device
+returns-in-Commit-clause-device g c = c.commit.ensures.refused
+
+pub returns-in-Commit-clause-idle : goal.returns-in-Commit-clause-idle
+returns-in-Commit-clause-idle g c = c.commit.ensures.idle
+
+pub returns-in-SetTransaction-clause-idle : goal.returns-in-SetTransaction-clause-idle
+returns-in-SetTransaction-clause-idle g c = λ unchanged. refl
+
+pub returns-in-SetTransaction-clause-goes : goal.returns-in-SetTransaction-clause-goes
+returns-in-SetTransaction-clause-goes g c = g.met.S.Store.goes_on_refl _ (Going.writes ((g.S.Store.shows c.args.store.now).working ∷ []))
+
+pub returns-in-Cursor-clause-device : goal.returns-in-Cursor-clause-device
+returns-in-Cursor-clause-device g c = c.cursor_call.ensures.device
+
+pub returns-in-Explain-clause-device : goal.returns-in-Explain-clause-device
+returns-in-Explain-clause-device g c = c.explain_query.ensures.device

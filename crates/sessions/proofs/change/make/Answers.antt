@@ -1,12 +1,14 @@
-use Rattle.std.proofs.Common.{sym, subst}
+use Rattle.std.proofs.Common.{sym, subst, ◌∙◌}
 use Rattle.std.proofs.lemmas.Result.{IfOk-weaker, IfErr-weaker}
 use Rattle.sqlval.specs.declared.schema.Schema.{Schema}
 use Rattle.denote.specs.SchemaOf.{IsSchemaOf}
 use Rattle.store.specs.Contents.{database_of}
-use Rattle.sessions.proofs.Devices.{risen_later}
+use Rattle.transactions.proofs.Orders.{same}
+use Rattle.sessions.proofs.Devices.{risen_later, of_store}
 use Rattle.sessions.proofs.ChangeSteps.{makes_typed, refuses_typed, refuses_wrong}
 use Rattle.sessions.proofs.Typings.{against}
 use Rattle.store.specs.Going.{Going}
+use Rattle.sessions.proofs.Kept.{same_after}
 use Rattle.sessions.proofs.change.make.Goals as goal
 
 pub returns-in-Ok-clause-changes : goal.returns-in-Ok-clause-changes
@@ -40,3 +42,33 @@ returns-in-Ok-clause-goes g c = g.met.S.Store.goes_on_trans _ _ _ Going.keeps Go
 
 pub returns-in-Err-typed_by-clause-goes : goal.returns-in-Err-typed_by-clause-goes
 returns-in-Err-typed_by-clause-goes g c = g.met.S.Store.goes_on_trans _ _ _ Going.keeps Going.changes c.prepare.ensures.goes (g.met.S.Store.goes_on_refl _ Going.changes)
+
+pub returns-in-Ok-clause-accepted : goal.returns-in-Ok-clause-accepted
+returns-in-Ok-clause-accepted g c = c.make_typed.ensures.accepted
+
+pub returns-in-Ok-clause-same : goal.returns-in-Ok-clause-same
+returns-in-Ok-clause-same g c = same_after c.make_typed.result (g.S.Store.shows c.args.store.now) (g.S.Store.shows c.prepare.new.self) (g.S.Store.shows c.make_typed.new.store) c.prepare.ensures.shows c.make_typed.ensures.same
+
+pub returns-in-Err-typed_by-clause-changes : goal.returns-in-Err-typed_by-clause-changes
+returns-in-Err-typed_by-clause-changes g c = tt
+
+pub returns-in-Err-typed_by-clause-accepted : goal.returns-in-Err-typed_by-clause-accepted
+returns-in-Err-typed_by-clause-accepted g c = tt
+
+pub returns-in-Err-typed_by-clause-device : goal.returns-in-Err-typed_by-clause-device
+returns-in-Err-typed_by-clause-device g c = λ is. absurd (c.in-Err-typed_by.ensures.device is)
+
+pub returns-in-Err-typed_by-clause-same : goal.returns-in-Err-typed_by-clause-same
+returns-in-Err-typed_by-clause-same g c = same (g.S.Store.shows c.args.store.now) _ c.prepare.ensures.shows
+
+pub returns-in-Err-clause-changes : goal.returns-in-Err-clause-changes
+returns-in-Err-clause-changes g c = tt
+
+pub returns-in-Err-clause-accepted : goal.returns-in-Err-clause-accepted
+returns-in-Err-clause-accepted g c = tt
+
+pub returns-in-Err-clause-device : goal.returns-in-Err-clause-device
+returns-in-Err-clause-device g c = λ is. of_store _ _ _ _ c.in-Err.error (rw c.in-Err.is at c.prepare.ensures.refused) (sym c.refusal_of.ensures ∙ is)
+
+pub returns-in-Err-clause-same : goal.returns-in-Err-clause-same
+returns-in-Err-clause-same g c = same (g.S.Store.shows c.args.store.now) _ c.prepare.ensures.shows

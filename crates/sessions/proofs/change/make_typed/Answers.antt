@@ -22,3 +22,15 @@ returns-in-Some-clause-refused g c = IfErr-weaker c.make.result _ _
     subst (λ (y : Change). RefusesChange rules (database_of (g.S.Store.shows c.args.store.now).working) y refusal) e
     (h rules x are sound of good (subst (λ (y : Change). Means rules (database_of (g.S.Store.shows c.args.store.now).working) x (does.Change y)) (sym e) means)))
     c.make.ensures.refused
+
+pub returns-in-Some-clause-accepted : goal.returns-in-Some-clause-accepted
+returns-in-Some-clause-accepted g c = c.make.ensures.accepted
+
+pub returns-in-Some-clause-device : goal.returns-in-Some-clause-device
+returns-in-Some-clause-device g c = c.make.ensures.device
+
+pub returns-in-Some-clause-same : goal.returns-in-Some-clause-same
+returns-in-Some-clause-same g c = c.make.ensures.same
+
+pub returns-in-Some-clause-goes : goal.returns-in-Some-clause-goes
+returns-in-Some-clause-goes g c = c.make.ensures.goes

@@ -26,3 +26,21 @@ returns-clause-leaves c = λ rules text st w s read order holds.
       found = c.exchange-was.ensures.found;
     } in
     rw c.let_go.ensures (closing_held rules st w s text order c.args.slot.now holds c.args.name.now c.exchange-was.new.self c.exchange-was.result first c.is_open.result c.is_open.ensures c.if-not-is_open.false read)
+
+pub returns-then-not-is_open-clause-device : goal.returns-then-not-is_open-clause-device
+returns-then-not-is_open-clause-device c = λ is. cc
+
+pub returns-clause-device : goal.returns-clause-device
+returns-clause-device c = rw c.let_go.ensures tt
+
+pub returns-then-not-is_open-clause-limits : goal.returns-then-not-is_open-clause-limits
+returns-then-not-is_open-clause-limits c = tt
+
+pub returns-clause-limits : goal.returns-clause-limits
+returns-clause-limits c = rw c.let_go.ensures tt
+
+pub returns-then-not-is_open-clause-kept : goal.returns-then-not-is_open-clause-kept
+returns-then-not-is_open-clause-kept c = refl
+
+pub returns-clause-kept : goal.returns-clause-kept
+returns-clause-kept c = rw c.let_go.ensures tt

@@ -52,3 +52,30 @@ returns-in_default-clause-leaves g c = λ rules text are read of declares other 
 
 pub returns-in_default-clause-kept : goal.returns-in_default-clause-kept
 returns-in_default-clause-kept g c = λ fetch. (same (g.S.Store.shows c.args.store.now) (g.S.Store.shows c.args.store.now) refl, refl)
+
+pub returns-in-OpenCursor-clause-device : goal.returns-in-OpenCursor-clause-device
+returns-in-OpenCursor-clause-device g c = c.open.ensures.device
+
+pub returns-in-OpenCursor-clause-limits : goal.returns-in-OpenCursor-clause-limits
+returns-in-OpenCursor-clause-limits g c = c.open.ensures.limits
+
+pub returns-in-OpenCursor-clause-goes : goal.returns-in-OpenCursor-clause-goes
+returns-in-OpenCursor-clause-goes g c = c.open.ensures.goes
+
+pub returns-in-Fetch-clause-limits : goal.returns-in-Fetch-clause-limits
+returns-in-Fetch-clause-limits g c = c.fetch.ensures.limits
+
+pub returns-in-CloseCursor-clause-limits : goal.returns-in-CloseCursor-clause-limits
+returns-in-CloseCursor-clause-limits g c = c.close.ensures.limits
+
+pub returns-in-CloseCursor-clause-goes : goal.returns-in-CloseCursor-clause-goes
+returns-in-CloseCursor-clause-goes g c = g.met.S.Store.goes_on_refl _ Going.keeps
+
+pub returns-in_default-clause-device : goal.returns-in_default-clause-device
+returns-in_default-clause-device g c = λ is. absurd (cc)
+
+pub returns-in_default-clause-limits : goal.returns-in_default-clause-limits
+returns-in_default-clause-limits g c = tt
+
+pub returns-in_default-clause-goes : goal.returns-in_default-clause-goes
+returns-in_default-clause-goes g c = g.met.S.Store.goes_on_refl _ Going.keeps

@@ -49,3 +49,21 @@ returns-in-Err-clause-limits c = declaring_tells _ _ c.in-Err.refusal c.in-Err.e
 
 pub returns-in-Err-clause-kept : goal.returns-in-Err-clause-kept
 returns-in-Err-clause-kept c = kept_alike c.args.slot.now c.declare.new.self c.in-Err.ensures.same c.declare.ensures.opened c.declare.ensures.unnamed
+
+pub returns-then-is_open-clause-device : goal.returns-then-is_open-clause-device
+returns-then-is_open-clause-device c = λ is. cc
+
+pub returns-then-is_open-clause-limits : goal.returns-then-is_open-clause-limits
+returns-then-is_open-clause-limits c = tt
+
+pub returns-then-is_open-clause-kept : goal.returns-then-is_open-clause-kept
+returns-then-is_open-clause-kept c = refl
+
+pub returns-in-Ok-clause-device : goal.returns-in-Ok-clause-device
+returns-in-Ok-clause-device c = tt
+
+pub returns-in-Ok-clause-limits : goal.returns-in-Ok-clause-limits
+returns-in-Ok-clause-limits c = tt
+
+pub returns-in-Ok-clause-kept : goal.returns-in-Ok-clause-kept
+returns-in-Ok-clause-kept c = tt

@@ -4,6 +4,7 @@ use Rattle.sessions.specs.Numbers.{kept_of}
 use Rattle.sessions.proofs.CursorSteps.{fetches_none}
 use Rattle.sessions.proofs.Exchanges.{Exchanged, fetching_held, not_there}
 use Rattle.sessions.proofs.Holding.{closed_in, fits_same}
+use Rattle.store.specs.Going.{Going}
 use Rattle.sessions.proofs.cursor_calls.fetch.Goals as goal
 
 pub returns-then-not-is_open-clause-leaves : goal.returns-then-not-is_open-clause-leaves
@@ -51,3 +52,12 @@ returns-clause-limits g c = rw c.let_go.ensures c.fetched-left.ensures.limits
 
 pub returns-clause-goes : goal.returns-clause-goes
 returns-clause-goes g c = c.fetched-left.ensures.goes
+
+pub returns-then-not-is_open-clause-device : goal.returns-then-not-is_open-clause-device
+returns-then-not-is_open-clause-device g c = λ is. absurd (cc)
+
+pub returns-then-not-is_open-clause-limits : goal.returns-then-not-is_open-clause-limits
+returns-then-not-is_open-clause-limits g c = tt
+
+pub returns-then-not-is_open-clause-goes : goal.returns-then-not-is_open-clause-goes
+returns-then-not-is_open-clause-goes g c = g.met.S.Store.goes_on_refl _ Going.reads

@@ -8,3 +8,6 @@ returns-clause-fits g c = c.next_row.ensures.fits
 
 pub returns-clause-refused : goal.returns-clause-refused
 returns-clause-refused g c = c.next_row.ensures.refused
+
+pub returns-clause-limits : goal.returns-clause-limits
+returns-clause-limits g c = c.next_row.ensures.limits

@@ -7,7 +7,7 @@ use Rattle.transactions.proofs.Orders.{same}
 use Rattle.transactions.proofs.Steps.{nothing_moves, withholds}
 use Rattle.transactions.proofs.Tests.{reserved, tells_reached, unbegun}
 use Rattle.sessions.specs.Numbers.{kept_of}
-use Rattle.sessions.proofs.Devices.{risen_later, risen_still}
+use Rattle.sessions.proofs.Devices.{risen_later, risen_still, of_store}
 use Rattle.sessions.proofs.Exchanges.{Exchanged}
 use Rattle.sessions.proofs.Holding.{closed_in, fits_same}
 use Rattle.sessions.proofs.OpenFits.{opens_leaves}
@@ -100,3 +100,39 @@ returns-then-is_open-clause-kept g c = (same (g.S.Store.shows c.args.store.now) 
 
 pub returns-in_default-clause-kept : goal.returns-in_default-clause-kept
 returns-in_default-clause-kept g c = (same (g.S.Store.shows c.args.store.now) (g.S.Store.shows c.args.store.now) refl, refl)
+
+pub returns-then-is_open-clause-device : goal.returns-then-is_open-clause-device
+returns-then-is_open-clause-device g c = λ is. absurd (cc)
+
+pub returns-in_default-clause-device : goal.returns-in_default-clause-device
+returns-in_default-clause-device g c = λ is. absurd (cc)
+
+pub returns-in-Err-clause-device : goal.returns-in-Err-clause-device
+returns-in-Err-clause-device g c = λ is. of_store _ _ _ _ c.in-Err.error (rw c.in-Err.is at c.begin.ensures.refused) (sym c.refusal_of.ensures ∙ is)
+
+pub returns-in-Ok-clause-device : goal.returns-in-Ok-clause-device
+returns-in-Ok-clause-device g c = rw c.let_go.ensures tt
+
+pub returns-then-is_open-clause-limits : goal.returns-then-is_open-clause-limits
+returns-then-is_open-clause-limits g c = tt
+
+pub returns-in_default-clause-limits : goal.returns-in_default-clause-limits
+returns-in_default-clause-limits g c = tt
+
+pub returns-in-Ok-clause-limits : goal.returns-in-Ok-clause-limits
+returns-in-Ok-clause-limits g c = rw c.let_go.ensures tt
+
+pub returns-in-Err-opened-clause-limits : goal.returns-in-Err-opened-clause-limits
+returns-in-Err-opened-clause-limits g c = c.in-Err-opened.ensures.limits
+
+pub returns-in-Ok-clause-kept : goal.returns-in-Ok-clause-kept
+returns-in-Ok-clause-kept g c = rw c.let_go.ensures tt
+
+pub returns-then-is_open-clause-goes : goal.returns-then-is_open-clause-goes
+returns-then-is_open-clause-goes g c = g.met.S.Store.goes_on_refl _ Going.keeps
+
+pub returns-in_default-clause-goes : goal.returns-in_default-clause-goes
+returns-in_default-clause-goes g c = g.met.S.Store.goes_on_refl _ Going.keeps
+
+pub returns-in-Err-clause-goes : goal.returns-in-Err-clause-goes
+returns-in-Err-clause-goes g c = c.begin.ensures.goes

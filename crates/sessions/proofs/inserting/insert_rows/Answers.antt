@@ -9,7 +9,7 @@ use Rattle.sessions.specs.Numbers.{kept_of}
 use Rattle.sessions.proofs.ChangeCalls.{beside_cursor, comes_late, good_begun, makes, only_reads, refuses}
 use Rattle.sessions.proofs.Holding.{shut_kept}
 use Rattle.sessions.proofs.PutIn.{answered, any, withheld}
-use Rattle.sessions.proofs.Devices.{risen_later, risen_still, counts_none}
+use Rattle.sessions.proofs.Devices.{risen_later, risen_still, counts_none, of_store}
 use Rattle.store.specs.Going.{Going}
 use Rattle.sessions.proofs.Kept.{none_kept}
 use Rattle.sessions.proofs.inserting.insert_rows.Goals as goal
@@ -130,3 +130,21 @@ returns-in-Err-make-clause-kept g c = λ other.
           (subst (λ (y : Stored). SameButMark y (g.S.Store.shows c.make.new.store)) begins c.in-Err-make.ensures.same) c.take_back.ensures.shows,
       refl,
     )
+
+pub returns-then-is_read_only-clause-device : goal.returns-then-is_read_only-clause-device
+returns-then-is_read_only-clause-device g c = λ is. absurd (cc)
+
+pub returns-then-has_open-clause-device : goal.returns-then-has_open-clause-device
+returns-then-has_open-clause-device g c = λ is. absurd (cc)
+
+pub returns-then-comes_too_late-clause-device : goal.returns-then-comes_too_late-clause-device
+returns-then-comes_too_late-clause-device g c = λ is. absurd (cc)
+
+pub returns-in-Err-clause-device : goal.returns-in-Err-clause-device
+returns-in-Err-clause-device g c = λ is. of_store _ _ _ _ c.in-Err.error (rw c.in-Err.is at c.begin.ensures.refused) (sym c.refusal_of.ensures ∙ is)
+
+pub returns-then-is_read_only-clause-goes : goal.returns-then-is_read_only-clause-goes
+returns-then-is_read_only-clause-goes g c = g.met.S.Store.goes_on_refl _ Going.changes
+
+pub returns-then-has_open-clause-goes : goal.returns-then-has_open-clause-goes
+returns-then-has_open-clause-goes g c = g.met.S.Store.goes_on_refl _ Going.changes

@@ -1,4 +1,4 @@
-use Rattle.std.proofs.Common.{◌≡◌, sym, subst}
+use Rattle.std.proofs.Common.{◌≡◌, sym, subst, ◌∙◌}
 use Rattle.std.proofs.lemmas.Result.{IfOk-weaker, IfErr-weaker}
 use Rattle.denote.specs.Database.{IsGood}
 use Rattle.denote.specs.SchemaOf.{IsSchemaOf}
@@ -7,7 +7,9 @@ use Rattle.store.specs.Contents.{database_of}
 use Rattle.store.specs.Going.{Going}
 use Rattle.store.specs.Stored.{Stored}
 use Rattle.sessions.specs.Changed.{MakesChange, RefusesStatement}
-use Rattle.sessions.proofs.Devices.{risen_later}
+use Rattle.sessions.proofs.Devices.{risen_later, of_store}
+use Rattle.transactions.proofs.Orders.{same}
+use Rattle.sessions.proofs.Kept.{same_after}
 use Rattle.sessions.proofs.inserting.make.Goals as goal
 
 pub returns-clause-changes : goal.returns-clause-changes
@@ -38,3 +40,21 @@ returns-in-Err-clause-goes g c = g.met.S.Store.goes_on_trans _ _ _ Going.keeps G
 
 pub returns-clause-goes : goal.returns-clause-goes
 returns-clause-goes g c = g.met.S.Store.goes_on_trans _ _ _ Going.keeps Going.changes c.prepare.ensures.goes c.insert.ensures.goes
+
+pub returns-clause-accepted : goal.returns-clause-accepted
+returns-clause-accepted g c = c.insert.ensures.accepted
+
+pub returns-clause-same : goal.returns-clause-same
+returns-clause-same g c = same_after c.insert.result (g.S.Store.shows c.args.store.now) (g.S.Store.shows c.prepare.new.self) (g.S.Store.shows c.insert.new.store) c.prepare.ensures.shows c.insert.ensures.same
+
+pub returns-in-Err-clause-changes : goal.returns-in-Err-clause-changes
+returns-in-Err-clause-changes g c = tt
+
+pub returns-in-Err-clause-accepted : goal.returns-in-Err-clause-accepted
+returns-in-Err-clause-accepted g c = tt
+
+pub returns-in-Err-clause-device : goal.returns-in-Err-clause-device
+returns-in-Err-clause-device g c = λ is. of_store _ _ _ _ c.in-Err.error (rw c.in-Err.is at c.prepare.ensures.refused) (sym c.refusal_of.ensures ∙ is)
+
+pub returns-in-Err-clause-same : goal.returns-in-Err-clause-same
+returns-in-Err-clause-same g c = same (g.S.Store.shows c.args.store.now) _ c.prepare.ensures.shows

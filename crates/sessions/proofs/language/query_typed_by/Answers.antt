@@ -16,3 +16,6 @@ returns-clause-limits g c = IfErr-weaker c.typed_query.result _ _
     (λ refusal reason. typed_tells (asks.Query c.args.query.now) c.args.schema.now refusal (c.refusals_have_reasons.ensures (asks.Query c.args.query.now) c.args.schema.now)
     (reason_found c.args.query.now c.args.schema.now refusal reason))
     c.typed_query.ensures.finds.err
+
+pub returns-clause-finds : goal.returns-clause-finds
+returns-clause-finds g c = c.typed_query.ensures.finds

@@ -10,21 +10,24 @@ use Rattle.sessions.proofs.QuerySteps.{one_query}
 use Rattle.sessions.proofs.query.evaluate.Goals as goal
 
 pub returns-in-Ok-clause-answers : goal.returns-in-Ok-clause-answers
-returns-in-Ok-clause-answers g c = IfOk-weaker c.answer.result _ _
+returns-in-Ok-clause-answers g c = IfOk-weaker c.answer-rows.result _ _
     (λ rows h reading query is sound good of.
     let contents = seen_by (g.S.Store.shows c.args.store.now) c.args.view in
     h sound query (subst (λ (q : typed.OrderedQuery). IsPlanOf contents q c.in-Ok.plan)
     (one_query c.in-Query.query query (sym c.in-Query.is ∙ is))
     (c.in-Ok.ensures.plan reading contents good
     (subst (λ (schema : Schema). IsSchemaOf schema (database_of contents)) (sym c.schema.ensures) of))))
-    c.answer.ensures.answers
+    c.answer-rows.ensures.answers
 
 pub returns-in-Ok-clause-refused : goal.returns-in-Ok-clause-refused
-returns-in-Ok-clause-refused g c = IfErr-weaker c.answer.result _ _
+returns-in-Ok-clause-refused g c = IfErr-weaker c.answer-rows.result _ _
     (λ refusal h reading query is sound good of.
     let contents = seen_by (g.S.Store.shows c.args.store.now) c.args.view in
     h sound query (subst (λ (q : typed.OrderedQuery). IsPlanOf contents q c.in-Ok.plan)
     (one_query c.in-Query.query query (sym c.in-Query.is ∙ is))
     (c.in-Ok.ensures.plan reading contents good
     (subst (λ (schema : Schema). IsSchemaOf schema (database_of contents)) (sym c.schema.ensures) of))))
-    c.answer.ensures.refused
+    c.answer-rows.ensures.refused
+
+pub returns-in-Ok-clause-limits : goal.returns-in-Ok-clause-limits
+returns-in-Ok-clause-limits g c = c.answer-rows.ensures.limits

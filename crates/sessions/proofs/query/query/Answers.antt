@@ -1,4 +1,4 @@
-use Rattle.std.proofs.Common.{◌≡◌, refl, ◌∙◌, inl, inr}
+use Rattle.std.proofs.Common.{◌≡◌, refl, ◌∙◌, inl, inr, sym}
 use Rattle.ast.specs.declared.statement.Statement.TheVariants as asks
 use Rattle.session_definitions.specs.Asked.{Asked}
 use Rattle.store.specs.Stored.{Stored, begun}
@@ -6,7 +6,7 @@ use Rattle.transactions.proofs.Orders.{same}
 use Rattle.transactions.proofs.Steps.{nothing_moves, withholds}
 use Rattle.transactions.proofs.Tests.{reserved, tells_reached, unbegun}
 use Rattle.sessions.proofs.QuerySteps.{gives, good_begun, refuses}
-use Rattle.sessions.proofs.Devices.{risen_later, risen_still}
+use Rattle.sessions.proofs.Devices.{risen_later, risen_still, of_store}
 use Rattle.store.specs.Going.{Going}
 use Rattle.sessions.proofs.query.query.Goals as goal
 
@@ -63,3 +63,21 @@ pub returns-in-Err-rows_seen-clause-kept : goal.returns-in-Err-rows_seen-clause-
 returns-in-Err-rows_seen-clause-kept g c =
     let begins : g.S.Store.shows c.begin.new.self ≡ begun (g.S.Store.shows c.args.store.now) c.args.session = rw c.in_default.is at c.begin.ensures.shows in
     unbegun _ _ _ _ _ c.number.ensures c.is_none-idle.ensures _ (same _ _ (c.rows_seen.ensures.shows ∙ begins)) c.take_back.ensures.shows
+
+pub returns-in-Err-clause-device : goal.returns-in-Err-clause-device
+returns-in-Err-clause-device g c = λ is. of_store _ _ _ _ c.in-Err.error (rw c.in-Err.is at c.begin.ensures.refused) (sym c.refusal_of.ensures ∙ is)
+
+pub returns-in-Err-clause-goes : goal.returns-in-Err-clause-goes
+returns-in-Err-clause-goes g c = c.begin.ensures.goes
+
+pub returns-in-Ok-clause-device : goal.returns-in-Ok-clause-device
+returns-in-Ok-clause-device g c = tt
+
+pub returns-in-Ok-clause-limits : goal.returns-in-Ok-clause-limits
+returns-in-Ok-clause-limits g c = tt
+
+pub returns-in-Ok-clause-kept : goal.returns-in-Ok-clause-kept
+returns-in-Ok-clause-kept g c = tt
+
+pub returns-in-Err-rows_seen-clause-limits : goal.returns-in-Err-rows_seen-clause-limits
+returns-in-Err-rows_seen-clause-limits g c = c.in-Err-rows_seen.ensures.limits

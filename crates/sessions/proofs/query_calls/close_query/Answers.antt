@@ -1,4 +1,4 @@
-use Rattle.std.proofs.Common.{None, sym, ◌∙◌}
+use Rattle.std.proofs.Common.{None, sym, ◌∙◌, refl}
 use Rattle.sessions.proofs.Exchanges.{is_held, not_there}
 use Rattle.sessions.proofs.UnnamedFits.{Replaced, closing, closing_none}
 use Rattle.sessions.proofs.query_calls.close_query.Goals as goal
@@ -22,3 +22,9 @@ returns-else-was_open-clause-leaves c = λ rules st w s order holds.
     } in
     closing_none rules st w s order c.args.slot.now holds c.exchange_unnamed-held.new.self c.exchange_unnamed-held.result first
     (not_there c.exchange_unnamed-held.result (sym c.was_open.ensures ∙ c.if-was_open.false))
+
+pub returns-then-was_open-clause-refused : goal.returns-then-was_open-clause-refused
+returns-then-was_open-clause-refused c = tt
+
+pub returns-else-was_open-clause-refused : goal.returns-else-was_open-clause-refused
+returns-else-was_open-clause-refused c = refl

@@ -5,7 +5,7 @@ use Rattle.transactions.proofs.Orders.{same}
 use Rattle.transactions.proofs.Tests.{reserved, tells_reached, unbegun}
 use Rattle.cursors.specs.declared.cursor.OpenCursor.{OpenCursor}
 use Rattle.sessions.specs.Numbers.{kept_of}
-use Rattle.sessions.proofs.Devices.{risen_later, risen_still}
+use Rattle.sessions.proofs.Devices.{risen_later, risen_still, of_store}
 use Rattle.sessions.proofs.Exchanges.{held_some}
 use Rattle.sessions.proofs.Holding.{closed_in, fits_same}
 use Rattle.sessions.proofs.QuerySteps.{good_begun}
@@ -84,3 +84,39 @@ returns-then-has_unnamed-clause-kept g c = (same (g.S.Store.shows c.args.store.n
 
 pub returns-in-Ok-clause-told : goal.returns-in-Ok-clause-told
 returns-in-Ok-clause-told g c = rw c.let_go.ensures tt
+
+pub returns-then-has_unnamed-clause-device : goal.returns-then-has_unnamed-clause-device
+returns-then-has_unnamed-clause-device g c = λ is. absurd (cc)
+
+pub returns-then-has_unnamed-clause-limits : goal.returns-then-has_unnamed-clause-limits
+returns-then-has_unnamed-clause-limits g c = tt
+
+pub returns-then-has_unnamed-clause-told : goal.returns-then-has_unnamed-clause-told
+returns-then-has_unnamed-clause-told g c = tt
+
+pub returns-then-has_unnamed-clause-goes : goal.returns-then-has_unnamed-clause-goes
+returns-then-has_unnamed-clause-goes g c = g.met.S.Store.goes_on_refl _ Going.keeps
+
+pub returns-in-Err-clause-device : goal.returns-in-Err-clause-device
+returns-in-Err-clause-device g c = λ is. of_store _ _ _ _ c.in-Err.error (rw c.in-Err.is at c.begin.ensures.refused) (sym c.refusal_of.ensures ∙ is)
+
+pub returns-in-Err-clause-told : goal.returns-in-Err-clause-told
+returns-in-Err-clause-told g c = tt
+
+pub returns-in-Err-clause-goes : goal.returns-in-Err-clause-goes
+returns-in-Err-clause-goes g c = c.begin.ensures.goes
+
+pub returns-in-Ok-clause-device : goal.returns-in-Ok-clause-device
+returns-in-Ok-clause-device g c = rw c.let_go.ensures tt
+
+pub returns-in-Ok-clause-limits : goal.returns-in-Ok-clause-limits
+returns-in-Ok-clause-limits g c = rw c.let_go.ensures tt
+
+pub returns-in-Ok-clause-kept : goal.returns-in-Ok-clause-kept
+returns-in-Ok-clause-kept g c = rw c.let_go.ensures tt
+
+pub returns-in-Err-opened-clause-limits : goal.returns-in-Err-opened-clause-limits
+returns-in-Err-opened-clause-limits g c = c.in-Err-opened.ensures.limits
+
+pub returns-in-Err-opened-clause-told : goal.returns-in-Err-opened-clause-told
+returns-in-Err-opened-clause-told g c = tt

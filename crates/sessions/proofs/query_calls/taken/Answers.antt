@@ -1,4 +1,4 @@
-use Rattle.std.proofs.Common.{Option, sym, subst}
+use Rattle.std.proofs.Common.{Option, sym, subst, refl}
 use Rattle.std.specs.Prelude.{◌≡◌, MatchOption, None}
 use Rattle.refusals.specs.declared.refusal.Refusal.TheVariants.{CursorState}
 use Rattle.replies.specs.declared.reply.Reply.TheVariants as says
@@ -6,6 +6,7 @@ use Rattle.store.specs.View.{seen_by}
 use Rattle.cursors.specs.declared.cursor.OpenCursor.{OpenCursor}
 use Rattle.cursors.specs.Opened.{Fits}
 use Rattle.sessions.specs.Opened.{GivesRows}
+use Rattle.store.specs.Going.{Going}
 use Rattle.sessions.proofs.query_calls.taken.Goals as goal
 
 pub returns-in-Some-clause-gives : goal.returns-in-Some-clause-gives
@@ -25,3 +26,24 @@ returns-in-Some-clause-limits g c = c.taken_from.ensures.limits
 
 pub returns-in-None-clause-device : goal.returns-in-None-clause-device
 returns-in-None-clause-device g c = rw c.refused.ensures.reply (λ is. absurd (cc))
+
+pub returns-in-Some-clause-shows : goal.returns-in-Some-clause-shows
+returns-in-Some-clause-shows g c = c.taken_from.ensures.shows
+
+pub returns-in-Some-clause-goes : goal.returns-in-Some-clause-goes
+returns-in-Some-clause-goes g c = c.taken_from.ensures.goes
+
+pub returns-in-None-clause-gives : goal.returns-in-None-clause-gives
+returns-in-None-clause-gives g c = rw c.in-None.is (c.refused.ensures.left, c.refused.ensures.reply)
+
+pub returns-in-None-clause-told : goal.returns-in-None-clause-told
+returns-in-None-clause-told g c = rw c.refused.ensures.reply tt
+
+pub returns-in-None-clause-limits : goal.returns-in-None-clause-limits
+returns-in-None-clause-limits g c = rw c.refused.ensures.reply tt
+
+pub returns-in-None-clause-shows : goal.returns-in-None-clause-shows
+returns-in-None-clause-shows g c = refl
+
+pub returns-in-None-clause-goes : goal.returns-in-None-clause-goes
+returns-in-None-clause-goes g c = g.met.S.Store.goes_on_refl _ Going.reads

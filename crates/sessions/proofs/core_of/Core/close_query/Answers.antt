@@ -96,3 +96,18 @@ returns-clause-others g c =
           (sym (put_as c.set.new.self.all all n c.settle.new.slot (kept_of c.settle.new.slot) put refl))
           (others_stay st w (kept_in all) n (Some (kept_of c.settle.new.slot))),
     )
+
+pub returns-then-not-stands-clause-sound : goal.returns-then-not-stands-clause-sound
+returns-then-not-stands-clause-sound g c = λ sound. sound
+
+pub returns-then-not-stands-clause-ended : goal.returns-then-not-stands-clause-ended
+returns-then-not-stands-clause-ended g c = λ dead. (refl, refl)
+
+pub returns-then-not-stands-clause-live : goal.returns-then-not-stands-clause-live
+returns-then-not-stands-clause-live g c = λ q. refl
+
+pub returns-then-not-stands-clause-untouched : goal.returns-then-not-stands-clause-untouched
+returns-then-not-stands-clause-untouched g c = refl
+
+pub returns-clause-untouched : goal.returns-clause-untouched
+returns-clause-untouched g c = refl

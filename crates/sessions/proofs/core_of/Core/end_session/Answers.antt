@@ -1,4 +1,4 @@
-use Rattle.std.proofs.Common.{◌≡◌, ◌≢◌, ℕ, true, false, refl, Some, None, sym, subst, ◌∙◌}
+use Rattle.std.proofs.Common.{◌≡◌, ◌≢◌, ℕ, true, false, refl, Some, None, sym, subst, ◌∙◌, arith}
 use Rattle.session_definitions.specs.Run.{DropsSession}
 use Rattle.session_definitions.specs.World.{is_live}
 use Rattle.transactions.specs.Shown.{Slots, shown}
@@ -6,6 +6,7 @@ use Rattle.transactions.proofs.SlotLemmas.{slot_within}
 use Rattle.sessions.specs.Numbers.{Held, held_at, kept_in, kept_of}
 use Rattle.sessions.proofs.Cores.{not_live, is_live_at, drops, set_beside, set_there}
 use Rattle.sessions.proofs.Holding.{all_held, held_readers, held_within, is_held, kept_here, kept_none, not_held, put_none}
+use Rattle.store.specs.Going.{Going}
 use Rattle.sessions.proofs.core_of.Core.end_session.Goals as goal
 
 pub returns-then-not-stands-clause-drops : goal.returns-then-not-stands-clause-drops
@@ -65,3 +66,18 @@ returns-clause-live g c =
 
 pub returns-clause-counts : goal.returns-clause-counts
 returns-clause-counts g c = (g.met.S.Store.goes_on_goes _ _ _ c.drop_session.ensures.goes).refused
+
+pub returns-then-not-stands-clause-ended : goal.returns-then-not-stands-clause-ended
+returns-then-not-stands-clause-ended g c = λ dead. refl
+
+pub returns-then-not-stands-clause-sound : goal.returns-then-not-stands-clause-sound
+returns-then-not-stands-clause-sound g c = λ sound. sound
+
+pub returns-then-not-stands-clause-goes : goal.returns-then-not-stands-clause-goes
+returns-then-not-stands-clause-goes g c = g.met.S.Store.goes_on_refl _ Going.keeps
+
+pub returns-then-not-stands-clause-counts : goal.returns-then-not-stands-clause-counts
+returns-then-not-stands-clause-counts g c = omega arith
+
+pub returns-clause-goes : goal.returns-clause-goes
+returns-clause-goes g c = c.drop_session.ensures.goes

@@ -55,3 +55,30 @@ returns-clause-live g c =
       set_there st c.args.self.now.writer (kept_in all) c.in-Some.number (Some fresh) within,
       set_beside st st c.args.self.now.writer c.args.self.now.writer (kept_in all) c.in-Some.number (Some fresh),
     )
+
+pub returns-in_default-clause-refused : goal.returns-in_default-clause-refused
+returns-in_default-clause-refused g c = (refl, refl)
+
+pub returns-in_default-clause-free : goal.returns-in_default-clause-free
+returns-in_default-clause-free g c = tt
+
+pub returns-in_default-clause-live : goal.returns-in_default-clause-live
+returns-in_default-clause-live g c = tt
+
+pub returns-in_default-clause-sound : goal.returns-in_default-clause-sound
+returns-in_default-clause-sound g c = λ sound. sound
+
+pub returns-in_default-clause-untouched : goal.returns-in_default-clause-untouched
+returns-in_default-clause-untouched g c = refl
+
+pub returns-in_default-clause-counts : goal.returns-in_default-clause-counts
+returns-in_default-clause-counts g c = refl
+
+pub returns-clause-refused : goal.returns-clause-refused
+returns-clause-refused g c = tt
+
+pub returns-clause-untouched : goal.returns-clause-untouched
+returns-clause-untouched g c = refl
+
+pub returns-clause-counts : goal.returns-clause-counts
+returns-clause-counts g c = refl

@@ -1,4 +1,4 @@
-use Rattle.std.proofs.Common.{◌≡◌, refl, true, false, Some, None, sym, subst, ◌∙◌, ap}
+use Rattle.std.proofs.Common.{◌≡◌, refl, true, false, Some, None, sym, subst, ◌∙◌, ap, arith}
 use Rattle.std.specs.FinMap.{get}
 use Rattle.session_definitions.specs.Asked.{Asked}
 use Rattle.session_definitions.specs.Step.{StepOf}
@@ -11,6 +11,7 @@ use Rattle.sessions.specs.Numbers.{Held, held_at, kept_in, kept_of}
 use Rattle.sessions.proofs.Cores.{not_live, is_live_at, set_alike}
 use Rattle.sessions.proofs.Holding.{all_held, held_readers, held_within, is_held, kept_here, kept_holds, kept_none, not_held, put_as, put_back}
 use Rattle.sessions.proofs.Kept.{refused_alike, world_kept}
+use Rattle.store.specs.Going.{Going}
 use Rattle.sessions.proofs.core_of.Core.open_query.Goals as goal
 
 pub returns-then-not-stands-clause-step : goal.returns-then-not-stands-clause-step
@@ -93,3 +94,39 @@ returns-clause-counts g c = (g.met.S.Store.goes_on_goes _ _ _ c.open_query-reply
 
 pub returns-clause-told : goal.returns-clause-told
 returns-clause-told g c = c.open_query-reply.ensures.told
+
+pub returns-then-not-stands-clause-sound : goal.returns-then-not-stands-clause-sound
+returns-then-not-stands-clause-sound g c = λ rules are sound good. sound
+
+pub returns-then-not-stands-clause-ended : goal.returns-then-not-stands-clause-ended
+returns-then-not-stands-clause-ended g c = λ dead. (refl, refl)
+
+pub returns-then-not-stands-clause-live : goal.returns-then-not-stands-clause-live
+returns-then-not-stands-clause-live g c = λ q. refl
+
+pub returns-then-not-stands-clause-device : goal.returns-then-not-stands-clause-device
+returns-then-not-stands-clause-device g c = λ is. absurd (cc)
+
+pub returns-then-not-stands-clause-limits : goal.returns-then-not-stands-clause-limits
+returns-then-not-stands-clause-limits g c = tt
+
+pub returns-then-not-stands-clause-told : goal.returns-then-not-stands-clause-told
+returns-then-not-stands-clause-told g c = tt
+
+pub returns-then-not-stands-clause-kept : goal.returns-then-not-stands-clause-kept
+returns-then-not-stands-clause-kept g c = refl
+
+pub returns-then-not-stands-clause-goes : goal.returns-then-not-stands-clause-goes
+returns-then-not-stands-clause-goes g c = g.met.S.Store.goes_on_refl _ Going.keeps
+
+pub returns-then-not-stands-clause-counts : goal.returns-then-not-stands-clause-counts
+returns-then-not-stands-clause-counts g c = omega arith
+
+pub returns-clause-device : goal.returns-clause-device
+returns-clause-device g c = c.open_query-reply.ensures.device
+
+pub returns-clause-limits : goal.returns-clause-limits
+returns-clause-limits g c = c.open_query-reply.ensures.limits
+
+pub returns-clause-goes : goal.returns-clause-goes
+returns-clause-goes g c = c.open_query-reply.ensures.goes

@@ -1,4 +1,4 @@
-use Rattle.std.proofs.Common.{◌≡◌, refl, true, false, Some, None, sym, subst, ◌∙◌, inl, ap, ◌≢◌}
+use Rattle.std.proofs.Common.{◌≡◌, refl, true, false, Some, None, sym, subst, ◌∙◌, inl, ap, ◌≢◌, [], ◌∷◌, arith}
 use Rattle.std.specs.FinMap.{get}
 use Rattle.refusals.specs.declared.refusal.Refusal.TheVariants.{SerializationFailure}
 use Rattle.store.specs.Going.{Going}
@@ -108,3 +108,48 @@ returns-clause-kept g c =
 
 pub returns-clause-counts : goal.returns-clause-counts
 returns-clause-counts g c = (g.met.S.Store.goes_on_goes _ _ _ c.call-reply.ensures.goes).refused
+
+pub returns-then-not-stands-clause-sound : goal.returns-then-not-stands-clause-sound
+returns-then-not-stands-clause-sound g c = λ rules are sound good. sound
+
+pub returns-then-not-stands-clause-explained : goal.returns-then-not-stands-clause-explained
+returns-then-not-stands-clause-explained g c = λ x read sound. tt
+
+pub returns-then-not-stands-clause-ended : goal.returns-then-not-stands-clause-ended
+returns-then-not-stands-clause-ended g c = λ dead. (refl, refl)
+
+pub returns-then-not-stands-clause-live : goal.returns-then-not-stands-clause-live
+returns-then-not-stands-clause-live g c = λ q. refl
+
+pub returns-then-not-stands-clause-device : goal.returns-then-not-stands-clause-device
+returns-then-not-stands-clause-device g c = λ is. absurd (cc)
+
+pub returns-then-not-stands-clause-limits : goal.returns-then-not-stands-clause-limits
+returns-then-not-stands-clause-limits g c = tt
+
+pub returns-then-not-stands-clause-idle : goal.returns-then-not-stands-clause-idle
+returns-then-not-stands-clause-idle g c = λ unchanged. refl
+
+pub returns-then-not-stands-clause-goes : goal.returns-then-not-stands-clause-goes
+returns-then-not-stands-clause-goes g c = g.met.S.Store.goes_on_refl _ (Going.writes ((g.S.Store.shows c.args.self.now.store).working ∷ []))
+
+pub returns-then-not-stands-clause-counts : goal.returns-then-not-stands-clause-counts
+returns-then-not-stands-clause-counts g c = omega arith
+
+pub returns-clause-rolled_back : goal.returns-clause-rolled_back
+returns-clause-rolled_back g c = λ is live. c.call-reply.ensures.rolled_back is
+
+pub returns-clause-device : goal.returns-clause-device
+returns-clause-device g c = c.call-reply.ensures.device
+
+pub returns-clause-limits : goal.returns-clause-limits
+returns-clause-limits g c = c.call-reply.ensures.limits
+
+pub returns-clause-idle : goal.returns-clause-idle
+returns-clause-idle g c = c.call-reply.ensures.idle
+
+pub returns-clause-goes : goal.returns-clause-goes
+returns-clause-goes g c = c.call-reply.ensures.goes
+
+pub returns-clause-commits : goal.returns-clause-commits
+returns-clause-commits g c = c.call-reply.ensures.commits
