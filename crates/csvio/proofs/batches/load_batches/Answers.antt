@@ -1,4 +1,4 @@
-use Rattle.std.proofs.Common.{◌≡◌, inr, refl}
+use Rattle.std.proofs.Common.{◌≡◌, inr, refl, le_refl}
 use Rattle.sessions.specs.OfCore.{world_of}
 use Rattle.scripts.specs.Settled.{store_of}
 use Rattle.csvio.specs.Batches.{LoadsBatches}
@@ -29,3 +29,30 @@ returns-clause-loads g c = λ some rules are kept live.
 
 pub returns-clause-device : goal.returns-clause-device
 returns-clause-device g c = rw c.unloaded-in-Err-read_rows.ensures.reply (λ is. inr refl)
+
+pub returns-in-Err-clause-kept : goal.returns-in-Err-clause-kept
+returns-in-Err-clause-kept g c = λ rules are kept. kept
+
+pub returns-in-Err-clause-live : goal.returns-in-Err-clause-live
+returns-in-Err-clause-live g c = λ s. refl
+
+pub returns-in-Err-clause-counts : goal.returns-in-Err-clause-counts
+returns-in-Err-clause-counts g c = le_refl _
+
+pub returns-in-Ok-read_rows-clause-kept : goal.returns-in-Ok-read_rows-clause-kept
+returns-in-Ok-read_rows-clause-kept g c = c.put_cut.ensures.kept
+
+pub returns-in-Ok-read_rows-clause-live : goal.returns-in-Ok-read_rows-clause-live
+returns-in-Ok-read_rows-clause-live g c = c.put_cut.ensures.live
+
+pub returns-in-Ok-read_rows-clause-counts : goal.returns-in-Ok-read_rows-clause-counts
+returns-in-Ok-read_rows-clause-counts g c = c.put_cut.ensures.counts
+
+pub returns-clause-kept : goal.returns-clause-kept
+returns-clause-kept g c = λ rules are kept. kept
+
+pub returns-clause-live : goal.returns-clause-live
+returns-clause-live g c = λ s. refl
+
+pub returns-clause-counts : goal.returns-clause-counts
+returns-clause-counts g c = le_refl _

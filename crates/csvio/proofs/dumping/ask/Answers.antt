@@ -1,4 +1,4 @@
-use Rattle.std.proofs.Common.{◌≡◌, ◌∙◌, refl, subst}
+use Rattle.std.proofs.Common.{◌≡◌, ◌∙◌, refl, subst, le_refl}
 use Rattle.lexer.specs.Token.{Bytes}
 use Rattle.session_definitions.specs.Asked.{Asked}
 use Rattle.sessions.specs.OfCore.{slots_of, world_of}
@@ -21,3 +21,18 @@ returns-in-Ok-clause-kept g c = λ rules are kept.
 
 pub returns-in-Err-clause-asks : goal.returns-in-Err-clause-asks
 returns-in-Err-clause-asks g c = λ rules asked are kept live made. Asks.unasked refl refl
+
+pub returns-in-Ok-clause-live : goal.returns-in-Ok-clause-live
+returns-in-Ok-clause-live g c = c.step.ensures.live
+
+pub returns-in-Ok-clause-counts : goal.returns-in-Ok-clause-counts
+returns-in-Ok-clause-counts g c = c.step.ensures.counts
+
+pub returns-in-Err-clause-kept : goal.returns-in-Err-clause-kept
+returns-in-Err-clause-kept g c = λ rules are kept. kept
+
+pub returns-in-Err-clause-live : goal.returns-in-Err-clause-live
+returns-in-Err-clause-live g c = λ s. refl
+
+pub returns-in-Err-clause-counts : goal.returns-in-Err-clause-counts
+returns-in-Err-clause-counts g c = le_refl _

@@ -3,6 +3,7 @@ use Rattle.std.specs.Prelude.{IfOk}
 use Rattle.session_definitions.specs.World.{is_live}
 use Rattle.sessions.specs.OfCore.{world_of}
 use Rattle.csvio.specs.Dumping.{AsksAll, query_text, width_of}
+use Rattle.std.proofs.Math.Nat.{le_trans}
 use Rattle.csvio.proofs.dumping.ask_all.Goals as goal
 
 pub returns-then-width-eq0-clause-asks : goal.returns-then-width-eq0-clause-asks
@@ -26,3 +27,15 @@ returns-clause-kept g c = λ rules are kept. c.ask.ensures.kept rules are (c.ask
 
 pub returns-clause-live : goal.returns-clause-live
 returns-clause-live g c = λ s. c.ask.ensures.live s ∙ c.ask-found.ensures.live s
+
+pub returns-then-width-eq0-clause-kept : goal.returns-then-width-eq0-clause-kept
+returns-then-width-eq0-clause-kept g c = c.ask-found.ensures.kept
+
+pub returns-then-width-eq0-clause-live : goal.returns-then-width-eq0-clause-live
+returns-then-width-eq0-clause-live g c = c.ask-found.ensures.live
+
+pub returns-then-width-eq0-clause-counts : goal.returns-then-width-eq0-clause-counts
+returns-then-width-eq0-clause-counts g c = c.ask-found.ensures.counts
+
+pub returns-clause-counts : goal.returns-clause-counts
+returns-clause-counts g c = le_trans c.ask-found.ensures.counts c.ask.ensures.counts

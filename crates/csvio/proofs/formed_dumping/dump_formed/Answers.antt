@@ -1,4 +1,4 @@
-use Rattle.std.proofs.Common.{◌≡◌, true, sym, ap, subst, ◌∙◌, arith}
+use Rattle.std.proofs.Common.{◌≡◌, true, sym, ap, subst, ◌∙◌, arith, refl, le_refl}
 use Rattle.session_definitions.specs.World.{World, is_live}
 use Rattle.session_laws.specs.Sound.{IsGoodWorld}
 use Rattle.sessions.specs.OfCore.{world_of}
@@ -40,3 +40,21 @@ returns-clause-dumps g c = λ rules are kept live.
     rowless_form rules c.args.form (world_of g.S.Store.shows c.args.core.now) c.args.session.number c.args.table.now (g.W.Write.contents c.args.writer.now)
     c.in-Ok.name c.in-Ok.ensures.gives c.ask_all.result (world_of g.S.Store.shows c.ask_all.new.core) (c.ask_all.ensures.asks rules are kept live)
     c.in-Err-rows_of.reply c.in-Err-rows_of.ensures.other.0 c.in-Err-rows_of.ensures.other.1
+
+pub returns-in-Err-clause-kept : goal.returns-in-Err-clause-kept
+returns-in-Err-clause-kept g c = λ rules are kept. kept
+
+pub returns-in-Err-clause-live : goal.returns-in-Err-clause-live
+returns-in-Err-clause-live g c = λ s. refl
+
+pub returns-in-Err-clause-counts : goal.returns-in-Err-clause-counts
+returns-in-Err-clause-counts g c = le_refl _
+
+pub returns-clause-kept : goal.returns-clause-kept
+returns-clause-kept g c = c.ask_all.ensures.kept
+
+pub returns-clause-live : goal.returns-clause-live
+returns-clause-live g c = c.ask_all.ensures.live
+
+pub returns-clause-counts : goal.returns-clause-counts
+returns-clause-counts g c = c.ask_all.ensures.counts

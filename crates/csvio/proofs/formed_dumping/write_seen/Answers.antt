@@ -41,3 +41,21 @@ returns-in-None-clause-writes g c = λ sound live.
 
 pub returns-in-None-clause-counts : goal.returns-in-None-clause-counts
 returns-in-None-clause-counts g c = (g.met.S.Store.goes_on_goes _ _ _ c.prepare_schema.ensures.goes).refused
+
+pub returns-in-Err-clause-world : goal.returns-in-Err-clause-world
+returns-in-Err-clause-world g c = c.prepare_schema.ensures.kept
+
+pub returns-in-Err-clause-sound : goal.returns-in-Err-clause-sound
+returns-in-Err-clause-sound g c = c.prepare_schema.ensures.sound
+
+pub returns-in-Some-clause-world : goal.returns-in-Some-clause-world
+returns-in-Some-clause-world g c = c.prepare_schema.ensures.kept
+
+pub returns-in-Some-clause-sound : goal.returns-in-Some-clause-sound
+returns-in-Some-clause-sound g c = c.prepare_schema.ensures.sound
+
+pub returns-in-None-clause-world : goal.returns-in-None-clause-world
+returns-in-None-clause-world g c = c.prepare_schema.ensures.kept
+
+pub returns-in-None-clause-sound : goal.returns-in-None-clause-sound
+returns-in-None-clause-sound g c = c.prepare_schema.ensures.sound

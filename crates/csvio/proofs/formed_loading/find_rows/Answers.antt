@@ -1,4 +1,4 @@
-use Rattle.std.proofs.Common.{sym}
+use Rattle.std.proofs.Common.{sym, refl, le_refl}
 use Rattle.sessions.specs.OfCore.{slots_of, world_of}
 use Rattle.csvio.specs.Formed.{FindsNone}
 use Rattle.csvio.proofs.Found.{unnamed_table}
@@ -42,3 +42,42 @@ returns-in-Err-find_in-clause-refused g c = λ sound live.
 
 pub returns-in-Err-find_in-clause-counts : goal.returns-in-Err-find_in-clause-counts
 returns-in-Err-find_in-clause-counts g c = (g.met.S.Store.goes_on_goes _ _ _ c.prepare_schema.ensures.goes).refused
+
+pub returns-in-Err-clause-rows : goal.returns-in-Err-clause-rows
+returns-in-Err-clause-rows g c = tt
+
+pub returns-in-Err-clause-world : goal.returns-in-Err-clause-world
+returns-in-Err-clause-world g c = refl
+
+pub returns-in-Err-clause-sound : goal.returns-in-Err-clause-sound
+returns-in-Err-clause-sound g c = λ sound. sound
+
+pub returns-in-Err-clause-counts : goal.returns-in-Err-clause-counts
+returns-in-Err-clause-counts g c = le_refl _
+
+pub returns-in-Err-prepare_schema-clause-rows : goal.returns-in-Err-prepare_schema-clause-rows
+returns-in-Err-prepare_schema-clause-rows g c = tt
+
+pub returns-in-Err-find_in-clause-rows : goal.returns-in-Err-find_in-clause-rows
+returns-in-Err-find_in-clause-rows g c = tt
+
+pub returns-in-Ok-find_in-clause-refused : goal.returns-in-Ok-find_in-clause-refused
+returns-in-Ok-find_in-clause-refused g c = tt
+
+pub returns-in-Err-prepare_schema-clause-world : goal.returns-in-Err-prepare_schema-clause-world
+returns-in-Err-prepare_schema-clause-world g c = c.prepare_schema.ensures.kept
+
+pub returns-in-Err-prepare_schema-clause-sound : goal.returns-in-Err-prepare_schema-clause-sound
+returns-in-Err-prepare_schema-clause-sound g c = c.prepare_schema.ensures.sound
+
+pub returns-in-Ok-find_in-clause-world : goal.returns-in-Ok-find_in-clause-world
+returns-in-Ok-find_in-clause-world g c = c.prepare_schema.ensures.kept
+
+pub returns-in-Ok-find_in-clause-sound : goal.returns-in-Ok-find_in-clause-sound
+returns-in-Ok-find_in-clause-sound g c = c.prepare_schema.ensures.sound
+
+pub returns-in-Err-find_in-clause-world : goal.returns-in-Err-find_in-clause-world
+returns-in-Err-find_in-clause-world g c = c.prepare_schema.ensures.kept
+
+pub returns-in-Err-find_in-clause-sound : goal.returns-in-Err-find_in-clause-sound
+returns-in-Err-find_in-clause-sound g c = c.prepare_schema.ensures.sound

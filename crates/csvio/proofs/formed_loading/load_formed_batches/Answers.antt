@@ -41,3 +41,6 @@ returns-in-Err-clause-kept g c = λ rules are kept.
 
 pub returns-in-Err-clause-live : goal.returns-in-Err-clause-live
 returns-in-Err-clause-live g c = λ s. ap (λ (w : World). is_live w s) c.find_rows.ensures.world
+
+pub returns-in-Err-clause-counts : goal.returns-in-Err-clause-counts
+returns-in-Err-clause-counts g c = c.find_rows.ensures.counts

@@ -1,4 +1,4 @@
-use Rattle.std.proofs.Common.{◌≡◌, inr, refl}
+use Rattle.std.proofs.Common.{◌≡◌, inr, refl, le_refl}
 use Rattle.sessions.specs.OfCore.{world_of}
 use Rattle.csvio.specs.Loading.{Loads}
 use Rattle.scripts.specs.Settled.{store_of}
@@ -28,3 +28,30 @@ returns-clause-device g c = λ is. inr refl
 
 pub returns-in-Err-clause-device : goal.returns-in-Err-clause-device
 returns-in-Err-clause-device g c = λ is. inr refl
+
+pub returns-in-Err-clause-kept : goal.returns-in-Err-clause-kept
+returns-in-Err-clause-kept g c = λ rules are kept. kept
+
+pub returns-in-Err-clause-live : goal.returns-in-Err-clause-live
+returns-in-Err-clause-live g c = λ s. refl
+
+pub returns-in-Err-clause-counts : goal.returns-in-Err-clause-counts
+returns-in-Err-clause-counts g c = le_refl _
+
+pub returns-in-Ok-read_rows-clause-kept : goal.returns-in-Ok-read_rows-clause-kept
+returns-in-Ok-read_rows-clause-kept g c = c.put_in.ensures.kept
+
+pub returns-in-Ok-read_rows-clause-live : goal.returns-in-Ok-read_rows-clause-live
+returns-in-Ok-read_rows-clause-live g c = c.put_in.ensures.live
+
+pub returns-in-Ok-read_rows-clause-counts : goal.returns-in-Ok-read_rows-clause-counts
+returns-in-Ok-read_rows-clause-counts g c = c.put_in.ensures.counts
+
+pub returns-clause-kept : goal.returns-clause-kept
+returns-clause-kept g c = λ rules are kept. kept
+
+pub returns-clause-live : goal.returns-clause-live
+returns-clause-live g c = λ s. refl
+
+pub returns-clause-counts : goal.returns-clause-counts
+returns-clause-counts g c = le_refl _

@@ -6,6 +6,7 @@ use Rattle.scripts.proofs.Keeping.{good_seen, kept_step}
 use Rattle.scripts.specs.Settled.{store_of}
 use Rattle.csvio.proofs.Counted.{counted_behind}
 use Rattle.csvio.specs.Loading.{PutsIn, commit_text}
+use Rattle.std.proofs.Math.Nat.{le_trans}
 use Rattle.csvio.proofs.loading.put_in.Goals as goal
 
 pub returns-then-is_refused-clause-puts_in : goal.returns-then-is_refused-clause-puts_in
@@ -49,3 +50,15 @@ returns-clause-device g c =
     rw c.first_refusal.ensures
     (counted_behind c.insert_rows-inserted.result c.step-committed.result (refused (store_of c.args.core.now)) (refused (store_of c.insert_rows-inserted.new.self)) (refused (store_of c.step-committed.new.self))
     c.insert_rows-inserted.ensures.counts (sym c.is_refused.ensures ∙ c.if-is_refused.false) c.step-committed.ensures.device)
+
+pub returns-then-is_refused-clause-device : goal.returns-then-is_refused-clause-device
+returns-then-is_refused-clause-device g c = c.insert_rows-inserted.ensures.device
+
+pub returns-then-is_refused-clause-live : goal.returns-then-is_refused-clause-live
+returns-then-is_refused-clause-live g c = c.insert_rows-inserted.ensures.live
+
+pub returns-then-is_refused-clause-counts : goal.returns-then-is_refused-clause-counts
+returns-then-is_refused-clause-counts g c = c.insert_rows-inserted.ensures.counts
+
+pub returns-clause-counts : goal.returns-clause-counts
+returns-clause-counts g c = le_trans c.insert_rows-inserted.ensures.counts c.step-committed.ensures.counts
