@@ -6,11 +6,12 @@ use Rattle.refusals.specs.declared.refusal.Refusal.TheVariants.{Disk}
 use Rattle.session_definitions.specs.Refusals.{StopsFlush}
 use Rattle.session_definitions.specs.Rules.{Rules, AreRules}
 use Rattle.sessions.specs.Opening.{Stays}
-use Rattle.shell.specs.Tells.{Tells}
+use Rattle.endings.specs.Tells.{Tells}
 use Rattle.session_definitions.specs.World.{World, opened}
 use Rattle.scripts.specs.Device.{disk_count}
 use Rattle.scripts.specs.Played.{Streams}
-use Rattle.shell.specs.Runs.{HandsBack, HasRefused, Leaves, Left, Runs, replies_of}
+use Rattle.endings.specs.Ended.{HasRefused}
+use Rattle.shell.specs.Runs.{HandsBack, Leaves, Left, Runs, replies_of}
 use Rattle.lives.specs.Twice.{Leads}
 
 -- what is left is told otherwise

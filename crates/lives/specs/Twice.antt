@@ -10,7 +10,8 @@ use Rattle.session_definitions.specs.World.{World, new_world, opened}
 use Rattle.session_laws.specs.Reopening.{reopening}
 use Rattle.scripts.specs.declared.script.ScriptFault.TheVariants.{Memory, Reader, Writer}
 use Rattle.scripts.specs.Played.{Streams, between}
-use Rattle.shell.specs.Runs.{CarriesOut, Ends, IsNotOpened, Left, Runs}
+use Rattle.endings.specs.Ended.{IsNotOpened}
+use Rattle.shell.specs.Runs.{CarriesOut, Ends, Left, Runs}
 use Rattle.lives.specs.Committed.{AreMade, committed_from, writers}
 use Rattle.lives.specs.Told.{IsScript}
 

@@ -6,7 +6,8 @@ ghost use Rattle.session_definitions.specs.Rules.{Rules, AreRules};
 ghost use Rattle.scripts.specs.Played.{between};
 ghost use Rattle.scripts.specs.Settled.{store_of};
 ghost use Rattle.sessions.specs.Opening.{Stays};
-ghost use Rattle.shell.specs.Runs.{HandsBack, HasRefused, HasSameBytes, Leaves};
+ghost use Rattle.endings.specs.Ended.{HasRefused, HasSameBytes};
+ghost use Rattle.shell.specs.Runs.{HandsBack, Leaves};
 ghost use Rattle.lives.specs.Twice.{BeginsAgain, EndTwice, RunsTwice, calls_from, last_device};
 
 use disk::Disk;

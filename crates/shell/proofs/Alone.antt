@@ -9,7 +9,7 @@ use Rattle.session_definitions.specs.World.{World}
 use Rattle.scripts.specs.Played.{Streams, between}
 use Rattle.shell.specs.Alone.{EndsAlone, IsRefused, RunsInMemory}
 use Rattle.shell.specs.Runs.{Ends, Left, Runs, ScriptEnds, database_in}
-use Rattle.shell.specs.Tells.{Tells}
+use Rattle.endings.specs.Tells.{Tells}
 use Rattle.shell.specs.Words.{name_of}
 use Rattle.std.proofs.KnownBytes.{Appends-nil}
 use Rattle.replies.specs.Printed.{printed_reply}

@@ -1,3 +1,2 @@
-pub mod Flushed
 pub mod Running
 pub mod Alone

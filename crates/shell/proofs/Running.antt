@@ -1,8 +1,7 @@
 -- A script is carried out, and how it ended is said.
-use Rattle.std.proofs.Common.{◌≡◌, ◌≤◌, ◌+◌, ◌-◌, ◌^◌, ℕ, Bool, true, false, List, Option, Result, Ok, Err, refl, sym, subst, arith}
+use Rattle.std.proofs.Common.{◌≡◌, ◌≤◌, ◌+◌, ◌-◌, ◌^◌, ℕ, Bool, true, false, List, Option, Result, Ok, Err, inl, inr, refl, sym, subst, arith}
 use Rattle.std.specs.Prelude.{IfOk, IfErr, MatchResult, min}
 use Rattle.denote.specs.Database.{Database, CheckReading}
-use Rattle.refusals.specs.declared.refusal.Refusal.{Refusal}
 use Rattle.replies.specs.declared.reply.Reply.{Reply}
 use Rattle.session_definitions.specs.Rules.{Rules}
 use Rattle.session_definitions.specs.Script.{Scene, ArePlayed}
@@ -20,8 +19,8 @@ use Rattle.scripts.specs.Settled.{HasNoSession, IsSettled}
 use Rattle.scripts.specs.Device.{TellDevice, disk_count}
 use Rattle.scripts.specs.Shown.{ShowsEarly, ShowsPieces, ShowsSome, ShowsWhole}
 use Rattle.shell.specs.Status.{status_of}
-use Rattle.shell.specs.Runs.{CarriesOut, CarriesOutOver, Left, Runs, Says, ScriptEnds, TellsBehind}
-use Rattle.shell.specs.Tells.{Tells}
+use Rattle.endings.specs.Status.{IsStatus}
+use Rattle.shell.specs.Runs.{CarriesOut, CarriesOutOver, Left, Runs, Says, ScriptEnds}
 
 module _ (rules : Rules) (undamaged : (old new : Scene) (pieces : List (List ℕ)) (replies : List (Option Reply)) → ArePlayed rules old pieces replies new → has_damage replies ≡ false) where
   undamaged_before : (streams : Streams) (old : World) (fault : ScriptFault) (new : World) (early : EndsEarly rules streams old fault new)
@@ -54,12 +53,6 @@ module _ (rules : Rules) (undamaged : (old new : Scene) (pieces : List (List ℕ
 pub is_settled : {S L D : Type 0} (is_sound : S → Type 0) (shows : S → Stored) (reading : CheckReading) (core : Core S L D) (db : Database)
     → IsSound is_sound shows core → world_of shows core ≡ opened db → HasNoSession (world_of shows core) → IsGoodWorld reading (opened db) → IsSettled is_sound shows reading core
 is_settled is_sound shows reading core db sound is none good = record { sound = sound; good = subst (IsGoodWorld reading) (sym is) good; ended = none }
-
--- ---- what was said
-
--- nothing had to be said before
-pub told_alone : (is_told : Bool) (refusal : Refusal) (held holds : Option (List ℕ)) → TellsBehind true is_told refusal held holds → Tells refusal is_told held holds
-told_alone is_told refusal held holds h = subst (λ (b : Bool). Tells refusal b held holds) (sym h.both) h.tells
 
 -- ---- the count of refused calls
 
@@ -149,3 +142,9 @@ pub script_ends : (before after : ℕ) (given left held mid holds : Option (List
 script_ends before after given left held mid holds (Ok refused) status is_told shows says is =
     ScriptEnds.whole refused (subst (λ (h : Option (List ℕ)). ShowsWhole (between given left held h) before refused after) (sym says.0) shows) is says.1
 script_ends before after given left held mid holds (Err fault) status is_told shows says is = ScriptEnds.early fault mid shows says is
+
+-- the status of whatever the script answered
+pub status_among : (outcome : Result Bool ScriptFault) (status : ℕ) → status ≡ status_of outcome → IsStatus status
+status_among (Ok false) status is = inl is
+status_among (Ok true) status is = inr (inl is)
+status_among (Err fault) status is = inr (inr is)

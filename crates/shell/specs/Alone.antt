@@ -6,8 +6,9 @@ use Rattle.denote.specs.Database.{IsGood}
 use Rattle.session_definitions.specs.Rules.{Rules}
 use Rattle.session_definitions.specs.World.{World}
 use Rattle.scripts.specs.Played.{Streams, between}
-use Rattle.shell.specs.Runs.{Runs, ScriptEnds, TellsBehind, database_in}
-use Rattle.shell.specs.Tells.{Tells}
+use Rattle.endings.specs.Ended.{TellsBehind}
+use Rattle.endings.specs.Tells.{Tells}
+use Rattle.shell.specs.Runs.{Runs, ScriptEnds, database_in}
 
 -- How a run ends over any device that had refused no call. It was not opened: nothing was read, and
 -- the refusal is told. The store was closed behind the script. Or the device refused that it was

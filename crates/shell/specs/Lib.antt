@@ -1,5 +1,4 @@
 pub mod Status
 pub mod Words
-pub mod Tells
 pub mod Runs
 pub mod Alone

@@ -1,21 +1,21 @@
 -- What `sqlsh run` does over a store, from the bytes that it reads to those that it writes. All of
 -- this is our own choice.
-use Rattle.std.specs.Prelude.{◌≡◌, ◌≤◌, ◌+◌, ◌-◌, ◌^◌, ◌&&◌, min, ℕ, Bool, true, false, List, Option, Some, None, IfSome, Result, Ok, Err}
+use Rattle.std.specs.Prelude.{◌≡◌, ◌≤◌, ◌+◌, ◌-◌, ◌^◌, min, ℕ, Bool, true, false, List, Option, Some, None, IfSome, Result, Ok, Err}
 use Rattle.refusals.specs.declared.refusal.Refusal.{Refusal}
-use Rattle.refusals.specs.declared.refusal.Refusal.TheVariants.{Damaged, Disk}
+use Rattle.refusals.specs.declared.refusal.Refusal.TheVariants.{Disk}
 use Rattle.denote.specs.Database.{Database, CheckReading, IsGood}
 use Rattle.replies.specs.declared.reply.Reply.{Reply}
 use Rattle.session_definitions.specs.Refusals.{StopsFlush}
 use Rattle.session_definitions.specs.Rules.{Rules}
 use Rattle.session_definitions.specs.World.{World}
 use Rattle.session_laws.specs.Damage.{has_damage}
-use Rattle.store.specs.Errors.{HasRisen}
 use Rattle.scripts.specs.declared.script.ScriptFault.{ScriptFault}
 use Rattle.scripts.specs.Device.{TellDevice, disk_count}
 use Rattle.scripts.specs.Played.{Streams, between, IsWhole, EndsEarly, replies_before}
 use Rattle.scripts.specs.Shown.{ShowsWhole, ShowsEarly}
 use Rattle.shell.specs.Status.{status_of, refusal_of}
-use Rattle.shell.specs.Tells.{Tells}
+use Rattle.endings.specs.Ended.{HasRefused, IsNotOpened, IsSavedOn, TellsBehind}
+use Rattle.endings.specs.Tells.{Tells}
 
 -- what is written where a script has ended: nothing more, or what ended it
 abbrev pub Says : Result Bool ScriptFault → Bool → Option (List ℕ) → Option (List ℕ) → Type 0
@@ -52,13 +52,6 @@ pub data Left : Type 0 where
   committed : Database → ℕ → Left
   unclosed : Left
 
--- behind what the script had to say, the refusal that its store was closed is told: `is_told` tells
--- whether all of that was written whole
-pub record TellsBehind (was_told is_told : Bool) (refusal : Refusal) (held holds : Option (List ℕ)) : Type 0 where
-  pub line : Bool
-  pub tells : Tells refusal line held holds
-  pub both : is_told ≡ (was_told && line)
-
 -- The store was not opened, for want of memory or by the device: nothing was read, and what was
 -- saved stays, unless the device was empty. Or the script was carried out in the world of its
 -- database and the store was closed: what was committed last is left. Or the device refused that it
@@ -76,21 +69,6 @@ pub data Runs (rules : Rules) (old : World) (streams : Streams) (status : ℕ) (
       → Runs rules old streams status is_told left
 
 -- ---- what is handed back
-
--- there is a device, and it has the bytes of this one, if this gives back what was written
-abbrev pub HasSameBytes : {D : Type 0} → (D → Type 0) → (D → D → Type 0) → D → Option D → Type 0
-HasSameBytes is_honest same device (Some back) = is_honest device → same device back
-HasSameBytes is_honest same device None = ⊥
-
--- there is a device, and this database is saved on it
-abbrev pub IsSavedOn : {D : Type 0} → (D → Database → Type 0) → Option D → Database → Type 0
-IsSavedOn saved (Some device) db = saved device db
-IsSavedOn saved None db = ⊥
-
--- it is there, and has refused a call: it counts more of them than before
-abbrev pub HasRefused : {X : Type 0} → (X → ℕ) → ℕ → Option X → Type 0
-HasRefused refused before (Some back) = HasRisen before (refused back)
-HasRefused refused before None = ⊥
 
 -- each X0002 that was told of a call has a refused call of its own
 abbrev pub HasRefusedEach : {X : Type 0} → (X → ℕ) → ℕ → ℕ → X → Type 0
@@ -135,16 +113,6 @@ pub data ScriptEnds (streams : Streams) (before status : ℕ) (is_told : Bool) (
       → ShowsEarly (between streams.given streams.left streams.held mid) before fault after
       → Tells (refusal_of fault) is_told mid streams.holds → status ≡ status_of (Err fault)
       → ScriptEnds streams before status is_told after
-
--- The store was not opened: nothing was read, and the refusal is told. It is that of the device
--- only where this one refused a call; where it is X0004, the bytes are as they were.
-pub record IsNotOpened (streams : Streams) (status : ℕ) (is_told : Bool) (has_refused has_same_bytes : Type 0) : Type 0 where
-  pub refusal : Refusal
-  pub unread : streams.left ≡ streams.given
-  pub told : Tells refusal is_told streams.held streams.holds
-  pub failed : status ≡ 3
-  pub device : refusal ≡ Disk → has_refused
-  pub damage : refusal ≡ Damaged → has_same_bytes
 
 -- How a run over any device ends, also one that lies. The store was not opened; or it was closed
 -- behind the script, and the device is handed back, which was synced behind the last write and

@@ -1,13 +1,9 @@
 -- What the words of a command line of `sqlsh` ask for. All of this is our own choice.
-use Rattle.std.specs.Prelude.{◌≡◌, ◌⊎◌, ◌++◌, ◌==◌, ℕ, Bool, false, List, [], ◌∷◌, codes, Option, Some, None}
+use Rattle.std.specs.Prelude.{◌≡◌, ◌⊎◌, ◌++◌, ℕ, false, List, [], ◌∷◌, codes, Option, Some, None}
 use Rattle.std.specs.Borrow.{Bor}
 use Rattle.std.specs.Option.{option_map}
 use Rattle.frame_count.specs.Written.{WritesFrames}
-
--- an option begins with `-`, whose code is 45
-abbrev pub is_option : List ℕ → Bool
-is_option [] = false
-is_option (code ∷ codes) = code == 45
+use Rattle.endings.specs.Words.{is_option}
 
 -- FILE, which is no option, or no more words
 abbrev pub AsksFile : List (List ℕ) → Option (List ℕ) → Type 0

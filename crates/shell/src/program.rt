@@ -7,20 +7,20 @@ ghost use Rattle.session_definitions.specs.World.{new_world, opened};
 ghost use Rattle.scripts.specs.Played.{between};
 ghost use Rattle.scripts.specs.Settled.{store_of};
 ghost use Rattle.sessions.specs.Opening.{Stays};
+ghost use Rattle.endings.specs.Ended.{HasRefused, HasSameBytes, IsNotOpened};
+ghost use Rattle.endings.specs.Status.{IsStatus};
+ghost use Rattle.endings.specs.Tells.{Tells};
 ghost use Rattle.shell.specs.Alone.{EndsAlone, IsRefused, RunsInMemory};
-ghost use Rattle.shell.specs.Runs.{Ends, HasRefused, HasSameBytes, IsNotOpened, Leaves, Runs};
-ghost use Rattle.shell.specs.Status.{IsStatus};
-ghost use Rattle.shell.specs.Tells.{Tells};
+ghost use Rattle.shell.specs.Runs.{Ends, Leaves, Runs};
 ghost use Rattle.shell.specs.Words.{Asks, name_of};
 
 use crate::command_line::settings;
-use crate::file::{is_output, opened_file};
 use crate::options::Settings;
-use crate::run::{EndedRun, FAILED, failed, run_to_end};
-use crate::telling::tell;
+use crate::over::run_over;
 use clap::Error;
 use clap::error::ErrorKind;
 use disk::{Disk, DiskError, MemDisk};
+use endings::{EndedRun, FAILED, is_output, opened_file, tell};
 use paged_store::Paged;
 use refusals::Refusal;
 use session_laws::databases_stay_good;
@@ -126,7 +126,7 @@ fn run_file<P: Files<File = File> + AllocGlobal, R: Read, W: Write>(
 }
 
 /// The status of a run. What it hands back of its device ends here.
-fn status_of<D: Disk + Drop>(ended: EndedRun<Paged<D>>) -> u8
+fn status_of<S: Store>(ended: EndedRun<S>) -> u8
     ensures { result ≡ ended.status }
 {
     ended.status
@@ -163,10 +163,7 @@ pub fn run_over_pages<D: Disk + Drop, R: Read, W: Write>(
         × Tells Refusal.Disk result.is_told (W.contents writer.old) (W.contents writer.new) × (result.status ≡ 3)) }
 {
     databases_stay_good();
-    match device {
-        Ok(device) => run_to_end::<Paged<D>, R, W>(alloc, settings, device, reader, writer),
-        Err(_) => failed(Refusal::Disk, true, None, None, writer),
-    }
+    run_over::<Paged<D>, R, W>(alloc, settings, device, reader, writer)
 }
 
 /// Prints help, or what is wrong with the words, and answers the exit status: 0 for help and 2 for

@@ -10,11 +10,13 @@ ghost use Rattle.scripts.specs.Played.{between};
 ghost use Rattle.scripts.specs.Settled.{HasNoSession, IsSettled, store_of};
 ghost use Rattle.store.specs.Errors.{HasRisen};
 ghost use Rattle.sessions.specs.Opening.{Stays};
-ghost use Rattle.shell.specs.Status.{refusal_of, status_of, IsStatus};
-ghost use Rattle.shell.specs.Runs.{CarriesOutOver, Ends, HasRefused, HasSameBytes, IsNotOpened, Leaves, Runs, Says, ScriptEnds, TellsBehind};
+ghost use Rattle.endings.specs.Ended.{HasRefused, HasSameBytes, IsNotOpened};
+ghost use Rattle.endings.specs.Status.{IsStatus};
+ghost use Rattle.shell.specs.Status.{refusal_of, status_of};
+ghost use Rattle.shell.specs.Runs.{CarriesOutOver, Ends, Leaves, Runs, Says, ScriptEnds};
 
 use crate::options::Settings;
-use crate::telling::tell;
+use endings::{EndedRun, FAILED, REFUSED, failed, tell};
 use refusals::Refusal;
 use scripts::{ScriptFault, run};
 use session_laws::{databases_stay_good, no_reply_is_damaged};
@@ -23,28 +25,6 @@ use sqlcore::{Core, Sql};
 use std::alloc::Global;
 use std::io::{Read, Write};
 use store::Store;
-
-/// The exit status where a reply was a refusal.
-pub const REFUSED: u8 = 1;
-
-/// The exit status where a store could not be opened or closed, or a script was not read or printed
-/// to its end.
-pub const FAILED: u8 = 3;
-
-/// How a run ended.
-#[derive(Drop)]
-pub struct EndedRun<S: Store> {
-    /// The exit status.
-    pub status: u8,
-    /// Whether each line `ERROR` that had to be said of a fault was written whole and passed on:
-    /// also where none had to be.
-    pub is_told: bool,
-    /// The device: as its opening left it where the store could not be opened, with all that is
-    /// committed, and synced, where it was closed, and none where it could not be closed.
-    pub device: Option<S::Device>,
-    /// The core whose store could not be closed.
-    pub unclosed: Option<Core<S>>,
-}
 
 /// How a script ended.
 #[derive(Clone, Copy)]
@@ -105,29 +85,6 @@ pub fn run_to_end<S: Store, R: Read, W: Write>(
             unclosed: None,
         },
         Err(refused) => failed(refused.refusal, is_told, None, Some(refused.value), writer),
-    }
-}
-
-/// Says why a store was not opened or closed, behind what was said before, and hands back the
-/// device or the core that there is.
-pub fn failed<S: Store, W: Write>(
-    refusal: Refusal,
-    was_told: bool,
-    device: Option<S::Device>,
-    unclosed: Option<Core<S>>,
-    writer: &mut W,
-) -> EndedRun<S>
-    ensures status { result.status ≡ 3 }
-    ensures device { result.device ≡ device }
-    ensures unclosed { result.unclosed ≡ unclosed }
-    ensures tells { TellsBehind was_told result.is_told refusal (W.contents writer.old) (W.contents writer.new) }
-{
-    let line = tell(refusal, writer).is_ok();
-    EndedRun {
-        status: FAILED,
-        is_told: was_told && line,
-        device,
-        unclosed,
     }
 }
 

@@ -2,9 +2,11 @@
 
 ghost use Rattle.std.specs.Prelude.{◌≡◌, ℕ, false, List, Option, Some, codes, map, IfSome, IsSomeAnd};
 ghost use Rattle.frame_count.specs.Written.{WritesFrames};
-ghost use Rattle.shell.specs.Words.{Asks, AsksBehind, AsksFile, AsksForNone, is_option, name_of};
+ghost use Rattle.endings.specs.Words.{is_option};
+ghost use Rattle.shell.specs.Words.{Asks, AsksBehind, AsksFile, AsksForNone, name_of};
 
 use crate::options::Settings;
+use endings::is_option;
 use frame_count::{DEFAULT_FRAMES, Frames};
 use std::convert::AsStr;
 
@@ -98,15 +100,5 @@ fn with_name<'a>(frames: Frames, word: &'a str) -> Option<Settings<'a>>
             frames,
             file: Some(word),
         })
-    }
-}
-
-/// Whether a word is an option, and no file.
-pub fn is_option(word: &str) -> bool
-    ensures { result ≡ is_option word.now }
-{
-    match word.as_bytes().first() {
-        Some(code) => *code == b'-',
-        None => false,
     }
 }

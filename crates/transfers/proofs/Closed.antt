@@ -2,7 +2,7 @@
 use Rattle.std.proofs.Common.{◌≡◌, ◌⊎◌, inl, inr, ◌∙◌, refl, sym, subst, ℕ, ◌≤◌, Bool, List, Option, Some, None, arith}
 use Rattle.std.specs.Prelude.{IfSome}
 use Rattle.denote.specs.Database.{Database}
-use Rattle.shell.specs.Status.{IsStatus}
+use Rattle.endings.specs.Status.{IsStatus}
 use Rattle.sessions.proofs.Devices.{risen_later}
 use Rattle.transfers.specs.Transfers.{Closes, HandsBack}
 
@@ -22,3 +22,10 @@ module _ {D C : Type 0} (settled : D → Type 0) (calls : D → ℕ) (refused : 
   handed_since core (HandsBack.closed back is synced least) = HandsBack.closed back is synced (omega (arith, more, least))
   handed_since (Some back) (HandsBack.not_closed none risen) = HandsBack.not_closed none (risen_later before after (refused back) more risen)
   handed_since None (HandsBack.not_closed none risen) = HandsBack.not_closed none risen
+
+-- a session is made or not, which counts nothing
+pub no_more : (before after : ℕ) → after ≡ before → before ≤ after
+no_more before after is = omega (arith, is)
+
+pub no_less_behind : (before mid after : ℕ) → mid ≡ before → mid ≤ after → before ≤ after
+no_less_behind before mid after is less = omega (arith, is, less)

@@ -13,8 +13,8 @@ use Rattle.replies.specs.Writes.{Writes}
 use Rattle.session_definitions.specs.Rules.{Rules}
 use Rattle.session_definitions.specs.Run.{MakesSession}
 use Rattle.session_definitions.specs.World.{World}
-use Rattle.shell.specs.Runs.{HasRefused, TellsBehind}
-use Rattle.shell.specs.Tells.{Tells}
+use Rattle.endings.specs.Ended.{HasRefused, TellsBehind}
+use Rattle.endings.specs.Tells.{Tells}
 use Rattle.csvio.specs.Batches.{LoadsBatches}
 use Rattle.csvio.specs.Dumping.{Dumps}
 use Rattle.csvio.specs.Loading.{Loads}

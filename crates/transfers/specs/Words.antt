@@ -1,7 +1,7 @@
 -- What the words of `sqlsh load` and `sqlsh dump` ask for. All of this is our own choice.
 use Rattle.std.specs.Prelude.{◌≡◌, ◌≢◌, ◌≤◌, ◌<◌, ◌^◌, ◌⊎◌, ℕ, Bool, true, false, List, [], ◌∷◌, ◌++◌, codes}
 use Rattle.std.specs.Str.Parse.{IsNumeral, digits_value, without_leading_plus}
-use Rattle.shell.specs.Words.{is_option}
+use Rattle.endings.specs.Words.{is_option}
 use Rattle.csvio.specs.declared.form.Form.{Form}
 use Rattle.transfers.specs.declared.words.Way.{Way}
 use Rattle.transfers.specs.declared.words.Way.TheVariants.{Dump, Load, LoadBatches}

@@ -4,8 +4,8 @@ ghost use Rattle.sessions.specs.OfCore.{IsSound, world_of};
 ghost use Rattle.scripts.specs.Settled.{store_of};
 ghost use Rattle.transfers.specs.Transfers.{Closes, HandsBack, LacksCsv};
 
+use endings::{EndedRun, FAILED, failed, tell};
 use refusals::Refusal;
-use shell::{EndedRun, FAILED, failed, tell};
 use sqlcore::Core;
 use std::io::Write;
 use store::Store;

@@ -1,6 +1,6 @@
 //! The commands over the files that their words name.
 ghost use Rattle.std.specs.Prelude.{◌≡◌, false, IfErr};
-ghost use Rattle.shell.specs.Status.{IsStatus};
+ghost use Rattle.endings.specs.Status.{IsStatus};
 ghost use Rattle.transfers.specs.Transfers.{IsRefused};
 
 use crate::closing::without_csv;
@@ -8,17 +8,18 @@ use crate::formed_files::formed_over_files;
 use crate::opening::opened_core;
 use crate::over_core::{dump_to_end, load_batches_to_end, load_to_end};
 use crate::words::{Transfer, Way};
-use disk::{Disk, DiskError, FileDisk};
+use disk::{DiskError, FileDisk};
+use endings::{EndedRun, FAILED, is_output, is_same_file, opened_file, tell};
 use paged_store::Paged;
 use refusals::Refusal;
 use remarks::{RecordReader, RecordWriter};
-use shell::{EndedRun, FAILED, is_output, is_same_file, opened_file, tell};
 use sqlcore::Core;
 use std::alloc::Global;
 use std::fs::{File, Files};
 use std::io;
 use std::io::{ErrorKind, Read, Write};
 use std::time::Clock;
+use store::Store;
 
 /// The word that stands for standard input.
 pub(crate) const INPUT: &str = "-";
@@ -56,7 +57,29 @@ pub fn run_transfer<
     if is_output(rt, asked.file) {
         return FAILED;
     }
-    match opened_pages(rt.alloc(), opened_file(rt, asked.file), writer) {
+    let file = opened_file(rt, asked.file);
+    run_over::<P, Paged<FileDisk>, R, W, V>(rt, asked, is_verbose, file, input, writer, notes)
+}
+
+/// Does what is asked over the store on a device, or says that this could not be opened.
+fn run_over<
+    P: Files<File = File> + Eprint + Clock + AllocGlobal,
+    S: Store,
+    R: Read + Drop,
+    W: Write,
+    V: Write,
+>(
+    rt: &P,
+    asked: &Transfer<'_>,
+    is_verbose: bool,
+    device: Result<S::Device, DiskError>,
+    input: R,
+    writer: &mut W,
+    notes: &mut V,
+) -> u8
+    ensures { IsStatus result }
+{
+    match opened_over::<S, W>(rt.alloc(), device, writer) {
         Ok(core) => {
             let input = RecordReader::new(input, rt, is_verbose);
             over_files(rt, asked, is_verbose, core, input, writer, notes)
@@ -73,28 +96,28 @@ fn refuse<W: Write>(writer: &mut W) -> u8
     FAILED
 }
 
-/// The core of the tables in the pages of a device, or the exit status where that could not be
-/// opened, which is told.
-fn opened_pages<D: Disk + Drop, W: Write>(
+/// The core of the store on a device, or the exit status where that could not be opened, which is
+/// told.
+fn opened_over<S: Store, W: Write>(
     alloc: Global,
-    device: Result<D, DiskError>,
+    device: Result<S::Device, DiskError>,
     writer: &mut W,
-) -> Result<Core<Paged<D>>, u8>
+) -> Result<Core<S>, u8>
     ensures { IfErr result (λ status. status ≡ 3) }
 {
-    let Ok(device) = device else {
-        return Err(refuse(writer));
-    };
-    match opened_core::<Paged<D>, W>(alloc, device, writer) {
-        Ok(core) => Ok(core),
-        Err(ended) => Err(status_of(ended)),
+    match device {
+        Ok(device) => match opened_core::<S, W>(alloc, device, writer) {
+            Ok(core) => Ok(core),
+            Err(ended) => Err(status_of(ended)),
+        },
+        Err(_) => Err(refuse(writer)),
     }
 }
 
 /// Opens the CSV, and does what is asked over the store of FILE.
 fn over_files<
     P: Files<File = File> + Eprint + Clock + AllocGlobal,
-    D: Disk + Drop,
+    S: Store,
     R: Read + Drop,
     W: Write,
     V: Write,
@@ -102,7 +125,7 @@ fn over_files<
     rt: &P,
     asked: &Transfer<'_>,
     is_verbose: bool,
-    core: Core<Paged<D>>,
+    core: Core<S>,
     input: R,
     writer: &mut W,
     notes: &mut V,
@@ -124,25 +147,38 @@ fn over_files<
 /// Loads from the CSV, or from standard input.
 fn load_over_files<
     P: Files<File = File> + Eprint + Clock + AllocGlobal,
-    D: Disk + Drop,
+    S: Store,
     R: Read + Drop,
     W: Write,
->(
-    rt: &P,
+>(rt: &P, asked: &Transfer<'_>, is_verbose: bool, core: Core<S>, input: R, writer: &mut W) -> u8
+    ensures { IsStatus result }
+{
+    let alloc = rt.alloc();
+    if asked.csv == INPUT {
+        load_from(alloc, core, asked, Ok(input), writer)
+    } else {
+        load_from(
+            alloc,
+            core,
+            asked,
+            csv_to_read(rt, asked, is_verbose),
+            writer,
+        )
+    }
+}
+
+/// Loads from a CSV that was opened, or says that it was not.
+fn load_from<S: Store, R: Read + Drop, W: Write>(
+    alloc: Global,
+    core: Core<S>,
     asked: &Transfer<'_>,
-    is_verbose: bool,
-    core: Core<Paged<D>>,
-    input: R,
+    csv: io::Result<R>,
     writer: &mut W,
 ) -> u8
     ensures { IsStatus result }
 {
-    let table = asked.table.as_bytes();
-    if asked.csv == INPUT {
-        return status_of(load_to_end(rt.alloc(), core, table, input, writer));
-    }
-    match csv_to_read(rt, asked, is_verbose) {
-        Ok(csv) => status_of(load_to_end(rt.alloc(), core, table, csv, writer)),
+    match csv {
+        Ok(csv) => status_of(load_to_end(alloc, core, asked.table.as_bytes(), csv, writer)),
         Err(_) => status_of(without_csv(core, writer)),
     }
 }
@@ -150,7 +186,7 @@ fn load_over_files<
 /// Loads from the CSV, or from standard input, by batches.
 fn batches_over_files<
     P: Files<File = File> + Eprint + Clock + AllocGlobal,
-    D: Disk + Drop,
+    S: Store,
     R: Read + Drop,
     W: Write,
     V: Write,
@@ -159,7 +195,7 @@ fn batches_over_files<
     asked: &Transfer<'_>,
     is_verbose: bool,
     most: u32,
-    core: Core<Paged<D>>,
+    core: Core<S>,
     input: R,
     writer: &mut W,
     notes: &mut V,
@@ -167,31 +203,66 @@ fn batches_over_files<
     ensures { IsStatus result }
 {
     let alloc = rt.alloc();
-    let table = asked.table.as_bytes();
     if asked.csv == INPUT {
-        return status_of(load_batches_to_end(alloc, core, table, most, input, writer, notes));
+        batches_from(alloc, core, asked, most, Ok(input), writer, notes)
+    } else {
+        let csv = csv_to_read(rt, asked, is_verbose);
+        batches_from(alloc, core, asked, most, csv, writer, notes)
     }
-    match csv_to_read(rt, asked, is_verbose) {
+}
+
+/// Loads by batches from a CSV that was opened, or says that it was not.
+fn batches_from<S: Store, R: Read + Drop, W: Write, V: Write>(
+    alloc: Global,
+    core: Core<S>,
+    asked: &Transfer<'_>,
+    most: u32,
+    csv: io::Result<R>,
+    writer: &mut W,
+    notes: &mut V,
+) -> u8
+    ensures { IsStatus result }
+{
+    let table = asked.table.as_bytes();
+    match csv {
         Ok(csv) => status_of(load_batches_to_end(alloc, core, table, most, csv, writer, notes)),
         Err(_) => status_of(without_csv(core, writer)),
     }
 }
 
 /// Dumps into the CSV.
-fn dump_over_files<P: Files<File = File> + Eprint + Clock + AllocGlobal, D: Disk + Drop, W: Write>(
+fn dump_over_files<P: Files<File = File> + Eprint + Clock + AllocGlobal, S: Store, W: Write>(
     rt: &P,
     asked: &Transfer<'_>,
     is_verbose: bool,
-    core: Core<Paged<D>>,
+    core: Core<S>,
     writer: &mut W,
 ) -> u8
     ensures { IsStatus result }
 {
-    let table = asked.table.as_bytes();
-    match csv_to_write(rt, asked, is_verbose) {
-        Ok(csv) => {
-            let mut csv = csv;
-            status_of(dump_to_end(rt.alloc(), core, table, &mut csv, writer))
+    dump_into(
+        rt.alloc(),
+        core,
+        asked,
+        csv_to_write(rt, asked, is_verbose),
+        writer,
+    )
+}
+
+/// Dumps into a CSV that was made, or says that it was not.
+fn dump_into<S: Store, V: Write + Drop, W: Write>(
+    alloc: Global,
+    core: Core<S>,
+    asked: &Transfer<'_>,
+    csv: io::Result<V>,
+    writer: &mut W,
+) -> u8
+    ensures { IsStatus result }
+{
+    match csv {
+        Ok(mut csv) => {
+            let table = asked.table.as_bytes();
+            status_of(dump_to_end(alloc, core, table, &mut csv, writer))
         }
         Err(_) => status_of(without_csv(core, writer)),
     }
@@ -230,7 +301,7 @@ pub(crate) fn csv_to_write<'a, P: Files<File = File> + Eprint + Clock>(
 }
 
 /// The status of a command. What it hands back of its device ends here.
-pub(crate) fn status_of<D: Disk + Drop>(ended: EndedRun<Paged<D>>) -> u8
+pub(crate) fn status_of<S: Store>(ended: EndedRun<S>) -> u8
     ensures { result ≡ ended.status }
 {
     ended.status

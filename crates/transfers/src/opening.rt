@@ -6,9 +6,9 @@ ghost use Rattle.sessions.specs.OfCore.{IsSound, world_of};
 ghost use Rattle.sessions.specs.Opening.{Stays};
 ghost use Rattle.scripts.specs.Played.{between};
 ghost use Rattle.scripts.specs.Settled.{HasNoSession, store_of};
-ghost use Rattle.shell.specs.Runs.{HasRefused, HasSameBytes, IsNotOpened, IsSavedOn};
+ghost use Rattle.endings.specs.Ended.{HasRefused, HasSameBytes, IsNotOpened, IsSavedOn};
 
-use shell::{EndedRun, failed};
+use endings::{EndedRun, failed};
 use sqlcore::{Core, Sql};
 use std::alloc::Global;
 use std::io::Write;

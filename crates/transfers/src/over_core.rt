@@ -3,14 +3,14 @@ ghost use Rattle.std.specs.Prelude.{◌≡◌, ◌≤◌};
 ghost use Rattle.session_definitions.specs.Rules.{Rules, AreRules};
 ghost use Rattle.sessions.specs.OfCore.{world_of};
 ghost use Rattle.scripts.specs.Settled.{IsKept, store_of};
-ghost use Rattle.shell.specs.Status.{IsStatus};
+ghost use Rattle.endings.specs.Status.{IsStatus};
 ghost use Rattle.transfers.specs.Transfers.{Answers, DumpsAlone, HandsBack, LoadsAlone, LoadsBatchesAlone, LoadsNoted, Transfers, status_with};
 
 use crate::closing::{Said, close_behind};
 use crate::note::note;
 use csvio::{LoadedBatches, dump, load, load_batches};
+use endings::{EndedRun, FAILED, REFUSED, say};
 use replies::Reply;
-use shell::{EndedRun, FAILED, REFUSED, say};
 use sqlcore::Core;
 use std::alloc::Global;
 use std::io::{Read, Write};

@@ -3,7 +3,7 @@ ghost use Rattle.std.specs.Prelude.{◌≡◌, ◌≤◌};
 ghost use Rattle.session_definitions.specs.Rules.{Rules, AreRules};
 ghost use Rattle.sessions.specs.OfCore.{world_of};
 ghost use Rattle.scripts.specs.Settled.{IsKept, store_of};
-ghost use Rattle.shell.specs.Status.{IsStatus};
+ghost use Rattle.endings.specs.Status.{IsStatus};
 ghost use Rattle.transfers.specs.Formed.{DumpsFormedAlone, LoadsFormedAlone, LoadsFormedBatchesAlone, LoadsFormedNoted};
 ghost use Rattle.transfers.specs.Transfers.{HandsBack, Transfers};
 
@@ -11,8 +11,8 @@ use crate::closing::close_behind;
 use crate::note::note;
 use crate::over_core::answer;
 use csvio::{Form, LoadedBatches, dump_formed, load_formed, load_formed_batches};
+use endings::EndedRun;
 use replies::Reply;
-use shell::EndedRun;
 use sqlcore::Core;
 use std::alloc::Global;
 use std::io::{Read, Write};

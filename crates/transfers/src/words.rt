@@ -5,7 +5,7 @@ ghost use Rattle.csvio.specs.declared.form.Form.{Form as Shape};
 ghost use Rattle.transfers.specs.Words.{AsksBatches, AsksCommand, AsksLoad, AsksTransfer, IsCsv, NamesCsv, NamesFile, NamesTable, StandsFirst, WritesMost};
 
 use csvio::Form;
-use shell::is_option;
+use endings::is_option;
 use std::convert::AsStr;
 
 /// Which way rows go.

@@ -12,3 +12,6 @@ returns-in-None-clause-ends g c = rw c.status_of.ensures (ends_alone _ _ _ _ _ _
 pub returns-in-None-clause-in_memory : goal.returns-in-None-clause-in_memory
 returns-in-None-clause-in_memory g c = λ none rules are.
     rw c.status_of.ensures (runs_alone _ _ _ _ _ _ (c.run_over_pages-ended.ensures.new rules are refl (ap (λ (d : Held). d.bytes) c.new.ensures)) (λ left h. h.1))
+
+pub returns-in-Some-clause-ends : goal.returns-in-Some-clause-ends
+returns-in-Some-clause-ends g c = c.run_file.ensures

@@ -1,18 +1,28 @@
 use Rattle.std.proofs.Common.{refl, inl}
 use Rattle.std.specs.FinMap.{empty}
-use Rattle.shell.proofs.Running.{told_alone}
+use Rattle.std.proofs.lemmas.Result.{IfOk-weaker}
 use Rattle.shell.proofs.program.run_over_pages.Goals as goal
 
-pub returns-in-Ok-clause-new : goal.returns-in-Ok-clause-new
-returns-in-Ok-clause-new g c =
-    rw c.in-Ok.is
-    (λ rules are honest bare. c.run_to_end.ensures.runs rules empty are (honest, inl (bare, refl)) (c.databases_stay_good.ensures.new_world rules.check).last)
+pub returns-clause-status : goal.returns-clause-status
+returns-clause-status g c = c.run_over.ensures.status
 
-pub returns-in-Ok-clause-ends : goal.returns-in-Ok-clause-ends
-returns-in-Ok-clause-ends g c = rw c.in-Ok.is c.run_to_end.ensures.ends
+pub returns-clause-runs : goal.returns-clause-runs
+returns-clause-runs g c = c.run_over.ensures.runs
 
-pub returns-in-Err-clause-not_opened : goal.returns-in-Err-clause-not_opened
-returns-in-Err-clause-not_opened g c = rw c.in-Err.is (refl, told_alone _ _ _ _ c.failed.ensures.tells, c.failed.ensures.status)
+pub returns-clause-new : goal.returns-clause-new
+returns-clause-new g c =
+    IfOk-weaker c.args.device _ _
+    (λ device runs rules are honest bare. runs rules empty are (honest, inl (bare, refl)) (c.databases_stay_good.ensures.new_world rules.check).last)
+    c.run_over.ensures.runs
 
-pub returns-in-Ok-clause-begun : goal.returns-in-Ok-clause-begun
-returns-in-Ok-clause-begun g c = rw c.in-Ok.is c.run_to_end.ensures.begun
+pub returns-clause-ends : goal.returns-clause-ends
+returns-clause-ends g c = c.run_over.ensures.ends
+
+pub returns-clause-unreadable : goal.returns-clause-unreadable
+returns-clause-unreadable g c = c.run_over.ensures.unreadable
+
+pub returns-clause-begun : goal.returns-clause-begun
+returns-clause-begun g c = c.run_over.ensures.begun
+
+pub returns-clause-not_opened : goal.returns-clause-not_opened
+returns-clause-not_opened g c = c.run_over.ensures.not_opened

@@ -34,3 +34,6 @@ returns-in-Err-clause-closed g c = λ is count file asks. absurd (c.in-Err.ensur
 
 pub returns-in-Err-clause-others : goal.returns-in-Err-clause-others
 returns-in-Err-clause-others g c = λ none. (refl, refl, c.told.ensures.status)
+
+pub returns-else-not-are_open-clause-asked : goal.returns-else-not-are_open-clause-asked
+returns-else-not-are_open-clause-asked g c = λ count file asks. c.run_asked.ensures.ends

@@ -1,4 +1,4 @@
-use Rattle.shell.proofs.Running.{carries_out, script_ends}
+use Rattle.shell.proofs.Running.{carries_out, script_ends, status_among}
 use Rattle.shell.proofs.run.carry_out.Goals as goal
 
 pub returns-clause-carries_out : goal.returns-clause-carries_out
@@ -8,3 +8,12 @@ returns-clause-carries_out g c = λ rules are settled.
 
 pub returns-clause-ends : goal.returns-clause-ends
 returns-clause-ends g c = script_ends _ _ _ _ _ _ _ c.run-outcome.result _ _ c.run-outcome.ensures.shows c.ended.ensures.says c.ended.ensures.status
+
+pub returns-clause-status : goal.returns-clause-status
+returns-clause-status g c = status_among c.run-outcome.result _ c.ended.ensures.status
+
+pub returns-clause-settled : goal.returns-clause-settled
+returns-clause-settled g c = c.run-outcome.ensures.settled
+
+pub returns-clause-counts : goal.returns-clause-counts
+returns-clause-counts g c = c.run-outcome.ensures.counts

@@ -4,7 +4,8 @@ use Rattle.std.proofs.Math.Nat.{le_trans}
 use Rattle.sessions.specs.OfCore.{world_of}
 use Rattle.scripts.specs.Settled.{store_of}
 use Rattle.shell.specs.Runs.{Ends, Runs}
-use Rattle.shell.proofs.Running.{carried_from, closed_run, is_settled, risen_since, script_counted, told_alone}
+use Rattle.endings.proofs.Said.{told_alone}
+use Rattle.shell.proofs.Running.{carried_from, closed_run, is_settled, risen_since, script_counted}
 use Rattle.shell.proofs.run.run_to_end.Goals as goal
 
 -- ---- the store was not opened
@@ -106,3 +107,12 @@ returns-in-Err-close-clause-begun g c = λ rules are begun.
     (rw c.in-Err-close.ensures.fails.0 at c.failed-in-Err-close.ensures.tells) c.failed-in-Err-close.ensures.status
     (rw (c.failed-in-Err-close.ensures.device, c.failed-in-Err-close.ensures.unclosed)
     ((refl, risen_since _ _ _ _ c.in-Ok.ensures.counts c.carry_out-status.ensures.counts c.in-Err-close.ensures.device), tt)))
+
+pub returns-in-Err-clause-status : goal.returns-in-Err-clause-status
+returns-in-Err-clause-status g c = inr (inr c.failed.ensures.status)
+
+pub returns-in-Ok-close-clause-status : goal.returns-in-Ok-close-clause-status
+returns-in-Ok-close-clause-status g c = c.carry_out-status.ensures.status
+
+pub returns-in-Err-close-clause-status : goal.returns-in-Err-close-clause-status
+returns-in-Err-close-clause-status g c = inr (inr c.failed-in-Err-close.ensures.status)

@@ -17,3 +17,6 @@ returns-in-Err-clause-saved g c = λ sound. rw c.failed.ensures.device tt
 
 pub returns-in-Err-clause-handed : goal.returns-in-Err-clause-handed
 returns-in-Err-clause-handed g c = HandsBack.not_closed c.failed.ensures.device (rw c.failed.ensures.unclosed c.in-Err.ensures.device)
+
+pub returns-in-Ok-clause-saved : goal.returns-in-Ok-clause-saved
+returns-in-Ok-clause-saved g c = c.in-Ok.ensures.closed

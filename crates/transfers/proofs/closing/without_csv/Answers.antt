@@ -1,6 +1,6 @@
 use Rattle.std.proofs.Common.{refl, rules}
 use Rattle.refusals.specs.declared.refusal.Refusal.TheVariants.{Disk}
-use Rattle.shell.specs.Tells.{Tells}
+use Rattle.endings.specs.Tells.{Tells}
 use Rattle.transfers.proofs.Closed.{closed_failed}
 use Rattle.transfers.proofs.closing.without_csv.Goals as goal
 
@@ -11,3 +11,9 @@ returns-clause-lacks g c =
 
 pub returns-clause-failed : goal.returns-clause-failed
 returns-clause-failed g c = closed_failed _ _ _ _ _ _ _ _ refl c.close_behind.ensures.closes
+
+pub returns-clause-saved : goal.returns-clause-saved
+returns-clause-saved g c = c.close_behind.ensures.saved
+
+pub returns-clause-handed : goal.returns-clause-handed
+returns-clause-handed g c = c.close_behind.ensures.handed

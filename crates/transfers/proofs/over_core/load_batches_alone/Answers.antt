@@ -1,7 +1,9 @@
-use Rattle.std.proofs.Common.{refl}
+use Rattle.std.proofs.Common.{refl, sym, subst}
 use Rattle.sessions.specs.OfCore.{world_of}
 use Rattle.scripts.proofs.Keeping.{kept_made}
 use Rattle.transfers.specs.Transfers.{LoadsBatchesAlone}
+use Rattle.scripts.specs.Settled.{IsKept}
+use Rattle.transfers.proofs.Closed.{no_less_behind, no_more}
 use Rattle.transfers.proofs.over_core.load_batches_alone.Goals as goal
 
 pub returns-in-Ok-clause-loads : goal.returns-in-Ok-clause-loads
@@ -17,3 +19,12 @@ returns-in-Ok-clause-kept g c = λ rules are kept.
 
 pub returns-in-Err-clause-loads : goal.returns-in-Err-clause-loads
 returns-in-Err-clause-loads g c = λ some rules are kept. LoadsBatchesAlone.unmade c.in-Err.refusal (c.in-Err.ensures.makes kept.sound) refl refl
+
+pub returns-in-Ok-clause-counts : goal.returns-in-Ok-clause-counts
+returns-in-Ok-clause-counts g c = no_less_behind _ _ _ c.new_session.ensures.counts c.load_batches.ensures.counts
+
+pub returns-in-Err-clause-kept : goal.returns-in-Err-clause-kept
+returns-in-Err-clause-kept g c = λ rules are kept. subst (λ core. IsKept g.S.Store.is_sound g.S.Store.shows rules.check core) (sym c.in-Err.ensures.refused.1) kept
+
+pub returns-in-Err-clause-counts : goal.returns-in-Err-clause-counts
+returns-in-Err-clause-counts g c = no_more _ _ c.new_session.ensures.counts

@@ -1,5 +1,5 @@
 use Rattle.std.specs.Io.KnownBytes.{Keeps}
-use Rattle.shell.proofs.telling.pass_on.Given as goal
+use Rattle.endings.proofs.telling.pass_on.Given as goal
 
 -- nothing was written
 abbrev pub invariant-loop : goal.invariant-loop

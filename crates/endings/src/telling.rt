@@ -3,7 +3,7 @@ ghost use Rattle.std.specs.Prelude.{is_ok, IfErr};
 ghost use Rattle.std.specs.Io.KnownBytes.{Keeps};
 ghost use Rattle.replies.specs.Printed.{printed_reply};
 ghost use Rattle.replies.specs.Writes.{IsNoInterruption, Writes};
-ghost use Rattle.shell.specs.Tells.{Tells};
+ghost use Rattle.endings.specs.Tells.{Tells};
 
 use refusals::Refusal;
 use replies::{Reply, print_reply};

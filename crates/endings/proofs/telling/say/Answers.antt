@@ -1,5 +1,5 @@
-use Rattle.shell.proofs.Flushed.{flushed, passed_on}
-use Rattle.shell.proofs.telling.say.Goals as goal
+use Rattle.endings.proofs.Flushed.{flushed, passed_on}
+use Rattle.endings.proofs.telling.say.Goals as goal
 
 pub returns-in-Ok-clause-says : goal.returns-in-Ok-clause-says
 returns-in-Ok-clause-says g c = passed_on _ _ _ _ _ _ _ c.in-Ok.is c.print_reply-printed.ensures.writes c.pass_on-passed_on.ensures.bytes

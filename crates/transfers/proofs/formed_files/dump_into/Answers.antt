@@ -1,0 +1,8 @@
+use Rattle.std.proofs.Common.{inr}
+use Rattle.transfers.proofs.formed_files.dump_into.Goals as goal
+
+pub returns-in-Ok : goal.returns-in-Ok
+returns-in-Ok g c = rw c.status_of.ensures c.dump_formed_to_end.ensures.status
+
+pub returns-in-Err : goal.returns-in-Err
+returns-in-Err g c = rw c.status_of-in-Err.ensures (inr (inr c.without_csv.ensures.failed))
