@@ -84,13 +84,13 @@ condition_found limit some depth ts x e =
 
 -- What was found, where something was.
 pub what_was_found : {A : Type 0} → (r : Result A ParseError) → (read : Outcome A) → IsOk r → GivesAll r read
-  → (x : A) × (rest : Tokens) × (read ≡ Some (x, rest))
+    → (x : A) × (rest : Tokens) × (read ≡ Some (x, rest))
 what_was_found (Ok x) read _ gives = (x, gives.0, gives.1)
 what_was_found (Err e) read nothing _ = absurd (cc)
 
 -- Nothing can be read, where nothing was found for that reason.
 pub nothing_found : {A : Type 0} → (r : Result A ParseError) → (read : Outcome A) → (why : Option ParseError) → {e : ParseError}
-  → IfSome why (λ refused. r ≡ Err refused) → why ≡ Some e → e ≡ Syntax → GivesAll r read → read ≡ None
+    → IfSome why (λ refused. r ≡ Err refused) → why ≡ Some e → e ≡ Syntax → GivesAll r read → read ≡ None
 nothing_found r read why {e} refused is syntax gives =
     let fails : r ≡ Err e = subst (λ (w : Option ParseError). IfSome w (λ refused. r ≡ Err refused)) is refused in
     let none : GivesAll (Err e) read = subst (λ (it : Result _ ParseError). GivesAll it read) fails gives in

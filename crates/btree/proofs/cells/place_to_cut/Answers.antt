@@ -32,7 +32,7 @@ pub returns-clause-full : goal.returns-clause-full
 returns-clause-full c =
     λ e f. elim c.else-is_last.branch [
       | else-is_last-via-then-is_last+else-fits w ↦
-        let holds = w.fits.ensures.1 (subst Fits (sym (lent_take c.args.cells.now c.args.most)) f) in
-        absurd (cc)
+          let holds = w.fits.ensures.1 (subst Fits (sym (lent_take c.args.cells.now c.args.most)) f) in
+          absurd (cc)
       | else-is_last-via-else-is_last w ↦ absurd (cc)
     ]
