@@ -10,3 +10,4 @@ pub mod ReadNodes
 pub mod TableReads
 pub mod Counting
 pub mod Passing
+pub mod Ahead

@@ -20,15 +20,15 @@ use Rattle.streams.proofs.ReadNodes.{read_ended}
 counted-more : (was count more : ℕ) → count ≡ counted_on was more → count ≤ was + more
 counted-more was count more is = subst (λ n. n ≤ was + more) (sym is) (min-le_left (was + more) (2 ^ 64 - 1))
 
-lengths : {A : Type 0} (xs ys : List A) → length (xs ++ ys) ≡ length xs + length ys
+pub lengths : {A : Type 0} (xs ys : List A) → length (xs ++ ys) ≡ length xs + length ys
 lengths [] ys = omega arith
 lengths (x ∷ xs) ys = let rest = lengths xs ys in omega (arith, rest)
 
-length-map : {A B : Type 0} (f : A → B) (xs : List A) → length (map f xs) ≡ length xs
+pub length-map : {A B : Type 0} (f : A → B) (xs : List A) → length (map f xs) ≡ length xs
 length-map f [] = refl
 length-map f (x ∷ xs) = ap (λ n. suc n) (length-map f xs)
 
-both-lengths : {A : Type 0} (n : ℕ) (xs : List A) → length (take n xs) + length (drop n xs) ≡ length xs
+pub both-lengths : {A : Type 0} (n : ℕ) (xs : List A) → length (take n xs) + length (drop n xs) ≡ length xs
 both-lengths n xs = sym (lengths (take n xs) (drop n xs)) ∙ ap (λ zs. length zs) (take-drop n xs)
 
 -- so many rows were counted, of those that were left

@@ -4,3 +4,4 @@ pub mod Numbers
 pub mod Parts
 pub mod Reads
 pub mod Sides
+pub mod Ahead

@@ -4,6 +4,7 @@ ghost use Rattle.places.specs.declared.place.Place.TheVariants as p;
 ghost use Rattle.algebra.specs.declared.tree.Tree.{Tree};
 ghost use Rattle.denote.specs.Outcome.{Outcome};
 ghost use Rattle.places.specs.Left.{Entries};
+ghost use Rattle.streams.specs.Ahead.{RowsAhead, StepAhead};
 ghost use Rattle.streams.specs.Reads.{RowsRead, StepReads};
 ghost use Rattle.streams.specs.Steps.{IsPassed, RowsGive, StepGives};
 
@@ -27,6 +28,8 @@ pub(crate) fn put_step(
         → RowsGive entries tree whole result place.new }
     ensures reads { (entries : Entries) (tree : Tree) (count limit : ℕ) → StepReads entries tree count limit step
         → RowsRead entries tree count limit result place.new }
+    ensures ahead { (entries : Entries) (tree : Tree) (to_come was count most : ℕ) → StepAhead entries tree to_come was count most step
+        → RowsAhead entries tree to_come was count most result place.new }
     ensures refused { IfErr result (IsPassed step) }
 {
     match step {

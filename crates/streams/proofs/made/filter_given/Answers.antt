@@ -6,6 +6,8 @@ use Rattle.places.specs.Left.{before, left, rows_by}
 use Rattle.places.specs.Views.{above}
 use Rattle.places.proofs.Aboves.{above_filter}
 use Rattle.places.proofs.Blocks.{IfOk-same}
+use Rattle.streams.specs.Ahead.{ReadsAhead}
+use Rattle.streams.proofs.Ahead.{ahead_above, ahead_placed, kept_at_most_one, listed_lengths}
 use Rattle.streams.proofs.Blocks.{place-is}
 use Rattle.streams.proofs.TableReads.{read-on}
 use Rattle.streams.proofs.ReadNodes.{above_read, read_filter}
@@ -48,3 +50,22 @@ returns-in-Err-filtered_moving-clause-reads g c = λ entries below count limit g
 
 pub returns-in-Err-filtered_moving-clause-refused : goal.returns-in-Err-filtered_moving-clause-refused
 returns-in-Err-filtered_moving-clause-refused g c = rw c.refused-in-Err-filtered_moving.ensures (inl refl)
+
+pub returns-in-Ok-filtered_moving-clause-ahead : goal.returns-in-Ok-filtered_moving-clause-ahead
+returns-in-Ok-filtered_moving-clause-ahead g c = λ entries below to_come was count most given.
+    let rows = c.in-Ok.rows in
+    let condition = c.args.condition.now in
+    let tree = t.Filter condition below in
+    let f = kept_row (truth_listing (g.S.Tables.rows_of c.args.tables.now) condition) [] in
+    let few = listed_lengths (λ row. ended (f row)) (kept_at_most_one (truth_listing (g.S.Tables.rows_of c.args.tables.now) condition) []) rows c.in-Ok-filtered_moving.listed
+    c.in-Ok-filtered_moving.ensures.lists.ok in
+    let here : ReadsAhead entries below to_come was count most rows c.args.inner = rw c.in-Ok.is at given in
+    let next = ahead_placed entries tree to_come was count most rows c.above.result (above c.args.inner) c.above.ensures
+    (ahead_above entries tree below (λ place goes. read_filter entries place condition below goes) to_come was count most rows c.args.inner here) in
+    c.settled.ensures.ahead entries tree below c.args.inner to_come was count most rows few here next
+
+pub returns-in-Err-clause-ahead : goal.returns-in-Err-clause-ahead
+returns-in-Err-clause-ahead g c = λ entries below to_come was count most given. rw c.refused.ensures tt
+
+pub returns-in-Err-filtered_moving-clause-ahead : goal.returns-in-Err-filtered_moving-clause-ahead
+returns-in-Err-filtered_moving-clause-ahead g c = λ entries below to_come was count most given. rw c.refused-in-Err-filtered_moving.ensures tt

@@ -6,6 +6,8 @@ use Rattle.places.specs.Left.{before, left, rows_by}
 use Rattle.places.specs.Views.{above}
 use Rattle.places.proofs.Aboves.{above_project}
 use Rattle.places.proofs.Blocks.{IfOk-same}
+use Rattle.streams.specs.Ahead.{ReadsAhead}
+use Rattle.streams.proofs.Ahead.{ahead_above, ahead_placed, listed_lengths, shown_at_most_one}
 use Rattle.streams.proofs.Blocks.{place-is}
 use Rattle.streams.proofs.TableReads.{read-on}
 use Rattle.streams.proofs.ReadNodes.{above_read, read_project}
@@ -39,3 +41,19 @@ returns-in-Err-clause-reads g c = λ entries below count limit given. rw c.refus
 
 pub returns-in-Err-clause-refused : goal.returns-in-Err-clause-refused
 returns-in-Err-clause-refused g c = rw c.refused.ensures (inr c.in-Err.is)
+
+pub returns-in-Ok-projected-clause-ahead : goal.returns-in-Ok-projected-clause-ahead
+returns-in-Ok-projected-clause-ahead g c = λ entries below to_come was count most given.
+    let rows = c.in-Ok.rows in
+    let items = c.args.items.now in
+    let tree = t.Project items below in
+    let meant = map (value_listing (g.S.Tables.rows_of c.args.tables.now)) items in
+    let few = listed_lengths (λ row. ended (shown_row meant [] row)) (shown_at_most_one meant []) rows c.in-Ok-projected.listed
+    (rw c.as_slice.ensures at c.in-Ok-projected.ensures.lists.ok) in
+    let here : ReadsAhead entries below to_come was count most rows c.args.inner = rw c.in-Ok.is at given in
+    let next = ahead_placed entries tree to_come was count most rows c.above.result (above c.args.inner) c.above.ensures
+    (ahead_above entries tree below (λ place goes. read_project entries place items below goes) to_come was count most rows c.args.inner here) in
+    c.settled.ensures.ahead entries tree below c.args.inner to_come was count most rows few here next
+
+pub returns-in-Err-clause-ahead : goal.returns-in-Err-clause-ahead
+returns-in-Err-clause-ahead g c = λ entries below to_come was count most given. rw c.refused.ensures tt
