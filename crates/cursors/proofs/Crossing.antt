@@ -7,6 +7,7 @@ use Rattle.std.proofs.option.Option.TheSendSync as option
 use Rattle.std.proofs.rt.Memory.TheSendSync as memory
 use Rattle.std.proofs.boxed.Box.TheSendSync as box
 use Rattle.std.proofs.vec.Vec.TheSendSync as vec
+use Rattle.std.proofs.collections.BTreeMap.TheSendSync as tree_map
 use Rattle.std.proofs.collections.VecDeque.TheSendSync as deque
 use Rattle.std.proofs.vec.IntoIter.TheSendSync as into_iter
 use Rattle.std.proofs.alloc.Global.TheSendSync as global
@@ -44,6 +45,7 @@ use Rattle.store.proofs.rows.Position.TheSendSync as position
 use Rattle.algebra.proofs.tree.Bound.TheSendSync as bound
 use Rattle.algebra.proofs.tree.StoredTable.TheSendSync as stored_table
 use Rattle.algebra.proofs.tree.Condition.TheLaws.TheKnot as tree_knot
+use Rattle.key_tables.proofs.kept_keys.KeptKeys.TheSendSync as kept_keys
 use Rattle.places.proofs.place.KeyedRows.TheSendSync as keyed_rows
 use Rattle.places.proofs.place.Members.TheSendSync as members
 use Rattle.places.proofs.place.Place.TheLaws.TheKnot as place_knot
@@ -62,6 +64,7 @@ ruleset lists = (
   memory.the_send,
   box.the_send,
   vec.the_send,
+  tree_map.the_send,
   deque.the_send,
   into_iter.the_send,
   global.the_send,
@@ -133,6 +136,8 @@ ruleset plans = (
   bound.the_field_send,
   stored_table.the_send,
   stored_table.the_field_send,
+  kept_keys.the_send,
+  kept_keys.the_field_send,
   keyed_rows.the_send,
   keyed_rows.the_field_send,
   members.the_send,

@@ -1,3 +1,4 @@
 pub mod Ties
 pub mod Placing
 pub mod Deciding
+pub mod Digesting

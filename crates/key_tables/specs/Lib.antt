@@ -1,4 +1,5 @@
 pub mod Keys
 pub mod Places
+pub mod Digests
 pub mod Values
 pub mod Among

@@ -2,10 +2,12 @@
 #![tactic(auto)]
 
 mod digest;
+mod kept_keys;
 mod key_table;
 mod lent_key;
 mod member;
 mod members;
 
+pub use kept_keys::KeptKeys;
 pub use key_table::KeyTable;
 pub use members::Members;

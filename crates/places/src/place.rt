@@ -1,17 +1,21 @@
 //! How far the list of a plan was given.
+ghost use Rattle.key_tables.specs.Digests.{AreKeysOf};
 
 use denote::{Fault, Row, Rows};
 use items::{Boxed, Items};
+use key_tables::KeptKeys;
 use std::vec::IntoIter;
 use store::Position;
 
 /// Right rows that a join keeps: those of a left row are the ones whose `columns` equal its
-/// `places`.
+/// `places`. Beside them stand their keys, which tell which rows these are.
 #[derive(Drop)]
 pub struct KeyedRows {
     pub places: Items<usize>,
     pub columns: Items<usize>,
     pub rows: Rows,
+    pub keys: KeptKeys,
+    ghost keyed: { AreKeysOf keys columns rows },
 }
 
 /// What IN looks for: rows, and the fault that ends their list.
