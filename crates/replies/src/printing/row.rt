@@ -1,13 +1,14 @@
 ghost use Rattle.std.specs.Prelude.{◌≡◌, is_ok, IfErr};
-ghost use Rattle.replies.specs.Printed.{spelled_character, quotes_doubled, printed_text, printed_value, other_field, other_fields, printed_fields, printed_row};
+ghost use Rattle.replies.specs.Printed.{quotes_doubled, printed_text, printed_value, other_field, other_fields, printed_fields, printed_row};
 ghost use Rattle.replies.specs.Writes.{IsNoInterruption, Writes};
 
 use super::put::put;
 use items::Items;
 use itoa::Buffer;
+use memchr::memchr;
 use sqlval::Value;
+use std::io;
 use std::io::Write;
-use std::{io, slice};
 
 /// A row on a line of its own.
 pub(crate) fn print_row<W: Write>(row: &Items<Value>, writer: &mut W) -> io::Result<()>
@@ -70,24 +71,16 @@ fn print_text<W: Write>(text: &[u8], writer: &mut W) -> io::Result<()>
     put(writer, b"'")
 }
 
-/// The characters of a text, each quote twice.
+/// The characters of a text, each quote twice: run by run, from quote to quote.
 fn print_quoted<W: Write>(text: &[u8], writer: &mut W) -> io::Result<()>
     ensures writes { Writes (W.contents writer.old) (W.contents writer.new) (is_ok result) (quotes_doubled text.now) }
     ensures tried_again { IfErr result IsNoInterruption }
 {
-    for character in text {
-        put(writer, spelled(character))?;
+    let mut rest = text;
+    while let Some(at) = memchr(b'\'', rest) {
+        put(writer, &rest[..at])?;
+        put(writer, b"''")?;
+        rest = &rest[at + 1..];
     }
-    Ok(())
-}
-
-/// The character as a string holds it: a quote is written twice.
-fn spelled(character: &u8) -> &[u8]
-    ensures { result.now ≡ spelled_character character.now }
-{
-    if *character == b'\'' {
-        b"''"
-    } else {
-        slice::from_ref(character)
-    }
+    put(writer, rest)
 }
