@@ -1,3 +1,4 @@
 pub mod LoopNodes
 pub mod Reading
 pub mod ScanNodes
+pub mod Refusing

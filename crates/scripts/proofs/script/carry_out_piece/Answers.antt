@@ -20,3 +20,24 @@ returns-in-Some-clause-carries_out g c = λ known piece kept asks.
 pub returns-in-Some-clause-held : goal.returns-in-Some-clause-held
 returns-in-Some-clause-held g c = λ held.
     subst (λ (s : Sessions). HoldAll s.standing (world_of g.S.Store.shows c.reply_to.new.core)) (sym c.note.ensures) (c.reply_to.ensures.held held)
+
+pub returns-in-None-clause-tried_again : goal.returns-in-None-clause-tried_again
+returns-in-None-clause-tried_again g c = tt
+
+pub returns-in-None-clause-kept : goal.returns-in-None-clause-kept
+returns-in-None-clause-kept g c = c.reply_to.ensures.kept
+
+pub returns-in-None-clause-held : goal.returns-in-None-clause-held
+returns-in-None-clause-held g c = c.reply_to.ensures.held
+
+pub returns-in-None-clause-counts : goal.returns-in-None-clause-counts
+returns-in-None-clause-counts g c = c.reply_to.ensures.counts
+
+pub returns-in-Some-clause-tried_again : goal.returns-in-Some-clause-tried_again
+returns-in-Some-clause-tried_again g c = c.print_reply.ensures.tried_again
+
+pub returns-in-Some-clause-kept : goal.returns-in-Some-clause-kept
+returns-in-Some-clause-kept g c = c.reply_to.ensures.kept
+
+pub returns-in-Some-clause-counts : goal.returns-in-Some-clause-counts
+returns-in-Some-clause-counts g c = c.reply_to.ensures.counts

@@ -1,4 +1,4 @@
-use Rattle.std.proofs.Common.{rules, ◌≡◌, ◌∙◌, sym, subst, Some, None}
+use Rattle.std.proofs.Common.{rules, ◌≡◌, ◌∙◌, sym, subst, Some, None, refl, le_refl}
 use Rattle.script_pieces.specs.declared.request.Request.TheVariants as found
 use Rattle.script_pieces.specs.Cutter.{asked, call_text}
 use Rattle.session_definitions.specs.World.{World}
@@ -96,3 +96,66 @@ returns-in-Calls-Some-clause-within g c = λ r are h.
 pub returns-in-Flushes-clause-within : goal.returns-in-Flushes-clause-within
 returns-in-Flushes-clause-within g c = λ r are h.
     flush_told (UpTo (world_of g.S.Store.shows c.flush_all.new.core).commits) (asked c.args.request (call_text c.args.cutter.now)) c.flush_all.result c.flush_all.ensures.replies
+
+pub returns-in-Nothing-clause-refused : goal.returns-in-Nothing-clause-refused
+returns-in-Nothing-clause-refused g c = refl
+
+pub returns-in-Nothing-clause-kept : goal.returns-in-Nothing-clause-kept
+returns-in-Nothing-clause-kept g c = λ rules are kept. kept
+
+pub returns-in-Nothing-clause-held : goal.returns-in-Nothing-clause-held
+returns-in-Nothing-clause-held g c = λ held. held
+
+pub returns-in-Nothing-clause-counts : goal.returns-in-Nothing-clause-counts
+returns-in-Nothing-clause-counts g c = le_refl _
+
+pub returns-in-Wrong-clause-refused : goal.returns-in-Wrong-clause-refused
+returns-in-Wrong-clause-refused g c = refl
+
+pub returns-in-Wrong-clause-kept : goal.returns-in-Wrong-clause-kept
+returns-in-Wrong-clause-kept g c = λ rules are kept. kept
+
+pub returns-in-Wrong-clause-held : goal.returns-in-Wrong-clause-held
+returns-in-Wrong-clause-held g c = λ held. held
+
+pub returns-in-Wrong-clause-counts : goal.returns-in-Wrong-clause-counts
+returns-in-Wrong-clause-counts g c = le_refl _
+
+pub returns-in-Chooses-clause-kept : goal.returns-in-Chooses-clause-kept
+returns-in-Chooses-clause-kept g c = λ rules are kept. kept
+
+pub returns-in-Chooses-clause-counts : goal.returns-in-Chooses-clause-counts
+returns-in-Chooses-clause-counts g c = le_refl _
+
+pub returns-in-Calls-None-clause-refused : goal.returns-in-Calls-None-clause-refused
+returns-in-Calls-None-clause-refused g c = c.call.ensures.refused
+
+pub returns-in-Calls-None-clause-device : goal.returns-in-Calls-None-clause-device
+returns-in-Calls-None-clause-device g c = c.call.ensures.device
+
+pub returns-in-Calls-None-clause-kept : goal.returns-in-Calls-None-clause-kept
+returns-in-Calls-None-clause-kept g c = c.call.ensures.kept
+
+pub returns-in-Calls-None-clause-held : goal.returns-in-Calls-None-clause-held
+returns-in-Calls-None-clause-held g c = c.call.ensures.held
+
+pub returns-in-Calls-None-clause-counts : goal.returns-in-Calls-None-clause-counts
+returns-in-Calls-None-clause-counts g c = c.call.ensures.counts
+
+pub returns-in-Calls-Some-clause-device : goal.returns-in-Calls-Some-clause-device
+returns-in-Calls-Some-clause-device g c = c.call-in-Calls-Some.ensures.device
+
+pub returns-in-Calls-Some-clause-kept : goal.returns-in-Calls-Some-clause-kept
+returns-in-Calls-Some-clause-kept g c = c.call-in-Calls-Some.ensures.kept
+
+pub returns-in-Calls-Some-clause-counts : goal.returns-in-Calls-Some-clause-counts
+returns-in-Calls-Some-clause-counts g c = c.call-in-Calls-Some.ensures.counts
+
+pub returns-in-Flushes-clause-device : goal.returns-in-Flushes-clause-device
+returns-in-Flushes-clause-device g c = c.flush_all.ensures.device
+
+pub returns-in-Flushes-clause-counts : goal.returns-in-Flushes-clause-counts
+returns-in-Flushes-clause-counts g c = c.flush_all.ensures.counts
+
+pub returns-in-Flushes-clause-refused : goal.returns-in-Flushes-clause-refused
+returns-in-Flushes-clause-refused g c = refl

@@ -34,3 +34,6 @@ returns-in-Rows-clause-ends g c =
 pub returns-in_default-clause-ends : goal.returns-in_default-clause-ends
 returns-in_default-clause-ends g c = λ v text h.
     broken g.J.Room.premise g.J.Room.start g.J.Room.refused v text c.args.count c.args.found c.args.me.now c.take_rows-taken.new.me c.take_rows-taken.result c.take_rows-taken.ensures.told c.in_default.not-Rows h c.take_rows-taken.ensures.turn
+
+pub returns-in_default-clause-goes : goal.returns-in_default-clause-goes
+returns-in_default-clause-goes g c = tt

@@ -5,6 +5,7 @@ use Rattle.scripts.proofs.Keeping.{commits_grow, kept_step, good_seen}
 use Rattle.scripts.proofs.Placed.{held_same}
 use Rattle.scripts.proofs.Carried.{plays_found, ready_found, live_found, ready_alike, plays_not_made, ready_not_made}
 use Rattle.scripts.proofs.Limits.{call_told, none_told}
+use Rattle.std.proofs.Math.Nat.{le_trans}
 use Rattle.scripts.proofs.script.Sessions.call.Goals as goal
 
 pub returns-in-Ok-clause-plays : goal.returns-in-Ok-clause-plays
@@ -53,3 +54,21 @@ returns-in-Ok-clause-within g c = λ r are h.
 
 pub returns-in-Err-clause-within : goal.returns-in-Err-clause-within
 returns-in-Err-clause-within g c = λ r are h. none_told (UpTo (g.S.Store.shows c.session.new.core.store).commits) c.args.text.now c.in-Err.refusal c.in-Err.ensures.limits
+
+pub returns-in-Ok-clause-refused : goal.returns-in-Ok-clause-refused
+returns-in-Ok-clause-refused g c = c.session.ensures.refused
+
+pub returns-in-Ok-clause-counts : goal.returns-in-Ok-clause-counts
+returns-in-Ok-clause-counts g c = le_trans c.session.ensures.counts c.step.ensures.counts
+
+pub returns-in-Err-clause-refused : goal.returns-in-Err-clause-refused
+returns-in-Err-clause-refused g c = c.session.ensures.refused
+
+pub returns-in-Err-clause-kept : goal.returns-in-Err-clause-kept
+returns-in-Err-clause-kept g c = c.session.ensures.kept
+
+pub returns-in-Err-clause-held : goal.returns-in-Err-clause-held
+returns-in-Err-clause-held g c = c.session.ensures.held
+
+pub returns-in-Err-clause-counts : goal.returns-in-Err-clause-counts
+returns-in-Err-clause-counts g c = c.session.ensures.counts

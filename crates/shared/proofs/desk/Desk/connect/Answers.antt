@@ -70,3 +70,15 @@ returns-clause-err g c =
     (extends_after c.databases_stay_good.ensures.run _ _ _ _ (IsSound g.S.Store.is_sound g.S.Store.shows c.new_session.new.self) _ _ _ (cell_view c.self.inside.keeper) (cell_view c.me.inside.token) act n g.J.Room.refused c.self.invariant.1 told tt
     (counted_after _ _ (cell_view c.self.inside.keeper).log (event (cell_view c.me.inside.token).who act n) (same_count _ _ c.new_session.ensures.counts) (not_disk _ _ _ c.in-Err.ensures.refused.0) c.in-Err.ensures.refused.0 c.self.invariant.2)
     (refused_on g.S.Store.is_sound g.S.Store.shows c.self.inside.core c.new_session.new.self c.in-Err.refusal c.in-Err.ensures.makes c.in-Err.ensures.sound))
+
+pub returns-in-Ok-clause-err : goal.returns-in-Ok-clause-err
+returns-in-Ok-clause-err g c = tt
+
+pub returns-in-Ok-clause-full : goal.returns-in-Ok-clause-full
+returns-in-Ok-clause-full g c = tt
+
+pub returns-clause-ok : goal.returns-clause-ok
+returns-clause-ok g c = tt
+
+pub returns-clause-full : goal.returns-clause-full
+returns-clause-full g c = c.in-Err.ensures.refused.0
