@@ -1,4 +1,4 @@
-"""What the tests have in common: the program that they are run over, folders, and waiting."""
+"""What the tests have in common: the programs that they are run over, folders, and waiting."""
 import os
 import shutil
 import tempfile
@@ -9,8 +9,9 @@ import narumbesi
 
 TOP = os.path.dirname(os.path.dirname(os.path.dirname(os.path.dirname(os.path.realpath(__file__)))))
 PACKAGE = TOP + "/clients/python"
-# tools/client_tests says which program it is.
+# tools/client_tests says which programs these are: sqlsh and sqlmany.
 PROGRAM = os.environ["NARUMBESI_TEST_PROGRAM"]
+MANY = os.environ["NARUMBESI_TEST_MANY"]
 LIMIT = 60
 
 
