@@ -14,7 +14,7 @@ ghost use Rattle.store.specs.Going.{Going};
 ghost use Rattle.store.specs.Stored.{SameButMark};
 ghost use Rattle.transactions.specs.Refused.{IfRefused, TellsReached};
 ghost use Rattle.constraints.specs.Changed.{HasChanged};
-ghost use Rattle.table_changes.specs.Indexes.{key_index};
+ghost use Rattle.table_changes.specs.Indexes.{key_index, AreOwned};
 
 use constraints::{begin, key_columns, table_named};
 use items::Items;
@@ -64,6 +64,7 @@ fn declared_table(alloc: Global, table: CreateTable) -> Result<Table, AllocError
     ensures columns { IfOk result (λ t. t.columns ≡ table.columns) }
     ensures constraints { IfOk result (λ t. t.constraints ≡ table.constraints) }
     ensures indexes { IfOk result (λ t. map index_of t.indexes ≡ filter_map (λ k. owned_index k.rule) table.constraints) }
+    ensures owners { IfOk result (λ t. AreOwned table.constraints t.indexes) }
 {
     let CreateTable {
         name,
@@ -80,9 +81,10 @@ fn declared_table(alloc: Global, table: CreateTable) -> Result<Table, AllocError
     })
 }
 
-/// The indexes that PRIMARY KEY and UNIQUE own.
+/// The indexes that PRIMARY KEY and UNIQUE own, each with the place of its constraint.
 fn owned_indexes(alloc: Global, constraints: &[Constraint]) -> Result<Items<Index>, AllocError>
-    ensures { IfOk result (λ indexes. map index_of indexes ≡ filter_map (λ k. owned_index k.rule) constraints.now) }
+    ensures indexes { IfOk result (λ indexes. map index_of indexes ≡ filter_map (λ k. owned_index k.rule) constraints.now) }
+    ensures owners { IfOk result (λ indexes. AreOwned constraints.now indexes) }
 {
     let mut indexes = Items::new(alloc);
     for (place, constraint) in constraints.iter().enumerate() {

@@ -1,5 +1,5 @@
 //! CREATE INDEX.
-ghost use Rattle.std.specs.Prelude.{◌≡◌, IfOk, IfErr, OnErr};
+ghost use Rattle.std.specs.Prelude.{◌≡◌, Some, None, IfOk, IfErr, OnErr};
 ghost use Rattle.refusals.specs.declared.refusal.Refusal.TheVariants.{Disk};
 ghost use Rattle.typing.specs.declared.statement.Change.TheVariants as does;
 ghost use Rattle.denote.specs.Database.{CheckReading};
@@ -10,8 +10,10 @@ ghost use Rattle.store.specs.Going.{Going};
 ghost use Rattle.store.specs.Stored.{SameButMark};
 ghost use Rattle.transactions.specs.Refused.{IfRefused, TellsReached};
 ghost use Rattle.constraints.specs.Changed.{HasChanged, RefusesChange};
+ghost use Rattle.table_changes.specs.Indexes.{with_owner};
 
 use constraints::{begin, refusal_of_stop, rows_fit_key, table_named};
+use items::{Items, Text};
 use refusals::Refusal;
 use replies::Reply;
 use sqlval::Index;
@@ -58,14 +60,21 @@ pub fn create_index<S: Store>(
         table,
         columns,
     } = index;
-    let made = Index {
+    let made = named_index(name, columns);
+    match store.create_index(&table, made) {
+        Ok(()) => Ok(Reply::Done),
+        Err(error) => Err(refusal_of(error)),
+    }
+}
+
+/// The index of a name over these columns, as a store is given it: no constraint owns it.
+fn named_index(name: Text, columns: Items<usize>) -> Index
+    ensures owners { with_owner result ≡ (None, record { name = Some name; columns = columns }) }
+{
+    Index {
         name: Some(name),
         columns,
         owner: None,
         root: 0,
-    };
-    match store.create_index(&table, made) {
-        Ok(()) => Ok(Reply::Done),
-        Err(error) => Err(refusal_of(error)),
     }
 }

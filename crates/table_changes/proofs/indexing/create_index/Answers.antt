@@ -1,10 +1,11 @@
-use Rattle.std.proofs.Common.{◌≡◌, ◌∙◌, refl, sym, subst, ap, List, [], Some, None}
+use Rattle.std.proofs.Common.{◌≡◌, ◌∙◌, ℕ, sym, subst, ap, List, [], Option}
 use Rattle.std.specs.FinMap.{get}
+use Rattle.sqlval.specs.declared.schema.Index.{Index}
 use Rattle.sqlval.specs.declared.schema.Schema.{Schema}
 use Rattle.sqlval.specs.Value.{Row}
 use Rattle.typing.specs.declared.statement.Change.TheVariants as does
 use Rattle.denote.specs.Database.{IndexDeclaration}
-use Rattle.denote.specs.SchemaOf.{IsSchemaOf}
+use Rattle.denote.specs.SchemaOf.{IsSchemaOf, index_of}
 use Rattle.denote.specs.Stop.{IsFaultOf}
 use Rattle.session_definitions.specs.Refusals.{IsReserved}
 use Rattle.store.specs.Contents.{database_of, rows_of}
@@ -14,11 +15,16 @@ use Rattle.store.specs.Stored.{Stored}
 use Rattle.transactions.proofs.Tests.{reserved, tells_reached}
 use Rattle.constraints.specs.Changed.{RefusesChange}
 use Rattle.constraints.proofs.Declared.{table_there}
+use Rattle.table_changes.specs.Indexes.{with_owner}
 use Rattle.table_changes.proofs.Listed.{unchanged, there_or_unchanged, index_made, no_long_key, faults_of}
 use Rattle.constraints.proofs.Limits.{tells_none, stop_tells}
 use Rattle.table_changes.proofs.Listed.{indexing_reaches}
 use Rattle.store.specs.Going.{Going}
 use Rattle.table_changes.proofs.indexing.create_index.Goals as goal
+
+-- what an index declares, of what it is with its owner
+declared : (index : Index) (owner : Option ℕ) (made : IndexDeclaration) → with_owner index ≡ (owner, made) → index_of index ≡ made
+declared index owner made e = ap (λ (p : Option ℕ × IndexDeclaration). p.1) e
 
 pub returns-in_default-clause-changes : goal.returns-in_default-clause-changes
 returns-in_default-clause-changes g c = λ reading sound of.
@@ -45,8 +51,9 @@ returns-in-Ok-create_index-clause-changes g c = λ reading sound of.
     let rows : c.in-Ok.found.rows ≡ rows_of (entries_of (get old.working c.args.index.table)) =
     (c.in-Ok.ensures.rows ((g.met.S.Store.goes_on_goes _ _ _ c.begin.ensures.goes).sound sound)).rows ∙ ap (λ (s : Stored). rows_of (entries_of (get s.working c.args.index.table))) c.in_default-begin.ensures.shows in
     index_made reading old c.args.index (g.S.Store.shows c.scan.new.self) (g.S.Store.shows c.create_index.new.self)
-    (record { name = Some c.args.index.name; columns = c.args.index.columns; owner = None; root = 0 }) found.0 found.1 (((g.met.S.Store.goes_on_goes _ _ _ c.scan.ensures.goes).stays.shows) ∙ c.in_default-begin.ensures.shows)
-    (c.in-Ok-create_index.ensures.shows ((g.met.S.Store.goes_on_goes _ _ _ c.scan.ensures.goes).sound ((g.met.S.Store.goes_on_goes _ _ _ c.begin.ensures.goes).sound sound))) refl refl
+    c.named_index-made.result found.0 found.1 (((g.met.S.Store.goes_on_goes _ _ _ c.scan.ensures.goes).stays.shows) ∙ c.in_default-begin.ensures.shows)
+    (c.in-Ok-create_index.ensures.shows ((g.met.S.Store.goes_on_goes _ _ _ c.scan.ensures.goes).sound ((g.met.S.Store.goes_on_goes _ _ _ c.begin.ensures.goes).sound sound)))
+    (ap (λ (index : IndexDeclaration). index.name) (declared c.named_index-made.result _ _ c.named_index-made.ensures.owners)) (ap (λ (index : IndexDeclaration). index.columns) (declared c.named_index-made.result _ _ c.named_index-made.ensures.owners))
     (subst (λ (rows : List Row). faults_of c.args.index rows ≡ []) rows (rw (c.as_slice.ensures, c.as_slice-2.ensures) at c.in_default-rows_fit_key.ensures.passes.ok))
 
 pub returns-clause-refused : goal.returns-clause-refused
@@ -60,9 +67,9 @@ returns-clause-refused g c = λ reading sound of.
     subst (λ (rows : List Row). faults_of c.args.index rows ≡ []) rows (rw (c.as_slice.ensures, c.as_slice-2.ensures) at c.in_default-rows_fit_key.ensures.passes.ok) in
     RefusesChange.withheld (subst IsReserved (sym c.refusal_of-in-Err-create_index.ensures)
     (reserved (g.S.Store.is_sound c.scan.new.self) (g.S.Store.refused c.scan.new.self) (g.S.Store.refused c.create_index.new.self)
-    (IndexingReaches (g.S.Store.counted c.create_index.new.self) (rows_of (entries_of (get (g.S.Store.shows c.scan.new.self).working name))) (record { name = Some c.args.index.name; columns = c.args.index.columns }))
+    (IndexingReaches (g.S.Store.counted c.create_index.new.self) (rows_of (entries_of (get (g.S.Store.shows c.scan.new.self).working name))) (index_of c.named_index-made.result))
     c.in-Err-create_index.error c.in-Err-create_index.ensures.refused ((g.met.S.Store.goes_on_goes _ _ _ c.scan.ensures.goes).sound ((g.met.S.Store.goes_on_goes _ _ _ c.begin.ensures.goes).sound sound)) (λ none. none)
-    (λ long. no_long_key c.args.index.columns (rows_of (entries_of (get (g.S.Store.shows c.scan.new.self).working name))) (record { name = Some c.args.index.name; columns = c.args.index.columns }) refl none long)))
+    (λ long. no_long_key c.args.index.columns (rows_of (entries_of (get (g.S.Store.shows c.scan.new.self).working name))) (index_of c.named_index-made.result) (ap (λ (index : IndexDeclaration). index.columns) (declared c.named_index-made.result _ _ c.named_index-made.ensures.owners)) none long)))
 
 pub returns-in-Err-clause-limits : goal.returns-in-Err-clause-limits
 returns-in-Err-clause-limits g c = tells_none (ChangingReaches (g.S.Store.counted c.begin.new.store)) c.in-Err.refusal c.in-Err.ensures.limits
@@ -75,7 +82,7 @@ returns-in-Err-rows_fit_key-clause-limits g c = tells_none (ChangingReaches (g.S
 
 pub returns-clause-limits : goal.returns-clause-limits
 returns-clause-limits g c =
-    let index : IndexDeclaration = record { name = Some c.args.index.name; columns = c.args.index.columns } in
+    let index : IndexDeclaration = index_of c.named_index-made.result in
     let rows = rows_of (entries_of (get (g.S.Store.shows c.scan.new.self).working c.args.index.table)) in
     indexing_reaches (g.S.Store.counted c.create_index.new.self) rows index c.refusal_of-in-Err-create_index.result
     (tells_reached _ _ _ (IndexingReaches (g.S.Store.counted c.create_index.new.self) rows index) c.in-Err-create_index.error _ c.refusal_of-in-Err-create_index.ensures c.in-Err-create_index.ensures.refused)
