@@ -6,3 +6,4 @@ pub mod StandLemmas
 pub mod PlaceLemmas
 pub mod BlockLemmas
 pub mod AheadLemmas
+pub mod TypeLemmas

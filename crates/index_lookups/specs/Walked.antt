@@ -3,6 +3,7 @@ use Rattle.std.specs.Prelude.{◌≡◌, ℕ, Bool, true, List, [], ◌++◌, ma
 use Rattle.std.specs.Option.{option_map}
 use Rattle.sqlval.specs.declared.schema.Column.{Column}
 use Rattle.sqlval.specs.declared.schema.Index.{Index}
+use Rattle.sqlval.specs.declared.schema.Table.{Table}
 use Rattle.store.specs.Contents as stored
 use Rattle.store.specs.Indexes.{by_columns, columns_at, entries_of}
 use Rattle.store.specs.Sorted.{sorted_by}
@@ -61,6 +62,10 @@ abbrev pub IsPlaceOf : PageMap → Option stored.StoredTable → ℕ → Option 
 IsPlaceOf pages table at None = columns_at table at ≡ None
 IsPlaceOf pages table at (Some place) = (columns_at table at ≡ Some place.columns)
     × HoldsIndexed pages place.root place.rows_root place.types place.columns (entries_of table)
+
+-- the place has the columns of this table, which is there
+abbrev pub HasTypesOf : Option Table → Place → Type 0
+HasTypesOf table place = option_map (λ (t : Table). t.columns) table ≡ Some place.types
 
 -- ---- steps of a walk
 

@@ -1,6 +1,7 @@
 //! Blocks of rows: at most so many behind a place.
 ghost use Rattle.std.specs.Prelude.{◌≡◌, ◌≤◌, ℕ, List, Some, None, filter, take, IfOk, IfErr};
 ghost use Rattle.std.specs.FinMap.{get};
+ghost use Rattle.std.specs.List.{AllByRecursion};
 ghost use Rattle.std.specs.Option.{option_map};
 ghost use Rattle.sqlval.specs.declared.schema.Table.{Table as AnyTable};
 ghost use Rattle.sqlval.specs.Matching.{matches};
@@ -9,6 +10,7 @@ ghost use Rattle.store.specs.Indexes.{entries_of, some_after, some_sought, some_
 ghost use Rattle.store.specs.View.{AreEntries, position_of};
 ghost use Rattle.page_space.specs.Space.{ReadRefused};
 ghost use Rattle.catalog.specs.Held.{HoldsSchema};
+ghost use Rattle.tablestore.specs.Held.{RowFits};
 ghost use Rattle.stored_tables.specs.Named.{table_named, AreTyped};
 ghost use Rattle.database_trees.specs.Held.{TableAt, HoldsDatabase, HoldsNoDatabase, contents_of};
 ghost use Rattle.index_lookups.specs.Sought.{is_wanted};
@@ -79,6 +81,7 @@ fn some_at<R: PageReader>(
         → HoldsIndexed (R.pages space.old) place.now.root place.now.rows_root place.now.types place.now.columns rows
         → MaySkip sought.entry place.now.columns code.now
         → IfOk result (λ found. AreEntries found (take most (filter (is_wanted sought.entry place.now.columns) (walk_of place.now.columns rows)))) }
+    ensures typed { IfOk result (λ found. AllByRecursion (RowFits place.now.types) found.rows) }
     ensures same { R.pages space.new ≡ R.pages space.old }
     ensures whole { R.is_whole space.old → R.is_whole space.new }
     ensures refusal { IfErr result (ReadRefused (HoldsNoIndexed (R.pages space.old) place.now.root place.now.rows_root place.now.types place.now.columns) (R.refused space.old) (R.refused space.new)) }
@@ -104,6 +107,7 @@ fn some_behind<R: PageReader>(
         → HoldsIndexed (R.pages space.old) place.now.root place.now.rows_root place.now.types place.now.columns rows
         → MayPass sought.entry place.now.columns code.now
         → IfOk result (λ found. AreEntries found (take most (filter (is_wanted sought.entry place.now.columns) (walk_of place.now.columns rows)))) }
+    ensures typed { IfOk result (λ found. AllByRecursion (RowFits place.now.types) found.rows) }
     ensures same { R.pages space.new ≡ R.pages space.old }
     ensures whole { R.is_whole space.old → R.is_whole space.new }
     ensures refusal { IfErr result (ReadRefused (HoldsNoIndexed (R.pages space.old) place.now.root place.now.rows_root place.now.types place.now.columns) (R.refused space.old) (R.refused space.new)) }
@@ -127,6 +131,7 @@ fn first_sought<R: PageReader>(
     ensures rows { (rows : List stored.Entry)
         → HoldsIndexed (R.pages space.old) place.now.root place.now.rows_root place.now.types place.now.columns rows
         → IfOk result (λ found. AreEntries found (some_after None most (filter (λ (e : stored.Entry). matches place.now.columns key.now e.1) rows))) }
+    ensures typed { IfOk result (λ found. AllByRecursion (RowFits place.now.types) found.rows) }
     ensures same { R.pages space.new ≡ R.pages space.old }
     ensures whole { R.is_whole space.old → R.is_whole space.new }
     ensures refusal { IfErr result (ReadRefused (HoldsNoIndexed (R.pages space.old) place.now.root place.now.rows_root place.now.types place.now.columns) (R.refused space.old) (R.refused space.new)) }
@@ -152,6 +157,7 @@ fn sought_past<R: PageReader>(
     ensures rows { (rows : List stored.Entry)
         → HoldsIndexed (R.pages space.old) place.now.root place.now.rows_root place.now.types place.now.columns rows
         → IfOk result (λ found. AreEntries found (some_after (Some number) most (filter (λ (e : stored.Entry). matches place.now.columns key.now e.1) rows))) }
+    ensures typed { IfOk result (λ found. AllByRecursion (RowFits place.now.types) found.rows) }
     ensures same { R.pages space.new ≡ R.pages space.old }
     ensures whole { R.is_whole space.old → R.is_whole space.new }
     ensures refusal { IfErr result (ReadRefused (HoldsNoIndexed (R.pages space.old) place.now.root place.now.rows_root place.now.types place.now.columns) (R.refused space.old) (R.refused space.new)) }
@@ -183,6 +189,7 @@ fn sought_above<R: PageReader>(
     ensures rows { (rows : List stored.Entry)
         → HoldsIndexed (R.pages space.old) place.now.root place.now.rows_root place.now.types place.now.columns rows
         → IfOk result (λ found. AreEntries found (some_after (Some number) most (filter (λ (e : stored.Entry). matches place.now.columns key.now e.1) rows))) }
+    ensures typed { IfOk result (λ found. AllByRecursion (RowFits place.now.types) found.rows) }
     ensures same { R.pages space.new ≡ R.pages space.old }
     ensures whole { R.is_whole space.old → R.is_whole space.new }
     ensures refusal { IfErr result (ReadRefused (HoldsNoIndexed (R.pages space.old) place.now.root place.now.rows_root place.now.types place.now.columns) (R.refused space.old) (R.refused space.new)) }
@@ -219,6 +226,7 @@ fn sought_at<R: PageReader>(
     ensures rows { (rows : List stored.Entry)
         → HoldsIndexed (R.pages space.old) place.now.root place.now.rows_root place.now.types place.now.columns rows
         → IfOk result (λ found. AreEntries found (some_after after most (filter (λ (e : stored.Entry). matches place.now.columns key.now e.1) rows))) }
+    ensures typed { IfOk result (λ found. AllByRecursion (RowFits place.now.types) found.rows) }
     ensures same { R.pages space.new ≡ R.pages space.old }
     ensures whole { R.is_whole space.old → R.is_whole space.new }
     ensures refusal { IfErr result (ReadRefused (HoldsNoIndexed (R.pages space.old) place.now.root place.now.rows_root place.now.types place.now.columns) (R.refused space.old) (R.refused space.new)) }
@@ -235,7 +243,7 @@ fn sought_at<R: PageReader>(
 /// numbers. It reads the pages on the way to the key with the number, and those behind with its
 /// entries, and the pages on the way to each row that it gives.
 ///
-/// Refused as `seek` is.
+/// Typed and refused as `seek` is.
 pub fn seek_block<R: PageReader>(
     space: &mut R,
     alloc: Global,
@@ -249,6 +257,8 @@ pub fn seek_block<R: PageReader>(
 ) -> Result<Numbered, SpaceError>
     ensures rows { (tables : List TableAt) → HoldsDatabase (R.pages space.old) root tables
         → IfOk result (λ found. AreEntries found (some_sought (get (contents_of tables) name.now) index key.now after most)) }
+    ensures typed { (owned : List ℕ) (tables : List AnyTable) → HoldsSchema (R.pages space.old) root owned tables
+        → IfOk result (λ found. AreTyped (table_named name.now tables) found.rows) }
     ensures same { R.pages space.new ≡ R.pages space.old }
     ensures whole { R.is_whole space.old → R.is_whole space.new }
     ensures refusal { IfErr result (ReadRefused (HoldsNoDatabase (R.pages space.old) root) (R.refused space.old) (R.refused space.new)) }
@@ -274,6 +284,7 @@ fn first_block<R: PageReader>(
     ensures rows { (rows : List stored.Entry)
         → HoldsIndexed (R.pages space.old) place.now.root place.now.rows_root place.now.types place.now.columns rows
         → IfOk result (λ found. AreEntries found (take most (rows_within low.now high.now place.now.columns rows))) }
+    ensures typed { IfOk result (λ found. AllByRecursion (RowFits place.now.types) found.rows) }
     ensures same { R.pages space.new ≡ R.pages space.old }
     ensures whole { R.is_whole space.old → R.is_whole space.new }
     ensures refusal { IfErr result (ReadRefused (HoldsNoIndexed (R.pages space.old) place.now.root place.now.rows_root place.now.types place.now.columns) (R.refused space.old) (R.refused space.new)) }
@@ -307,6 +318,7 @@ fn block_sought<R: PageReader>(
     ensures rows { (rows : List stored.Entry)
         → HoldsIndexed (R.pages space.old) place.now.root place.now.rows_root place.now.types place.now.columns rows
         → IfOk result (λ found. AreEntries found (block_within low.now high.now place.now.columns rows (Some (position_of after.now)) most)) }
+    ensures typed { IfOk result (λ found. AllByRecursion (RowFits place.now.types) found.rows) }
     ensures same { R.pages space.new ≡ R.pages space.old }
     ensures whole { R.is_whole space.old → R.is_whole space.new }
     ensures refusal { IfErr result (ReadRefused (HoldsNoIndexed (R.pages space.old) place.now.root place.now.rows_root place.now.types place.now.columns) (R.refused space.old) (R.refused space.new)) }
@@ -339,6 +351,7 @@ fn block_behind<R: PageReader>(
     ensures rows { (rows : List stored.Entry)
         → HoldsIndexed (R.pages space.old) place.now.root place.now.rows_root place.now.types place.now.columns rows
         → IfOk result (λ found. AreEntries found (block_within low.now high.now place.now.columns rows (Some (position_of after.now)) most)) }
+    ensures typed { IfOk result (λ found. AllByRecursion (RowFits place.now.types) found.rows) }
     ensures same { R.pages space.new ≡ R.pages space.old }
     ensures whole { R.is_whole space.old → R.is_whole space.new }
     ensures refusal { IfErr result (ReadRefused (HoldsNoIndexed (R.pages space.old) place.now.root place.now.rows_root place.now.types place.now.columns) (R.refused space.old) (R.refused space.new)) }
@@ -377,6 +390,7 @@ fn block_at<R: PageReader>(
     ensures rows { (rows : List stored.Entry)
         → HoldsIndexed (R.pages space.old) place.now.root place.now.rows_root place.now.types place.now.columns rows
         → IfOk result (λ found. AreEntries found (block_within low.now high.now place.now.columns rows (option_map (λ p. position_of p.now) after.entry) most)) }
+    ensures typed { IfOk result (λ found. AllByRecursion (RowFits place.now.types) found.rows) }
     ensures same { R.pages space.new ≡ R.pages space.old }
     ensures whole { R.is_whole space.old → R.is_whole space.new }
     ensures refusal { IfErr result (ReadRefused (HoldsNoIndexed (R.pages space.old) place.now.root place.now.rows_root place.now.types place.now.columns) (R.refused space.old) (R.refused space.new)) }
@@ -395,7 +409,7 @@ fn block_at<R: PageReader>(
 /// the place, or to the lower bound, and on the way to each row that it gives; where a place has no
 /// key of the index's columns, those of all rows from the lower bound on.
 ///
-/// Refused as `seek` is.
+/// Typed and refused as `seek` is.
 pub fn range_block<R: PageReader>(
     space: &mut R,
     alloc: Global,
@@ -410,6 +424,8 @@ pub fn range_block<R: PageReader>(
 ) -> Result<Numbered, SpaceError>
     ensures rows { (tables : List TableAt) → HoldsDatabase (R.pages space.old) root tables
         → IfOk result (λ found. AreEntries found (some_ranged (get (contents_of tables) name.now) index low.now high.now (option_map (λ p. position_of p.now) after.entry) most)) }
+    ensures typed { (owned : List ℕ) (tables : List AnyTable) → HoldsSchema (R.pages space.old) root owned tables
+        → IfOk result (λ found. AreTyped (table_named name.now tables) found.rows) }
     ensures same { R.pages space.new ≡ R.pages space.old }
     ensures whole { R.is_whole space.old → R.is_whole space.new }
     ensures refusal { IfErr result (ReadRefused (HoldsNoDatabase (R.pages space.old) root) (R.refused space.old) (R.refused space.new)) }

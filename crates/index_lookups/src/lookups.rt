@@ -1,13 +1,18 @@
 //! Rows found by an index of a table.
-ghost use Rattle.std.specs.Prelude.{◌≡◌, ◌≤◌, List, Some, None, [], slice_get, filter, IfOk, IfErr};
+ghost use Rattle.std.specs.Prelude.{◌≡◌, ◌≤◌, ℕ, List, Some, None, [], slice_get, filter, IfOk, IfErr, IfSome};
 ghost use Rattle.std.specs.FinMap.{get};
+ghost use Rattle.std.specs.List.{AllByRecursion};
 ghost use Rattle.std.specs.Option.{option_map};
+ghost use Rattle.sqlval.specs.declared.schema.Table.{Table as AnyTable};
 ghost use Rattle.sqlval.specs.Matching.{matches};
 ghost use Rattle.store.specs.Contents as stored;
 ghost use Rattle.store.specs.Indexes.{sought, ranged, next_entry};
 ghost use Rattle.store.specs.View.{AreEntries, IsEntry, entry_of, position_of};
 ghost use Rattle.page_space.specs.Space.{ReadRefused};
 ghost use Rattle.page_space.specs.declared.error.SpaceError.TheVariants.{Memory as OfMemory};
+ghost use Rattle.catalog.specs.Held.{HoldsSchema};
+ghost use Rattle.tablestore.specs.Held.{Fits, RowFits};
+ghost use Rattle.stored_tables.specs.Named.{table_named, AreTyped, IsTyped};
 ghost use Rattle.database_trees.specs.Held.{TableAt, HoldsDatabase, HoldsNoDatabase, contents_of};
 ghost use Rattle.index_lookups.specs.Sought.{is_wanted};
 ghost use Rattle.index_lookups.specs.Walked.{walk_of, HoldsIndexed, HoldsNoIndexed};
@@ -48,6 +53,7 @@ fn rows_behind<R: PageReader>(
         → HoldsIndexed (R.pages space.old) place.now.root place.now.rows_root place.now.types place.now.columns rows
         → MaySkip sought.entry place.now.columns code.now
         → IfOk result (λ found. AreEntries found (filter (is_wanted sought.entry place.now.columns) (walk_of place.now.columns rows))) }
+    ensures typed { IfOk result (λ found. AllByRecursion (RowFits place.now.types) found.rows) }
     ensures same { R.pages space.new ≡ R.pages space.old }
     ensures whole { R.is_whole space.old → R.is_whole space.new }
     ensures refusal { IfErr result (ReadRefused (HoldsNoIndexed (R.pages space.old) place.now.root place.now.rows_root place.now.types place.now.columns) (R.refused space.old) (R.refused space.new)) }
@@ -84,6 +90,7 @@ fn matching<R: PageReader>(
     ensures rows { (rows : List stored.Entry)
         → HoldsIndexed (R.pages space.old) place.now.root place.now.rows_root place.now.types place.now.columns rows
         → IfOk result (λ found. AreEntries found (filter (λ (e : stored.Entry). matches place.now.columns key.now e.1) rows)) }
+    ensures typed { IfOk result (λ found. AllByRecursion (RowFits place.now.types) found.rows) }
     ensures same { R.pages space.new ≡ R.pages space.old }
     ensures whole { R.is_whole space.old → R.is_whole space.new }
     ensures refusal { IfErr result (ReadRefused (HoldsNoIndexed (R.pages space.old) place.now.root place.now.rows_root place.now.types place.now.columns) (R.refused space.old) (R.refused space.new)) }
@@ -98,8 +105,8 @@ fn matching<R: PageReader>(
 
 /// The rows whose columns equal a key, in the order of their numbers: those of the index at a place
 /// of the table of a name, as many as the key has values. A null equals nothing; where no index
-/// stands there, nothing is found. It reads the pages on the way to the key, and on the way to each
-/// row that it gives.
+/// stands there, nothing is found. Wherever a schema lies they have the types of the table's
+/// columns. It reads the pages on the way to the key, and on the way to each row that it gives.
 ///
 /// Refused for want of memory, where the device refuses a call, and as damaged only where no
 /// database is held there.
@@ -114,6 +121,8 @@ pub fn seek<R: PageReader>(
 ) -> Result<Numbered, SpaceError>
     ensures rows { (tables : List TableAt) → HoldsDatabase (R.pages space.old) root tables
         → IfOk result (λ found. AreEntries found (sought (get (contents_of tables) name.now) index key.now)) }
+    ensures typed { (owned : List ℕ) (tables : List AnyTable) → HoldsSchema (R.pages space.old) root owned tables
+        → IfOk result (λ found. AreTyped (table_named name.now tables) found.rows) }
     ensures same { R.pages space.new ≡ R.pages space.old }
     ensures whole { R.is_whole space.old → R.is_whole space.new }
     ensures refusal { IfErr result (ReadRefused (HoldsNoDatabase (R.pages space.old) root) (R.refused space.old) (R.refused space.new)) }
@@ -150,6 +159,7 @@ fn within<R: PageReader>(
     ensures rows { (rows : List stored.Entry)
         → HoldsIndexed (R.pages space.old) place.now.root place.now.rows_root place.now.types place.now.columns rows
         → IfOk result (λ found. AreEntries found (rows_within low.now high.now place.now.columns rows)) }
+    ensures typed { IfOk result (λ found. AllByRecursion (RowFits place.now.types) found.rows) }
     ensures same { R.pages space.new ≡ R.pages space.old }
     ensures whole { R.is_whole space.old → R.is_whole space.new }
     ensures refusal { IfErr result (ReadRefused (HoldsNoIndexed (R.pages space.old) place.now.root place.now.rows_root place.now.types place.now.columns) (R.refused space.old) (R.refused space.new)) }
@@ -173,7 +183,7 @@ fn within<R: PageReader>(
 /// null is within no bound. It reads the pages on the way to the lower bound, and on the way to
 /// each row that it gives.
 ///
-/// Refused as `seek` is.
+/// Typed and refused as `seek` is.
 pub fn range<R: PageReader>(
     space: &mut R,
     alloc: Global,
@@ -186,6 +196,8 @@ pub fn range<R: PageReader>(
 ) -> Result<Numbered, SpaceError>
     ensures rows { (tables : List TableAt) → HoldsDatabase (R.pages space.old) root tables
         → IfOk result (λ found. AreEntries found (ranged (get (contents_of tables) name.now) index low.now high.now)) }
+    ensures typed { (owned : List ℕ) (tables : List AnyTable) → HoldsSchema (R.pages space.old) root owned tables
+        → IfOk result (λ found. AreTyped (table_named name.now tables) found.rows) }
     ensures same { R.pages space.new ≡ R.pages space.old }
     ensures whole { R.is_whole space.old → R.is_whole space.new }
     ensures refusal { IfErr result (ReadRefused (HoldsNoDatabase (R.pages space.old) root) (R.refused space.old) (R.refused space.new)) }
@@ -201,7 +213,8 @@ pub fn range<R: PageReader>(
 
 /// The first of these rows.
 fn first_of(found: Numbered) -> Option<NumberedRow>
-    ensures { (rows : List stored.Entry) → AreEntries found rows → option_map entry_of result ≡ slice_get rows 0 }
+    ensures first { (rows : List stored.Entry) → AreEntries found rows → option_map entry_of result ≡ slice_get rows 0 }
+    ensures row { IfSome result (λ first. slice_get found.rows 0 ≡ Some first.row) }
 {
     let Numbered { numbers, rows } = found;
     let mut numbers = numbers;
@@ -225,6 +238,7 @@ fn first_beyond<R: PageReader>(
     ensures row { (rows : List stored.Entry)
         → HoldsIndexed (R.pages space.old) place.now.root place.now.rows_root place.now.types place.now.columns rows
         → IfOk result (IsNextRow place.now.columns rows (Some (position_of after.now))) }
+    ensures typed { IfOk result (λ found. IfSome found (λ row. Fits place.now.types (entry_of row))) }
     ensures same { R.pages space.new ≡ R.pages space.old }
     ensures whole { R.is_whole space.old → R.is_whole space.new }
     ensures refusal { IfErr result (ReadRefused (HoldsNoIndexed (R.pages space.old) place.now.root place.now.rows_root place.now.types place.now.columns) (R.refused space.old) (R.refused space.new)) }
@@ -247,6 +261,7 @@ fn row_behind<R: PageReader>(
     ensures row { (rows : List stored.Entry)
         → HoldsIndexed (R.pages space.old) place.now.root place.now.rows_root place.now.types place.now.columns rows
         → IfOk result (IsRowBehind place.now.columns rows code.now) }
+    ensures typed { IfOk result (λ found. IfSome found (λ row. Fits place.now.types (entry_of row))) }
     ensures same { R.pages space.new ≡ R.pages space.old }
     ensures whole { R.is_whole space.old → R.is_whole space.new }
     ensures refusal { IfErr result (ReadRefused (HoldsNoIndexed (R.pages space.old) place.now.root place.now.rows_root place.now.types place.now.columns) (R.refused space.old) (R.refused space.new)) }
@@ -268,6 +283,7 @@ fn first_row<R: PageReader>(
     ensures row { (rows : List stored.Entry)
         → HoldsIndexed (R.pages space.old) place.now.root place.now.rows_root place.now.types place.now.columns rows
         → IfOk result (IsNextRow place.now.columns rows None) }
+    ensures typed { IfOk result (λ found. IfSome found (λ row. Fits place.now.types (entry_of row))) }
     ensures same { R.pages space.new ≡ R.pages space.old }
     ensures whole { R.is_whole space.old → R.is_whole space.new }
     ensures refusal { IfErr result (ReadRefused (HoldsNoIndexed (R.pages space.old) place.now.root place.now.rows_root place.now.types place.now.columns) (R.refused space.old) (R.refused space.new)) }
@@ -290,6 +306,7 @@ fn row_beyond<R: PageReader>(
     ensures row { (rows : List stored.Entry)
         → HoldsIndexed (R.pages space.old) place.now.root place.now.rows_root place.now.types place.now.columns rows
         → IfOk result (IsNextRow place.now.columns rows (Some (position_of after.now))) }
+    ensures typed { IfOk result (λ found. IfSome found (λ row. Fits place.now.types (entry_of row))) }
     ensures same { R.pages space.new ≡ R.pages space.old }
     ensures whole { R.is_whole space.old → R.is_whole space.new }
     ensures refusal { IfErr result (ReadRefused (HoldsNoIndexed (R.pages space.old) place.now.root place.now.rows_root place.now.types place.now.columns) (R.refused space.old) (R.refused space.new)) }
@@ -312,7 +329,7 @@ fn row_beyond<R: PageReader>(
 /// first of all. It reads the pages on the way to the place and to the row; where a place has no
 /// key of the index's columns, those of all rows.
 ///
-/// Refused as `seek` is.
+/// Typed and refused as `seek` is.
 pub fn next_in<R: PageReader>(
     space: &mut R,
     alloc: Global,
@@ -324,6 +341,8 @@ pub fn next_in<R: PageReader>(
 ) -> Result<Option<NumberedRow>, SpaceError>
     ensures row { (tables : List TableAt) → HoldsDatabase (R.pages space.old) root tables
         → IfOk result (λ found. IsEntry found (next_entry (get (contents_of tables) name.now) index (option_map (λ p. position_of p.now) after.entry))) }
+    ensures typed { (owned : List ℕ) (tables : List AnyTable) → HoldsSchema (R.pages space.old) root owned tables
+        → IfOk result (λ found. IfSome found (λ row. IsTyped (table_named name.now tables) row.row)) }
     ensures same { R.pages space.new ≡ R.pages space.old }
     ensures whole { R.is_whole space.old → R.is_whole space.new }
     ensures refusal { IfErr result (ReadRefused (HoldsNoDatabase (R.pages space.old) root) (R.refused space.old) (R.refused space.new)) }

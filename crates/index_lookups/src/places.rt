@@ -1,10 +1,13 @@
 //! The index at a place of a table.
-ghost use Rattle.std.specs.Prelude.{◌≡◌, ◌≤◌, List, slice_get, IfOk, IfErr};
+ghost use Rattle.std.specs.Prelude.{◌≡◌, ◌≤◌, ℕ, List, slice_get, IfOk, IfErr, IfSome};
 ghost use Rattle.std.specs.FinMap.{get};
 ghost use Rattle.std.specs.Option.{option_map};
+ghost use Rattle.sqlval.specs.declared.schema.Table.{Table as AnyTable};
 ghost use Rattle.page_space.specs.Space.{ReadRefused};
+ghost use Rattle.catalog.specs.Held.{HoldsSchema};
+ghost use Rattle.stored_tables.specs.Named.{table_named};
 ghost use Rattle.database_trees.specs.Held.{TableAt, HoldsDatabase, HoldsNoDatabase, contents_of};
-ghost use Rattle.index_lookups.specs.Walked.{place_of, IsPlaceOf};
+ghost use Rattle.index_lookups.specs.Walked.{place_of, IsPlaceOf, HasTypesOf};
 
 use catalog::KnownSchema;
 use items::{Items, Text};
@@ -60,6 +63,8 @@ pub(crate) fn index_at<R: PageReader>(
 ) -> Result<Option<Place>, SpaceError>
     ensures found { (tables : List TableAt) → HoldsDatabase (R.pages space.old) root tables
         → IfOk result (IsPlaceOf (R.pages space.old) (get (contents_of tables) name.now) at) }
+    ensures types { (owned : List ℕ) (tables : List AnyTable) → HoldsSchema (R.pages space.old) root owned tables
+        → IfOk result (λ found. IfSome found (HasTypesOf (table_named name.now tables))) }
     ensures same { R.pages space.new ≡ R.pages space.old }
     ensures whole { R.is_whole space.old → R.is_whole space.new }
     ensures refusal { IfErr result (ReadRefused (HoldsNoDatabase (R.pages space.old) root) (R.refused space.old) (R.refused space.new)) }

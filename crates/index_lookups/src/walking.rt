@@ -1,13 +1,15 @@
 //! Rows read in the order of an index.
-ghost use Rattle.std.specs.Prelude.{◌≡◌, ◌≢◌, ◌≤◌, ◌<◌, ◌+◌, ℕ, ◌++◌, ◌∷◌, [], List, Some, slice_get, filter, take, if◌then◌else◌, IfOk, IfErr, OnOk};
+ghost use Rattle.std.specs.Prelude.{◌≡◌, ◌≢◌, ◌≤◌, ◌<◌, ◌+◌, ℕ, ◌++◌, ◌∷◌, [], List, Some, slice_get, filter, take, if◌then◌else◌, IfOk, IfErr, IfSome, OnOk};
+ghost use Rattle.std.specs.List.{AllByRecursion};
 ghost use Rattle.std.specs.Option.{option_map};
+ghost use Rattle.sqlval.specs.declared.schema.Column.{Column as AnyColumn};
 ghost use Rattle.sqlval.specs.CodedLength.{key_length};
 ghost use Rattle.sqlval.specs.Matching.{key_of};
 ghost use Rattle.store.specs.Contents as stored;
 ghost use Rattle.store.specs.View.{AreEntries, entry_of};
 ghost use Rattle.page_space.specs.Space.{ReadRefused};
 ghost use Rattle.btree_read.specs.Near.{LiesIn};
-ghost use Rattle.tablestore.specs.Held.{HoldsFitting, HoldsNoFitting, Fits};
+ghost use Rattle.tablestore.specs.Held.{HoldsFitting, HoldsNoFitting, Fits, RowFits};
 ghost use Rattle.index_trees.specs.Indexed.{index_entry};
 ghost use Rattle.database_trees.specs.Named.{row_numbered};
 ghost use Rattle.index_lookups.specs.Sought.{is_wanted};
@@ -168,6 +170,7 @@ fn row_alone<R: PageReader>(
         → HoldsIndexed (R.pages space.old) place.now.root place.now.rows_root place.now.types place.now.columns rows
         → StandsAt place.now.columns rows (Some entry.now) left
         → IfOk result (λ found. slice_get left 0 ≡ Some (entry_of found)) }
+    ensures typed { IfOk result (λ found. Fits place.now.types (entry_of found)) }
     ensures same { R.pages space.new ≡ R.pages space.old }
     ensures whole { R.is_whole space.old → R.is_whole space.new }
     ensures refusal { IfErr result (ReadRefused (StandsNowhere (R.pages space.old) place.now.root place.now.rows_root place.now.types place.now.columns (Some entry.now)) (R.refused space.old) (R.refused space.new)) }
@@ -188,6 +191,7 @@ pub(crate) fn row_found<R: PageReader>(
         → HoldsIndexed (R.pages space.old) place.now.root place.now.rows_root place.now.types place.now.columns rows
         → StandsAt place.now.columns rows entry.now left
         → IfOk result (λ found. option_map entry_of found ≡ slice_get left 0) }
+    ensures typed { IfOk result (λ found. IfSome found (λ row. Fits place.now.types (entry_of row))) }
     ensures same { R.pages space.new ≡ R.pages space.old }
     ensures whole { R.is_whole space.old → R.is_whole space.new }
     ensures refusal { IfErr result (ReadRefused (StandsNowhere (R.pages space.old) place.now.root place.now.rows_root place.now.types place.now.columns entry.now) (R.refused space.old) (R.refused space.new)) }
@@ -205,8 +209,10 @@ pub(crate) fn row_found<R: PageReader>(
 
 /// Puts a row behind others, where it is wanted.
 fn put_if(found: &mut Numbered, is_one: bool, row: NumberedRow) -> Result<(), AllocError>
-    ensures { (rows : List stored.Entry) → AreEntries found.old rows
+    ensures puts { (rows : List stored.Entry) → AreEntries found.old rows
         → OnOk result (AreEntries found.new (rows ++ (if is_one then entry_of row ∷ [] else []))) }
+    ensures typed { (types : List AnyColumn) → AllByRecursion (RowFits types) found.old.rows → RowFits types row.row
+        → OnOk result (AllByRecursion (RowFits types) found.new.rows) }
 {
     if !is_one {
         return Ok(());
@@ -264,6 +270,8 @@ fn go_on<R: PageReader>(
         → StandsBefore place.now.columns rows walk.old.ahead left
         → slice_get left 0 ≡ Some (entry_of row) → AreEntries walk.old.found list
         → IfOk result (HasStepped place.now.columns rows (is_wanted sought.entry place.now.columns) left list walk.new) }
+    ensures typed { AllByRecursion (RowFits place.now.types) walk.old.found.rows → Fits place.now.types (entry_of row)
+        → OnOk result (AllByRecursion (RowFits place.now.types) walk.new.found.rows) }
     ensures same { R.pages space.new ≡ R.pages space.old }
     ensures whole { R.is_whole space.old → R.is_whole space.new }
     ensures refusal { IfErr result (ReadRefused (NoneStandsBefore (R.pages space.old) place.now.root place.now.rows_root place.now.types place.now.columns walk.old.ahead) (R.refused space.old) (R.refused space.new)) }
@@ -298,6 +306,8 @@ fn step<R: PageReader>(
         → StandsBefore place.now.columns rows walk.old.ahead left
         → AreEntries walk.old.found list
         → IfOk result (HasStepped place.now.columns rows (is_wanted sought.entry place.now.columns) left list walk.new) }
+    ensures typed { AllByRecursion (RowFits place.now.types) walk.old.found.rows
+        → OnOk result (AllByRecursion (RowFits place.now.types) walk.new.found.rows) }
     ensures lies { LiesIn (R.pages space.new) place.now.rows_root last.new }
     ensures same { R.pages space.new ≡ R.pages space.old }
     ensures whole { R.is_whole space.old → R.is_whole space.new }
@@ -329,6 +339,7 @@ pub(crate) fn rows_from<R: PageReader>(
         → HoldsIndexed (R.pages space.old) place.now.root place.now.rows_root place.now.types place.now.columns rows
         → StandsBefore place.now.columns rows first left
         → IfOk result (λ found. AreEntries found (filter (is_wanted sought.entry place.now.columns) left)) }
+    ensures typed { IfOk result (λ found. AllByRecursion (RowFits place.now.types) found.rows) }
     ensures same { R.pages space.new ≡ R.pages space.old }
     ensures whole { R.is_whole space.old → R.is_whole space.new }
     ensures refusal { IfErr result (ReadRefused (NoneStandsBefore (R.pages space.old) place.now.root place.now.rows_root place.now.types place.now.columns first) (R.refused space.old) (R.refused space.new)) }
@@ -355,6 +366,8 @@ pub(crate) fn rows_from<R: PageReader>(
 pub(crate) fn first_rows(found: Numbered, most: usize) -> Numbered
     ensures found { (rows : List stored.Entry) → AreEntries found rows → AreEntries result (take most rows) }
     ensures taken { result.rows ≡ take most found.rows }
+    ensures typed { (types : List AnyColumn) → AllByRecursion (RowFits types) found.rows
+        → AllByRecursion (RowFits types) result.rows }
 {
     let Numbered { numbers, rows } = found;
     let mut numbers = numbers;
@@ -381,6 +394,7 @@ pub(crate) fn some_from<R: PageReader>(
         → HoldsIndexed (R.pages space.old) place.now.root place.now.rows_root place.now.types place.now.columns rows
         → StandsBefore place.now.columns rows first left
         → IfOk result (λ found. AreEntries found (take most (filter (is_wanted sought.entry place.now.columns) left))) }
+    ensures typed { IfOk result (λ found. AllByRecursion (RowFits place.now.types) found.rows) }
     ensures same { R.pages space.new ≡ R.pages space.old }
     ensures whole { R.is_whole space.old → R.is_whole space.new }
     ensures refusal { IfErr result (ReadRefused (NoneStandsBefore (R.pages space.old) place.now.root place.now.rows_root place.now.types place.now.columns first) (R.refused space.old) (R.refused space.new)) }

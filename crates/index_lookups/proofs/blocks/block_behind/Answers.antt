@@ -16,3 +16,6 @@ returns-in-Ok-clause-rows g c = λ rows h.
     let code : c.as_slice-in-Ok.result.now ≡ index_key_code key number = c.as_slice-in-Ok.ensures ∙ c.in-Ok.ensures.code ∙ ap (λ (k : List Value). index_key_code k number) c.as_slice.ensures in
     subst (λ (xs : List stored.Entry). IfOk c.some_behind.result (λ found. AreEntries found xs)) (block_is c.args.low c.args.high c.args.after c.args.place.now.columns rows c.args.most)
     (c.some_behind.ensures.rows rows h (above_may_pass c.args.low c.args.high c.args.after c.args.place.now.columns c.as_slice-in-Ok.result.now (subst AllStorable c.as_slice.ensures c.in-Ok.ensures.storable) long small code))
+
+pub returns-in-Ok-clause-typed : goal.returns-in-Ok-clause-typed
+returns-in-Ok-clause-typed g c = c.some_behind.ensures.typed

@@ -5,9 +5,13 @@ use Rattle.store.specs.View.{AreEntries}
 use Rattle.stored_tables.proofs.RefusalLemmas.{reads_later}
 use Rattle.database_trees.specs.Held.{HoldsNoDatabase, contents_of}
 use Rattle.index_lookups.specs.declared.places.Place.{Place}
-use Rattle.index_lookups.specs.Walked.{HoldsNoIndexed, IsPlaceOf}
+use Rattle.index_lookups.specs.Walked.{HoldsNoIndexed, IsPlaceOf, HasTypesOf}
 use Rattle.index_lookups.proofs.StandLemmas.{indexed_in}
 use Rattle.index_lookups.proofs.BlockLemmas.{none_of_none}
+use Rattle.std.specs.Prelude.{IfSome}
+use Rattle.stored_tables.specs.Named.{table_named, IsTyped}
+use Rattle.index_lookups.proofs.TypeLemmas.{rows_typed}
+use Rattle.std.specs.List.{AllByRecursion}
 use Rattle.index_lookups.proofs.blocks.seek_block.Goals as goal
 
 pub returns-in-Ok-Some-clause-rows : goal.returns-in-Ok-Some-clause-rows
@@ -38,3 +42,11 @@ returns-in-Ok-None-clause-rows g c = λ tables h.
     let none = subst (λ (o : Option Place). IsPlaceOf (g.R.PageReader.pages c.args.space.now) t c.args.index o) c.in-Ok-None.field-0-is (c.in-Ok-None.ensures.found tables h) in
     subst (λ (o : Option (List ℕ)). AreEntries c.no_rows.result (some_after c.args.after c.args.most (matching o c.args.key.now (entries_of t)))) (sym none)
     (none_of_none c.args.most c.no_rows.result c.no_rows.ensures)
+
+pub returns-in-Ok-Some-clause-typed : goal.returns-in-Ok-Some-clause-typed
+returns-in-Ok-Some-clause-typed g c = λ owned tables h.
+    rows_typed (table_named c.args.name.now tables) c.in-Ok-Some.place c.sought_at.result
+    (subst (λ (o : Option Place). IfSome o (HasTypesOf (table_named c.args.name.now tables))) c.in-Ok-Some.field-0-is (c.in-Ok-Some.ensures.types owned tables h)) c.sought_at.ensures.typed
+
+pub returns-in-Ok-None-clause-typed : goal.returns-in-Ok-None-clause-typed
+returns-in-Ok-None-clause-typed g c = λ owned tables h. subst (AllByRecursion (IsTyped _)) (sym c.no_rows.ensures.rows) tt

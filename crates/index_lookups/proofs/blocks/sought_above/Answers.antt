@@ -12,3 +12,6 @@ returns-in-Ok-clause-rows g c = λ rows h.
     let code : c.as_slice.result.now ≡ index_key_code c.args.key.now c.args.number = c.as_slice.ensures ∙ c.in-Ok.ensures.code in
     subst (λ (xs : List stored.Entry). IfOk c.some_behind.result (λ found. AreEntries found xs)) (sought_above_is c.args.key c.args.number c.args.place.now.columns rows c.args.most)
     (c.some_behind.ensures.rows rows h (key_above_may_pass c.args.key c.args.number c.args.place.now.columns c.as_slice.result.now c.in-Ok.ensures.storable long small code))
+
+pub returns-in-Ok-clause-typed : goal.returns-in-Ok-clause-typed
+returns-in-Ok-clause-typed g c = c.some_behind.ensures.typed

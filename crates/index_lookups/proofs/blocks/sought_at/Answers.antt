@@ -14,3 +14,9 @@ pub returns-in-None-clause-rows : goal.returns-in-None-clause-rows
 returns-in-None-clause-rows g c = λ rows h.
     subst (λ (a : Option ℕ). IfOk c.first_sought.result (λ found. AreEntries found (some_after a c.args.most (filter (λ (e : stored.Entry). matches c.args.place.now.columns c.args.key.now e.1) rows)))) (sym c.in-None.is)
     (c.first_sought.ensures.rows rows h)
+
+pub returns-in-Some-clause-typed : goal.returns-in-Some-clause-typed
+returns-in-Some-clause-typed g c = c.sought_above.ensures.typed
+
+pub returns-in-None-clause-typed : goal.returns-in-None-clause-typed
+returns-in-None-clause-typed g c = c.first_sought.ensures.typed

@@ -9,3 +9,6 @@ pub returns-in-Ok-clause-rows : goal.returns-in-Ok-clause-rows
 returns-in-Ok-clause-rows g c = λ rows h.
     subst (λ (xs : List stored.Entry). IfOk c.some_at.result (λ found. AreEntries found xs)) (sought_above_is c.args.key c.args.number c.args.place.now.columns rows c.args.most)
     (c.some_at.ensures.rows rows h (key_above_may_skip c.args.key c.args.number c.args.place.now.columns c.as_slice.result.now (subst (IsStart c.args.key.now) (sym c.as_slice.ensures) c.in-Ok.ensures.start)))
+
+pub returns-in-Ok-clause-typed : goal.returns-in-Ok-clause-typed
+returns-in-Ok-clause-typed g c = c.some_at.ensures.typed

@@ -1,5 +1,5 @@
 use Rattle.std.proofs.Common.{Bor, sym, ap, subst, ℕ, List, Option, Some, None, IfOk}
-use Rattle.std.specs.Prelude.{slice_get}
+use Rattle.std.specs.Prelude.{slice_get, IfSome}
 use Rattle.std.specs.FinMap.{get}
 use Rattle.std.specs.Option.{option_map}
 use Rattle.store.specs.declared.rows.Position.{Position as At}
@@ -8,8 +8,10 @@ use Rattle.store.specs.View.{IsEntry, position_of}
 use Rattle.stored_tables.proofs.RefusalLemmas.{reads_later}
 use Rattle.database_trees.specs.Held.{HoldsNoDatabase, contents_of}
 use Rattle.index_lookups.specs.declared.places.Place.{Place}
-use Rattle.index_lookups.specs.Walked.{HoldsNoIndexed, IsPlaceOf}
+use Rattle.index_lookups.specs.Walked.{HoldsNoIndexed, IsPlaceOf, HasTypesOf}
 use Rattle.index_lookups.proofs.StandLemmas.{indexed_in}
+use Rattle.stored_tables.specs.Named.{table_named}
+use Rattle.index_lookups.proofs.TypeLemmas.{row_typed}
 use Rattle.index_lookups.proofs.lookups.next_in.Goals as goal
 
 pub returns-in-Some-clause-row : goal.returns-in-Some-clause-row
@@ -51,3 +53,16 @@ returns-in-Ok-None-clause-row g c = λ tables h.
     let t = get (contents_of tables) c.args.name.now in
     let none = subst (λ (o : Option Place). IsPlaceOf (g.R.PageReader.pages c.args.space.now) t c.args.index o) c.in-Ok-None.field-0-is (c.in-Ok-None.ensures.found tables h) in
     ap (λ (o : Option (List ℕ)). slice_get (beyond (option_map (λ (q : Bor At). position_of q.now) c.args.after) o (in_order o (entries_of t))) 0) (sym none)
+
+pub returns-in-Some-clause-typed : goal.returns-in-Some-clause-typed
+returns-in-Some-clause-typed g c = λ owned tables h.
+    row_typed (table_named c.args.name.now tables) c.in-Ok-Some.place c.row_beyond.result
+    (subst (λ (o : Option Place). IfSome o (HasTypesOf (table_named c.args.name.now tables))) c.in-Ok-Some.field-0-is (c.in-Ok-Some.ensures.types owned tables h)) c.row_beyond.ensures.typed
+
+pub returns-in-Ok-Some-clause-typed : goal.returns-in-Ok-Some-clause-typed
+returns-in-Ok-Some-clause-typed g c = λ owned tables h.
+    row_typed (table_named c.args.name.now tables) c.in-Ok-Some.place c.first_row.result
+    (subst (λ (o : Option Place). IfSome o (HasTypesOf (table_named c.args.name.now tables))) c.in-Ok-Some.field-0-is (c.in-Ok-Some.ensures.types owned tables h)) c.first_row.ensures.typed
+
+pub returns-in-Ok-None-clause-typed : goal.returns-in-Ok-None-clause-typed
+returns-in-Ok-None-clause-typed g c = λ owned tables h. tt

@@ -19,3 +19,6 @@ returns-in-Ok-clause-row g c = λ rows h.
     (λ found is. row_is_next c.args.place.now.columns rows key number found (subst AllStorable c.as_slice.ensures c.in-Ok.ensures.storable) long small (walk_kept (g.R.PageReader.pages c.args.space.now) c.args.place.now.root c.args.place.now.rows_root c.args.place.now.types c.args.place.now.columns rows h)
     (subst (λ (k : List ℕ). IsRowBehind c.args.place.now.columns rows k found) code is))
     (c.row_behind.ensures.row rows h)
+
+pub returns-in-Ok-clause-typed : goal.returns-in-Ok-clause-typed
+returns-in-Ok-clause-typed g c = c.row_behind.ensures.typed

@@ -6,3 +6,6 @@ use Rattle.index_lookups.proofs.lookups.within.Goals as goal
 pub returns-in-Ok-clause-rows : goal.returns-in-Ok-clause-rows
 returns-in-Ok-clause-rows g c = λ rows h.
     c.rows_behind.ensures.rows rows h (λ e kept before. bound_may_skip c.args.low.now c.args.high.now c.args.place.now.columns c.as_slice.result.now (subst (StartsBelow c.args.low.now) (sym c.as_slice.ensures) c.in-Ok.ensures.start) e kept before)
+
+pub returns-in-Ok-clause-typed : goal.returns-in-Ok-clause-typed
+returns-in-Ok-clause-typed g c = c.rows_behind.ensures.typed

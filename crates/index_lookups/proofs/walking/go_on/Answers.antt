@@ -21,9 +21,15 @@ returns-in_ok-put_if-in-Ok-clause-stepped g c = λ rows left list h s first are.
     (c.in-Ok.ensures.stands rows rest e h (stands_first c.args.place.now.columns rows left c.args.walk.now.ahead e rest q s))
     (subst (λ (b : Bool). AreEntries c.put_if.new.found (list ++ (if b then e ∷ [] else [])))
     (c.is_wanted-is_one.ensures ∙ ap (λ (columns : List ℕ). is_wanted c.args.sought columns e) c.as_slice-in-Ok.ensures)
-    (c.in_ok-put_if-in-Ok.ensures list are))
+    (c.in_ok-put_if-in-Ok.ensures.puts list are))
 
 pub returns-in-Err-clause-refusal : goal.returns-in-Err-clause-refusal
 returns-in-Err-clause-refusal g c =
     read_harm c.in-Err.fault (HoldsNoIndexed (g.R.PageReader.pages c.args.space.now) c.args.place.now.root c.args.place.now.rows_root c.args.place.now.types c.args.place.now.columns) (NoneStandsBefore (g.R.PageReader.pages c.args.space.now) c.args.place.now.root c.args.place.now.rows_root c.args.place.now.types c.args.place.now.columns c.args.walk.now.ahead)
     (g.R.PageReader.refused c.args.space.now) (g.R.PageReader.refused c.pass.new.space) (λ none rows left h s. none rows h) c.in-Err.ensures.refusal
+
+pub returns-then-is_past-clause-typed : goal.returns-then-is_past-clause-typed
+returns-then-is_past-clause-typed g c = λ h one. h
+
+pub returns-in_ok-put_if-in-Ok-clause-typed : goal.returns-in_ok-put_if-in-Ok-clause-typed
+returns-in_ok-put_if-in-Ok-clause-typed g c = λ h one. c.in_ok-put_if-in-Ok.ensures.typed c.args.place.now.types h one

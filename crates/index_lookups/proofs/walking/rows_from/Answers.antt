@@ -25,6 +25,10 @@ walked-preserved g c = record {
   rising = omega (arith, c.walked.invariant.rising, c.in_ok-step.ensures.rising);
   follows = g.met.R.PageReader.follows_trans _ _ _ c.walked.invariant.follows c.in_ok-step.ensures.follows;
   lies = c.step.ensures.lies;
+  typed = c.in_ok-step.ensures.typed c.walked.invariant.typed;
   walks = λ rows left h s. let w = c.walked.invariant.walks rows left h s in
       walks_on c.args.place.now.columns rows (is_wanted c.args.sought c.args.place.now.columns) left c.walked.walk c.step.new.walk _ w (c.in_ok-step.ensures.stepped rows w.rest w.list (indexed_in (g.R.PageReader.pages c.args.space.now) (g.R.PageReader.pages c.walked.space) c.args.place.now.root c.args.place.now.rows_root c.args.place.now.types c.args.place.now.columns rows c.walked.invariant.same h) w.stands w.are);
 }
+
+pub returns-then-branch-clause-typed : goal.returns-then-branch-clause-typed
+returns-then-branch-clause-typed g c = c.in_ok-step.ensures.typed c.walked.invariant.typed

@@ -43,3 +43,9 @@ returns-in-Err-clause-refusal g c =
 
 pub returns-in-Ok-clause-lies : goal.returns-in-Ok-clause-lies
 returns-in-Ok-clause-lies g c = subst (λ (pages : PageMap). LiesIn pages c.args.place.now.rows_root c.row_of_entry.new.last) (sym c.go_on.ensures.same) c.row_of_entry.ensures.lies
+
+pub returns-in-None-clause-typed : goal.returns-in-None-clause-typed
+returns-in-None-clause-typed g c = λ h. h
+
+pub returns-in-Ok-clause-typed : goal.returns-in-Ok-clause-typed
+returns-in-Ok-clause-typed g c = λ h. c.go_on.ensures.typed h c.in-Ok.ensures.typed
