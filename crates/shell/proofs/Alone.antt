@@ -8,17 +8,17 @@ use Rattle.session_definitions.specs.Rules.{Rules}
 use Rattle.session_definitions.specs.World.{World}
 use Rattle.scripts.specs.Played.{Streams, between}
 use Rattle.shell.specs.Alone.{EndsAlone, IsRefused, RunsInMemory}
-use Rattle.shell.specs.Runs.{Ends, Left, Runs, ScriptEnds, database_in}
+use Rattle.shell.specs.Runs.{Ends, EndsOverFile, Left, Runs, ScriptEnds, database_in}
+use Rattle.endings.specs.Ended.{HasSameBytes}
 use Rattle.endings.specs.Tells.{Tells}
 use Rattle.shell.specs.Words.{name_of}
 use Rattle.std.proofs.KnownBytes.{Appends-nil}
 use Rattle.replies.specs.Printed.{printed_reply}
 use Rattle.replies.specs.declared.reply.Reply.TheVariants as says
 
--- nothing was read, said or written
-pub untouched : (given held : Option (List ℕ)) → EndsAlone (between given given held held) 3
-untouched given held = EndsAlone.not_opened false Disk refl
-    (record { front = []; rest = printed_reply (says.Refused Disk); whole = refl; taken = Appends-nil held; complete = λ done. absurd (cc) }) refl
+-- nothing is said
+pub unsaid : (held : Option (List ℕ)) → Tells Disk false held held
+unsaid held = record { front = []; rest = printed_reply (says.Refused Disk); whole = refl; taken = Appends-nil held; complete = λ done. absurd (cc) }
 
 -- what was refused behind a command line
 pub refused_alone : (streams : Streams) (status : ℕ) → IsRefused streams status → EndsAlone streams status
@@ -39,11 +39,17 @@ module _ {D C : Type 0} (settled : D → Type 0) (calls : D → ℕ) (refused : 
   ends_alone same_bytes before none (Ends.not_closed was after was_told mid script told is gone risen counted) =
       EndsAlone.not_closed is_told was_told was after mid (subst (λ (n : ℕ). ScriptEnds (between streams.given streams.left streams.held mid) n was was_told after) none script) told is
 
-  -- over a device that was opened, or was not
-  pub ends_over : {E : Type 0} (same_bytes : D → Option D → Type 0) (opened : Result D E) → IfOk opened (λ found. calls found ≡ 0) → IfOk opened (λ found. Ends (same_bytes found) settled calls refused (calls found) streams status is_told device core)
-      → OnErr opened ((streams.left ≡ streams.given) × Tells Disk is_told streams.held streams.holds × (status ≡ 3)) → EndsAlone streams status
-  ends_over same_bytes (Ok found) none ends failed = ends_alone (same_bytes found) (calls found) none ends
-  ends_over same_bytes (Err error) none ends failed = EndsAlone.not_opened is_told Disk failed.0 failed.1 failed.2
+  -- over a file
+  module _ (is_honest : D → Type 0) (same : D → D → Type 0) where
+    pub over_file : {E : Type 0} (opened : Result D E) → IfOk opened (λ found. calls found ≡ 0) → IfOk opened (λ found. Ends (HasSameBytes is_honest same found) settled calls refused (calls found) streams status is_told device core)
+        → OnErr opened ((streams.left ≡ streams.given) × Tells Disk is_told streams.held streams.holds × (status ≡ 3)) → OnErr opened ((device ≡ None) × (core ≡ None))
+        → EndsOverFile is_honest same settled calls refused streams status is_told device core
+    over_file (Ok found) none ends failed nothing = EndsOverFile.over found none ends
+    over_file (Err error) none ends failed nothing = EndsOverFile.not_opened failed.0 failed.1 failed.2 nothing.0 nothing.1
+
+    pub file_alone : EndsOverFile is_honest same settled calls refused streams status is_told device core → EndsAlone streams status
+    file_alone (EndsOverFile.not_opened unread told is gone closed) = EndsAlone.not_opened is_told Disk unread told is
+    file_alone (EndsOverFile.over opened none ends) = ends_alone (HasSameBytes is_honest same opened) (calls opened) none ends
 
 module _ (rules : Rules) (old : World) (streams : Streams) (status : ℕ) (is_told : Bool) where
   runs_so : (P Q : Left → Type 0) → ((left : Left) → P left → Q left) → Runs rules old streams status is_told P → Runs rules old streams status is_told Q

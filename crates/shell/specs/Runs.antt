@@ -14,7 +14,7 @@ use Rattle.scripts.specs.Device.{TellDevice, disk_count}
 use Rattle.scripts.specs.Played.{Streams, between, IsWhole, EndsEarly, replies_before}
 use Rattle.scripts.specs.Shown.{ShowsWhole, ShowsEarly}
 use Rattle.shell.specs.Status.{status_of, refusal_of}
-use Rattle.endings.specs.Ended.{HasRefused, IsNotOpened, IsSavedOn, TellsBehind}
+use Rattle.endings.specs.Ended.{HasRefused, HasSameBytes, IsNotOpened, IsSavedOn, TellsBehind}
 use Rattle.endings.specs.Tells.{Tells}
 
 -- what is written where a script has ended: nothing more, or what ended it
@@ -131,3 +131,15 @@ pub data Ends {D C : Type 0} (same_bytes : Option D → Type 0) (settled : D →
       → TellsBehind was_told is_told Disk mid streams.holds → status ≡ 3 → device ≡ None
       → HasRefused refused before core → HasRefused refused after core
       → Ends same_bytes settled calls refused before streams status is_told device core
+
+-- How a run over the tables in a file ends. It was not opened: nothing was read, no more than X0002
+-- is said, and nothing is handed back. Or a device that had refused no call was opened, and it ends
+-- as a run over that one does, which hands it back.
+pub data EndsOverFile {D C : Type 0} (is_honest : D → Type 0) (same : D → D → Type 0) (settled : D → Type 0) (calls : D → ℕ) (refused : C → ℕ) (streams : Streams) (status : ℕ) (is_told : Bool) (device : Option D) (core : Option C)
+    : Type 0 where
+  not_opened : streams.left ≡ streams.given → Tells Disk is_told streams.held streams.holds → status ≡ 3
+      → device ≡ None → core ≡ None
+      → EndsOverFile is_honest same settled calls refused streams status is_told device core
+  over : (opened : D) → calls opened ≡ 0
+      → Ends (HasSameBytes is_honest same opened) settled calls refused (calls opened) streams status is_told device core
+      → EndsOverFile is_honest same settled calls refused streams status is_told device core

@@ -1,5 +1,5 @@
 //! A run over a device that was opened, or was not.
-ghost use Rattle.std.specs.Prelude.{◌≡◌, ◌⊎◌, IfOk, OnErr};
+ghost use Rattle.std.specs.Prelude.{◌≡◌, ◌⊎◌, None, IfOk, OnErr};
 ghost use Rattle.denote.specs.Database.{Database, IsGood};
 ghost use Rattle.refusals.specs.declared.refusal.Refusal.TheVariants.{Disk};
 ghost use Rattle.session_definitions.specs.Rules.{Rules, AreRules};
@@ -30,7 +30,8 @@ pub(crate) fn run_over<S: Store, R: Read, W: Write>(
     writer: &mut W,
 ) -> EndedRun<S>
     ensures status { IsStatus result.status }
-    ensures runs { IfOk device (λ device. (rules : Rules) (db : Database) → AreRules rules → S.saved device db → IsGood rules.check db
+    ensures runs { IfOk device (λ device. (rules : Rules) (db : Database) → AreRules rules → S.saved device db
+        → IsGood rules.check db
         → Runs rules (opened db) (between (R.remaining reader.old) (R.remaining reader.new) (W.contents writer.old) (W.contents writer.new)) result.status result.is_told
         (Leaves S.saved (Stays S.saved S.is_new S.is_begun device) S.settled S.calls_refused (λ core. S.refused (store_of core)) rules.check (S.calls_refused device) result.device result.unclosed)) }
     ensures ends { IfOk device (λ device. Ends (HasSameBytes S.is_honest S.same device) S.settled S.calls_refused (λ core. S.refused (store_of core)) (S.calls_refused device)
@@ -45,6 +46,7 @@ pub(crate) fn run_over<S: Store, R: Read, W: Write>(
         (Leaves S.saved (Stays S.saved S.is_new S.is_begun device) S.settled S.calls_refused (λ core. S.refused (store_of core)) rules.check (S.calls_refused device) result.device result.unclosed)) }
     ensures not_opened { OnErr device ((R.remaining reader.new ≡ R.remaining reader.old)
         × Tells Disk result.is_told (W.contents writer.old) (W.contents writer.new) × (result.status ≡ 3)) }
+    ensures nothing { OnErr device ((result.device ≡ None) × (result.unclosed ≡ None)) }
 {
     match device {
         Ok(device) => run_to_end::<S, R, W>(alloc, settings, device, reader, writer),

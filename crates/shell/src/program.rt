@@ -11,7 +11,7 @@ ghost use Rattle.endings.specs.Ended.{HasRefused, HasSameBytes, IsNotOpened};
 ghost use Rattle.endings.specs.Status.{IsStatus};
 ghost use Rattle.endings.specs.Tells.{Tells};
 ghost use Rattle.shell.specs.Alone.{EndsAlone, IsRefused, RunsInMemory};
-ghost use Rattle.shell.specs.Runs.{Ends, Leaves, Runs};
+ghost use Rattle.shell.specs.Runs.{Ends, EndsOverFile, Leaves, Runs};
 ghost use Rattle.shell.specs.Words.{Asks, name_of};
 
 use crate::command_line::settings;
@@ -19,7 +19,7 @@ use crate::options::Settings;
 use crate::over::run_over;
 use clap::Error;
 use clap::error::ErrorKind;
-use disk::{Disk, DiskError, MemDisk};
+use disk::{Disk, DiskError, FileDisk, MemDisk};
 use endings::{EndedRun, FAILED, is_output, opened_file, tell};
 use paged_store::Paged;
 use refusals::Refusal;
@@ -41,9 +41,9 @@ const WRONG_WORDS: u8 = 2;
 /// where they name one, and else over new tables on a device in memory, and the status is that of
 /// the run.
 ///
-/// What a run leaves of its device, `run_over_pages` says, which hands it back; the device ends
-/// here. That it is FILE that is opened, and by one line made a `FileDisk`, is tested: what a file
-/// is, no contract of the runtime says.
+/// What a run leaves of its device, `run_over_pages` says, which hands it back, and so does
+/// `run_file`; the device ends here. That it is FILE that is opened, and by one line made a
+/// `FileDisk`, is tested: what a file is, no contract of the runtime says.
 pub fn sqlsh<P: Files<File = File> + Print + Eprint + AllocGlobal, S: AsStr, R: Read, W: Write>(
     rt: &P,
     words: &[S],
@@ -97,7 +97,10 @@ fn run_asked<P: Files<File = File> + AllocGlobal, R: Read, W: Write>(
         → RunsInMemory rules new_world (between (R.remaining reader.old) (R.remaining reader.new) (W.contents writer.old) (W.contents writer.new)) result }
 {
     match settings.file {
-        Some(path) => run_file(rt, settings, path, reader, writer),
+        Some(path) => {
+            let ended = run_file(rt, settings, path, reader, writer);
+            status_of(ended)
+        }
         None => {
             let device: Result<MemDisk, DiskError> = Ok(MemDisk::new(rt.alloc()));
             let ended = run_over_pages(rt.alloc(), settings, device, reader, writer);
@@ -106,23 +109,29 @@ fn run_asked<P: Files<File = File> + AllocGlobal, R: Read, W: Write>(
     }
 }
 
-/// Does what `sqlsh run` does over the tables in a file. Where that is where standard output goes,
-/// nothing is read or written.
+/// Does what `sqlsh run` does over the tables in a file, and hands back what that hands back. Where
+/// the file is where standard output goes, nothing is read, opened or written.
 fn run_file<P: Files<File = File> + AllocGlobal, R: Read, W: Write>(
     rt: &P,
     settings: &Settings<'_>,
     path: &str,
     reader: &mut R,
     writer: &mut W,
-) -> u8
-    ensures { EndsAlone (between (R.remaining reader.old) (R.remaining reader.new) (W.contents writer.old) (W.contents writer.new)) result }
+) -> EndedRun<Paged<FileDisk>>
+    ensures ends { EndsOverFile ⟦<Paged<FileDisk> as Store>⟧.is_honest ⟦<Paged<FileDisk> as Store>⟧.same ⟦<FileDisk as Disk>⟧.settled ⟦<FileDisk as Disk>⟧.refused (λ core. ⟦<Paged<FileDisk> as Store>⟧.refused (store_of core))
+        (between (R.remaining reader.old) (R.remaining reader.new) (W.contents writer.old) (W.contents writer.new)) result.status result.is_told result.device result.unclosed }
 {
     if is_output(rt, path) {
-        return FAILED;
+        return EndedRun {
+            status: FAILED,
+            is_told: false,
+            device: None,
+            unclosed: None,
+        };
     }
     let file = opened_file(rt, path);
     let ended = run_over_pages(rt.alloc(), settings, file, reader, writer);
-    status_of(ended)
+    ended
 }
 
 /// The status of a run. What it hands back of its device ends here.
@@ -161,6 +170,7 @@ pub fn run_over_pages<D: Disk + Drop, R: Read, W: Write>(
         (Leaves ⟦<Paged<D> as Store>⟧.saved (Stays ⟦<Paged<D> as Store>⟧.saved ⟦<Paged<D> as Store>⟧.is_new ⟦<Paged<D> as Store>⟧.is_begun device) D.settled D.refused (λ core. ⟦<Paged<D> as Store>⟧.refused (store_of core)) rules.check (D.refused device) result.device result.unclosed)) }
     ensures not_opened { OnErr device ((R.remaining reader.new ≡ R.remaining reader.old)
         × Tells Refusal.Disk result.is_told (W.contents writer.old) (W.contents writer.new) × (result.status ≡ 3)) }
+    ensures nothing { OnErr device ((result.device ≡ None) × (result.unclosed ≡ None)) }
 {
     databases_stay_good();
     run_over::<Paged<D>, R, W>(alloc, settings, device, reader, writer)

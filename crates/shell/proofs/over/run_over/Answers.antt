@@ -37,3 +37,9 @@ returns-in-Err-clause-begun g c = rw c.in-Err.is tt
 
 pub returns-in-Err-clause-not_opened : goal.returns-in-Err-clause-not_opened
 returns-in-Err-clause-not_opened g c = rw c.in-Err.is (refl, told_alone _ _ _ _ c.failed.ensures.tells, c.failed.ensures.status)
+
+pub returns-in-Ok-clause-nothing : goal.returns-in-Ok-clause-nothing
+returns-in-Ok-clause-nothing g c = rw c.in-Ok.is tt
+
+pub returns-in-Err-clause-nothing : goal.returns-in-Err-clause-nothing
+returns-in-Err-clause-nothing g c = rw c.in-Err.is (c.failed.ensures.device, c.failed.ensures.unclosed)

@@ -26,3 +26,6 @@ returns-clause-begun g c = c.run_over.ensures.begun
 
 pub returns-clause-not_opened : goal.returns-clause-not_opened
 returns-clause-not_opened g c = c.run_over.ensures.not_opened
+
+pub returns-clause-nothing : goal.returns-clause-nothing
+returns-clause-nothing g c = c.run_over.ensures.nothing
