@@ -21,7 +21,7 @@ use Rattle.rules.specs.Nodes.{at_filter, first_found, given}
 use Rattle.rules.specs.OrderRules.{keys_begin, ordered_by}
 use Rattle.rules.specs.Width.{width_of_tree}
 use Rattle.rule_steps.specs.Found.{limited, limits_by, loop_by, order_by, seek_key}
-use Rattle.rule_steps.specs.declared.lookups.Limits.{Limits}
+use Rattle.rule_steps.specs.declared.lookups.IndexLimits.{IndexLimits}
 use Rattle.rule_steps.specs.declared.lookups.SeekKey.{SeekKey}
 use Rattle.rule_steps.specs.declared.loops.LoopKey.{LoopKey}
 use Rattle.typing.specs.declared.typed.OrderKey.{OrderKey}
@@ -69,11 +69,11 @@ ok-is P (Err error) x e p = tt
 
 -- ---- Q9
 
-abbrev pub ranged_by : Condition → StoredTable → Limits → Tree
+abbrev pub ranged_by : Condition → StoredTable → IndexLimits → Tree
 ranged_by condition table l = t.Filter condition (t.Range table l.columns l.low l.high)
 
 -- the limits of the first index that has both, or else one
-abbrev pub limits_found : Condition → StoredTable → Option Limits
+abbrev pub limits_found : Condition → StoredTable → Option IndexLimits
 limits_found condition table = given (quiet condition)
     (option_or (first_found (limits_by true (conjuncts condition)) (key_first table))
     (first_found (limits_by false (conjuncts condition)) (key_first table)))

@@ -13,7 +13,7 @@ use Rattle.rules.specs.Nodes.{given}
 use Rattle.rules.specs.OrderRules.{keys_begin}
 use Rattle.rule_steps.specs.declared.loops.LoopKey.{LoopKey}
 use Rattle.rule_steps.specs.declared.lookups.SeekKey.{SeekKey}
-use Rattle.rule_steps.specs.declared.lookups.Limits.{Limits}
+use Rattle.rule_steps.specs.declared.lookups.IndexLimits.{IndexLimits}
 use Rattle.typing.specs.declared.typed.OrderKey.{OrderKey}
 
 -- an index each of whose columns has a left place
@@ -25,13 +25,13 @@ abbrev pub seek_key : Condition → List ℕ → Option SeekKey
 seek_key condition columns = option_map (λ key. record { columns = columns; key = key }) (key_sought columns condition)
 
 -- Bounds of an index's first column: both, or one at least.
-abbrev pub limited : Bool → List ℕ → Option Bound → Option Bound → Option Limits
+abbrev pub limited : Bool → List ℕ → Option Bound → Option Bound → Option IndexLimits
 limited true columns (Some low) (Some high) = Some (record { columns = columns; low = Some low; high = Some high })
 limited true columns _ _ = None
 limited false columns None None = None
 limited false columns low high = Some (record { columns = columns; low = low; high = high })
 
-abbrev pub limits_by : Bool → List Condition → List ℕ → Option Limits
+abbrev pub limits_by : Bool → List Condition → List ℕ → Option IndexLimits
 limits_by both conditions [] = None
 limits_by both conditions (column ∷ columns) =
     limited both (column ∷ columns) (low_among column conditions) (high_among column conditions)

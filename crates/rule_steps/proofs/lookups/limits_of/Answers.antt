@@ -5,7 +5,7 @@ use Rattle.rules.specs.Conjuncts.{conjuncts, quiet}
 use Rattle.rules.specs.Indexes.{key_first}
 use Rattle.rules.specs.Nodes.{first_found, given}
 use Rattle.rule_steps.specs.Found.{limits_by}
-use Rattle.rule_steps.specs.declared.lookups.Limits.{Limits}
+use Rattle.rule_steps.specs.declared.lookups.IndexLimits.{IndexLimits}
 use Rattle.rule_steps.proofs.Looking.{limits_found}
 use Rattle.rule_steps.proofs.lookups.limits_of.Goals as goal
 
@@ -15,6 +15,6 @@ returns c =
     (first_found (limits_by false list) (key_first c.args.table.now)) in
     let is_quiet : quiet c.args.condition.now ≡ true =
     ap not (sym c.condition_can_raise.ensures.told ∙ c.if-condition_can_raise.false) in
-    subst (λ (x : Option Limits). IfOk c.limits_in.result (λ found. found ≡ x))
+    subst (λ (x : Option IndexLimits). IfOk c.limits_in.result (λ found. found ≡ x))
     (ap among c.conjuncts.ensures ∙ sym (ap (λ (b : Bool). given b (among (conjuncts c.args.condition.now))) is_quiet))
     c.limits_in.ensures

@@ -6,7 +6,7 @@ use Rattle.rules.specs.Conjuncts.{conjuncts, quiet}
 use Rattle.rules.specs.Indexes.{key_first}
 use Rattle.rules.specs.LookupRules.{filter_to_range}
 use Rattle.rules.specs.Nodes.{given}
-use Rattle.rule_steps.specs.declared.lookups.Limits.{Limits}
+use Rattle.rule_steps.specs.declared.lookups.IndexLimits.{IndexLimits}
 use Rattle.rule_steps.proofs.Chosen.{at-node}
 use Rattle.rule_steps.proofs.Looking.{limits_found, ok-is, range-is, ranged_by}
 use Rattle.rule_steps.proofs.Opening.{range-opened}
@@ -21,7 +21,7 @@ returns-in-Scan c = λ new e.
     let limits : IfOk c.limits_of-limits.result (λ found. found ≡ limits_found condition table) =
     subst (λ (x : Condition). IfOk c.limits_of-limits.result (λ found. found ≡ limits_found x table)) c.get.ensures
     c.limits_of-limits.ensures in
-    c.filtered_range.ensures new (ok-is (λ (found : Option Limits). option_map (ranged_by condition table) found ≡ Some new)
+    c.filtered_range.ensures new (ok-is (λ (found : Option IndexLimits). option_map (ranged_by condition table) found ≡ Some new)
     c.limits_of-limits.result (limits_found condition table) limits
     (range-is condition table (key_first table)
     ∙ range-opened condition table new (at-node filter_to_range c.args.tree (t.Filter condition (t.Scan table)) new node e)))
