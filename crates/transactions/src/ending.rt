@@ -13,7 +13,7 @@ ghost use Rattle.session_definitions.specs.World.{is_session};
 ghost use Rattle.store.specs.Going.{keeps};
 ghost use Rattle.transactions.specs.Ended.{ended_by};
 ghost use Rattle.store.specs.Errors.{CommittingReaches};
-ghost use Rattle.transactions.specs.Refused.{Counts, IfRefused, TellsReached};
+ghost use Rattle.transactions.specs.Refused.{Counts, IfRefused, TellsDamage, TellsReached};
 ghost use Rattle.transactions.specs.Shown.{Kept, Slots, read_by, settled, slot_at, shown, with_mode};
 ghost use Rattle.store.specs.Stored.{Found};
 
@@ -36,6 +36,7 @@ pub fn commit<S: Store>(
         (settled (get (S.shows store.new).readers session) (with_mode kept mode.new)) }
     ensures refused { Counts result (S.refused store.old) (S.refused store.new) }
     ensures limits { IfRefused result (TellsReached (CommittingReaches (S.counted store.old) (S.shows store.old).commits)) }
+    ensures damage { TellsDamage result (S.damaged store.old) (S.damaged store.new) }
     ensures kept { IfRefused result (λ refusal. (S.shows store.new ≡ S.shows store.old)
         × (writer.new ≡ writer.old) × (mode.new ≡ mode.old)) }
     ensures left { (get (S.shows store.new).readers session ≡ None)
@@ -72,6 +73,7 @@ pub fn roll_back<S: Store>(
         → Moves rules session text result (S.shows store.old) writer.old (with_mode kept mode.old) (S.shows store.new) writer.new
         (settled (get (S.shows store.new).readers session) (with_mode kept mode.new)) }
     ensures done { result ≡ Reply.Done }
+    ensures damage { S.damaged store.new ≡ S.damaged store.old }
     ensures gone { get (S.shows store.new).readers session ≡ None }
     ensures goes { S.goes_on store.old store.new keeps }
 {
@@ -98,6 +100,7 @@ pub fn drop_session<S: Store>(store: &mut S, writer: &mut Option<u64>, session: 
     ensures others { (q : ℕ) → q ≢ session → get (S.shows store.new).readers q ≡ get (S.shows store.old).readers q }
     ensures reads { (q : ℕ) → q ≢ session → (f : Found)
         → read_by (S.shows store.new) writer.new q f ≡ read_by (S.shows store.old) writer.old q f }
+    ensures damage { S.damaged store.new ≡ S.damaged store.old }
     ensures gone { get (S.shows store.new).readers session ≡ None }
     ensures goes { S.goes_on store.old store.new keeps }
 {

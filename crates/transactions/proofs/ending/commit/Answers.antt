@@ -8,7 +8,7 @@ use Rattle.store.specs.Stored.{Stored, ended, committed}
 use Rattle.transactions.proofs.Maps.{get_gone}
 use Rattle.transactions.proofs.Orders.{writer_is, same}
 use Rattle.transactions.proofs.Steps.{commits_as_writer, commits_as_reader, commits_idle, nothing_moves, settled_declared, settled_mode, withholds}
-use Rattle.transactions.proofs.Tests.{none_is, some_is, reserved, tells_reached}
+use Rattle.transactions.proofs.Tests.{none_is, some_is, reserved, tells_damage, tells_reached}
 use Rattle.transactions.proofs.ending.commit.Goals as goal
 
 pub returns-then-is_none-clause-moves : goal.returns-then-is_none-clause-moves
@@ -65,3 +65,16 @@ returns-then-is_writer-clause-left g c = inl (rw c.end.ensures.shows (get_gone (
 
 pub returns-clause-left : goal.returns-clause-left
 returns-clause-left g c = inl (rw c.end-2.ensures.shows (get_gone (g.S.Store.shows c.args.store.now).readers c.args.session))
+
+pub returns-then-is_none-clause-damage : goal.returns-then-is_none-clause-damage
+returns-then-is_none-clause-damage g c = refl
+
+pub returns-in-Err-clause-damage : goal.returns-in-Err-clause-damage
+returns-in-Err-clause-damage g c =
+    tells_damage (g.S.Store.damaged c.args.store.now) (g.S.Store.damaged c.commit.new.self) c.in-Err.error c.refusal_of.result c.refusal_of.ensures (rw c.in-Err.is at c.commit.ensures.damage).1
+
+pub returns-then-is_writer-clause-damage : goal.returns-then-is_writer-clause-damage
+returns-then-is_writer-clause-damage g c = c.end.ensures.damage ∙ (rw c.in_default.is at c.commit.ensures.damage).0
+
+pub returns-clause-damage : goal.returns-clause-damage
+returns-clause-damage g c = c.end-2.ensures.damage

@@ -45,3 +45,9 @@ returns-then-is_writer-clause-reads g c = λ q ne f.
 
 pub returns-clause-reads : goal.returns-clause-reads
 returns-clause-reads g c = λ q ne f. rw c.end-2.ensures.shows (reads_without_reader (g.S.Store.shows c.args.store.now) c.args.writer.now c.args.session q f ne)
+
+pub returns-then-is_writer-clause-damage : goal.returns-then-is_writer-clause-damage
+returns-then-is_writer-clause-damage g c = c.end.ensures.damage ∙ c.discard.ensures.damage
+
+pub returns-clause-damage : goal.returns-clause-damage
+returns-clause-damage g c = c.end-2.ensures.damage
