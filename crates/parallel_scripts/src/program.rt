@@ -8,6 +8,7 @@ ghost use Rattle.parallel_scripts.specs.Words.{Asks};
 use crate::command_line::settings;
 use crate::ending::{FAILED, ended, say};
 use crate::files::{read_all, refusal_of};
+use crate::handed::EndedScripts;
 use crate::options::Settings;
 use crate::tables::many_in_memory;
 use clap::Error;
@@ -20,6 +21,7 @@ use std::fs::Files;
 use std::io::Write;
 use std::sync::Wait;
 use std::thread::Threads;
+use store::Store;
 
 /// The exit status of a command line that asks for nothing that there is.
 const WRONG_WORDS: u8 = 2;
@@ -82,6 +84,13 @@ fn run_texts<R: AllocGlobal + Threads + Wait + Sync, W: Write>(
     ensures { EndsAlone (length scripts.now) (W.contents writer.old) (W.contents writer.new) result }
 {
     let done = many_in_memory(rt, rt.alloc(), frames, scripts, &NoGate, writer);
+    status_of(done)
+}
+
+/// The status of a run. What it hands back ends here.
+fn status_of<S: Store>(done: EndedScripts<S>) -> u8
+    ensures { result ≡ done.status }
+{
     done.status
 }
 

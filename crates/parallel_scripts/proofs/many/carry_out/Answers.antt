@@ -20,3 +20,9 @@ returns-in-Ok-clause-any_device g c = λ before least. c.print_all.ensures.any_d
 
 pub returns-in-Err-clause-any_device : goal.returns-in-Err-clause-any_device
 returns-in-Err-clause-any_device g c = λ before least. tt
+
+pub returns-in-Ok-clause-status : goal.returns-in-Ok-clause-status
+returns-in-Ok-clause-status g c = c.print_all.ensures.status
+
+pub returns-in-Ok-clause-opened : goal.returns-in-Ok-clause-opened
+returns-in-Ok-clause-opened g c = c.print_all.ensures.opened

@@ -1,4 +1,4 @@
-use Rattle.std.proofs.Common.{rules, arith, inl}
+use Rattle.std.proofs.Common.{rules, arith, inl, inr, refl}
 use Rattle.parallel_scripts.specs.Many.{ComesTo}
 use Rattle.parallel_scripts.proofs.Endings.{puts_by}
 use Rattle.parallel_scripts.proofs.Histories.{hands_any, hands_device, sessions_are_none, is_unopened, of_unopened, or_else, sessions_are_no_damage}
@@ -37,3 +37,21 @@ pub returns-then-scripts-gt-MOST_SESSIONS-clause-unopened : goal.returns-then-sc
 returns-then-scripts-gt-MOST_SESSIONS-clause-unopened g c =
     of_unopened (IsToldUnopened g.S.Store.is_honest g.S.Store.same _ c.args.device) c.unopened.result.back c.args.device c.unopened.ensures.back
     (record { refusal = _; status = _; told = c.unopened.ensures.puts; damage = λ honest is. sessions_are_no_damage is })
+
+pub returns-clause-status : goal.returns-clause-status
+returns-clause-status g c = c.cut_and_run.ensures.status
+
+pub returns-clause-any_device : goal.returns-clause-any_device
+returns-clause-any_device g c = c.cut_and_run.ensures.any_device
+
+pub returns-clause-unopened : goal.returns-clause-unopened
+returns-clause-unopened g c = c.cut_and_run.ensures.unopened
+
+pub returns-then-scripts-gt-MOST_SESSIONS-clause-status : goal.returns-then-scripts-gt-MOST_SESSIONS-clause-status
+returns-then-scripts-gt-MOST_SESSIONS-clause-status g c = c.unopened.ensures.status (inr (inl refl))
+
+pub returns-then-scripts-gt-MOST_SESSIONS-clause-many : goal.returns-then-scripts-gt-MOST_SESSIONS-clause-many
+returns-then-scripts-gt-MOST_SESSIONS-clause-many g c = λ more. c.unopened.ensures.puts
+
+pub returns-then-scripts-gt-MOST_SESSIONS-clause-back : goal.returns-then-scripts-gt-MOST_SESSIONS-clause-back
+returns-then-scripts-gt-MOST_SESSIONS-clause-back g c = λ more. c.unopened.ensures.back

@@ -1,7 +1,7 @@
 use Rattle.parallel_scripts.specs.Many.{Cuts}
 use Rattle.parallel_scripts.proofs.Endings.{puts_by}
 use Rattle.parallel_scripts.proofs.Histories.{hands_any, hands_device, memory_is_none, is_unopened, of_unopened, or_else, memory_is_no_damage}
-use Rattle.std.proofs.Common.{inl}
+use Rattle.std.proofs.Common.{inl, inr, refl}
 use Rattle.sessions.specs.Opening.{Stays}
 use Rattle.parallel_scripts.specs.Handed.{IsToldUnopened}
 use Rattle.parallel_scripts.proofs.many.cut_and_run.Goals as goal
@@ -31,3 +31,15 @@ pub returns-in-Err-clause-unopened : goal.returns-in-Err-clause-unopened
 returns-in-Err-clause-unopened g c =
     of_unopened (IsToldUnopened g.S.Store.is_honest g.S.Store.same _ c.args.device) c.unopened.result.back c.args.device c.unopened.ensures.back
     (record { refusal = _; status = _; told = c.unopened.ensures.puts; damage = λ honest is. memory_is_no_damage is })
+
+pub returns-in-Ok-clause-status : goal.returns-in-Ok-clause-status
+returns-in-Ok-clause-status g c = c.open_and_run.ensures.status
+
+pub returns-in-Ok-clause-any_device : goal.returns-in-Ok-clause-any_device
+returns-in-Ok-clause-any_device g c = c.open_and_run.ensures.any_device
+
+pub returns-in-Ok-clause-unopened : goal.returns-in-Ok-clause-unopened
+returns-in-Ok-clause-unopened g c = c.open_and_run.ensures.unopened
+
+pub returns-in-Err-clause-status : goal.returns-in-Err-clause-status
+returns-in-Err-clause-status g c = c.unopened.ensures.status (inr (inr refl))

@@ -13,3 +13,9 @@ returns-clause-begun g c = λ begun. or_else _ _ _ (λ comes. ends_by _ _ _ _ _ 
 
 pub returns-clause-unopened : goal.returns-clause-unopened
 returns-clause-unopened g c = told_unopened g.S.Store.is_honest g.S.Store.same _ _ c.args.device (λ refusal status told. ends_by _ _ _ _ _ _ _ told c.ended-status.ensures.ends) c.count_and_run-outcome.result.back c.count_and_run-outcome.ensures.unopened
+
+pub returns-clause-back : goal.returns-clause-back
+returns-clause-back g c = c.count_and_run-outcome.ensures.back
+
+pub returns-clause-any_device : goal.returns-clause-any_device
+returns-clause-any_device g c = c.count_and_run-outcome.ensures.any_device

@@ -1,7 +1,7 @@
 use Rattle.parallel_scripts.specs.Many.{Opens}
 use Rattle.parallel_scripts.proofs.Endings.{puts_by}
 use Rattle.parallel_scripts.proofs.Histories.{any_read, hands_any, hands_device, moved, is_unopened, of_unopened, none_unopened}
-use Rattle.std.proofs.Common.{inl, inr}
+use Rattle.std.proofs.Common.{inl, inr, refl}
 use Rattle.sessions.specs.Opening.{Stays}
 use Rattle.parallel_scripts.specs.Handed.{IsToldUnopened}
 use Rattle.parallel_scripts.proofs.many.open_and_run.Goals as goal
@@ -48,3 +48,9 @@ pub returns-in-Err-clause-unopened : goal.returns-in-Err-clause-unopened
 returns-in-Err-clause-unopened g c =
     of_unopened (IsToldUnopened g.S.Store.is_honest g.S.Store.same _ c.args.device) c.unopened.result.back c.in-Err.refused.value c.unopened.ensures.back
     (record { refusal = _; status = _; told = c.unopened.ensures.puts; damage = λ honest is. c.in-Err.ensures.same honest is })
+
+pub returns-in-Ok-clause-status : goal.returns-in-Ok-clause-status
+returns-in-Ok-clause-status g c = c.carry_out.ensures.status
+
+pub returns-in-Err-clause-status : goal.returns-in-Err-clause-status
+returns-in-Err-clause-status g c = c.unopened.ensures.status (inr (inr refl))
