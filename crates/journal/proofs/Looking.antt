@@ -1,7 +1,7 @@
 -- Calls that write nothing, one behind another.
-use Rattle.std.proofs.Common.{◌≡◌, ◌∙◌, ℕ, refl}
+use Rattle.std.proofs.Common.{◌≡◌, ◌∙◌, ◌⊎◌, ℕ, refl, inl}
 use Rattle.std.specs.Prelude.{Bool, IsTrue}
-use Rattle.disk.specs.Crashes.{Bytes, TimePasses, Keeps}
+use Rattle.disk.specs.Crashes.{Bytes, TimePasses, LeavesOnly, Keeps}
 use Rattle.disk.specs.Keeping.{started, joined, weaker, calm}
 use Rattle.journal.specs.Reading.{OnlyReads}
 
@@ -53,3 +53,14 @@ module _ {D : Type 0} (honest durable : Bool) (bytes : D → Bytes) (synced writ
     λ c left. all c (reads.crash h c left),
     weaker moment left_since old new (may_leave old) P all (reads.calm h),
   )
+
+  -- a sync, and then calls that write nothing, leave what might have been left before
+  pub read_before : (old mid new : D) (P : Bytes → Type 0) → ((d : D) (c : Bytes) → left_since d (moment d) c → may_leave d c) → IsTrue durable
+      → ((c : Bytes) → may_leave mid c → may_leave old c) → TimePasses moment left_since may_leave old mid
+      → OnlyReads honest durable bytes synced writes settled moment left_since may_leave mid new
+      → LeavesOnly moment left_since old new (λ c. may_leave old c ⊎ P c)
+  read_before old mid new P only_now h crash time reads =
+      let first = (calm moment left_since may_leave only_now old mid (may_leave old) crash time (λ c left. left)).1 in
+      weaker moment left_since old new (may_leave old) (λ c. may_leave old c ⊎ P c) (λ c left. inl left)
+      (joined moment left_since old mid new (may_leave old) first
+      (weaker moment left_since mid new (may_leave mid) (may_leave old) crash (reads.calm h)))

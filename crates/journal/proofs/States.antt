@@ -264,6 +264,11 @@ pub on_ok : {E A B : Type 0} (result : Result (Unit {0}) E) → (A → B) → On
 on_ok (Ok done) to has = to has
 on_ok (Err e) to has = tt
 
+-- and of what holds where it was refused
+pub err_as : {E A B : Type 0} (result : Result (Unit {0}) E) → (A → B) → OnErr result A → OnErr result B
+err_as (Ok done) to has = tt
+err_as (Err e) to has = to has
+
 pub only_read : {E : Type 0} (result : Result (Unit {0}) E) (seen now : Bytes) (outcomes : Bytes → Type 0) → now ≡ seen
     → OnOk result (Only seen outcomes) → OnOk result (Only now outcomes)
 only_read (Ok done) seen now outcomes same only = λ c left. only c left ∙ sym same

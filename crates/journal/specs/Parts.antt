@@ -26,6 +26,10 @@ place file n = slice_range file (4096 * n) (4096 * n + kept_size n)
 abbrev pub block : List ℕ → ℕ → List ℕ
 block file n = slice_range file (4096 * n) (4096 * n + 4096)
 
+-- so many bytes
+abbrev pub HasLength : ℕ → List ℕ → Type 0
+HasLength n file = length file ≡ n
+
 -- The same bytes but for n of them from an offset on, which may be any; and the same length.
 pub record ChangesOnly (at n : ℕ) (old new : List ℕ) : Type 0 where
   pub size : length new ≡ length old

@@ -3,7 +3,7 @@ ghost use Rattle.std.specs.Prelude.{◌≡◌, ℕ, ◌+◌, ◌*◌, ◌≤◌,
 ghost use Rattle.disk.specs.Crashes.{Bytes, Always, Keeps, Only};
 ghost use Rattle.disk.specs.Refused.{CountsRefusal};
 ghost use Rattle.pagefile.specs.Parts.{gate_part};
-ghost use Rattle.journal.specs.Parts.{ChangesOnly};
+ghost use Rattle.journal.specs.Parts.{ChangesOnly, HasLength};
 ghost use Rattle.journal.specs.Versions.{Version, IsOpen, IsShut, IsBoth};
 
 use disk::{Disk, DiskError};
@@ -24,6 +24,8 @@ fn write_gate<D: Disk>(disk: &mut D, gate: u8) -> Result<(), DiskError>
         → ChangesOnly 24 1 (D.bytes disk.old) (D.bytes disk.new) }
     ensures keeps { IsTrue D.is_durable → (x y : Version)
         → Keeps D.moment D.left_since D.may_leave disk.old disk.new (IsBoth x y) }
+    ensures sized { IsTrue D.is_durable → (n : ℕ) → 4096 ≤ length (D.bytes disk.old)
+        → Keeps D.moment D.left_since D.may_leave disk.old disk.new (HasLength n) }
     ensures count { CountsRefusal result (D.refused disk.old) (D.refused disk.new) }
     ensures cause { IfErr result (D.told disk.new) }
 {
@@ -40,6 +42,8 @@ pub fn shut_gate<D: Disk>(disk: &mut D) -> Result<(), DiskError>
         → OnOk result (Only (D.bytes disk.new) (D.may_leave disk.new)) }
     ensures keeps { IsTrue D.is_durable → (x y : Version)
         → Keeps D.moment D.left_since D.may_leave disk.old disk.new (IsBoth x y) }
+    ensures sized { IsTrue D.is_durable → (n : ℕ) → 4096 ≤ length (D.bytes disk.old)
+        → Keeps D.moment D.left_since D.may_leave disk.old disk.new (HasLength n) }
     ensures written { OnOk result (IsTrue D.is_honest → gate_part (D.bytes disk.new) ≡ 0 ∷ []) }
     ensures changes { IsTrue D.is_honest → 4096 ≤ length (D.bytes disk.old)
         → ChangesOnly 24 1 (D.bytes disk.old) (D.bytes disk.new) }

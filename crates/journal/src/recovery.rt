@@ -1,5 +1,5 @@
 //! The recovery of a file that a crash may have left.
-ghost use Rattle.std.specs.Prelude.{◌≡◌, ℕ, ◌+◌, ◌*◌, ◌≤◌, ◌<◌, ◌^◌, [], ◌∷◌, length, IfOk, IfErr, OnOk, IsTrue, MatchResult};
+ghost use Rattle.std.specs.Prelude.{◌≡◌, ◌⊎◌, ℕ, ◌+◌, ◌*◌, ◌≤◌, ◌<◌, ◌^◌, [], ◌∷◌, length, IfOk, IfErr, OnOk, IsTrue, MatchResult};
 ghost use Rattle.disk.specs.Crashes.{Bytes, Always, Keeps, Only, LeavesOnly};
 ghost use Rattle.disk.specs.Refused.{CountsRefusal};
 ghost use Rattle.pagefile.specs.Header.{IsInBounds};
@@ -7,7 +7,7 @@ ghost use Rattle.pagefile.specs.Parts.{gate_part};
 ghost use Rattle.pagefile.specs.Whole.{IsCounted, IsTold};
 ghost use Rattle.journal.specs.Headers.{IsFile, IsNoFile, IsGate, IsSmall, IsGood, HasList, NamesPages, Finds, IsFinished};
 ghost use Rattle.journal.specs.Lists.{IsList};
-ghost use Rattle.journal.specs.Parts.{kept_size, place, block, ChangesOnly};
+ghost use Rattle.journal.specs.Parts.{kept_size, place, block, ChangesOnly, HasLength};
 ghost use Rattle.journal.specs.Versions.{Version, put, laid, HasPage, IsReady, IsOpen, IsShut, OneOf, IsAmong, StandsFor};
 
 use crate::examine::examine;
@@ -102,6 +102,8 @@ fn settle<D: Disk>(disk: &mut D, gate: Gate, list: &Page) -> Result<(), DiskErro
     ensures still { IsTrue D.is_honest → gate_part (D.bytes disk.old) ≡ 0 ∷ [] → D.bytes disk.new ≡ D.bytes disk.old }
     ensures keeps { IsTrue D.is_durable → IsTrue D.is_honest → Only (D.bytes disk.old) (D.may_leave disk.old)
         → (x y : Version) → Keeps D.moment D.left_since D.may_leave disk.old disk.new (IsAmong x y) }
+    ensures alone { IsTrue D.is_durable → IsTrue D.is_honest → length (D.bytes disk.old) ≡ 4096
+        → Keeps D.moment D.left_since D.may_leave disk.old disk.new (HasLength 4096) }
     ensures count { CountsRefusal result (D.refused disk.old) (D.refused disk.new) }
     ensures cause { IfErr result (D.told disk.new) }
 {
@@ -121,6 +123,8 @@ fn finish<D: Disk>(disk: &mut D, found: Found, list: &Page) -> Result<Found, Ope
         (D.bytes disk.new) (D.may_leave disk.old) (D.may_leave disk.new)) }
     ensures keeps { IsTrue D.is_durable → IsTrue D.is_honest → Only (D.bytes disk.old) (D.may_leave disk.old)
         → (x y : Version) → Keeps D.moment D.left_since D.may_leave disk.old disk.new (IsAmong x y) }
+    ensures alone { IsTrue D.is_durable → IsTrue D.is_honest → length (D.bytes disk.old) ≡ 4096
+        → Keeps D.moment D.left_since D.may_leave disk.old disk.new (HasLength 4096) }
     ensures still { IsTrue D.is_honest → gate_part (D.bytes disk.old) ≡ 0 ∷ [] → D.bytes disk.new ≡ D.bytes disk.old }
     ensures never { IfErr result (λ e. e ≡ OpenError.Damaged → ⊥) }
     ensures count { MatchResult result
@@ -139,30 +143,36 @@ fn finish<D: Disk>(disk: &mut D, found: Found, list: &Page) -> Result<Found, Ope
 ///
 /// It waits first until the file is on the medium as it reads. All its tests come before its first
 /// write: `Damaged`, just where nothing of the kind is in the file (`IsFile`), leaves each byte.
-/// Then an open gate is shut behind the images of its journal, and a torn one is shut. A crash at
-/// any moment of it, and a refusal, leave a file that stands for one of the same versions. A file
-/// whose gate is shut keeps each byte, and no other gets another length.
+/// Then an open gate is shut behind the images of its journal, and a torn one is shut. A file whose
+/// gate is shut keeps each byte, and no other gets another length.
+///
+/// A crash at any moment of it, and a refusal, leave what a crash might have left before, or a file
+/// that stands for one of the versions for which it may stand as it reads. So it is enough to know
+/// what is read of a device that is found after a crash: what else a crash of it might leave, a
+/// recovery does not look at. A file of page 0 alone stays one.
 pub fn recover<D: Disk>(disk: &mut D) -> Result<Found, OpenError>
     ensures file { IfOk result (λ found. IsTrue D.is_honest → IsFile (D.bytes disk.old) found) }
     ensures bounds { IfOk result (λ found. IsInBounds found.header) }
     ensures shut { IfOk result (λ found. IsTrue D.is_honest → (v : Version) → StandsFor v (D.bytes disk.old)
         → IsShut v (D.bytes disk.new)) }
     ensures found { IfOk result (λ found. IsTrue D.is_durable → IsTrue D.is_honest → (x y : Version)
-        → Always (D.may_leave disk.old) (IsAmong x y)
+        → IsAmong x y (D.bytes disk.old)
         → Finds x y found (D.bytes disk.old) (D.may_leave disk.new)) }
     ensures only { IfOk result (λ _. IsTrue D.is_durable → IsTrue D.is_honest
         → Only (D.bytes disk.new) (D.may_leave disk.new)) }
     ensures closed { IfOk result (λ _. IsTrue D.is_honest → gate_part (D.bytes disk.new) ≡ 0 ∷ []) }
     ensures size { IfOk result (λ _. IsTrue D.is_honest → length (D.bytes disk.new) ≡ length (D.bytes disk.old)) }
     ensures still { IsTrue D.is_honest → gate_part (D.bytes disk.old) ≡ 0 ∷ [] → D.bytes disk.new ≡ D.bytes disk.old }
-    ensures keeps { IsTrue D.is_durable → IsTrue D.is_honest → (x y : Version)
-        → Keeps D.moment D.left_since D.may_leave disk.old disk.new (IsAmong x y) }
+    ensures any_moment { IsTrue D.is_durable → IsTrue D.is_honest → (x y : Version) → IsAmong x y (D.bytes disk.old)
+        → LeavesOnly D.moment D.left_since disk.old disk.new (λ c. D.may_leave disk.old c ⊎ IsAmong x y c) }
+    ensures alone { IsTrue D.is_durable → IsTrue D.is_honest → length (D.bytes disk.old) ≡ 4096
+        → LeavesOnly D.moment D.left_since disk.old disk.new (λ c. D.may_leave disk.old c ⊎ HasLength 4096 c) }
     ensures damaged { IfErr result (λ e. e ≡ OpenError.Damaged → IsTrue D.is_honest → IsNoFile (D.bytes disk.old)) }
     ensures left { IfErr result (λ e. e ≡ OpenError.Damaged → IsTrue D.is_honest
         → D.bytes disk.new ≡ D.bytes disk.old) }
     ensures unwritten { IfErr result (λ e. e ≡ OpenError.Damaged → D.writes disk.new ≡ D.writes disk.old) }
-    ensures whole { IfErr result (λ e. IsTrue D.is_durable → IsTrue D.is_honest → (x y : Version) → IsGood x → IsGood y
-        → Always (D.may_leave disk.old) (IsAmong x y) → e ≡ OpenError.Damaged → ⊥) }
+    ensures whole { IfErr result (λ e. IsTrue D.is_honest → (x y : Version) → IsGood x → IsGood y
+        → IsAmong x y (D.bytes disk.old) → e ≡ OpenError.Damaged → ⊥) }
     ensures count { MatchResult result
         (λ _. D.refused disk.new ≡ D.refused disk.old)
         (λ e. IsCounted e (D.refused disk.old) (D.refused disk.new)) }

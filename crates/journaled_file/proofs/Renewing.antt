@@ -11,6 +11,7 @@ use Rattle.pagefile.specs.Whole as whole
 use Rattle.journaled_file.specs.declared.opening.OpenRefusal.TheVariants.{Damaged}
 use Rattle.journaled_file.specs.Refused.{IsCounted, IsTold, refusal_for}
 use Rattle.pagefile.specs.declared.header.FileHeader.{FileHeader}
+use Rattle.pagefile.specs.Number.{number_at}
 use Rattle.pagefile.specs.Parts.{gate_part}
 use Rattle.journal.specs.declared.found.Format.{Format}
 use Rattle.journal.specs.declared.found.Format.TheVariants.{One, Two}
@@ -18,11 +19,11 @@ use Rattle.journal.specs.declared.found.Found.{Found}
 use Rattle.journal.specs.declared.found.Gate.{Gate}
 use Rattle.journal.specs.declared.found.Gate.TheVariants.{Shut, Torn, Open}
 use Rattle.journal.specs.Headers.{IsFile, IsGate, IsGood, IsHeaderOf, header_part, magic_2, magic_of}
-use Rattle.journal.specs.Parts.{place, block}
-use Rattle.journal.specs.Versions.{Version, OneOf, IsAmong, IsShut, IsCommittable, committed}
+use Rattle.journal.specs.Parts.{place, block, HasLength}
+use Rattle.journal.specs.Versions.{Version, OneOf, InPlaces, IsAmong, IsShut, IsCommittable, StandsFor, committed}
 use Rattle.journal.proofs.Finding.{first_place}
-use Rattle.journal.proofs.States.{gate_one}
-use Rattle.journaled_file.specs.Renewed.{renewed, renewed_pages, first_pages, IsRenewing}
+use Rattle.journal.proofs.States.{gate_one, shut_is}
+use Rattle.journaled_file.specs.Renewed.{renewed, renewed_pages, first_pages, IsOpening, IsOpeningAlone, IsRenewing}
 use Rattle.journaled_file.specs.Shown.{IsAtRest, placed}
 
 -- a good version has the pages that its header counts
@@ -85,13 +86,14 @@ rest_renewed honest durable v count page old file outcomes is first r = record {
       };
 }
 
-pub renewing : (x y v : Version) (count : ℕ) (page : List ℕ) (old : Bytes) → OneOf x y v → count ≤ v.count
+pub renewing : (x y v : Version) (count : ℕ) (page : List ℕ) (old : Bytes) → OneOf x y v → number_at (v.pages 0) 8 ≡ count → count ≤ v.count
     → page ≡ magic_2 ++ drop 8 (block old 0) → place old 0 ≡ v.pages 0 → (c : Bytes)
     → IsAmong (first_pages v count) (committed (first_pages v count) ((0, page) ∷ []) count) c → IsRenewing x y c
-renewing x y v count page old one fewer is first c a = record {
+renewing x y v count page old one counted fewer is first c a = record {
   version = v;
   one = one;
   new = committed (first_pages v count) ((0, page) ∷ []) count;
+  counted = counted;
   fewer = fewer;
   pages = λ n less. shows_renewed v count page old is first n;
   state = a;
@@ -216,3 +218,41 @@ format_two c found f shut begins = by found.gate f.gate f.header
     by Shut said h = of_magic found.format (sym h.begins ∙ begins)
     by Torn said h = absurd (said.1 (gate_one c said.0 0 said.3 shut))
     by (Open start size) said h = let differs = gate_one c 1 0 said.0 shut in absurd (omega (arith, differs))
+
+-- ---- a file of page 0 alone
+
+-- there is no room for a journal in it, so its places have the version
+pub alone_stands : (c : Bytes) (found : Found) → IsFile c found → length c ≡ 4096 → StandsFor (placed found.header.page_count c) c
+alone_stands c found f short = by found.gate f.gate
+  where
+    places : InPlaces (placed found.header.page_count c) c
+    places = record {
+      size = record { some = f.some; long = f.header.long; even = f.even };
+      some = f.header.bounds.some;
+      pages = λ n less. refl;
+    }
+
+    by : (gate : Gate) → IsGate c gate → StandsFor (placed found.header.page_count c) c
+    by Shut said = shut_is (placed found.header.page_count c) c 0 said (λ e. omega (arith, e)) places
+    by Torn said = shut_is (placed found.header.page_count c) c said.0 said.3 said.2 places
+    by (Open start size) said = let some = said.2.some in let long = said.2.long in absurd (omega (arith, short, some, long))
+
+-- and the header that is found is the one in its place
+pub alone_counts : (c : Bytes) (found : Found) → IsFile c found → length c ≡ 4096 → number_at (place c 0) 8 ≡ found.header.page_count
+alone_counts c found f short = by found.gate f.gate f.header
+  where
+    by : (gate : Gate) → IsGate c gate → IsHeaderOf (length c) (header_part c gate) found.format found.header
+        → number_at (place c 0) 8 ≡ found.header.page_count
+    by Shut said h = h.page_count
+    by Torn said h = h.page_count
+    by (Open start size) said h = let some = said.2.some in let long = said.2.long in absurd (omega (arith, short, some, long))
+
+-- ---- what a recovery leaves, an opening may leave
+
+pub among_or_before : (before : Type 0) (x y : Version) (c : Bytes) → before ⊎ IsAmong x y c → before ⊎ IsOpening x y c
+among_or_before before x y c (inl left) = inl left
+among_or_before before x y c (inr among) = inr (inl among)
+
+pub alone_or_before : (before : Type 0) (c : Bytes) → before ⊎ HasLength 4096 c → before ⊎ IsOpeningAlone c
+alone_or_before before c (inl left) = inl left
+alone_or_before before c (inr short) = inr (inl short)

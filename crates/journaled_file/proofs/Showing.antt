@@ -9,12 +9,12 @@ use Rattle.disk.proofs.ContentsLemmas.{length_resized}
 use Rattle.pagefile.specs.Parts.{gate_part}
 use Rattle.journal.specs.Parts.{place, block, shown, kept_size, ChangesOnly}
 use Rattle.journal.specs.Steps.{IsPut, KeepsOtherPlaces, KeepsPlaces, LiesWithin, AreAmong}
-use Rattle.journal.specs.Versions.{Version, HasPage, IsOpen, IsShut, InPlaces, IsCommittable, committed}
+use Rattle.journal.specs.Versions.{Version, HasPage, IsOpen, IsShut, IsCommittable, committed}
 use Rattle.journal.proofs.Finding.{take_take}
 use Rattle.journal.proofs.Ranges.{cut_front}
 use Rattle.journal.proofs.States.{kept_small, laid_same, place_gate}
 use Rattle.journaled_file.specs.Shown.{IsAtRest, IsJournaled}
-use Rattle.journaled_file.proofs.Laying.{laid_more, laid_torn, laid_none, has_part}
+use Rattle.journaled_file.proofs.Laying.{laid_more, laid_torn, has_part}
 
 -- each page of a part lies within the file
 pub part_within : (honest durable : Bool) (images : List (ℕ × List ℕ)) (from end count : ℕ) (file : Bytes) (outcomes : Bytes → Type 0)

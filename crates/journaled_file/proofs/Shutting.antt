@@ -1,18 +1,18 @@
 -- A gate that is to be shut, behind pages that stand in their places.
-use Rattle.std.proofs.Common.{◌≡◌, ◌≢◌, ◌∙◌, ℕ, ◌+◌, ◌*◌, ◌<◌, ◌≤◌, List, [], ◌∷◌, length, get_or, refl, sym, ap, inl, inr, arith}
-use Rattle.std.specs.Prelude.{◌⊎◌, Bool, IsTrue, Result, Ok, Err, OnOk, OnErr}
+use Rattle.std.proofs.Common.{◌≡◌, ◌≢◌, ◌∙◌, ℕ, ◌*◌, ◌<◌, ◌≤◌, List, [], ◌∷◌, length, get_or, refl, sym, ap, inl, inr, arith}
+use Rattle.std.specs.Prelude.{◌⊎◌, Bool, IsTrue, Result, Ok, Err, OnOk}
 use Rattle.std.proofs.lemmas.Bool.{cases_eq}
 use Rattle.disk.specs.Contents.{resized, IsEitherLength}
 use Rattle.disk.specs.Crashes.{Bytes, Always, Only}
 use Rattle.pagefile.specs.Parts.{gate_part}
 use Rattle.journal.specs.Parts.{place, ChangesOnly}
 use Rattle.journal.specs.Steps.{KeepsPlaces}
-use Rattle.journal.specs.Versions.{Version, IsOpen, IsShut, IsBoth, InPlaces, OneOf, IsAmong, IsCommittable}
+use Rattle.journal.specs.Versions.{Version, IsOpen, IsShut, IsBoth, OneOf, IsAmong, IsCommittable}
 use Rattle.journal.proofs.Finding.{gate_is}
 use Rattle.journal.proofs.States.{on_disk, among_open, among_both, gate_one, place_gate}
 use Rattle.journaled_file.specs.Shown.{IsAtRest, IsJournaled, IsUnshut, IsShutting}
 use Rattle.journaled_file.proofs.Laying.{laid_none}
-use Rattle.journaled_file.proofs.Showing.{rest_read, cut_at_rest}
+use Rattle.journaled_file.proofs.Showing.{cut_at_rest}
 
 pub open_unshut : (v : Version) (c : Bytes) → IsOpen v c → IsUnshut v c
 open_unshut v c o = record { ready = o.ready; places = λ shut. absurd (shut o.gate) }

@@ -1,8 +1,9 @@
 //! Opening a file that a crash may have left, of either format.
-ghost use Rattle.std.specs.Prelude.{◌≡◌, ℕ, ◌<◌, ◌≤◌, [], ◌∷◌, ◌++◌, take, drop, length, IfOk, IfErr, MatchResult, OnOk, OnErr, IsTrue};
+ghost use Rattle.std.specs.Prelude.{◌≡◌, ◌⊎◌, ℕ, ◌<◌, ◌≤◌, [], ◌∷◌, ◌++◌, take, drop, length, IfOk, IfErr, MatchResult, OnOk, OnErr, IsTrue};
 ghost use Rattle.disk.specs.Crashes.{Always, LeavesOnly};
 ghost use Rattle.disk.specs.Refused.{CountsRefusal};
 ghost use Rattle.pagefile.specs.Header.{IsInBounds};
+ghost use Rattle.pagefile.specs.Number.{number_at};
 ghost use Rattle.pagefile.specs.Parts.{gate_part};
 ghost use Rattle.journal.specs.declared.found.Format.TheVariants.{Two};
 ghost use Rattle.journal.specs.Headers.{IsGood, IsNoFile, magic_2, magic_of};
@@ -10,7 +11,7 @@ ghost use Rattle.journal.specs.Parts.{place, block};
 ghost use Rattle.journal.specs.Versions.{Version, OneOf, IsShut, IsAmong, IsCommittable, StandsFor, committed};
 ghost use Rattle.journaled_file.specs.Refused.{IsCounted, IsTold, refusal_for};
 ghost use Rattle.journaled_file.specs.Shown.{IsAtRest, placed};
-ghost use Rattle.journaled_file.specs.Renewed.{renewed, renewed_pages, first_pages, IsHeaderIn, Opens, IsOpening};
+ghost use Rattle.journaled_file.specs.Renewed.{renewed, renewed_pages, first_pages, IsHeaderIn, Opens, IsOpening, IsOpeningAlone};
 
 use crate::steps::{finish_open, write_commit};
 use disk::{Disk, DiskError};
@@ -108,7 +109,8 @@ fn renew<D: Disk>(alloc: Global, disk: &mut D, count: u32) -> Result<(), OpenRef
     ensures renewed { OnOk result (IsTrue D.is_honest → (v : Version)
         → IsAtRest D.is_honest D.is_durable count (D.bytes disk.old) (D.may_leave disk.old) (first_pages v count)
         → IsAtRest D.is_honest D.is_durable count (D.bytes disk.new) (D.may_leave disk.new) (renewed v count)) }
-    ensures any_moment { IsTrue D.is_durable → IsTrue D.is_honest → (x y v : Version) → OneOf x y v → count ≤ v.count
+    ensures any_moment { IsTrue D.is_durable → IsTrue D.is_honest → (x y v : Version) → OneOf x y v
+        → number_at (v.pages 0) 8 ≡ count → count ≤ v.count
         → IsAtRest D.is_honest D.is_durable count (D.bytes disk.old) (D.may_leave disk.old) (first_pages v count)
         → Always (D.may_leave disk.new) (IsOpening x y)
         × LeavesOnly D.moment D.left_since disk.old disk.new (IsOpening x y) }
@@ -150,7 +152,7 @@ fn as_second<D: Disk>(alloc: Global, disk: &mut D, found: Found) -> Result<FileH
         → IsAtRest D.is_honest D.is_durable found.header.page_count (D.bytes disk.new) (D.may_leave disk.new) (placed found.header.page_count (D.bytes disk.new))) }
     ensures still { IsTrue D.is_honest → found.format ≡ Two → D.bytes disk.new ≡ D.bytes disk.old }
     ensures any_moment { IsTrue D.is_durable → IsTrue D.is_honest → (x y v : Version) → OneOf x y v
-        → found.header.page_count ≤ v.count
+        → number_at (v.pages 0) 8 ≡ found.header.page_count → found.header.page_count ≤ v.count
         → Always (D.may_leave disk.old) (IsShut v)
         → IsAtRest D.is_honest D.is_durable found.header.page_count (D.bytes disk.old) (D.may_leave disk.old) (first_pages v found.header.page_count)
         → Always (D.may_leave disk.new) (IsOpening x y)
@@ -173,6 +175,11 @@ fn as_second<D: Disk>(alloc: Global, disk: &mut D, found: Found) -> Result<FileH
 /// Opens a file of either format, which is one of the second then with its gate shut, and tells its
 /// header. `Damaged` comes just of what is no such file, and leaves each byte; so does any answer
 /// of a file of the second format whose gate is shut.
+///
+/// Of a file that reads as one that stands for one of two good versions, a crash at any moment
+/// leaves what it might have left before, one of these two, or that version with the new magic. So
+/// what a refusal leaves has these pages too. A file of page 0 alone, of which nothing is known,
+/// stays one, or is such a version of it.
 pub fn open_file<D: Disk>(alloc: Global, disk: &mut D) -> Result<FileHeader, OpenRefusal>
     ensures header { IfOk result (λ h. IsTrue D.is_honest → IsHeaderIn (D.bytes disk.old) h) }
     ensures bounds { IfOk result IsInBounds }
@@ -184,18 +191,19 @@ pub fn open_file<D: Disk>(alloc: Global, disk: &mut D) -> Result<FileHeader, Ope
         → take 8 (place (D.bytes disk.old) 0) ≡ magic_2
         → D.bytes disk.new ≡ D.bytes disk.old }
     ensures opened { IfOk result (λ h. IsTrue D.is_durable → IsTrue D.is_honest → (x y : Version) → IsGood x → IsGood y
-        → Always (D.may_leave disk.old) (IsAmong x y)
+        → IsAmong x y (D.bytes disk.old)
         → Opens x y h (D.bytes disk.old) (D.may_leave disk.new)) }
     ensures any_moment { IsTrue D.is_durable → IsTrue D.is_honest → (x y : Version) → IsGood x → IsGood y
-        → Always (D.may_leave disk.old) (IsAmong x y)
-        → Always (D.may_leave disk.new) (IsOpening x y)
-        × LeavesOnly D.moment D.left_since disk.old disk.new (IsOpening x y) }
+        → IsAmong x y (D.bytes disk.old)
+        → LeavesOnly D.moment D.left_since disk.old disk.new (λ c. D.may_leave disk.old c ⊎ IsOpening x y c) }
+    ensures alone { IsTrue D.is_durable → IsTrue D.is_honest → length (D.bytes disk.old) ≡ 4096
+        → LeavesOnly D.moment D.left_since disk.old disk.new (λ c. D.may_leave disk.old c ⊎ IsOpeningAlone c) }
     ensures damaged { IfErr result (λ e. e ≡ OpenRefusal.Damaged → IsTrue D.is_honest → IsNoFile (D.bytes disk.old)) }
     ensures left { IfErr result (λ e. e ≡ OpenRefusal.Damaged → IsTrue D.is_honest
         → D.bytes disk.new ≡ D.bytes disk.old) }
     ensures unwritten { IfErr result (λ e. e ≡ OpenRefusal.Damaged → D.writes disk.new ≡ D.writes disk.old) }
-    ensures whole { IfErr result (λ e. IsTrue D.is_durable → IsTrue D.is_honest → (x y : Version) → IsGood x → IsGood y
-        → Always (D.may_leave disk.old) (IsAmong x y) → e ≡ OpenRefusal.Damaged → ⊥) }
+    ensures whole { IfErr result (λ e. IsTrue D.is_honest → (x y : Version) → IsGood x → IsGood y
+        → IsAmong x y (D.bytes disk.old) → e ≡ OpenRefusal.Damaged → ⊥) }
     ensures count { MatchResult result
         (λ _. D.refused disk.new ≡ D.refused disk.old)
         (λ e. IsCounted e (D.refused disk.old) (D.refused disk.new)) }

@@ -1,49 +1,38 @@
-use Rattle.std.proofs.Common.{◌≡◌, ◌∙◌, ℕ, ap, length, inr, List}
-use Rattle.std.specs.Prelude.{Ok}
+use Rattle.std.proofs.Common.{◌∙◌, ◌⊎◌, [], subst, inl, inr}
 use Rattle.std.proofs.lemmas.Result.{err_from_is_err_and}
-use Rattle.pagefile.proofs.PageLemmas.{made_new, partly_resized, partly_torn}
-use Rattle.journal.proofs.Making.{length_header_2}
-use Rattle.journal.proofs.States.{only_read, ok_any, err_any}
+use Rattle.disk.specs.Crashes.{Always, Bytes}
+use Rattle.disk.specs.Keeping.{calm, joined, weaker}
+use Rattle.pagefile.specs.Whole.{IsPartlyMade}
+use Rattle.journal.proofs.States.{err_as}
 use Rattle.journal.proofs.creating.create.Goals as goal
 
-pub returns-clause-made : goal.returns-clause-made
-returns-clause-made g c =
-    let size : length c.first_page.result ≡ 4096 =
-    ap (λ (b : List ℕ). length b) c.first_page.ensures.bytes ∙ length_header_2 (record { page_count = 1; first_free = 0; catalog_root = 0 }) in
-    ok_any c.sync.result
-    (λ honest.
-    c.sync.ensures.same honest
-    ∙ made_new {E = ℕ} (Ok tt) (g.D.Disk.bytes c.args.disk.now) (g.D.Disk.bytes c.set_len.new.self) (g.D.Disk.bytes c.write_at.new.self) c.first_page.result size
-    c.in_ok-set_len.ensures.resized c.in_ok-write_at.ensures.written honest
-    ∙ c.first_page.ensures.bytes)
+pub returns-in_err-sync-clause-any_moment : goal.returns-in_err-sync-clause-any_moment
+returns-in_err-sync-clause-any_moment g c durable honest none =
+    let waits =
+    calm g.D.Disk.moment g.D.Disk.left_since g.D.Disk.may_leave (λ d b left. g.met.D.Disk.only_now d b durable left)
+    c.args.disk.now c.sync.new.self (g.D.Disk.may_leave c.args.disk.now) (c.sync.ensures.crash durable) (c.sync.ensures.time durable) (λ b left. left) in
+    weaker g.D.Disk.moment g.D.Disk.left_since c.args.disk.now c.sync.new.self (g.D.Disk.may_leave c.args.disk.now)
+    (λ (b : Bytes). g.D.Disk.may_leave c.args.disk.now b ⊎ IsPartlyMade [] b) (λ b left. inl left) waits.1
 
-pub returns-clause-only : goal.returns-clause-only
-returns-clause-only g c durable honest =
-    only_read c.sync.result (g.D.Disk.bytes c.write_at.new.self) (g.D.Disk.bytes c.sync.new.self) (g.D.Disk.may_leave c.sync.new.self) (c.sync.ensures.same honest)
-    (c.sync.ensures.durable durable)
-
-pub returns-in_err-set_len-clause-left : goal.returns-in_err-set_len-clause-left
-returns-in_err-set_len-clause-left g c =
-    let p = err_from_is_err_and c.from_residual.result c.from_residual.ensures.1 in
-    rw p.1 (λ honest. partly_resized _ _ (c.in_err-set_len.ensures.either honest))
-
-pub returns-in_err-write_at-clause-left : goal.returns-in_err-write_at-clause-left
-returns-in_err-write_at-clause-left g c =
-    let size : length c.first_page.result ≡ 4096 =
-    ap (λ (b : List ℕ). length b) c.first_page.ensures.bytes ∙ length_header_2 (record { page_count = 1; first_free = 0; catalog_root = 0 }) in
-    let p = err_from_is_err_and c.from_residual-in_err-write_at.result c.from_residual-in_err-write_at.ensures.1 in
-    rw p.1
-    (λ honest.
-    partly_torn (g.D.Disk.bytes c.args.disk.now) (g.D.Disk.bytes c.set_len.new.self) (g.D.Disk.bytes c.write_at.new.self) c.first_page.result size
-    (c.in_ok-set_len.ensures.resized honest) (c.in_err-write_at.ensures.torn honest))
+pub returns-clause-any_moment : goal.returns-clause-any_moment
+returns-clause-any_moment g c durable honest none =
+    let P = λ (b : Bytes). g.D.Disk.may_leave c.args.disk.now b ⊎ IsPartlyMade [] b in
+    let waits =
+    calm g.D.Disk.moment g.D.Disk.left_since g.D.Disk.may_leave (λ d b left. g.met.D.Disk.only_now d b durable left)
+    c.args.disk.now c.sync.new.self (g.D.Disk.may_leave c.args.disk.now) (c.sync.ensures.crash durable) (c.sync.ensures.time durable) (λ b left. left) in
+    let begun : Always (g.D.Disk.may_leave c.sync.new.self) (IsPartlyMade []) = λ b left. inl (c.in_ok-sync.ensures.durable durable b left ∙ none) in
+    let kept = c.write_first.ensures.keeps durable honest begun in
+    joined g.D.Disk.moment g.D.Disk.left_since c.args.disk.now c.sync.new.self c.write_first.new.disk P
+    (weaker g.D.Disk.moment g.D.Disk.left_since c.args.disk.now c.sync.new.self (g.D.Disk.may_leave c.args.disk.now) P (λ b left. inl left) waits.1)
+    (weaker g.D.Disk.moment g.D.Disk.left_since c.sync.new.self c.write_first.new.disk (IsPartlyMade []) P (λ b made. inr made) kept.1)
 
 pub returns-clause-left : goal.returns-clause-left
 returns-clause-left g c =
-    let size : length c.first_page.result ≡ 4096 =
-    ap (λ (b : List ℕ). length b) c.first_page.ensures.bytes ∙ length_header_2 (record { page_count = 1; first_free = 0; catalog_root = 0 }) in
-    err_any c.sync.result
-    (λ honest.
-    inr (ap (λ (b : List ℕ). length b)
-    (c.sync.ensures.same honest
-    ∙ made_new {E = ℕ} (Ok tt) (g.D.Disk.bytes c.args.disk.now) (g.D.Disk.bytes c.set_len.new.self) (g.D.Disk.bytes c.write_at.new.self) c.first_page.result size
-    c.in_ok-set_len.ensures.resized c.in_ok-write_at.ensures.written honest) ∙ size))
+    err_as c.write_first.result
+    (λ left honest. subst (λ (b : Bytes). IsPartlyMade b (g.D.Disk.bytes c.write_first.new.disk)) (c.sync.ensures.same honest) (left honest))
+    c.write_first.ensures.left
+
+pub returns-in_err-sync-clause-left : goal.returns-in_err-sync-clause-left
+returns-in_err-sync-clause-left g c =
+    let p = err_from_is_err_and c.from_residual.result c.from_residual.ensures.1 in
+    rw p.1 (λ honest. inl (c.sync.ensures.same honest))

@@ -1,7 +1,6 @@
-use Rattle.std.proofs.Common.{◌≡◌, List, ℕ, subst, sym}
+use Rattle.std.proofs.Common.{List, ℕ, subst, sym}
 use Rattle.journal.specs.declared.found.Format.TheVariants.{Two}
 use Rattle.journal.specs.Headers.{IsHeaderOf}
-use Rattle.journal.specs.New.{header_bytes_2}
 use Rattle.journal.proofs.Making.{header_2_reads}
 use Rattle.journal.proofs.creating.first_page.Goals as goal
 

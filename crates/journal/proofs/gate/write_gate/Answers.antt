@@ -1,5 +1,6 @@
-use Rattle.std.proofs.Common.{[], ◌∷◌, refl, arith}
+use Rattle.std.proofs.Common.{◌∙◌, [], ◌∷◌, refl, arith}
 use Rattle.std.specs.Prelude.{IsTrue}
+use Rattle.journal.specs.Parts.{HasLength}
 use Rattle.journal.specs.Versions.{IsBoth}
 use Rattle.journal.proofs.Ranges.{range_changes, call_range}
 use Rattle.journal.proofs.States.{both_gate}
@@ -22,3 +23,9 @@ returns-clause-keeps g c durable x y all =
     range_written g.D.Disk.moment g.D.Disk.left_since g.D.Disk.may_leave g.D.Disk.bytes (λ d b left. g.met.D.Disk.only_now d b durable left)
     c.args.disk.now c.write_at.new.self (IsBoth x y) 24 1 24 1 refl refl (c.write_at.ensures.crash durable) (c.write_at.ensures.time durable)
     (omega (arith, now.ready.size.some)) (both_gate x y) all
+
+pub returns-clause-sized : goal.returns-clause-sized
+returns-clause-sized g c durable n some =
+    range_written g.D.Disk.moment g.D.Disk.left_since g.D.Disk.may_leave g.D.Disk.bytes (λ d b left. g.met.D.Disk.only_now d b durable left)
+    c.args.disk.now c.write_at.new.self (HasLength n) 24 1 24 1 refl refl (c.write_at.ensures.crash durable) (c.write_at.ensures.time durable)
+    (omega (arith, some)) (λ d b is changes. changes.size ∙ is)

@@ -1,16 +1,17 @@
-use Rattle.std.proofs.Common.{◌≡◌, ◌∙◌, [], ◌∷◌, ◌≤◌, length, refl, sym, subst, ap, get_or}
+use Rattle.std.proofs.Common.{◌≡◌, ◌∙◌, ◌⊎◌, [], ◌∷◌, ◌≤◌, length, refl, sym, subst, ap, get_or, inl, inr}
 use Rattle.std.specs.Prelude.{IsTrue}
 use Rattle.disk.specs.Crashes.{Always, Bytes, Only}
-use Rattle.disk.specs.Keeping.{calm, then}
+use Rattle.disk.specs.Keeping.{calm, joined, weaker}
 use Rattle.pagefile.specs.declared.error.OpenError.{OpenError}
 use Rattle.pagefile.specs.declared.error.OpenError.TheVariants.{Damaged}
 use Rattle.pagefile.specs.Header.{IsInBounds}
 use Rattle.pagefile.specs.Parts.{gate_part}
 use Rattle.journal.specs.declared.found.Found.{Found}
 use Rattle.journal.specs.Headers.{IsFile, IsNoFile, IsGate, HasList, IsGood, Finds, IsFinished}
+use Rattle.journal.specs.Parts.{HasLength}
 use Rattle.journal.specs.Versions.{Version, IsShut, IsAmong, StandsFor}
 use Rattle.journal.proofs.Finding.{gate_is, good_is_file, if_ok, if_err, stands_header}
-use Rattle.journal.proofs.Looking.{reads_keep}
+use Rattle.journal.proofs.Looking.{read_before}
 use Rattle.journal.proofs.States.{among_some, among_stands, on_disk}
 use Rattle.journal.proofs.recovery.recover.Goals as goal
 
@@ -47,16 +48,15 @@ returns-in-Ok-clause-found g c =
     if_ok
     (λ (told : Found). IsFinished c.in-Ok.found told g.D.Disk.is_honest g.D.Disk.is_durable (g.D.Disk.bytes c.examine.new.disk) (g.D.Disk.bytes c.finish.new.disk)
     (g.D.Disk.may_leave c.examine.new.disk) (g.D.Disk.may_leave c.finish.new.disk))
-    (λ (told : Found). IsTrue g.D.Disk.is_durable → IsTrue g.D.Disk.is_honest → (x y : Version) → Always (g.D.Disk.may_leave c.args.disk.now) (IsAmong x y)
+    (λ (told : Found). IsTrue g.D.Disk.is_durable → IsTrue g.D.Disk.is_honest → (x y : Version) → IsAmong x y (g.D.Disk.bytes c.args.disk.now)
     → Finds x y told (g.D.Disk.bytes c.args.disk.now) (g.D.Disk.may_leave c.finish.new.disk)) c.finish.result
     found c.finish.ensures.done
   where
     found : (told : Found) → IsFinished c.in-Ok.found told g.D.Disk.is_honest g.D.Disk.is_durable (g.D.Disk.bytes c.examine.new.disk) (g.D.Disk.bytes c.finish.new.disk)
         (g.D.Disk.may_leave c.examine.new.disk) (g.D.Disk.may_leave c.finish.new.disk) → IsTrue g.D.Disk.is_durable → IsTrue g.D.Disk.is_honest → (x y : Version)
-        → Always (g.D.Disk.may_leave c.args.disk.now) (IsAmong x y) → Finds x y told (g.D.Disk.bytes c.args.disk.now) (g.D.Disk.may_leave c.finish.new.disk)
-    found told d durable honest x y all =
+        → IsAmong x y (g.D.Disk.bytes c.args.disk.now) → Finds x y told (g.D.Disk.bytes c.args.disk.now) (g.D.Disk.may_leave c.finish.new.disk)
+    found told d durable honest x y now =
         let old = g.D.Disk.bytes c.args.disk.now in
-        let now : IsAmong x y old = all _ (g.met.D.Disk.read_is_left c.args.disk.now durable) in
         let stands = among_stands x y old (get_or old 24 0) (gate_is old (among_some x y old now)) now in
         let same : g.D.Disk.bytes c.examine.new.disk ≡ old = c.examine.ensures.reads.same honest ∙ c.sync.ensures.same honest in
         let file : IsFile old told =
@@ -85,33 +85,72 @@ returns-in-Ok-clause-only g c =
     d.only durable honest only)
     c.finish.ensures.done
 
-pub returns-in-Ok-clause-keeps : goal.returns-in-Ok-clause-keeps
-returns-in-Ok-clause-keeps g c durable honest x y =
+pub returns-in_err-sync-clause-any_moment : goal.returns-in_err-sync-clause-any_moment
+returns-in_err-sync-clause-any_moment g c durable honest x y among =
+    let waits =
+    calm g.D.Disk.moment g.D.Disk.left_since g.D.Disk.may_leave (λ d b left. g.met.D.Disk.only_now d b durable left)
+    c.args.disk.now c.sync.new.self (g.D.Disk.may_leave c.args.disk.now) (c.sync.ensures.crash durable) (c.sync.ensures.time durable) (λ b left. left) in
+    weaker g.D.Disk.moment g.D.Disk.left_since c.args.disk.now c.sync.new.self (g.D.Disk.may_leave c.args.disk.now)
+    (λ (b : Bytes). g.D.Disk.may_leave c.args.disk.now b ⊎ IsAmong x y b) (λ b left. inl left) waits.1
+
+pub returns-in-Ok-clause-any_moment : goal.returns-in-Ok-clause-any_moment
+returns-in-Ok-clause-any_moment g c durable honest x y among =
+    let P = λ (b : Bytes). g.D.Disk.may_leave c.args.disk.now b ⊎ IsAmong x y b in
     let same : g.D.Disk.bytes c.examine.new.disk ≡ g.D.Disk.bytes c.args.disk.now = c.examine.ensures.reads.same honest ∙ c.sync.ensures.same honest in
     let only : Only (g.D.Disk.bytes c.examine.new.disk) (g.D.Disk.may_leave c.examine.new.disk) =
     λ d left. c.in_ok-sync.ensures.durable durable d (c.examine.ensures.reads.crash durable d left) ∙ sym same in
-    then g.D.Disk.moment g.D.Disk.left_since g.D.Disk.may_leave c.args.disk.now c.examine.new.disk c.finish.new.disk (IsAmong x y)
-    (then g.D.Disk.moment g.D.Disk.left_since g.D.Disk.may_leave c.args.disk.now c.sync.new.self c.examine.new.disk (IsAmong x y)
-    (calm g.D.Disk.moment g.D.Disk.left_since g.D.Disk.may_leave (λ d b left. g.met.D.Disk.only_now d b durable left)
-    c.args.disk.now c.sync.new.self (IsAmong x y) (c.sync.ensures.crash durable) (c.sync.ensures.time durable))
-    (reads_keep g.D.Disk.is_honest g.D.Disk.is_durable g.D.Disk.bytes g.D.Disk.synced g.D.Disk.writes g.D.Disk.settled g.D.Disk.moment g.D.Disk.left_since g.D.Disk.may_leave
-    c.sync.new.self c.examine.new.disk c.examine.ensures.reads durable (IsAmong x y)))
-    (c.finish.ensures.keeps durable honest only x y)
+    let all : Always (g.D.Disk.may_leave c.examine.new.disk) (IsAmong x y) =
+    on_disk (IsAmong x y) (g.D.Disk.bytes c.args.disk.now) (g.D.Disk.bytes c.examine.new.disk) (g.D.Disk.may_leave c.examine.new.disk) same only among in
+    joined g.D.Disk.moment g.D.Disk.left_since c.args.disk.now c.examine.new.disk c.finish.new.disk P
+    (read_before g.D.Disk.is_honest g.D.Disk.is_durable g.D.Disk.bytes g.D.Disk.synced g.D.Disk.writes g.D.Disk.settled g.D.Disk.moment g.D.Disk.left_since
+    g.D.Disk.may_leave c.args.disk.now c.sync.new.self c.examine.new.disk (IsAmong x y) (λ d b left. g.met.D.Disk.only_now d b durable left) durable
+    (c.sync.ensures.crash durable) (c.sync.ensures.time durable) c.examine.ensures.reads)
+    (weaker g.D.Disk.moment g.D.Disk.left_since c.examine.new.disk c.finish.new.disk (IsAmong x y) P (λ b a. inr a)
+    (c.finish.ensures.keeps durable honest only x y all).1)
 
-pub returns-in-Err-clause-keeps : goal.returns-in-Err-clause-keeps
-returns-in-Err-clause-keeps g c durable honest x y =
-    then g.D.Disk.moment g.D.Disk.left_since g.D.Disk.may_leave c.args.disk.now c.sync.new.self c.examine.new.disk (IsAmong x y)
-    (calm g.D.Disk.moment g.D.Disk.left_since g.D.Disk.may_leave (λ d b left. g.met.D.Disk.only_now d b durable left)
-    c.args.disk.now c.sync.new.self (IsAmong x y) (c.sync.ensures.crash durable) (c.sync.ensures.time durable))
-    (reads_keep g.D.Disk.is_honest g.D.Disk.is_durable g.D.Disk.bytes g.D.Disk.synced g.D.Disk.writes g.D.Disk.settled g.D.Disk.moment g.D.Disk.left_since g.D.Disk.may_leave
-    c.sync.new.self c.examine.new.disk c.examine.ensures.reads durable (IsAmong x y))
+pub returns-in-Err-clause-any_moment : goal.returns-in-Err-clause-any_moment
+returns-in-Err-clause-any_moment g c durable honest x y among =
+    read_before g.D.Disk.is_honest g.D.Disk.is_durable g.D.Disk.bytes g.D.Disk.synced g.D.Disk.writes g.D.Disk.settled g.D.Disk.moment g.D.Disk.left_since
+    g.D.Disk.may_leave c.args.disk.now c.sync.new.self c.examine.new.disk (IsAmong x y) (λ d b left. g.met.D.Disk.only_now d b durable left) durable
+    (c.sync.ensures.crash durable) (c.sync.ensures.time durable) c.examine.ensures.reads
+
+-- ---- a file of page 0 alone
+
+pub returns-in_err-sync-clause-alone : goal.returns-in_err-sync-clause-alone
+returns-in_err-sync-clause-alone g c durable honest size =
+    let waits =
+    calm g.D.Disk.moment g.D.Disk.left_since g.D.Disk.may_leave (λ d b left. g.met.D.Disk.only_now d b durable left)
+    c.args.disk.now c.sync.new.self (g.D.Disk.may_leave c.args.disk.now) (c.sync.ensures.crash durable) (c.sync.ensures.time durable) (λ b left. left) in
+    weaker g.D.Disk.moment g.D.Disk.left_since c.args.disk.now c.sync.new.self (g.D.Disk.may_leave c.args.disk.now)
+    (λ (b : Bytes). g.D.Disk.may_leave c.args.disk.now b ⊎ HasLength 4096 b) (λ b left. inl left) waits.1
+
+pub returns-in-Ok-clause-alone : goal.returns-in-Ok-clause-alone
+returns-in-Ok-clause-alone g c durable honest size =
+    let P = λ (b : Bytes). g.D.Disk.may_leave c.args.disk.now b ⊎ HasLength 4096 b in
+    let same : g.D.Disk.bytes c.examine.new.disk ≡ g.D.Disk.bytes c.args.disk.now = c.examine.ensures.reads.same honest ∙ c.sync.ensures.same honest in
+    let only : Only (g.D.Disk.bytes c.examine.new.disk) (g.D.Disk.may_leave c.examine.new.disk) =
+    λ d left. c.in_ok-sync.ensures.durable durable d (c.examine.ensures.reads.crash durable d left) ∙ sym same in
+    let all : Always (g.D.Disk.may_leave c.examine.new.disk) (HasLength 4096) =
+    on_disk (HasLength 4096) (g.D.Disk.bytes c.args.disk.now) (g.D.Disk.bytes c.examine.new.disk) (g.D.Disk.may_leave c.examine.new.disk) same only size in
+    joined g.D.Disk.moment g.D.Disk.left_since c.args.disk.now c.examine.new.disk c.finish.new.disk P
+    (read_before g.D.Disk.is_honest g.D.Disk.is_durable g.D.Disk.bytes g.D.Disk.synced g.D.Disk.writes g.D.Disk.settled g.D.Disk.moment g.D.Disk.left_since
+    g.D.Disk.may_leave c.args.disk.now c.sync.new.self c.examine.new.disk (HasLength 4096) (λ d b left. g.met.D.Disk.only_now d b durable left) durable
+    (c.sync.ensures.crash durable) (c.sync.ensures.time durable) c.examine.ensures.reads)
+    (weaker g.D.Disk.moment g.D.Disk.left_since c.examine.new.disk c.finish.new.disk (HasLength 4096) P (λ b a. inr a)
+    (c.finish.ensures.alone durable honest (ap (λ (b : Bytes). length b) same ∙ size) all).1)
+
+pub returns-in-Err-clause-alone : goal.returns-in-Err-clause-alone
+returns-in-Err-clause-alone g c durable honest size =
+    read_before g.D.Disk.is_honest g.D.Disk.is_durable g.D.Disk.bytes g.D.Disk.synced g.D.Disk.writes g.D.Disk.settled g.D.Disk.moment g.D.Disk.left_since
+    g.D.Disk.may_leave c.args.disk.now c.sync.new.self c.examine.new.disk (HasLength 4096) (λ d b left. g.met.D.Disk.only_now d b durable left) durable
+    (c.sync.ensures.crash durable) (c.sync.ensures.time durable) c.examine.ensures.reads
 
 pub returns-in-Err-clause-damaged : goal.returns-in-Err-clause-damaged
 returns-in-Err-clause-damaged g c is honest = subst IsNoFile (c.sync.ensures.same honest) (c.in-Err.ensures.damaged is honest)
 
 pub returns-in-Err-clause-whole : goal.returns-in-Err-clause-whole
-returns-in-Err-clause-whole g c durable honest x y one two all is =
-    let file = good_is_file x y (g.D.Disk.bytes c.args.disk.now) (all _ (g.met.D.Disk.read_is_left c.args.disk.now durable)) one two in
+returns-in-Err-clause-whole g c honest x y one two among is =
+    let file = good_is_file x y (g.D.Disk.bytes c.args.disk.now) among one two in
     subst IsNoFile (c.sync.ensures.same honest) (c.in-Err.ensures.damaged is honest) file.0 file.1
 
 -- where it was found, it is not damaged
@@ -136,9 +175,9 @@ returns-in-Ok-clause-unwritten g c =
 pub returns-in-Ok-clause-whole : goal.returns-in-Ok-clause-whole
 returns-in-Ok-clause-whole g c =
     if_err (λ (e : OpenError). e ≡ Damaged → ⊥)
-    (λ (e : OpenError). IsTrue g.D.Disk.is_durable → IsTrue g.D.Disk.is_honest → (x y : Version) → IsGood x → IsGood y
-    → Always (g.D.Disk.may_leave c.args.disk.now) (IsAmong x y) → e ≡ Damaged → ⊥) c.finish.result
-    (λ e never durable honest x y one two all is. never is) c.finish.ensures.never
+    (λ (e : OpenError). IsTrue g.D.Disk.is_honest → (x y : Version) → IsGood x → IsGood y
+    → IsAmong x y (g.D.Disk.bytes c.args.disk.now) → e ≡ Damaged → ⊥) c.finish.result
+    (λ e never honest x y one two among is. never is) c.finish.ensures.never
 
 pub returns-in-Ok-clause-closed : goal.returns-in-Ok-clause-closed
 returns-in-Ok-clause-closed g c =

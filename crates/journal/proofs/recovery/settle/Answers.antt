@@ -1,4 +1,4 @@
-use Rattle.std.proofs.Common.{◌≡◌, [], ◌∷◌, List, ℕ, refl, subst, sym, ap, arith}
+use Rattle.std.proofs.Common.{◌≡◌, [], ◌∷◌, List, ℕ, refl, subst, sym, arith}
 use Rattle.std.specs.Prelude.{IsTrue}
 use Rattle.disk.specs.Keeping.{none, weaker}
 use Rattle.pagefile.specs.Parts.{gate_part}
@@ -6,6 +6,7 @@ use Rattle.journal.specs.Headers.{IsGate, HasList}
 use Rattle.journal.specs.Versions.{IsOpen, IsBoth, IsShut, IsAmong, InPlaces}
 use Rattle.journal.proofs.Finding.{shut_stood, torn_stood, open_stood, names}
 use Rattle.journal.specs.Lists.{IsList}
+use Rattle.journal.specs.Parts.{HasLength}
 use Rattle.journal.proofs.States.{among_both, found_open, found_torn, gate_one, places_gate, on_disk, on_ok}
 use Rattle.journal.proofs.recovery.settle.Goals as goal
 
@@ -90,3 +91,18 @@ pub returns-in-Open-clause-still : goal.returns-in-Open-clause-still
 returns-in-Open-clause-still g c honest shut =
     let gate = subst (IsGate (g.D.Disk.bytes c.args.disk.now)) c.in-Open.is (c.requires.gate honest) in
     let differs = gate_one (g.D.Disk.bytes c.args.disk.now) 1 0 gate.0 shut in absurd (omega (arith, differs))
+
+-- ---- a file of page 0 alone
+
+pub returns-in-Shut-clause-alone : goal.returns-in-Shut-clause-alone
+returns-in-Shut-clause-alone g c durable honest size =
+    none g.D.Disk.moment g.D.Disk.left_since g.D.Disk.may_leave (λ d b left. g.met.D.Disk.only_now d b durable left) c.args.disk.now (HasLength 4096)
+
+pub returns-in-Torn-clause-alone : goal.returns-in-Torn-clause-alone
+returns-in-Torn-clause-alone g c durable honest size = c.shut_gate.ensures.sized durable 4096 (omega (arith, size))
+
+-- no journal lies within it
+pub returns-in-Open-clause-alone : goal.returns-in-Open-clause-alone
+returns-in-Open-clause-alone g c durable honest size =
+    let gate = subst (IsGate (g.D.Disk.bytes c.args.disk.now)) c.in-Open.is (c.requires.gate honest) in
+    let some = gate.2.some in let long = gate.2.long in absurd (omega (arith, size, some, long))

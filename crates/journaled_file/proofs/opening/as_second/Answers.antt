@@ -1,4 +1,4 @@
-use Rattle.std.proofs.Common.{◌≡◌, ◌∙◌, ap, inl, sym, refl}
+use Rattle.std.proofs.Common.{◌≡◌, ◌∙◌, ap, inl, sym}
 use Rattle.disk.specs.Keeping.{started}
 use Rattle.journal.specs.declared.found.Format.TheVariants.{One, Two}
 use Rattle.journal.specs.Headers.{magic_of}
@@ -13,7 +13,7 @@ returns-in-Two-clause-rest g c = λ honest v begins r.
     (begins ∙ ap magic_of c.in-Two.is) r
 
 pub returns-in-Two-clause-any_moment : goal.returns-in-Two-clause-any_moment
-returns-in-Two-clause-any_moment g c durable honest x y v one fewer all r = (
+returns-in-Two-clause-any_moment g c durable honest x y v one counted fewer all r = (
   λ d left. inl (among_shut x y v one d (all d left)),
   started g.D.Disk.moment g.D.Disk.left_since c.args.disk.now (IsOpening x y)
       (λ d left. inl (among_shut x y v one d (all d (g.met.D.Disk.only_now c.args.disk.now d durable left)))),
@@ -23,10 +23,10 @@ pub returns-in-Ok-clause-rest : goal.returns-in-Ok-clause-rest
 returns-in-Ok-clause-rest g c = λ honest v begins r. c.in-Ok.ensures.renewed honest v r
 
 pub returns-in-Ok-clause-any_moment : goal.returns-in-Ok-clause-any_moment
-returns-in-Ok-clause-any_moment g c durable honest x y v one fewer all r = c.renew.ensures.any_moment durable honest x y v one fewer r
+returns-in-Ok-clause-any_moment g c durable honest x y v one counted fewer all r = c.renew.ensures.any_moment durable honest x y v one counted fewer r
 
 pub returns-in-Err-clause-any_moment : goal.returns-in-Err-clause-any_moment
-returns-in-Err-clause-any_moment g c durable honest x y v one fewer all r = c.renew.ensures.any_moment durable honest x y v one fewer r
+returns-in-Err-clause-any_moment g c durable honest x y v one counted fewer all r = c.renew.ensures.any_moment durable honest x y v one counted fewer r
 
 pub returns-in-Two-clause-own : goal.returns-in-Two-clause-own
 returns-in-Two-clause-own g c = λ honest v r.

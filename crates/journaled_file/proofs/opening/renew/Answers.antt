@@ -33,7 +33,7 @@ returns-in-Ok-clause-renewed g c =
     c.commit_first.ensures.rest
 
 pub returns-in-Ok-clause-any_moment : goal.returns-in-Ok-clause-any_moment
-returns-in-Ok-clause-any_moment g c durable honest x y v one fewer r =
+returns-in-Ok-clause-any_moment g c durable honest x y v one counted fewer r =
     let old = g.D.Disk.bytes c.args.disk.now in
     let first = first_pages v c.args.count in
     let there = r.pages honest 0 (omega (arith, r.some)) in
@@ -44,7 +44,7 @@ returns-in-Ok-clause-any_moment g c durable honest x y v one fewer r =
     rest_read g.D.Disk.is_honest g.D.Disk.is_durable c.args.count old (g.D.Disk.bytes c.read_at.new.self) (g.D.Disk.may_leave c.args.disk.now)
     (g.D.Disk.may_leave c.read_at.new.self) first r c.read_at.ensures.same c.read_at.ensures.crash in
     let new = committed first ((0, c.put_magic.new.page) ∷ []) c.args.count in
-    let to = λ (b : Bytes) (a : IsAmong first new b). renewing x y v c.args.count c.put_magic.new.page old one fewer page there b a in
+    let to = λ (b : Bytes) (a : IsAmong first new b). renewing x y v c.args.count c.put_magic.new.page old one counted fewer page there b a in
     let before =
     calm g.D.Disk.moment g.D.Disk.left_since g.D.Disk.may_leave (λ d b left. g.met.D.Disk.only_now d b durable left)
     c.args.disk.now c.read_at.new.self (IsShut first) (c.read_at.ensures.crash durable) (c.read_at.ensures.time durable) (r.shut durable honest) in
@@ -57,13 +57,13 @@ returns-in-Ok-clause-any_moment g c durable honest x y v one fewer r =
     )
 
 pub returns-in-Err-clause-any_moment : goal.returns-in-Err-clause-any_moment
-returns-in-Err-clause-any_moment g c durable honest x y v one fewer r =
+returns-in-Err-clause-any_moment g c durable honest x y v one counted fewer r =
     let old = g.D.Disk.bytes c.args.disk.now in
     let first = first_pages v c.args.count in
     let page = magic_2 ++ drop 8 (block old 0) in
     let new = committed first ((0, page) ∷ []) c.args.count in
     let there = r.pages honest 0 (omega (arith, r.some)) in
-    let to = λ (b : Bytes) (s : IsShut first b). renewing x y v c.args.count page old one fewer refl there b (among_shut first new first (inl refl) b s) in
+    let to = λ (b : Bytes) (s : IsShut first b). renewing x y v c.args.count page old one counted fewer refl there b (among_shut first new first (inl refl) b s) in
     let before =
     calm g.D.Disk.moment g.D.Disk.left_since g.D.Disk.may_leave (λ d b left. g.met.D.Disk.only_now d b durable left)
     c.args.disk.now c.read_at.new.self (IsShut first) (c.read_at.ensures.crash durable) (c.read_at.ensures.time durable) (r.shut durable honest) in (
