@@ -19,3 +19,12 @@ returns-in-Ok-clause-found c =
     let places : c.in-Ok.places ≡ map (λ target. target.0) (targets_from 0 c.in-Some.table.now.columns) = search rules in
     all_fit (known c.args.schema.now) c.args.name.now c.args.rows.now (known_table c.in-Some.table.now) c.in-Some.ensures.there is
     ∙ ap (λ (columns : List ℕ). Ok (into c.args.name.now columns (from.Values (typed_rows c.args.rows.now)))) (sym places)
+
+pub returns-in-Ok-clause-refused : goal.returns-in-Ok-clause-refused
+returns-in-Ok-clause-refused c = tt
+
+pub returns-in-Ok-clause-causes : goal.returns-in-Ok-clause-causes
+returns-in-Ok-clause-causes c = tt
+
+pub returns-in-Some-first_fault-clause-found : goal.returns-in-Some-first_fault-clause-found
+returns-in-Some-first_fault-clause-found c = tt

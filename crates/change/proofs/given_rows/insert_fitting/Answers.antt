@@ -13,6 +13,7 @@ use Rattle.change.specs.Listed.{typed_rows}
 use Rattle.change.specs.Reached.{ChangeReaches}
 use Rattle.change.proofs.Named.{no_device}
 use Rattle.change.proofs.Reaching.{inserting_reaches}
+use Rattle.store.specs.Going.{Going}
 use Rattle.change.proofs.given_rows.insert_fitting.Goals as goal
 
 pub returns-in-Ok-rows_given-clause-changes : goal.returns-in-Ok-rows_given-clause-changes
@@ -79,3 +80,33 @@ returns-in-Err-clause-limits g c = tells_none (ChangeReaches (g.S.Store.counted 
 
 pub returns-in-Err-clause-device : goal.returns-in-Err-clause-device
 returns-in-Err-clause-device g c = λ is. absurd (no_device c.in-Err.refusal c.in-Err.ensures.refused is)
+
+pub returns-in-Ok-rows_given-clause-accepted : goal.returns-in-Ok-rows_given-clause-accepted
+returns-in-Ok-rows_given-clause-accepted g c = c.insert_rows.ensures.accepted
+
+pub returns-in-Ok-rows_given-clause-device : goal.returns-in-Ok-rows_given-clause-device
+returns-in-Ok-rows_given-clause-device g c = c.insert_rows.ensures.device
+
+pub returns-in-Ok-rows_given-clause-same : goal.returns-in-Ok-rows_given-clause-same
+returns-in-Ok-rows_given-clause-same g c = c.insert_rows.ensures.same
+
+pub returns-in-Ok-rows_given-clause-goes : goal.returns-in-Ok-rows_given-clause-goes
+returns-in-Ok-rows_given-clause-goes g c = c.insert_rows.ensures.goes
+
+pub returns-clause-changes : goal.returns-clause-changes
+returns-clause-changes g c = tt
+
+pub returns-clause-accepted : goal.returns-clause-accepted
+returns-clause-accepted g c = tt
+
+pub returns-clause-goes : goal.returns-clause-goes
+returns-clause-goes g c = g.met.S.Store.goes_on_refl _ Going.changes
+
+pub returns-in-Err-clause-changes : goal.returns-in-Err-clause-changes
+returns-in-Err-clause-changes g c = tt
+
+pub returns-in-Err-clause-accepted : goal.returns-in-Err-clause-accepted
+returns-in-Err-clause-accepted g c = tt
+
+pub returns-in-Err-clause-goes : goal.returns-in-Err-clause-goes
+returns-in-Err-clause-goes g c = g.met.S.Store.goes_on_refl _ Going.changes

@@ -4,6 +4,7 @@ use Rattle.table_changes.specs.Given.{into}
 use Rattle.change.specs.Given.{GivenReaches, RefusesGiven}
 use Rattle.change.specs.Listed.{typed_rows}
 use Rattle.change.proofs.Inserted.{found_as, given_reaches, no_device, no_limit, wrong_as}
+use Rattle.store.specs.Going.{Going}
 use Rattle.change.proofs.given_rows.insert_given.Goals as goal
 
 pub returns-in-Ok-clause-changes : goal.returns-in-Ok-clause-changes
@@ -39,3 +40,24 @@ returns-in-Err-clause-limits g c = no_limit (GivenReaches (g.S.Store.counted c.a
 
 pub returns-in-Err-clause-device : goal.returns-in-Err-clause-device
 returns-in-Err-clause-device g c = λ is. absurd (no_device c.in-Err.refusal c.in-Err.ensures.causes is)
+
+pub returns-in-Ok-clause-accepted : goal.returns-in-Ok-clause-accepted
+returns-in-Ok-clause-accepted g c = c.insert_fitting.ensures.accepted
+
+pub returns-in-Ok-clause-device : goal.returns-in-Ok-clause-device
+returns-in-Ok-clause-device g c = c.insert_fitting.ensures.device
+
+pub returns-in-Ok-clause-same : goal.returns-in-Ok-clause-same
+returns-in-Ok-clause-same g c = c.insert_fitting.ensures.same
+
+pub returns-in-Ok-clause-goes : goal.returns-in-Ok-clause-goes
+returns-in-Ok-clause-goes g c = c.insert_fitting.ensures.goes
+
+pub returns-in-Err-clause-changes : goal.returns-in-Err-clause-changes
+returns-in-Err-clause-changes g c = tt
+
+pub returns-in-Err-clause-accepted : goal.returns-in-Err-clause-accepted
+returns-in-Err-clause-accepted g c = tt
+
+pub returns-in-Err-clause-goes : goal.returns-in-Err-clause-goes
+returns-in-Err-clause-goes g c = g.met.S.Store.goes_on_refl _ Going.changes

@@ -31,3 +31,18 @@ returns-clause-refused c = IfErr-weaker c.stored_rows.result _ _
     (subst (λ (trees : List (List Expression)). AreTreesOf (rows_in db) (typed_rows c.args.rows) trees) (sym is) (are_trees (rows_in db) c.args.rows))
     (subst (λ (trees : List (List Expression)). Agree (rows_lent c.new.result) (rows_in db) (tables_in_rows trees)) (sym is) (all_agree (rows_lent c.new.result) (rows_in db) c.args.rows))))
     c.stored_rows.ensures.refused
+
+pub returns-clause-limits : goal.returns-clause-limits
+returns-clause-limits c = c.stored_rows.ensures.limits
+
+pub returns-clause-device : goal.returns-clause-device
+returns-clause-device c = c.stored_rows.ensures.device
+
+pub returns-in-Err-clause-gives : goal.returns-in-Err-clause-gives
+returns-in-Err-clause-gives c = tt
+
+pub returns-in-Err-clause-limits : goal.returns-in-Err-clause-limits
+returns-in-Err-clause-limits c = tt
+
+pub returns-in-Err-clause-device : goal.returns-in-Err-clause-device
+returns-in-Err-clause-device c = λ is. cc

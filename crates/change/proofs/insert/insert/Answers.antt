@@ -1,4 +1,4 @@
-use Rattle.std.proofs.Common.{◌≡◌, sym, ap, subst}
+use Rattle.std.proofs.Common.{◌≡◌, sym, ap, subst, OnErr}
 use Rattle.session_definitions.specs.Refusals.{IsReserved}
 use Rattle.change.proofs.Named.{no_device}
 use Rattle.std.proofs.lemmas.Result.{IfOk-weaker, IfErr-weaker}
@@ -7,7 +7,7 @@ use Rattle.typing.specs.declared.statement.Change.TheVariants as does
 use Rattle.denote.specs.SchemaOf.{IsSchemaOf}
 use Rattle.update_delete.specs.Checked.{AreChecksFor}
 use Rattle.store.specs.Contents.{database_of}
-use Rattle.store.specs.Stored.{Stored}
+use Rattle.store.specs.Stored.{Stored, SameButMark}
 use Rattle.constraints.specs.Changed.{RefusesChange}
 use Rattle.denote.specs.Database.{IsGood}
 use Rattle.table_changes.specs.Given.{AreGiven, HasAccepted}
@@ -92,3 +92,24 @@ returns-in-Ok-rows_of-clause-goes g c = g.met.S.Store.goes_on_trans _ _ _ Going.
 
 pub returns-clause-goes : goal.returns-clause-goes
 returns-clause-goes g c = g.met.S.Store.goes_on_trans _ _ _ Going.reads Going.changes c.rows_of.ensures.goes (g.met.S.Store.goes_on_refl _ Going.changes)
+
+pub returns-in-Ok-rows_of-clause-accepted : goal.returns-in-Ok-rows_of-clause-accepted
+returns-in-Ok-rows_of-clause-accepted g c = c.insert_rows.ensures.accepted
+
+pub returns-in-Ok-rows_of-clause-same : goal.returns-in-Ok-rows_of-clause-same
+returns-in-Ok-rows_of-clause-same g c = subst (λ (s : Stored). OnErr c.insert_rows.result (SameButMark s (g.S.Store.shows c.insert_rows.new.store))) c.rows_of.ensures.shows c.insert_rows.ensures.same
+
+pub returns-clause-changes : goal.returns-clause-changes
+returns-clause-changes g c = tt
+
+pub returns-clause-accepted : goal.returns-clause-accepted
+returns-clause-accepted g c = tt
+
+pub returns-in-Err-clause-changes : goal.returns-in-Err-clause-changes
+returns-in-Err-clause-changes g c = tt
+
+pub returns-in-Err-clause-accepted : goal.returns-in-Err-clause-accepted
+returns-in-Err-clause-accepted g c = tt
+
+pub returns-in-Err-clause-goes : goal.returns-in-Err-clause-goes
+returns-in-Err-clause-goes g c = g.met.S.Store.goes_on_refl _ Going.changes

@@ -17,3 +17,27 @@ returns-in-Query-clause-gives g c = IfOk-weaker c.query_rows.result _ _ (λ rows
 
 pub returns-in-Query-clause-refused : goal.returns-in-Query-clause-refused
 returns-in-Query-clause-refused g c = IfErr-weaker c.query_rows.result _ _ (λ refusal h reading table sound of good there checks. h reading table sound of good there checks c.in-Query.is) c.query_rows.ensures.refused
+
+pub returns-in-Values-clause-limits : goal.returns-in-Values-clause-limits
+returns-in-Values-clause-limits g c = c.value_rows.ensures.limits
+
+pub returns-in-Values-clause-device : goal.returns-in-Values-clause-device
+returns-in-Values-clause-device g c = c.value_rows.ensures.device
+
+pub returns-in-Values-clause-shows : goal.returns-in-Values-clause-shows
+returns-in-Values-clause-shows g c = c.value_rows.ensures.shows
+
+pub returns-in-Values-clause-goes : goal.returns-in-Values-clause-goes
+returns-in-Values-clause-goes g c = c.value_rows.ensures.goes
+
+pub returns-in-Query-clause-limits : goal.returns-in-Query-clause-limits
+returns-in-Query-clause-limits g c = c.query_rows.ensures.limits
+
+pub returns-in-Query-clause-device : goal.returns-in-Query-clause-device
+returns-in-Query-clause-device g c = c.query_rows.ensures.device
+
+pub returns-in-Query-clause-shows : goal.returns-in-Query-clause-shows
+returns-in-Query-clause-shows g c = c.query_rows.ensures.shows
+
+pub returns-in-Query-clause-goes : goal.returns-in-Query-clause-goes
+returns-in-Query-clause-goes g c = c.query_rows.ensures.goes

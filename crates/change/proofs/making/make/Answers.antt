@@ -72,3 +72,87 @@ returns-in-Update-clause-limits g c = rw c.in-Update.is c.update.ensures.limits
 
 pub returns-in-Delete-clause-limits : goal.returns-in-Delete-clause-limits
 returns-in-Delete-clause-limits g c = rw c.in-Delete.is c.delete.ensures.limits
+
+pub returns-in-CreateTable-clause-accepted : goal.returns-in-CreateTable-clause-accepted
+returns-in-CreateTable-clause-accepted g c = c.create_table.ensures.accepted
+
+pub returns-in-CreateTable-clause-device : goal.returns-in-CreateTable-clause-device
+returns-in-CreateTable-clause-device g c = c.create_table.ensures.device
+
+pub returns-in-CreateTable-clause-same : goal.returns-in-CreateTable-clause-same
+returns-in-CreateTable-clause-same g c = c.create_table.ensures.same
+
+pub returns-in-CreateTable-clause-goes : goal.returns-in-CreateTable-clause-goes
+returns-in-CreateTable-clause-goes g c = c.create_table.ensures.goes
+
+pub returns-in-DropTable-clause-accepted : goal.returns-in-DropTable-clause-accepted
+returns-in-DropTable-clause-accepted g c = c.drop_table.ensures.accepted
+
+pub returns-in-DropTable-clause-device : goal.returns-in-DropTable-clause-device
+returns-in-DropTable-clause-device g c = c.drop_table.ensures.device
+
+pub returns-in-DropTable-clause-same : goal.returns-in-DropTable-clause-same
+returns-in-DropTable-clause-same g c = c.drop_table.ensures.same
+
+pub returns-in-DropTable-clause-goes : goal.returns-in-DropTable-clause-goes
+returns-in-DropTable-clause-goes g c = c.drop_table.ensures.goes
+
+pub returns-in-CreateIndex-clause-accepted : goal.returns-in-CreateIndex-clause-accepted
+returns-in-CreateIndex-clause-accepted g c = c.create_index.ensures.accepted
+
+pub returns-in-CreateIndex-clause-device : goal.returns-in-CreateIndex-clause-device
+returns-in-CreateIndex-clause-device g c = c.create_index.ensures.device
+
+pub returns-in-CreateIndex-clause-same : goal.returns-in-CreateIndex-clause-same
+returns-in-CreateIndex-clause-same g c = c.create_index.ensures.same
+
+pub returns-in-CreateIndex-clause-goes : goal.returns-in-CreateIndex-clause-goes
+returns-in-CreateIndex-clause-goes g c = c.create_index.ensures.goes
+
+pub returns-in-DropIndex-clause-accepted : goal.returns-in-DropIndex-clause-accepted
+returns-in-DropIndex-clause-accepted g c = c.drop_index.ensures.accepted
+
+pub returns-in-DropIndex-clause-device : goal.returns-in-DropIndex-clause-device
+returns-in-DropIndex-clause-device g c = c.drop_index.ensures.device
+
+pub returns-in-DropIndex-clause-same : goal.returns-in-DropIndex-clause-same
+returns-in-DropIndex-clause-same g c = c.drop_index.ensures.same
+
+pub returns-in-DropIndex-clause-goes : goal.returns-in-DropIndex-clause-goes
+returns-in-DropIndex-clause-goes g c = c.drop_index.ensures.goes
+
+pub returns-in-Insert-clause-accepted : goal.returns-in-Insert-clause-accepted
+returns-in-Insert-clause-accepted g c = c.insert.ensures.accepted
+
+pub returns-in-Insert-clause-device : goal.returns-in-Insert-clause-device
+returns-in-Insert-clause-device g c = c.insert.ensures.device
+
+pub returns-in-Insert-clause-same : goal.returns-in-Insert-clause-same
+returns-in-Insert-clause-same g c = c.insert.ensures.same
+
+pub returns-in-Insert-clause-goes : goal.returns-in-Insert-clause-goes
+returns-in-Insert-clause-goes g c = c.insert.ensures.goes
+
+pub returns-in-Update-clause-accepted : goal.returns-in-Update-clause-accepted
+returns-in-Update-clause-accepted g c = c.update.ensures.accepted
+
+pub returns-in-Update-clause-device : goal.returns-in-Update-clause-device
+returns-in-Update-clause-device g c = c.update.ensures.device
+
+pub returns-in-Update-clause-same : goal.returns-in-Update-clause-same
+returns-in-Update-clause-same g c = c.update.ensures.same
+
+pub returns-in-Update-clause-goes : goal.returns-in-Update-clause-goes
+returns-in-Update-clause-goes g c = c.update.ensures.goes
+
+pub returns-in-Delete-clause-accepted : goal.returns-in-Delete-clause-accepted
+returns-in-Delete-clause-accepted g c = c.delete.ensures.accepted
+
+pub returns-in-Delete-clause-device : goal.returns-in-Delete-clause-device
+returns-in-Delete-clause-device g c = c.delete.ensures.device
+
+pub returns-in-Delete-clause-same : goal.returns-in-Delete-clause-same
+returns-in-Delete-clause-same g c = c.delete.ensures.same
+
+pub returns-in-Delete-clause-goes : goal.returns-in-Delete-clause-goes
+returns-in-Delete-clause-goes g c = c.delete.ensures.goes

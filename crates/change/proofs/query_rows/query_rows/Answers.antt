@@ -54,3 +54,27 @@ returns-clause-refused g c = λ reading table sound of good there checks source.
     let planned = c.in-Ok.ensures.plan reading (g.S.Store.shows c.args.store.now).working good known in
     refuses_fault reading db c.args.insert.now table there c.args.query.now source c.in-Err-sources_of.refusal
     (c.in-Err-sources_of.ensures.refused sound c.args.query.now planned)
+
+pub returns-in-Ok-sources_of-clause-limits : goal.returns-in-Ok-sources_of-clause-limits
+returns-in-Ok-sources_of-clause-limits g c = c.stored_rows.ensures.limits
+
+pub returns-in-Ok-sources_of-clause-shows : goal.returns-in-Ok-sources_of-clause-shows
+returns-in-Ok-sources_of-clause-shows g c = c.sources_of.ensures.shows
+
+pub returns-in-Ok-sources_of-clause-goes : goal.returns-in-Ok-sources_of-clause-goes
+returns-in-Ok-sources_of-clause-goes g c = c.sources_of.ensures.goes
+
+pub returns-clause-gives : goal.returns-clause-gives
+returns-clause-gives g c = tt
+
+pub returns-clause-limits : goal.returns-clause-limits
+returns-clause-limits g c = c.in-Err-sources_of.ensures.limits
+
+pub returns-clause-device : goal.returns-clause-device
+returns-clause-device g c = c.in-Err-sources_of.ensures.device
+
+pub returns-clause-shows : goal.returns-clause-shows
+returns-clause-shows g c = c.sources_of.ensures.shows
+
+pub returns-clause-goes : goal.returns-clause-goes
+returns-clause-goes g c = c.sources_of.ensures.goes

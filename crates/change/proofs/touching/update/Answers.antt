@@ -9,6 +9,7 @@ use Rattle.change.proofs.Named.{no_device}
 use Rattle.std.specs.FinMap.{get}
 use Rattle.update_delete.specs.Reached.{IsNumberedOut, ReplacingReaches}
 use Rattle.constraints.proofs.Limits.{tells_none}
+use Rattle.store.specs.Going.{Going}
 use Rattle.change.proofs.touching.update.Goals as goal
 
 pub returns-in-Ok-clause-changes : goal.returns-in-Ok-clause-changes
@@ -40,3 +41,27 @@ returns-in-Err-clause-device g c = λ is. absurd (no_device c.in-Err.refusal c.i
 
 pub returns-in-Err-clause-limits : goal.returns-in-Err-clause-limits
 returns-in-Err-clause-limits g c = tells_none (ReplacingReaches (g.S.Store.counted c.args.store.now) (g.S.Store.is_sound c.args.store.now → IsNumberedOut (get (g.S.Store.shows c.args.store.now).working c.args.update.now.table))) c.in-Err.refusal c.in-Err.ensures.limits
+
+pub returns-in-Ok-clause-accepted : goal.returns-in-Ok-clause-accepted
+returns-in-Ok-clause-accepted g c = c.update_rows.ensures.accepted
+
+pub returns-in-Ok-clause-limits : goal.returns-in-Ok-clause-limits
+returns-in-Ok-clause-limits g c = c.update_rows.ensures.limits
+
+pub returns-in-Ok-clause-device : goal.returns-in-Ok-clause-device
+returns-in-Ok-clause-device g c = c.update_rows.ensures.device
+
+pub returns-in-Ok-clause-same : goal.returns-in-Ok-clause-same
+returns-in-Ok-clause-same g c = c.update_rows.ensures.same
+
+pub returns-in-Ok-clause-goes : goal.returns-in-Ok-clause-goes
+returns-in-Ok-clause-goes g c = c.update_rows.ensures.goes
+
+pub returns-in-Err-clause-changes : goal.returns-in-Err-clause-changes
+returns-in-Err-clause-changes g c = tt
+
+pub returns-in-Err-clause-accepted : goal.returns-in-Err-clause-accepted
+returns-in-Err-clause-accepted g c = tt
+
+pub returns-in-Err-clause-goes : goal.returns-in-Err-clause-goes
+returns-in-Err-clause-goes g c = g.met.S.Store.goes_on_refl _ Going.changes

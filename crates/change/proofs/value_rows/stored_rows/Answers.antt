@@ -35,3 +35,9 @@ returns-in-Some-clause-refused c = IfErr-weaker c.rows_to_insert.result _ _
     (h (rows_in db) conditions values agree are (subst (λ (trees : List Condition). AreChecksOf conditions trees) (sym c.as_slice.ensures) checks)) in
     subst (λ (e : Evaluation (List Row)). GivesFaults (faults_in e) refusal) same found)
     c.rows_to_insert.ensures.refused
+
+pub returns-in-Some-clause-limits : goal.returns-in-Some-clause-limits
+returns-in-Some-clause-limits c = c.rows_to_insert.ensures.limits
+
+pub returns-in-Some-clause-device : goal.returns-in-Some-clause-device
+returns-in-Some-clause-device c = c.rows_to_insert.ensures.device

@@ -36,3 +36,27 @@ returns-in-Ok-tables_named-clause-device g c = IfErr-weaker c.stored_rows.result
 
 pub returns-clause-refused : goal.returns-clause-refused
 returns-clause-refused g c = λ reading table sound of good there checks source. RefusesChange.withheld (c.in-Err-tables_named.ensures.refused sound)
+
+pub returns-in-Ok-tables_named-clause-limits : goal.returns-in-Ok-tables_named-clause-limits
+returns-in-Ok-tables_named-clause-limits g c = c.stored_rows.ensures.limits
+
+pub returns-in-Ok-tables_named-clause-shows : goal.returns-in-Ok-tables_named-clause-shows
+returns-in-Ok-tables_named-clause-shows g c = c.tables_named.ensures.shows
+
+pub returns-in-Ok-tables_named-clause-goes : goal.returns-in-Ok-tables_named-clause-goes
+returns-in-Ok-tables_named-clause-goes g c = c.tables_named.ensures.goes
+
+pub returns-clause-gives : goal.returns-clause-gives
+returns-clause-gives g c = tt
+
+pub returns-clause-limits : goal.returns-clause-limits
+returns-clause-limits g c = c.in-Err-tables_named.ensures.limits
+
+pub returns-clause-device : goal.returns-clause-device
+returns-clause-device g c = c.in-Err-tables_named.ensures.device
+
+pub returns-clause-shows : goal.returns-clause-shows
+returns-clause-shows g c = c.tables_named.ensures.shows
+
+pub returns-clause-goes : goal.returns-clause-goes
+returns-clause-goes g c = c.tables_named.ensures.goes
