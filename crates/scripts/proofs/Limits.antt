@@ -21,7 +21,7 @@ use Rattle.sessions.proofs.Limits.{tells_none, told_wider}
 use Rattle.store.specs.declared.error.StoreLimit.{StoreLimit}
 use Rattle.store.specs.declared.error.StoreLimit.TheVariants as reached
 use Rattle.transactions.specs.Refused.{IfRefused, TellsReached, TellsNoLimit}
-use Rattle.scripts.specs.Limits.{UpTo, MayReach, RequestReaches, PieceReaches, TellsLimits, TellLimits}
+use Rattle.scripts.specs.Limits.{UpTo, TextReaches, RequestReaches, PieceReaches, TellsLimits, TellLimits}
 
 -- ---- a call
 
@@ -32,16 +32,16 @@ statement_may counted commits (asks.Commit work) which h = h
 statement_may counted commits _ which h = h
 
 pub call_told : (may : ℕ → Type 0) (counted : StoreLimit → Type 0) (commits : ℕ) (text : Bytes) (reply : Reply) → may commits → IfRefused reply (TellsReached (CallReaches counted commits text))
-    → IfRefused reply (TellsReached (MayReach may text))
+    → IfRefused reply (TellsReached (TextReaches may text))
 call_told may counted commits text reply after h =
-    told_wider (CallReaches counted commits text) (MayReach may text) (λ which h. (commits, after, (h.0, h.1, statement_may counted commits h.0 which h.2))) reply h
+    told_wider (CallReaches counted commits text) (TextReaches may text) (λ which h. (commits, after, (h.0, h.1, statement_may counted commits h.0 which h.2))) reply h
 
 -- the session was not made
 pub not_made_told : (refusal : Refusal) → refusal ≡ Exceeded limit.Sessions → TellsNoLimit refusal
 not_made_told refusal is = subst TellsNoLimit (sym is) tt
 
-pub none_told : (may : ℕ → Type 0) (text : Bytes) (refusal : Refusal) → TellsNoLimit refusal → IfRefused (says.Refused refusal) (TellsReached (MayReach may text))
-none_told may text refusal h = tells_none (MayReach may text) refusal h
+pub none_told : (may : ℕ → Type 0) (text : Bytes) (refusal : Refusal) → TellsNoLimit refusal → IfRefused (says.Refused refusal) (TellsReached (TextReaches may text))
+none_told may text refusal h = tells_none (TextReaches may text) refusal h
 
 -- ---- a request
 
@@ -56,12 +56,12 @@ flush_told may request reply (inr (refusal, stops, is)) =
     subst (λ r. IfRefused r (TellsReached (RequestReaches may request))) (sym is) (tells_none (RequestReaches may request) refusal (flush_tells refusal stops))
 
 pub request_told : (may : ℕ → Type 0) (request : found.Request) (chosen : Option ℕ) (text call : List ℕ) (reply : Reply) → request ≡ found_variants.Calls chosen → call ≡ text
-    → IfRefused reply (TellsReached (MayReach may call)) → IfRefused reply (TellsReached (RequestReaches may (asked request text)))
+    → IfRefused reply (TellsReached (TextReaches may call)) → IfRefused reply (TellsReached (RequestReaches may (asked request text)))
 request_told may request chosen text call reply is same h =
     subst (λ (q : found.Request). IfRefused reply (TellsReached (RequestReaches may (asked q text)))) (sym is)
-    (told_wider (MayReach may call) (RequestReaches may (asked (found_variants.Calls chosen) text)) (λ which reaches. reaching chosen which (subst (λ (t : List ℕ). MayReach may t which) same reaches)) reply h)
+    (told_wider (TextReaches may call) (RequestReaches may (asked (found_variants.Calls chosen) text)) (λ which reaches. reaching chosen which (subst (λ (t : List ℕ). TextReaches may t which) same reaches)) reply h)
   where
-    reaching : (chosen : Option ℕ) (which : StoreLimit) → MayReach may text which → RequestReaches may (asked (found_variants.Calls chosen) text) which
+    reaching : (chosen : Option ℕ) (which : StoreLimit) → TextReaches may text which → RequestReaches may (asked (found_variants.Calls chosen) text) which
     reaching None which h = h
     reaching (Some session) which h = h
 

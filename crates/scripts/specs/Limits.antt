@@ -19,13 +19,13 @@ UpTo last commits = commits ≤ last
 -- The text is a change, which may reach each of them, or a COMMIT, which takes no private page, and
 -- reaches the limit of pages only where the number of commits ends. `may` says after how many
 -- commits.
-abbrev pub MayReach : (ℕ → Type 0) → Bytes → StoreLimit → Type 0
-MayReach may text which = (commits : ℕ) × may commits × CallReaches (λ _. Unit {0}) commits text which
+abbrev pub TextReaches : (ℕ → Type 0) → Bytes → StoreLimit → Type 0
+TextReaches may text which = (commits : ℕ) × may commits × CallReaches (λ _. Unit {0}) commits text which
 
 -- the request is a call of such a text
 abbrev pub RequestReaches : (ℕ → Type 0) → Request → StoreLimit → Type 0
-RequestReaches may (Request.Calls text) which = MayReach may text which
-RequestReaches may (Request.ChoosesAndCalls session text) which = MayReach may text which
+RequestReaches may (Request.Calls text) which = TextReaches may text which
+RequestReaches may (Request.ChoosesAndCalls session text) which = TextReaches may text which
 RequestReaches may _ which = ⊥
 
 -- the piece asks for one

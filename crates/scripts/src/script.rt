@@ -10,7 +10,7 @@ ghost use Rattle.session_definitions.specs.Script.{EndsSessions, Performs, Plays
 ghost use Rattle.sessions.specs.OfCore.{IsSound, world_of};
 ghost use Rattle.transactions.specs.Refused.{Counts, IfRefused, TellsReached};
 ghost use Rattle.scripts.specs.Settled.{HasNoSession, HoldAll, IsCommitted, IsKept, IsKeptBy, IsSettled, store_of};
-ghost use Rattle.scripts.specs.Limits.{Ever, MayReach, RequestReaches, UpTo};
+ghost use Rattle.scripts.specs.Limits.{Ever, TextReaches, RequestReaches, UpTo};
 ghost use Rattle.scripts.specs.Played.{between, IsNotInterrupted, RunsInPart, RunsWhole};
 ghost use Rattle.scripts.specs.Shown.{Prints, ShowsEarly, ShowsWhole};
 ghost use Rattle.scripts.specs.Playing.{AfterTurn, AreLive, FindsNone, FindsSession, HasEnded, HasFailed, HasFinished, HasStopped, IsCarriedOut, IsPlaying, IsReading, IsReady, Start, numbers_of, scene_of};
@@ -414,9 +414,9 @@ impl Sessions {
             × IsReady (world_of S.shows core.new) self.new }
         ensures refused { self.new.refused ≡ self.old.refused }
         ensures device { Counts result (S.refused (store_of core.old)) (S.refused (store_of core.new)) }
-        ensures limits { IfRefused result (TellsReached (MayReach Ever text.now)) }
+        ensures limits { IfRefused result (TellsReached (TextReaches Ever text.now)) }
         ensures within { (rules : Rules) → AreRules rules → IsKept S.is_sound S.shows rules.check core.old
-            → IfRefused result (TellsReached (MayReach (UpTo (world_of S.shows core.new).commits) text.now)) }
+            → IfRefused result (TellsReached (TextReaches (UpTo (world_of S.shows core.new).commits) text.now)) }
         ensures kept { (rules : Rules) → AreRules rules → IsKept S.is_sound S.shows rules.check core.old
             → IsKept S.is_sound S.shows rules.check core.new }
         ensures held { HoldAll self.old.standing (world_of S.shows core.old)
