@@ -34,7 +34,7 @@ use Rattle.sessions.specs.declared.core_of.SessionId.{SessionId}
 use Rattle.sessions.specs.OfCore.{number_of}
 use Rattle.scripts.specs.declared.script.Sessions.{Sessions}
 use Rattle.scripts.specs.Settled.{Places}
-use Rattle.scripts.specs.Limits.{Ever, RequestReaches, UpTo}
+use Rattle.scripts.specs.ToldLimits.{Ever, RequestReaches, UpTo}
 use Rattle.scripts.specs.Played.{ArePiecesSoFar, AreWrittenButLast}
 use Rattle.scripts.specs.Shown.{Prints, IsReplied, AreReplied}
 use Rattle.scripts.specs.Playing.{Start, scene_of, numbers_of, standing_from, AreLive, IsReady, FindsSession, IsCarriedOut, HasPlayed, IsPlaying, HasStopped, HasPrinted, HasBroken, HasFinished, HasEnded, IsReading, FindsNone}

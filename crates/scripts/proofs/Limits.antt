@@ -21,7 +21,7 @@ use Rattle.sessions.proofs.Limits.{tells_none, told_wider}
 use Rattle.store.specs.declared.error.StoreLimit.{StoreLimit}
 use Rattle.store.specs.declared.error.StoreLimit.TheVariants as reached
 use Rattle.transactions.specs.Refused.{IfRefused, TellsReached, TellsNoLimit}
-use Rattle.scripts.specs.Limits.{UpTo, TextReaches, RequestReaches, PieceReaches, TellsLimits, TellLimits}
+use Rattle.scripts.specs.ToldLimits.{UpTo, TextReaches, RequestReaches, PieceReaches, TellsLimits, TellLimits}
 
 -- ---- a call
 

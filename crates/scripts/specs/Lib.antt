@@ -1,6 +1,6 @@
 pub mod Settled
 pub mod Device
-pub mod Limits
+pub mod ToldLimits
 pub mod Played
 pub mod Shown
 pub mod Playing

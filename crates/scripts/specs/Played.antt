@@ -11,7 +11,7 @@ use Rattle.session_definitions.specs.World.{World}
 use Rattle.scripts.specs.declared.script.ScriptFault.{ScriptFault}
 use Rattle.scripts.specs.declared.script.ScriptFault.TheVariants.{Memory, Reader, Writer}
 use Rattle.scripts.specs.Device.{TellDevice}
-use Rattle.scripts.specs.Limits.{UpTo, TellLimits}
+use Rattle.scripts.specs.ToldLimits.{UpTo, TellLimits}
 
 -- Of a reader the bytes that it had, and those that it has left; of a writer the bytes that it
 -- held, and those that it holds: each where its type tells them.

@@ -24,7 +24,7 @@ use Rattle.scripts.specs.declared.script.ScriptFault.TheVariants.{Memory, Reader
 use Rattle.scripts.specs.declared.script.Sessions.{Sessions}
 use Rattle.scripts.specs.Settled.{Places}
 use Rattle.scripts.specs.Device.{TellDevice, shows_disk}
-use Rattle.scripts.specs.Limits.{Ever, UpTo, TellsLimits, TellLimits}
+use Rattle.scripts.specs.ToldLimits.{Ever, UpTo, TellsLimits, TellLimits}
 use Rattle.scripts.specs.Played.{ArePiecesSoFar, AreWrittenButLast}
 use Rattle.scripts.specs.Shown.{Prints, AreReplied}
 

@@ -12,7 +12,7 @@ use Rattle.session_definitions.specs.Script.{RepliesToFlush, has_refusal, printe
 use Rattle.scripts.specs.declared.script.ScriptFault.{ScriptFault}
 use Rattle.scripts.specs.declared.script.ScriptFault.TheVariants.{Memory, Reader, Writer}
 use Rattle.scripts.specs.Device.{TellDevice}
-use Rattle.scripts.specs.Limits.{Ever, TellLimits}
+use Rattle.scripts.specs.ToldLimits.{Ever, TellLimits}
 use Rattle.scripts.specs.Played.{Streams, ArePiecesSoFar, AreWrittenButLast}
 
 -- ---- replies

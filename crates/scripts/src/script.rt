@@ -10,7 +10,7 @@ ghost use Rattle.session_definitions.specs.Script.{EndsSessions, Performs, Plays
 ghost use Rattle.sessions.specs.OfCore.{IsSound, world_of};
 ghost use Rattle.transactions.specs.Refused.{Counts, IfRefused, TellsReached};
 ghost use Rattle.scripts.specs.Settled.{HasNoSession, HoldAll, IsCommitted, IsKept, IsKeptBy, IsSettled, store_of};
-ghost use Rattle.scripts.specs.Limits.{Ever, TextReaches, RequestReaches, UpTo};
+ghost use Rattle.scripts.specs.ToldLimits.{Ever, TextReaches, RequestReaches, UpTo};
 ghost use Rattle.scripts.specs.Played.{between, IsNotInterrupted, RunsInPart, RunsWhole};
 ghost use Rattle.scripts.specs.Shown.{Prints, ShowsEarly, ShowsWhole};
 ghost use Rattle.scripts.specs.Playing.{AfterTurn, AreLive, FindsNone, FindsSession, HasEnded, HasFailed, HasFinished, HasStopped, IsCarriedOut, IsPlaying, IsReading, IsReady, Start, numbers_of, scene_of};

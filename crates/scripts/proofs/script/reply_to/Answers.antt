@@ -4,7 +4,7 @@ use Rattle.script_pieces.specs.Cutter.{asked, call_text}
 use Rattle.session_definitions.specs.World.{World}
 use Rattle.sessions.specs.OfCore.{world_of}
 use Rattle.scripts.specs.Settled.{HoldAll}
-use Rattle.scripts.specs.Limits.{Ever, UpTo}
+use Rattle.scripts.specs.ToldLimits.{Ever, UpTo}
 use Rattle.scripts.specs.declared.script.Sessions.{Sessions}
 use Rattle.scripts.proofs.Carried.{performs_calls, performs_chosen_call, prints_call, prints_flush}
 use Rattle.scripts.proofs.Limits.{flush_told, request_told}

@@ -1,6 +1,6 @@
 use Rattle.session_definitions.specs.Asked.{Asked}
 use Rattle.sessions.specs.OfCore.{slots_of, world_of}
-use Rattle.scripts.specs.Limits.{Ever, UpTo}
+use Rattle.scripts.specs.ToldLimits.{Ever, UpTo}
 use Rattle.scripts.proofs.Keeping.{commits_grow, kept_step, good_seen}
 use Rattle.scripts.proofs.Placed.{held_same}
 use Rattle.scripts.proofs.Carried.{plays_found, ready_found, live_found, ready_alike, plays_not_made, ready_not_made}
