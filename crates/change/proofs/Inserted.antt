@@ -14,7 +14,6 @@ use Rattle.denote.specs.Database.{Name}
 use Rattle.table_changes.specs.Given.{into}
 use Rattle.change.specs.Listed.{typed_rows}
 use Rattle.store.specs.declared.error.StoreLimit.{StoreLimit}
-use Rattle.store.specs.declared.error.StoreLimit.TheVariants as limit
 use Rattle.store.specs.Contents.{Contents}
 use Rattle.constraints.proofs.Limits.{tells_wider}
 use Rattle.transactions.specs.Refused.{TellsReached, TellsNoLimit}
@@ -31,17 +30,11 @@ no_limit Q r (inl e) = subst (TellsReached Q) (sym e) tt
 no_limit Q r (inr h) = subst (TellsReached Q) (sym h.1) tt
 
 module _ (counted : StoreLimit → Type 0) (sound : Type 0) (schema : Schema) (c : Contents) (name : Name) (rows : List Row) (insert : Insert) (found : given_found schema name rows ≡ Ok insert) where
-  same : (other : Insert) → given_found schema name rows ≡ Ok other → insert ≡ other
-  same other e = let both : Ok insert ≡ Ok other = sym found ∙ e in cc
-
-  wider : (which : StoreLimit) → ChangeReaches counted sound schema c (does.Insert insert) which → GivenReaches counted sound schema c name rows which
-  wider which reached = λ other e. subst (λ (i : Insert). ChangeReaches counted sound schema c (does.Insert i) which) (same other e) reached
-
   -- what the INSERT that was found reaches
   pub given_reaches : (r : Refusal) → TellsReached (ChangeReaches counted sound schema c (does.Insert insert)) r → TellsReached (GivenReaches counted sound schema c name rows) r
   given_reaches r h =
       tells_wider (ChangeReaches counted sound schema c (does.Insert insert)) (GivenReaches counted sound schema c name rows)
-      (wider limit.Pages) (wider limit.Private) (wider limit.Kept) r h
+      (λ reached. (insert, found, reached)) (λ reached. (insert, found, reached)) (λ reached. (insert, found, reached)) r h
 
 -- what is found of rows that were lent is found of them
 module _ (schema lent : Schema) (name : Name) (rows slice : List Row) (of : lent ≡ schema) (is : slice ≡ rows) where

@@ -35,8 +35,8 @@ pub data RefusesGiven (reading : CheckReading) (schema : Schema) (db : Database)
   refused : (insert : Insert) → given_found schema name rows ≡ Ok insert
       → RefusesChange reading db (does.Insert insert) refusal → RefusesGiven reading schema db name rows refusal
 
--- the limits that the INSERT of them reaches, where they fit
+-- they fit, and the INSERT of them reaches this limit
 abbrev pub GivenReaches : (StoreLimit → Type 0) → Type 0 → Schema → Contents → Name → List Row → StoreLimit → Type 0
 GivenReaches counted sound schema c name rows which =
-    (insert : Insert) → given_found schema name rows ≡ Ok insert
-    → ChangeReaches counted sound schema c (does.Insert insert) which
+    (insert : Insert) × (given_found schema name rows ≡ Ok insert)
+    × ChangeReaches counted sound schema c (does.Insert insert) which
