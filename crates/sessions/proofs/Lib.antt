@@ -10,6 +10,8 @@ pub mod Statements
 pub mod Cores
 pub mod Devices
 pub mod Limits
+pub mod ToldLimits
+pub mod Damage
 pub mod Going
 pub mod Kept
 pub mod Holding

@@ -29,7 +29,7 @@ use Rattle.sessions.proofs.Unread.{is_memory}
 
 -- ---- what may be reached otherwise
 
-tells_wider : (P Q : StoreLimit → Type 0) → ((which : StoreLimit) → P which → Q which) → (r : Refusal) → TellsReached P r → TellsReached Q r
+pub tells_wider : (P Q : StoreLimit → Type 0) → ((which : StoreLimit) → P which → Q which) → (r : Refusal) → TellsReached P r → TellsReached Q r
 tells_wider P Q wider (refused.Exceeded limit.Pages) h = wider _ h
 tells_wider P Q wider (refused.Exceeded limit.Private) h = wider _ h
 tells_wider P Q wider (refused.Exceeded limit.Kept) h = wider _ h

@@ -38,7 +38,14 @@ abbrev pub is_fetch : Statement → Bool
 is_fetch (asks.Fetch x) = true
 is_fetch _ = false
 
--- the text is one
+-- whether it is COMMIT, ROLLBACK or SET TRANSACTION
+abbrev pub is_of_transaction : Statement → Bool
+is_of_transaction (asks.Commit work) = true
+is_of_transaction (asks.Rollback work) = true
+is_of_transaction (asks.SetTransaction mode) = true
+is_of_transaction _ = false
+
+-- the text is a FETCH
 abbrev pub IsFetchText : Bytes → Type 0
 IsFetchText text = (name : Name) × IsRead text (asks.Fetch name)
 

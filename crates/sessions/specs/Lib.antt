@@ -9,5 +9,6 @@ pub mod Opened
 pub mod Turned
 pub mod OfCore
 pub mod Limits
+pub mod ToldLimits
 pub mod Committing
 pub mod Opening

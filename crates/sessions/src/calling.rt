@@ -1,7 +1,8 @@
 //! From the text of a call to its reply.
-ghost use Rattle.std.specs.Prelude.{◌≡◌, ◌≢◌, ◌⊎◌, ℕ, false, [], ◌∷◌, Option};
+ghost use Rattle.std.specs.Prelude.{◌≡◌, ◌≢◌, ◌⊎◌, ℕ, true, false, [], ◌∷◌, Option};
 ghost use Rattle.std.specs.FinMap.{get};
 ghost use Rattle.ast.specs.declared.statement.OrderedQuery.{OrderedQuery};
+ghost use Rattle.ast.specs.declared.statement.Statement.{Statement as Tree};
 ghost use Rattle.ast.specs.declared.statement.Statement.TheVariants as asks;
 ghost use Rattle.lexer.specs.Token.{Bytes};
 ghost use Rattle.denote.specs.Database.{IsGood};
@@ -14,15 +15,16 @@ ghost use Rattle.refusals.specs.declared.refusal.Refusal.TheVariants.{Serializat
 ghost use Rattle.store.specs.Going.{Going};
 ghost use Rattle.store.specs.Stored.{SameButMark};
 ghost use Rattle.transactions.specs.Orderly.{IsOrderly};
-ghost use Rattle.transactions.specs.Refused.{Counts, IfRefused, TellsReached};
+ghost use Rattle.transactions.specs.Refused.{Counts, IfRefused, TellsDamage, TellsReached};
 ghost use Rattle.transactions.specs.Shown.{settled};
 ghost use Rattle.sessions.specs.Committing.{CommitsAsWriter, IsCommitOfWriter};
 ghost use Rattle.sessions.specs.Explained.{IfLines, ShowsLines};
 ghost use Rattle.sessions.specs.Held.{FitsIn, Holds, Leaves};
-ghost use Rattle.sessions.specs.Kinds.{IsFetchText, is_declare, is_fetch};
+ghost use Rattle.sessions.specs.Kinds.{IsFetchText, is_change, is_declare, is_fetch, is_of_transaction};
 ghost use Rattle.sessions.specs.Limits.{CallReaches, StatementReaches};
 ghost use Rattle.sessions.specs.Numbers.{kept_of};
 ghost use Rattle.sessions.specs.Seen.{seen_in};
+ghost use Rattle.sessions.specs.ToldLimits.{IsSaidBetween, StatementTells};
 
 use crate::change::change;
 use crate::changes::Changes;
@@ -70,6 +72,11 @@ pub(crate) fn call<S: Store, L: Language + Changes<S>>(
         → IfLines result (ShowsLines (seen_in (S.shows store.old) writer.old session) x) }
     ensures device { Counts result (S.refused store.old) (S.refused store.new) }
     ensures limits { IfRefused result (TellsReached (CallReaches (S.counted store.old) (S.shows store.old).commits text.now)) }
+    ensures reached { (x : Tree) → IsRead text.now x → is_change x ≡ true
+        → IfRefused result (IsSaidBetween S.goes_on store.old store.new (λ middle.
+        TellsReached (StatementTells (S.counted middle) (S.is_sound store.old) (S.shows store.old).working x))) }
+    ensures damage { (x : Tree) → IsRead text.now x → is_of_transaction x ≡ true
+        → TellsDamage result (S.damaged store.old) (S.damaged store.new) }
     ensures rolled_back { IsRollback text.now → result ≡ Reply.Done }
     ensures kept { IfRefused result (λ refusal. refusal ≢ SerializationFailure → (IsFetchText text.now → ⊥)
         → SameButMark (S.shows store.old) (S.shows store.new) × (writer.new ≡ writer.old)
@@ -116,6 +123,11 @@ fn carry_out<S: Store, L: Language + Changes<S>>(
         → IfLines result (ShowsLines (seen_in (S.shows store.old) writer.old session) x) }
     ensures device { Counts result (S.refused store.old) (S.refused store.new) }
     ensures limits { IfRefused result (TellsReached (StatementReaches (S.counted store.old) (S.shows store.old).commits statement.now)) }
+    ensures reached { is_change statement.now ≡ true
+        → IfRefused result (IsSaidBetween S.goes_on store.old store.new (λ middle.
+        TellsReached (StatementTells (S.counted middle) (S.is_sound store.old) (S.shows store.old).working statement.now))) }
+    ensures damage { is_of_transaction statement.now ≡ true
+        → TellsDamage result (S.damaged store.old) (S.damaged store.new) }
     ensures kept { IfRefused result (λ refusal. refusal ≢ SerializationFailure → is_fetch statement.now ≡ false
         → SameButMark (S.shows store.old) (S.shows store.new) × (writer.new ≡ writer.old)
         × (kept_of slot.new ≡ kept_of slot.old)) }

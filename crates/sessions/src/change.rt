@@ -19,12 +19,13 @@ ghost use Rattle.transactions.specs.Shown.{settled};
 ghost use Rattle.cursors.specs.ByName.{IsShut};
 ghost use Rattle.sessions.specs.Numbers.{kept_of};
 ghost use Rattle.transactions.specs.Orderly.{IsOrderly};
-ghost use Rattle.transactions.specs.Refused.{Counts, IfRefused};
+ghost use Rattle.transactions.specs.Refused.{Counts, IfRefused, TellsReached};
 ghost use Rattle.typing.specs.declared.statement.Change.{Change as Typing};
 ghost use Rattle.typing.specs.declared.statement.Typed.TheVariants as does;
 ghost use Rattle.sessions.specs.Changed.{HasChanged, MakesChange, RefusesChange, RefusesStatement};
 ghost use Rattle.sessions.specs.Kinds.{is_change};
 ghost use Rattle.sessions.specs.Seen.{seen_in};
+ghost use Rattle.sessions.specs.ToldLimits.{IsSaidBetween, StatementTells, TypedTells};
 
 use crate::changes::Changes;
 use crate::falling::let_fall;
@@ -41,7 +42,8 @@ use typing::{Change, Typed};
 /// A change. In a transaction that only reads it is refused (25000), and beside an open cursor
 /// (24000). Where it comes too late it is refused (40001), and the session's transaction is rolled
 /// back. It begins a transaction where the session has none, but not where it is refused; the
-/// session is the writer then.
+/// session is the writer then. A limit of what the store counts is told where the store counted so
+/// before a beginning was taken back.
 pub(crate) fn change<S: Store, L: Language + Changes<S>>(
     alloc: Global,
     language: &L,
@@ -62,6 +64,8 @@ pub(crate) fn change<S: Store, L: Language + Changes<S>>(
         → SameButMark (S.shows store.old) (S.shows store.new) × (writer.new ≡ writer.old)) }
     ensures left { IsShut slot.now.cursors
         ⊎ (SameButMark (S.shows store.old) (S.shows store.new) × (writer.new ≡ writer.old)) }
+    ensures reached { IfRefused result (IsSaidBetween S.goes_on store.old store.new (λ middle.
+        TellsReached (StatementTells (S.counted middle) (S.is_sound store.old) (S.shows store.old).working statement.now))) }
     ensures device { Counts result (S.refused store.old) (S.refused store.new) }
     ensures goes { S.goes_on store.old store.new Going.changes }
 {
@@ -114,6 +118,7 @@ fn make<S: Store, L: Language + Changes<S>>(
     ensures refused { IfErr result (λ refusal. (rules : Rules) → AreRules rules → is_change statement.now ≡ true
         → S.is_sound store.old → IsGood rules.check (database_of (S.shows store.old).working)
         → RefusesStatement rules (database_of (S.shows store.old).working) statement.now refusal) }
+    ensures reached { IfErr result (TellsReached (StatementTells (S.counted store.new) (S.is_sound store.old) (S.shows store.old).working statement.now)) }
     ensures accepted { IfOk result (λ reply. IfRefused reply (λ refusal. ⊥)) }
     ensures device { IfErr result (λ refusal. refusal ≡ Disk → HasRisen (S.refused store.old) (S.refused store.new)) }
     ensures same { OnErr result (SameButMark (S.shows store.old) (S.shows store.new)) }
@@ -147,6 +152,7 @@ fn make_typed<S: Store, L: Language + Changes<S>>(
         → IsGood rules.check (database_of (S.shows store.old).working)
         → Means rules (database_of (S.shows store.old).working) x (does.Change change)
         → RefusesChange rules (database_of (S.shows store.old).working) change refusal) }
+    ensures reached { IfErr result (TellsReached (TypedTells (S.counted store.new) (S.is_sound store.old) (S.prepared store.old) (S.shows store.old).working typed)) }
     ensures accepted { IfOk result (λ reply. IfRefused reply (λ refusal. ⊥)) }
     ensures device { IfErr result (λ refusal. refusal ≡ Disk → HasRisen (S.refused store.old) (S.refused store.new)) }
     ensures same { OnErr result (SameButMark (S.shows store.old) (S.shows store.new)) }

@@ -10,9 +10,10 @@ ghost use Rattle.store.specs.Contents.{database_of};
 ghost use Rattle.store.specs.Errors.{HasRisen};
 ghost use Rattle.store.specs.Going.{Going};
 ghost use Rattle.store.specs.Stored.{SameButMark};
-ghost use Rattle.transactions.specs.Refused.{IfRefused};
+ghost use Rattle.transactions.specs.Refused.{IfRefused, TellsReached};
 ghost use Rattle.typing.specs.declared.statement.Typed.TheVariants as does;
 ghost use Rattle.sessions.specs.Changed.{HasChanged, MakesChange, RefusesChange, RefusesStatement};
+ghost use Rattle.sessions.specs.ToldLimits.{ChangeTells, RowsTell};
 
 use denote::Rows;
 use items::Text;
@@ -26,7 +27,9 @@ use typing::Change;
 pub trait Changes<S: Store>: Drop {
     /// Carries out a change that was typed over the newest version with its changes, whose schema
     /// is the one that is ready. What is answered is no refusal. A refusal leaves all as it was,
-    /// but for the mark; it is that of the device only where a call of the device was refused.
+    /// but for the mark; it is that of the device only where a call of the device was refused, and
+    /// a limit of what the store counts only where the store counts that it is reached, or row
+    /// numbers end.
     fn make(&self, alloc: Global, store: &mut S, change: Change) -> Result<Reply, Refusal>
         ensures changes { IfOk result (λ reply. (rules : Rules) (x : Tree) → AreRules rules → S.is_sound store.old
             → IsSchemaOf (S.prepared store.old) (database_of (S.shows store.old).working)
@@ -38,6 +41,7 @@ pub trait Changes<S: Store>: Drop {
             → IsGood rules.check (database_of (S.shows store.old).working)
             → Means rules (database_of (S.shows store.old).working) x (does.Change change)
             → RefusesChange rules (database_of (S.shows store.old).working) change refusal) }
+        ensures reached { IfErr result (TellsReached (ChangeTells (S.counted store.new) (S.is_sound store.old) (S.prepared store.old) (S.shows store.old).working change)) }
         ensures accepted { IfOk result (λ reply. IfRefused reply (λ refusal. ⊥)) }
         ensures device { IfErr result (λ refusal. refusal ≡ Disk
             → HasRisen (S.refused store.old) (S.refused store.new)) }
@@ -48,7 +52,8 @@ pub trait Changes<S: Store>: Drop {
     /// newest version with its changes, whose schema is the one that is ready. The rows are looked
     /// at by the rules of names and types. What is answered is no refusal. A refusal leaves all as
     /// it was, but for the mark; it is that of the device only where a call of the device was
-    /// refused.
+    /// refused, and a limit of what the store counts only where the store counts that it is
+    /// reached, or row numbers end.
     fn insert(
         &self,
         alloc: Global,
@@ -64,6 +69,7 @@ pub trait Changes<S: Store>: Drop {
             → IsSchemaOf (S.prepared store.old) (database_of (S.shows store.old).working)
             → IsGood rules.check (database_of (S.shows store.old).working)
             → RefusesStatement (inserting rules table.now rows) (database_of (S.shows store.old).working) x refusal) }
+        ensures reached { IfErr result (TellsReached (RowsTell (S.counted store.new) (S.is_sound store.old) (S.prepared store.old) (S.shows store.old).working table.now rows)) }
         ensures accepted { IfOk result (λ reply. IfRefused reply (λ refusal. ⊥)) }
         ensures device { IfErr result (λ refusal. refusal ≡ Disk
             → HasRisen (S.refused store.old) (S.refused store.new)) }

@@ -56,9 +56,10 @@ impl<S: Store, L: Language + Changes<S>> Core<S, L> {
     ghost use Rattle.denote.specs.SchemaOf.{IsSchemaOf};
     ghost use Rattle.store.specs.Errors.{HasRisen};
     ghost use Rattle.store.specs.Going.{Going};
-    ghost use Rattle.transactions.specs.Refused.{Counts, IfRefused, TellsNoLimit, TellsReached};
+    ghost use Rattle.transactions.specs.Refused.{Counts, IfRefused, TellsDamage, TellsNoLimit, TellsReached};
     ghost use Rattle.refusals.specs.declared.limit.Limit.TheVariants as limit;
     ghost use Rattle.ast.specs.declared.statement.OrderedQuery.{OrderedQuery};
+    ghost use Rattle.ast.specs.declared.statement.Statement.{Statement as Tree};
     ghost use Rattle.ast.specs.declared.statement.Statement.TheVariants as asks;
     ghost use Rattle.statement_definitions.specs.Reading.{IsRead};
     ghost use Rattle.statement_definitions.specs.Rollback.{IsRollback};
@@ -67,9 +68,10 @@ impl<S: Store, L: Language + Changes<S>> Core<S, L> {
     ghost use Rattle.sessions.specs.Committing.{CommitsAsWriter};
     ghost use Rattle.sessions.specs.Explained.{IfLines, ShowsLines};
     ghost use Rattle.std.specs.Prelude.{IsTrue};
-    ghost use Rattle.sessions.specs.Kinds.{IsFetchText, IsQueryText};
+    ghost use Rattle.sessions.specs.Kinds.{IsFetchText, IsQueryText, is_change, is_of_transaction};
     ghost use Rattle.sessions.specs.Turned.{TellsOpening, TellsRows};
     ghost use Rattle.sessions.specs.Limits.{CallReaches};
+    ghost use Rattle.sessions.specs.ToldLimits.{GivenTell, IsSaidBetween, StatementTells};
     ghost use Rattle.sessions.specs.Seen.{seen_in};
     ghost use Rattle.sessions.specs.Opening.{Stays};
     ghost use Rattle.sessions.specs.OfCore.{IsSound, OthersStay, StandAlike, StandBeside, number_of, world_of};
@@ -77,14 +79,16 @@ impl<S: Store, L: Language + Changes<S>> Core<S, L> {
     /// Carries out a statement of this session, and answers its reply. A call of a session that has
     /// ended is refused by `session`, and nothing changes.
     ///
-    /// ROLLBACK takes no memory and always succeeds. A refusal other than 40001, and of another
+    /// ROLLBACK takes no memory and always succeeds. COMMIT, ROLLBACK and SET TRANSACTION are X0004
+    /// just where the store answered that it is damaged. A refusal other than 40001, and of another
     /// statement than FETCH, leaves the world as it was, also over a damaged store. It is that of
     /// the device only where a call of the device was refused. A limit of what the store counts
-    /// (pages, private pages, kept page images) is told only of a change, or of a COMMIT where the
-    /// store reaches it. Only a COMMIT of the session that writes may write on the device, and it
-    /// writes nothing where nothing was changed. The lines of an EXPLAIN show a plan of its query
-    /// over the schema that the session sees. That the database which the statement sees is good is
-    /// a law of runs; a change and a query rely on it.
+    /// (pages, private pages, kept page images) is told only of a change, where a store on the way
+    /// counts that it is reached or row numbers end, or of a COMMIT where the store reaches it.
+    /// Only a COMMIT of the session that writes may write on the device, and it writes nothing
+    /// where nothing was changed. The lines of an EXPLAIN show a plan of its query over the schema
+    /// that the session sees. That the database which the statement sees is good is a law of runs;
+    /// a change and a query rely on it.
     pub fn step(&mut self, session: SessionId, text: &[u8]) -> Reply
         ensures step { (rules : Rules) → AreRules rules → IsSound S.is_sound S.shows self.old
             → is_live (world_of S.shows self.old) (number_of session) ≡ true
@@ -102,6 +106,11 @@ impl<S: Store, L: Language + Changes<S>> Core<S, L> {
         ensures live { StandAlike (world_of S.shows self.old) (world_of S.shows self.new) }
         ensures device { Counts result (S.refused self.old.store) (S.refused self.new.store) }
         ensures limits { IfRefused result (TellsReached (CallReaches (S.counted self.old.store) (S.shows self.old.store).commits text.now)) }
+        ensures reached { (x : Tree) → IsRead text.now x → is_change x ≡ true
+            → IfRefused result (IsSaidBetween S.goes_on self.old.store self.new.store (λ middle.
+            TellsReached (StatementTells (S.counted middle) (S.is_sound self.old.store) (S.shows self.old.store).working x))) }
+        ensures damage { (x : Tree) → IsRead text.now x → is_of_transaction x ≡ true
+            → TellsDamage result (S.damaged self.old.store) (S.damaged self.new.store) }
         ensures kept { IfRefused result (λ refusal. refusal ≢ SerializationFailure → (IsFetchText text.now → ⊥)
             → world_of S.shows self.new ≡ world_of S.shows self.old) }
         ensures idle { S.unchanged self.old.store → S.writes self.new.store ≡ S.writes self.old.store }
@@ -175,9 +184,9 @@ impl<S: Store, L: Language + Changes<S>> Core<S, L> {
     }
 
     /// So many of the next rows of the query that was opened, or fewer and then the end is reached;
-    /// 24000 where none is open. A refusal stands in place of its rows, and closes it. It reads, and
-    /// changes nothing of the store; the writer and other sessions stay as they were, also over a
-    /// damaged store.
+    /// 24000 where none is open. A refusal stands in place of its rows, and closes it. It reads,
+    /// and changes nothing of the store; the writer and other sessions stay as they were, also over
+    /// a damaged store.
     pub fn take_rows(&mut self, session: SessionId, count: u64) -> Reply
         ensures step { (rules : Rules) → IsSound S.is_sound S.shows self.old
             → is_live (world_of S.shows self.old) (number_of session) ≡ true
@@ -251,6 +260,8 @@ impl<S: Store, L: Language + Changes<S>> Core<S, L> {
         ensures ended { is_live (world_of S.shows self.old) (number_of session) ≡ false
             → (result ≡ Reply.Refused (Invalid reason.Session)) × (self.new ≡ self.old) }
         ensures live { StandAlike (world_of S.shows self.old) (world_of S.shows self.new) }
+        ensures reached { IfRefused result (IsSaidBetween S.goes_on self.old.store self.new.store (λ middle.
+            TellsReached (GivenTell (S.counted middle) (S.is_sound self.old.store) (S.shows self.old.store).working table.now rows))) }
         ensures device { Counts result (S.refused self.old.store) (S.refused self.new.store) }
         ensures kept { IfRefused result (λ refusal. refusal ≢ SerializationFailure
             → world_of S.shows self.new ≡ world_of S.shows self.old) }
@@ -278,7 +289,8 @@ impl<S: Store, L: Language + Changes<S>> Core<S, L> {
     }
 
     /// Makes the schema ready that a statement of this session sees: of its transaction, or of the
-    /// last commit where it has none. It begins no transaction, and the world stays as it was.
+    /// last commit where it has none. It begins no transaction, and the world stays as it was. It
+    /// is refused as damaged just where the store answered so.
     pub fn prepare_schema(&mut self, session: SessionId) -> Result<(), Refusal>
         ensures prepared { OnOk result (IsSound S.is_sound S.shows self.old
             → IsSchemaOf (S.prepared self.new.store) (seen_in (S.shows self.old.store) self.old.writer (number_of session))) }
@@ -291,6 +303,8 @@ impl<S: Store, L: Language + Changes<S>> Core<S, L> {
         ensures device { IfErr result (λ refusal. refusal ≡ Disk
             → HasRisen (S.refused self.old.store) (S.refused self.new.store)) }
         ensures limits { IfErr result TellsNoLimit }
+        ensures damage { OnOk result (S.damaged self.new.store ≡ S.damaged self.old.store)
+            × IfErr result (λ refusal. TellsDamage (Reply.Refused refusal) (S.damaged self.old.store) (S.damaged self.new.store)) }
         ensures goes { S.goes_on self.old.store self.new.store Going.keeps }
     {
         if !self.slots.stands(session.number) {
@@ -339,6 +353,7 @@ impl<S: Store, L: Language + Changes<S>> Core<S, L> {
         ensures live { (is_live (world_of S.shows self.new) (number_of session) ≡ false)
             × StandBeside (number_of session) (world_of S.shows self.old) (world_of S.shows self.new) }
         ensures sound { IsSound S.is_sound S.shows self.old → IsSound S.is_sound S.shows self.new }
+        ensures damage { S.damaged self.new.store ≡ S.damaged self.old.store }
         ensures goes { S.goes_on self.old.store self.new.store Going.keeps }
         ensures counts { S.refused self.old.store ≤ S.refused self.new.store }
     {
@@ -362,6 +377,7 @@ impl<S: Store, L: Language + Changes<S>> Core<S, L> {
         ensures sound { IsSound S.is_sound S.shows self.old → IsSound S.is_sound S.shows self.new }
         ensures device { IfErr result (λ refusal. refusal ≡ Disk
             → HasRisen (S.refused self.old.store) (S.refused self.new.store)) }
+        ensures damage { S.damaged self.new.store ≡ S.damaged self.old.store }
         ensures goes { S.goes_on self.old.store self.new.store (Going.writes []) }
         ensures counts { S.refused self.old.store ≤ S.refused self.new.store }
     {

@@ -13,12 +13,13 @@ ghost use Rattle.store.specs.Going.{Going};
 ghost use Rattle.store.specs.Stored.{SameButMark};
 ghost use Rattle.transactions.specs.Moves.{IsClosedIn, MovesBy};
 ghost use Rattle.transactions.specs.Orderly.{IsOrderly};
-ghost use Rattle.transactions.specs.Refused.{Counts, IfRefused};
+ghost use Rattle.transactions.specs.Refused.{Counts, IfRefused, TellsReached};
 ghost use Rattle.transactions.specs.Shown.{settled};
 ghost use Rattle.cursors.specs.ByName.{IsShut};
 ghost use Rattle.sessions.specs.Changed.{MakesChange, RefusesStatement};
 ghost use Rattle.sessions.specs.Numbers.{kept_of};
 ghost use Rattle.sessions.specs.Seen.{seen_in};
+ghost use Rattle.sessions.specs.ToldLimits.{GivenTell, IsSaidBetween};
 
 use crate::change::is_read_only;
 use crate::changes::Changes;
@@ -35,7 +36,8 @@ use transactions::{comes_too_late, refusal_of, take_back};
 /// a transaction that only reads it is refused (25000), and beside an open cursor (24000). Where it
 /// comes too late it is refused (40001), and the session's transaction is rolled back. It begins a
 /// transaction where the session has none, but not where it is refused; the session is the writer
-/// then.
+/// then. A limit of what the store counts is told where the store counted so before a beginning was
+/// taken back.
 pub(crate) fn insert_rows<S: Store, L: Changes<S>>(
     alloc: Global,
     language: &L,
@@ -56,6 +58,8 @@ pub(crate) fn insert_rows<S: Store, L: Changes<S>>(
         → SameButMark (S.shows store.old) (S.shows store.new) × (writer.new ≡ writer.old)) }
     ensures left { IsShut slot.now.cursors
         ⊎ (SameButMark (S.shows store.old) (S.shows store.new) × (writer.new ≡ writer.old)) }
+    ensures reached { IfRefused result (IsSaidBetween S.goes_on store.old store.new (λ middle.
+        TellsReached (GivenTell (S.counted middle) (S.is_sound store.old) (S.shows store.old).working table.now rows))) }
     ensures device { Counts result (S.refused store.old) (S.refused store.new) }
     ensures goes { S.goes_on store.old store.new Going.changes }
 {
@@ -99,6 +103,7 @@ fn make<S: Store, L: Changes<S>>(
     ensures refused { IfErr result (λ refusal. (rules : Rules) (x : Tree) → AreRules rules → S.is_sound store.old
         → IsGood rules.check (database_of (S.shows store.old).working)
         → RefusesStatement (inserting rules table.now rows) (database_of (S.shows store.old).working) x refusal) }
+    ensures reached { IfErr result (TellsReached (GivenTell (S.counted store.new) (S.is_sound store.old) (S.shows store.old).working table.now rows)) }
     ensures accepted { IfOk result (λ reply. IfRefused reply (λ refusal. ⊥)) }
     ensures device { IfErr result (λ refusal. refusal ≡ Disk → HasRisen (S.refused store.old) (S.refused store.new)) }
     ensures same { OnErr result (SameButMark (S.shows store.old) (S.shows store.new)) }

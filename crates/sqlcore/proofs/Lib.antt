@@ -1,3 +1,4 @@
 pub mod GoodDatabases
 pub mod ChangesMade
 pub mod RowsGiven
+pub mod ToldLimits

@@ -5,7 +5,7 @@ use Rattle.sessions.specs.Limits.{CallReaches, StatementReaches}
 use Rattle.refusals.specs.declared.refusal.Refusal.TheVariants.{SerializationFailure}
 use Rattle.statement_definitions.specs.Reading.{IsRead}
 use Rattle.store.specs.Stored.{SameButMark}
-use Rattle.sessions.specs.Kinds.{IsFetchText, is_declare}
+use Rattle.sessions.specs.Kinds.{IsFetchText, is_change, is_declare, is_of_transaction}
 use Rattle.sessions.specs.Numbers.{kept_of}
 use Rattle.ast.specs.declared.statement.Statement.TheVariants as asks
 use Rattle.sessions.proofs.ExplainSteps.{another}
@@ -16,6 +16,11 @@ use Rattle.sessions.proofs.Kept.{Keeps, no_fetch_text, refused_alike}
 use Rattle.sessions.proofs.Limits.{none_told, tells_none, told_wider, unread_tells}
 use Rattle.sessions.proofs.Unread.{refuses_text}
 use Rattle.transactions.proofs.Orders.{same}
+use Rattle.ast.specs.declared.statement.Statement.{Statement}
+use Rattle.transactions.specs.Refused.{IfRefused, TellsReached}
+use Rattle.sessions.specs.ToldLimits.{IsSaidBetween, StatementTells}
+use Rattle.sessions.proofs.ToldLimits.{is_no_change}
+use Rattle.sessions.proofs.Damage.{is_of_none, memory_tells}
 use Rattle.sessions.proofs.calling.call.Goals as goal
 
 -- ---- ROLLBACK
@@ -161,3 +166,38 @@ returns-in-Err-clause-idle g c = λ unchanged. refl
 
 pub returns-in-Err-clause-goes : goal.returns-in-Err-clause-goes
 returns-in-Err-clause-goes g c = g.met.S.Store.goes_on_refl _ (Going.writes ((g.S.Store.shows c.args.store.now).working ∷ []))
+
+pub returns-then-is_rollback-clause-reached : goal.returns-then-is_rollback-clause-reached
+returns-then-is_rollback-clause-reached g c = λ x read is. rw c.roll_back.ensures.done tt
+
+pub returns-in-Ok-declared_in-clause-reached : goal.returns-in-Ok-declared_in-clause-reached
+returns-in-Ok-declared_in-clause-reached g c = λ x read is. is_no_change _ x _ (sym (c.in-Ok.ensures.only x read) ∙ c.in-Ok-declared_in.ensures) refl is
+
+pub returns-in-Err-declared_in-clause-reached : goal.returns-in-Err-declared_in-clause-reached
+returns-in-Err-declared_in-clause-reached g c = λ x read is.
+    let same_text : c.in-Err-declared_in.statement ≡ x = c.in-Err-declared_in.ensures.0 ∙ c.in-Ok.ensures.only x read in
+    subst
+    (λ (y : Statement). IfRefused c.carry_out-reply.result (IsSaidBetween g.S.Store.goes_on c.args.store.now c.carry_out-reply.new.store (λ middle. TellsReached (StatementTells (g.S.Store.counted middle) (g.S.Store.is_sound c.args.store.now) (g.S.Store.shows c.args.store.now).working y))))
+    same_text (c.carry_out-reply.ensures.reached (ap is_change same_text ∙ is))
+
+pub returns-in-Err-clause-reached : goal.returns-in-Err-clause-reached
+returns-in-Err-clause-reached g c = λ x read is. record {
+  middle = c.args.store.now;
+  before = g.met.S.Store.goes_on_refl _ Going.changes;
+  behind = g.met.S.Store.goes_on_refl _ Going.keeps;
+  said = tells_none (StatementTells (g.S.Store.counted c.args.store.now) (g.S.Store.is_sound c.args.store.now) (g.S.Store.shows c.args.store.now).working x) c.in-Err.refusal
+      (unread_tells c.args.text.now c.in-Err.refusal c.in-Err.ensures.unread);
+}
+
+pub returns-then-is_rollback-clause-damage : goal.returns-then-is_rollback-clause-damage
+returns-then-is_rollback-clause-damage g c = λ x read of. rw c.roll_back.ensures.done c.roll_back.ensures.damage
+
+pub returns-in-Ok-declared_in-clause-damage : goal.returns-in-Ok-declared_in-clause-damage
+returns-in-Ok-declared_in-clause-damage g c = λ x read of. is_of_none _ x _ (sym (c.in-Ok.ensures.only x read) ∙ c.in-Ok-declared_in.ensures) refl of
+
+pub returns-in-Err-declared_in-clause-damage : goal.returns-in-Err-declared_in-clause-damage
+returns-in-Err-declared_in-clause-damage g c = λ x read of.
+    c.carry_out-reply.ensures.damage (ap is_of_transaction (c.in-Err-declared_in.ensures.0 ∙ c.in-Ok.ensures.only x read) ∙ of)
+
+pub returns-in-Err-clause-damage : goal.returns-in-Err-clause-damage
+returns-in-Err-clause-damage g c = λ x read of. memory_tells c.in-Err.refusal (g.S.Store.damaged c.args.store.now) (c.in-Err.ensures.only x read)

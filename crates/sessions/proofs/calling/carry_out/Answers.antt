@@ -19,6 +19,8 @@ use Rattle.sessions.proofs.Kept.{Keeps, keeps_all, refused_alike}
 use Rattle.store.specs.Stored.{SameButMark}
 use Rattle.transactions.specs.Shown.{with_mode}
 use Rattle.transactions.proofs.Orders.{same}
+use Rattle.sessions.proofs.ToldLimits.{cursor_call_is_none, is_no_change}
+use Rattle.sessions.proofs.Damage.{change_is_of_none, cursor_is_of_none, is_of_none, state_tells}
 use Rattle.sessions.proofs.calling.carry_out.Goals as goal
 
 pub returns-in-Query-clause-leaves : goal.returns-in-Query-clause-leaves
@@ -247,3 +249,45 @@ returns-in-Cursor-clause-device g c = c.cursor_call.ensures.device
 
 pub returns-in-Explain-clause-device : goal.returns-in-Explain-clause-device
 returns-in-Explain-clause-device g c = c.explain_query.ensures.device
+
+pub returns-in-Change-clause-reached : goal.returns-in-Change-clause-reached
+returns-in-Change-clause-reached g c = λ is. c.change.ensures.reached
+
+pub returns-in-Query-clause-reached : goal.returns-in-Query-clause-reached
+returns-in-Query-clause-reached g c = λ is. is_no_change _ c.args.statement.now _ c.in-Query.ensures.1 refl is
+
+pub returns-in-Commit-clause-reached : goal.returns-in-Commit-clause-reached
+returns-in-Commit-clause-reached g c = λ is. is_no_change _ c.args.statement.now _ c.in-Commit.ensures.1 refl is
+
+pub returns-in-Rollback-clause-reached : goal.returns-in-Rollback-clause-reached
+returns-in-Rollback-clause-reached g c = λ is. is_no_change _ c.args.statement.now _ c.in-Rollback.ensures.1 refl is
+
+pub returns-in-SetTransaction-clause-reached : goal.returns-in-SetTransaction-clause-reached
+returns-in-SetTransaction-clause-reached g c = λ is. is_no_change _ c.args.statement.now _ c.in-SetTransaction.ensures refl is
+
+pub returns-in-Explain-clause-reached : goal.returns-in-Explain-clause-reached
+returns-in-Explain-clause-reached g c = λ is. is_no_change _ c.args.statement.now _ c.in-Explain.ensures.1 refl is
+
+pub returns-in-Cursor-clause-reached : goal.returns-in-Cursor-clause-reached
+returns-in-Cursor-clause-reached g c = λ is. cursor_call_is_none _ c.args.statement.now c.in-Cursor.ensures is
+
+pub returns-in-Commit-clause-damage : goal.returns-in-Commit-clause-damage
+returns-in-Commit-clause-damage g c = λ of. c.commit.ensures.damage
+
+pub returns-in-Rollback-clause-damage : goal.returns-in-Rollback-clause-damage
+returns-in-Rollback-clause-damage g c = λ of. rw c.roll_back.ensures.done c.roll_back.ensures.damage
+
+pub returns-in-SetTransaction-clause-damage : goal.returns-in-SetTransaction-clause-damage
+returns-in-SetTransaction-clause-damage g c = λ of. state_tells c.set_mode.result (g.S.Store.damaged c.args.store.now) c.set_mode.ensures.refused
+
+pub returns-in-Query-clause-damage : goal.returns-in-Query-clause-damage
+returns-in-Query-clause-damage g c = λ of. is_of_none _ c.args.statement.now _ c.in-Query.ensures.1 refl of
+
+pub returns-in-Explain-clause-damage : goal.returns-in-Explain-clause-damage
+returns-in-Explain-clause-damage g c = λ of. is_of_none _ c.args.statement.now _ c.in-Explain.ensures.1 refl of
+
+pub returns-in-Change-clause-damage : goal.returns-in-Change-clause-damage
+returns-in-Change-clause-damage g c = λ of. change_is_of_none _ c.args.statement.now c.in-Change.ensures of
+
+pub returns-in-Cursor-clause-damage : goal.returns-in-Cursor-clause-damage
+returns-in-Cursor-clause-damage g c = λ of. cursor_is_of_none _ c.args.statement.now c.in-Cursor.ensures of

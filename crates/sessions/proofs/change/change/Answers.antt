@@ -1,16 +1,19 @@
-use Rattle.std.proofs.Common.{◌≡◌, refl, sym, subst, ◌∙◌, inl, inr}
+use Rattle.std.proofs.Common.{◌≡◌, refl, sym, ap, subst, ◌∙◌, inl, inr}
 use Rattle.store.specs.Stored.{Stored, SameButMark, begun}
 use Rattle.session_definitions.specs.Asked.{Asked}
 use Rattle.transactions.specs.Shown.{session_of}
-use Rattle.transactions.proofs.Orders.{same}
+use Rattle.transactions.proofs.Orders.{begun_working, same}
 use Rattle.transactions.proofs.Steps.{nothing_moves, withholds}
-use Rattle.transactions.proofs.Tests.{reserved, unbegun}
+use Rattle.transactions.proofs.Tests.{reserved, tells_reached, unbegun}
 use Rattle.sessions.specs.Numbers.{kept_of}
 use Rattle.sessions.proofs.ChangeSteps.{beside_cursor, comes_late, good_begun, makes, no_fetch, only_reads, refuses}
 use Rattle.sessions.proofs.Holding.{shut_kept}
 use Rattle.sessions.proofs.Devices.{risen_later, risen_still, counts_none, of_store}
 use Rattle.store.specs.Going.{Going}
 use Rattle.sessions.proofs.Kept.{none_kept}
+use Rattle.sessions.proofs.Limits.{tells_none}
+use Rattle.sessions.proofs.ToldLimits.{statement_told_before}
+use Rattle.sessions.specs.ToldLimits.{StatementTells}
 use Rattle.sessions.proofs.change.change.Goals as goal
 
 pub returns-then-is_read_only-clause-moves : goal.returns-then-is_read_only-clause-moves
@@ -132,3 +135,53 @@ returns-then-is_read_only-clause-goes g c = g.met.S.Store.goes_on_refl _ Going.c
 
 pub returns-then-has_open-clause-goes : goal.returns-then-has_open-clause-goes
 returns-then-has_open-clause-goes g c = g.met.S.Store.goes_on_refl _ Going.changes
+
+pub returns-then-is_read_only-clause-reached : goal.returns-then-is_read_only-clause-reached
+returns-then-is_read_only-clause-reached g c = record {
+  middle = c.args.store.now;
+  before = g.met.S.Store.goes_on_refl _ Going.changes;
+  behind = g.met.S.Store.goes_on_refl _ Going.keeps;
+  said = tt;
+}
+
+pub returns-then-has_open-clause-reached : goal.returns-then-has_open-clause-reached
+returns-then-has_open-clause-reached g c = record {
+  middle = c.args.store.now;
+  before = g.met.S.Store.goes_on_refl _ Going.changes;
+  behind = g.met.S.Store.goes_on_refl _ Going.keeps;
+  said = tt;
+}
+
+pub returns-then-comes_too_late-clause-reached : goal.returns-then-comes_too_late-clause-reached
+returns-then-comes_too_late-clause-reached g c = record {
+  middle = c.args.store.now;
+  before = g.met.S.Store.goes_on_refl _ Going.changes;
+  behind = c.end.ensures.goes;
+  said = tt;
+}
+
+pub returns-in-Err-clause-reached : goal.returns-in-Err-clause-reached
+returns-in-Err-clause-reached g c = record {
+  middle = c.args.store.now;
+  before = g.met.S.Store.goes_on_refl _ Going.changes;
+  behind = c.begin.ensures.goes;
+  said = tells_none (StatementTells (g.S.Store.counted c.args.store.now) (g.S.Store.is_sound c.args.store.now) (g.S.Store.shows c.args.store.now).working c.args.statement.now) c.refusal_of.result
+      (tells_reached _ _ _ _ _ _ c.refusal_of.ensures (rw c.in-Err.is at c.begin.ensures.refused));
+}
+
+pub returns-in-Ok-clause-reached : goal.returns-in-Ok-clause-reached
+returns-in-Ok-clause-reached g c = none_kept c.in-Ok.reply _ c.in-Ok.ensures.accepted
+
+pub returns-in-Err-make-clause-reached : goal.returns-in-Err-make-clause-reached
+returns-in-Err-make-clause-reached g c =
+    let begins : g.S.Store.shows c.begin.new.self ≡ begun (g.S.Store.shows c.args.store.now) c.args.session = rw c.in_default.is at c.begin.ensures.shows in
+    record {
+      middle = c.make.new.store;
+      before = g.met.S.Store.goes_on_trans _ _ _ Going.keeps Going.changes c.begin.ensures.goes c.make.ensures.goes;
+      behind = c.take_back.ensures.goes;
+      said = statement_told_before (g.S.Store.counted c.make.new.store) (g.S.Store.is_sound c.args.store.now) (g.S.Store.is_sound c.begin.new.self)
+          (g.S.Store.shows c.args.store.now).working (g.S.Store.shows c.begin.new.self).working
+          (g.met.S.Store.goes_on_goes _ _ _ c.begin.ensures.goes).sound
+          (ap (λ (st : Stored). st.working) begins ∙ begun_working (g.S.Store.shows c.args.store.now) c.args.session)
+          c.args.statement.now c.in-Err-make.refusal c.in-Err-make.ensures.reached;
+    }

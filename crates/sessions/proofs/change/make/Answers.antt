@@ -1,14 +1,19 @@
-use Rattle.std.proofs.Common.{sym, subst, ◌∙◌}
+use Rattle.std.proofs.Common.{sym, ap, subst, ◌∙◌}
 use Rattle.std.proofs.lemmas.Result.{IfOk-weaker, IfErr-weaker}
 use Rattle.sqlval.specs.declared.schema.Schema.{Schema}
 use Rattle.denote.specs.SchemaOf.{IsSchemaOf}
 use Rattle.store.specs.Contents.{database_of}
+use Rattle.store.specs.Stored.{Stored}
 use Rattle.transactions.proofs.Orders.{same}
+use Rattle.transactions.proofs.Tests.{tells_reached}
 use Rattle.sessions.proofs.Devices.{risen_later, of_store}
 use Rattle.sessions.proofs.ChangeSteps.{makes_typed, refuses_typed, refuses_wrong}
 use Rattle.sessions.proofs.Typings.{against}
 use Rattle.store.specs.Going.{Going}
 use Rattle.sessions.proofs.Kept.{same_after}
+use Rattle.sessions.proofs.Limits.{tells_none}
+use Rattle.sessions.proofs.ToldLimits.{statement_tells}
+use Rattle.sessions.specs.ToldLimits.{StatementTells}
 use Rattle.sessions.proofs.change.make.Goals as goal
 
 pub returns-in-Ok-clause-changes : goal.returns-in-Ok-clause-changes
@@ -72,3 +77,21 @@ returns-in-Err-clause-device g c = λ is. of_store _ _ _ _ c.in-Err.error (rw c.
 
 pub returns-in-Err-clause-same : goal.returns-in-Err-clause-same
 returns-in-Err-clause-same g c = same (g.S.Store.shows c.args.store.now) _ c.prepare.ensures.shows
+
+pub returns-in-Ok-clause-reached : goal.returns-in-Ok-clause-reached
+returns-in-Ok-clause-reached g c = IfErr-weaker c.make_typed.result _ _
+    (λ refusal h. statement_tells (g.S.Store.counted c.make_typed.new.store) (g.S.Store.is_sound c.args.store.now) (g.S.Store.is_sound c.prepare.new.self)
+    (g.S.Store.shows c.args.store.now).working (g.S.Store.shows c.prepare.new.self).working
+    (g.met.S.Store.goes_on_goes _ _ _ c.prepare.ensures.goes).sound (ap (λ (st : Stored). st.working) c.prepare.ensures.shows)
+    (g.S.Store.prepared c.prepare.new.self) c.schema.result.now c.args.statement.now c.in-Ok.typed c.schema.ensures
+    (λ sound. (rw c.in_default.is at c.prepare.ensures.prepared) sound) c.in-Ok.ensures.finds.ok refusal h)
+    c.make_typed.ensures.reached
+
+pub returns-in-Err-typed_by-clause-reached : goal.returns-in-Err-typed_by-clause-reached
+returns-in-Err-typed_by-clause-reached g c =
+    tells_none (StatementTells (g.S.Store.counted c.prepare.new.self) (g.S.Store.is_sound c.args.store.now) (g.S.Store.shows c.args.store.now).working c.args.statement.now) c.in-Err-typed_by.refusal c.in-Err-typed_by.ensures.limits
+
+pub returns-in-Err-clause-reached : goal.returns-in-Err-clause-reached
+returns-in-Err-clause-reached g c =
+    tells_none (StatementTells (g.S.Store.counted c.prepare.new.self) (g.S.Store.is_sound c.args.store.now) (g.S.Store.shows c.args.store.now).working c.args.statement.now) c.refusal_of.result
+    (tells_reached _ _ _ _ _ _ c.refusal_of.ensures (rw c.in-Err.is at c.prepare.ensures.refused))

@@ -5,6 +5,7 @@ use Rattle.typing.specs.declared.statement.Typed.TheVariants as does
 use Rattle.session_definitions.specs.Rules.{Means}
 use Rattle.store.specs.Contents.{database_of}
 use Rattle.sessions.specs.Changed.{HasChanged, RefusesChange}
+use Rattle.sessions.proofs.ToldLimits.{tells_typed}
 use Rattle.sessions.proofs.change.make_typed.Goals as goal
 
 pub returns-in-Some-clause-changes : goal.returns-in-Some-clause-changes
@@ -34,3 +35,8 @@ returns-in-Some-clause-same g c = c.make.ensures.same
 
 pub returns-in-Some-clause-goes : goal.returns-in-Some-clause-goes
 returns-in-Some-clause-goes g c = c.make.ensures.goes
+
+pub returns-in-Some-clause-reached : goal.returns-in-Some-clause-reached
+returns-in-Some-clause-reached g c = IfErr-weaker c.make.result _ _
+    (λ refusal h. tells_typed (g.S.Store.counted c.make.new.store) (g.S.Store.is_sound c.args.store.now) (g.S.Store.prepared c.args.store.now) (g.S.Store.shows c.args.store.now).working c.args.typed c.in-Some.change c.in-Some.ensures refusal h)
+    c.make.ensures.reached

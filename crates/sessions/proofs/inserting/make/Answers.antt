@@ -1,4 +1,4 @@
-use Rattle.std.proofs.Common.{◌≡◌, sym, subst, ◌∙◌}
+use Rattle.std.proofs.Common.{◌≡◌, sym, ap, subst, ◌∙◌}
 use Rattle.std.proofs.lemmas.Result.{IfOk-weaker, IfErr-weaker}
 use Rattle.denote.specs.Database.{IsGood}
 use Rattle.denote.specs.SchemaOf.{IsSchemaOf}
@@ -9,7 +9,11 @@ use Rattle.store.specs.Stored.{Stored}
 use Rattle.sessions.specs.Changed.{MakesChange, RefusesStatement}
 use Rattle.sessions.proofs.Devices.{risen_later, of_store}
 use Rattle.transactions.proofs.Orders.{same}
+use Rattle.transactions.proofs.Tests.{tells_reached}
 use Rattle.sessions.proofs.Kept.{same_after}
+use Rattle.sessions.proofs.Limits.{tells_none}
+use Rattle.sessions.proofs.ToldLimits.{given_tell}
+use Rattle.sessions.specs.ToldLimits.{GivenTell}
 use Rattle.sessions.proofs.inserting.make.Goals as goal
 
 pub returns-clause-changes : goal.returns-clause-changes
@@ -58,3 +62,17 @@ returns-in-Err-clause-device g c = λ is. of_store _ _ _ _ c.in-Err.error (rw c.
 
 pub returns-in-Err-clause-same : goal.returns-in-Err-clause-same
 returns-in-Err-clause-same g c = same (g.S.Store.shows c.args.store.now) _ c.prepare.ensures.shows
+
+pub returns-clause-reached : goal.returns-clause-reached
+returns-clause-reached g c = IfErr-weaker c.insert.result _ _
+    (λ refusal h. given_tell (g.S.Store.counted c.insert.new.store) (g.S.Store.is_sound c.args.store.now) (g.S.Store.is_sound c.prepare.new.self)
+    (g.S.Store.shows c.args.store.now).working (g.S.Store.shows c.prepare.new.self).working
+    (g.met.S.Store.goes_on_goes _ _ _ c.prepare.ensures.goes).sound (ap (λ (st : Stored). st.working) c.prepare.ensures.shows)
+    (g.S.Store.prepared c.prepare.new.self) c.args.table.now c.args.rows
+    (λ sound. (rw c.in_default.is at c.prepare.ensures.prepared) sound) refusal h)
+    c.insert.ensures.reached
+
+pub returns-in-Err-clause-reached : goal.returns-in-Err-clause-reached
+returns-in-Err-clause-reached g c =
+    tells_none (GivenTell (g.S.Store.counted c.prepare.new.self) (g.S.Store.is_sound c.args.store.now) (g.S.Store.shows c.args.store.now).working c.args.table.now c.args.rows) c.refusal_of.result
+    (tells_reached _ _ _ _ _ _ c.refusal_of.ensures (rw c.in-Err.is at c.prepare.ensures.refused))

@@ -81,3 +81,9 @@ returns-then-not-stands-clause-counts g c = omega arith
 
 pub returns-clause-goes : goal.returns-clause-goes
 returns-clause-goes g c = c.drop_session.ensures.goes
+
+pub returns-then-not-stands-clause-damage : goal.returns-then-not-stands-clause-damage
+returns-then-not-stands-clause-damage g c = refl
+
+pub returns-clause-damage : goal.returns-clause-damage
+returns-clause-damage g c = c.drop_session.ensures.damage

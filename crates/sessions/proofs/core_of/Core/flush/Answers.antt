@@ -6,6 +6,7 @@ use Rattle.transactions.specs.Shown.{shown}
 use Rattle.sessions.specs.Held.{Holds}
 use Rattle.sessions.specs.Numbers.{kept_in}
 use Rattle.sessions.proofs.Cores.{opening_stopped}
+use Rattle.sessions.proofs.Damage.{never_damaged}
 use Rattle.sessions.proofs.Devices.{of_store}
 use Rattle.sessions.proofs.core_of.Core.flush.Goals as goal
 
@@ -56,3 +57,9 @@ returns-in-Err-clause-goes g c = c.flush.ensures.goes
 
 pub returns-in-Err-clause-counts : goal.returns-in-Err-clause-counts
 returns-in-Err-clause-counts g c = (g.met.S.Store.goes_on_goes _ _ _ c.flush.ensures.goes).refused
+
+pub returns-in-Ok-clause-damage : goal.returns-in-Ok-clause-damage
+returns-in-Ok-clause-damage g c = (rw c.in-Ok.is at c.flush.ensures.damage).0
+
+pub returns-in-Err-clause-damage : goal.returns-in-Err-clause-damage
+returns-in-Err-clause-damage g c = never_damaged _ _ _ _ _ c.in-Err.error (rw c.in-Err.is at c.flush.ensures.refused) (rw c.in-Err.is at c.flush.ensures.damage).1

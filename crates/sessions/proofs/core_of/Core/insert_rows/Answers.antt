@@ -120,3 +120,14 @@ returns-clause-device g c = c.insert_rows-reply.ensures.device
 
 pub returns-clause-goes : goal.returns-clause-goes
 returns-clause-goes g c = c.insert_rows-reply.ensures.goes
+
+pub returns-then-not-stands-clause-reached : goal.returns-then-not-stands-clause-reached
+returns-then-not-stands-clause-reached g c = record {
+  middle = c.args.self.now.store;
+  before = g.met.S.Store.goes_on_refl _ Going.changes;
+  behind = g.met.S.Store.goes_on_refl _ Going.keeps;
+  said = tt;
+}
+
+pub returns-clause-reached : goal.returns-clause-reached
+returns-clause-reached g c = c.insert_rows-reply.ensures.reached

@@ -2,7 +2,7 @@ use Rattle.std.proofs.Common.{◌≡◌, sym, subst, ap, ◌∙◌, true, false,
 use Rattle.denote.specs.SchemaOf.{IsSchemaOf}
 use Rattle.store.specs.Contents.{Contents, database_of}
 use Rattle.store.specs.View.{seen_by}
-use Rattle.transactions.proofs.Tests.{reserved, tells_reached}
+use Rattle.transactions.proofs.Tests.{reserved, tells_damage, tells_reached}
 use Rattle.sessions.specs.Numbers.{held_at, kept_in, kept_of}
 use Rattle.sessions.proofs.Cores.{is_live_at, not_live}
 use Rattle.sessions.proofs.Holding.{is_held, kept_here, kept_none, not_held}
@@ -107,3 +107,13 @@ returns-then-not-stands-clause-limits g c = tt
 
 pub returns-then-not-stands-clause-goes : goal.returns-then-not-stands-clause-goes
 returns-then-not-stands-clause-goes g c = g.met.S.Store.goes_on_refl _ Going.keeps
+
+pub returns-in-Ok-clause-damage : goal.returns-in-Ok-clause-damage
+returns-in-Ok-clause-damage g c = ((rw c.in-Ok.is at c.prepare.ensures.damage).0, tt)
+
+pub returns-in-Err-clause-damage : goal.returns-in-Err-clause-damage
+returns-in-Err-clause-damage g c =
+    (tt, tells_damage _ _ c.in-Err.error c.refusal_of.result c.refusal_of.ensures (rw c.in-Err.is at c.prepare.ensures.damage).1)
+
+pub returns-then-not-stands-clause-damage : goal.returns-then-not-stands-clause-damage
+returns-then-not-stands-clause-damage g c = (tt, refl)

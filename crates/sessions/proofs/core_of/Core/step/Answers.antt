@@ -153,3 +153,20 @@ returns-clause-goes g c = c.call-reply.ensures.goes
 
 pub returns-clause-commits : goal.returns-clause-commits
 returns-clause-commits g c = c.call-reply.ensures.commits
+
+pub returns-then-not-stands-clause-reached : goal.returns-then-not-stands-clause-reached
+returns-then-not-stands-clause-reached g c = λ x read is. record {
+  middle = c.args.self.now.store;
+  before = g.met.S.Store.goes_on_refl _ Going.changes;
+  behind = g.met.S.Store.goes_on_refl _ Going.keeps;
+  said = tt;
+}
+
+pub returns-clause-reached : goal.returns-clause-reached
+returns-clause-reached g c = c.call-reply.ensures.reached
+
+pub returns-then-not-stands-clause-damage : goal.returns-then-not-stands-clause-damage
+returns-then-not-stands-clause-damage g c = λ x read of. refl
+
+pub returns-clause-damage : goal.returns-clause-damage
+returns-clause-damage g c = c.call-reply.ensures.damage
