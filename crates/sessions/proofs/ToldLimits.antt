@@ -1,5 +1,6 @@
 -- A limit that a change tells, from where it was counted back to where the call began.
-use Rattle.std.proofs.Common.{◌≡◌, inl, inr, true, false, List, Ok, sym, ap, subst, ◌∙◌}
+use Rattle.std.proofs.Common.{◌≡◌, inl, inr, ℕ, Bool, true, false, not, List, Option, Some, Ok, refl, sym, ap, subst, ◌∙◌}
+use Rattle.std.specs.Option.{option_map, is_some}
 use Rattle.refusals.specs.declared.refusal.Refusal.{Refusal}
 use Rattle.sqlval.specs.declared.schema.Schema.{Schema}
 use Rattle.sqlval.specs.Value.{Row}
@@ -14,6 +15,7 @@ use Rattle.denote.specs.Database.{Name}
 use Rattle.denote.specs.SchemaOf.{IsSchemaOf}
 use Rattle.store.specs.declared.error.StoreLimit.{StoreLimit}
 use Rattle.store.specs.Contents.{Contents, database_of}
+use Rattle.store.specs.Stored.{Found}
 use Rattle.transactions.specs.Refused.{TellsReached}
 use Rattle.sessions.specs.Kinds.{is_change, is_of_cursor}
 use Rattle.sessions.specs.ToldLimits.{ChangeTells, GivenTell, RowsTell, StatementTells, TypedTells}
@@ -97,3 +99,13 @@ cursor_call_is_none P (asks.OpenCursor y) of changes = absurd (cc)
 cursor_call_is_none P (asks.Fetch y) of changes = absurd (cc)
 cursor_call_is_none P (asks.CloseCursor y) of changes = absurd (cc)
 cursor_call_is_none P _ of changes = absurd (cc)
+
+-- ---- what is taken back
+
+-- a session that is in a transaction did not begin one
+pub begun_before : (o : Option Found) (number : Option ℕ) (idle : Bool) → number ≡ option_map (λ (f : Found). f.number) o → is_some number ≡ not idle
+    → (f : Found) → o ≡ Some f → idle ≡ false
+begun_before o number false is some f e = refl
+begun_before o number true is some f e =
+    let there : is_some number ≡ true = ap is_some is ∙ ap (λ (x : Option Found). is_some (option_map (λ (f : Found). f.number) x)) e in
+    let bad : true ≡ false = sym there ∙ some in absurd (cc)

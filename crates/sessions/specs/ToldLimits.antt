@@ -23,6 +23,7 @@ use Rattle.store.specs.Contents.{Contents, database_of, next_number}
 use Rattle.store.specs.Errors.{ChangingReaches}
 use Rattle.store.specs.Going.{Going}
 use Rattle.store.specs.Indexes.{entries_of}
+use Rattle.store.specs.Stored.{Found, Stored}
 
 -- the INSERT stores so many rows in its table, none of which faults (ISO/IEC 9075:1992, 13.8)
 pub record StoresRows (reading : CheckReading) (db : Database) (i : Insert) (count : ℕ) : Type 0 where
@@ -75,10 +76,16 @@ pub record GivenTell (counted : StoreLimit → Type 0) (sound : Type 0) (c : Con
   pub tells : RowsTell counted sound schema c name rows which
 
 -- A store on the way says so of the refusal: the call came to it by a change at most, and only took
--- a beginning back behind it.
-pub record IsSaidBetween {S : Type 0} (goes_on : S → S → Going → Type 0) (old new : S)
+-- back behind it that the session began. So it is the one that the call leaves, where the session
+-- was in a transaction.
+pub record IsSaidBetween {S : Type 0} (goes_on : S → S → Going → Type 0) (active : Type 0) (old new : S)
     (says_so : S → Refusal → Type 0) (refusal : Refusal) : Type 0 where
   pub middle : S
   pub before : goes_on old middle Going.changes
   pub behind : goes_on middle new Going.keeps
+  pub at_end : active → middle ≡ new
   pub said : says_so middle refusal
+
+-- the session is in a transaction
+abbrev pub IsActive : Stored → ℕ → Type 0
+IsActive st s = (f : Found) × (get st.readers s ≡ Some f)

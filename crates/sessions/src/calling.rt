@@ -24,7 +24,7 @@ ghost use Rattle.sessions.specs.Kinds.{IsFetchText, is_change, is_declare, is_fe
 ghost use Rattle.sessions.specs.Limits.{CallReaches, StatementReaches};
 ghost use Rattle.sessions.specs.Numbers.{kept_of};
 ghost use Rattle.sessions.specs.Seen.{seen_in};
-ghost use Rattle.sessions.specs.ToldLimits.{IsSaidBetween, StatementTells};
+ghost use Rattle.sessions.specs.ToldLimits.{IsActive, IsSaidBetween, StatementTells};
 
 use crate::change::change;
 use crate::changes::Changes;
@@ -73,7 +73,7 @@ pub(crate) fn call<S: Store, L: Language + Changes<S>>(
     ensures device { Counts result (S.refused store.old) (S.refused store.new) }
     ensures limits { IfRefused result (TellsReached (CallReaches (S.counted store.old) (S.shows store.old).commits text.now)) }
     ensures reached { (x : Tree) → IsRead text.now x → is_change x ≡ true
-        → IfRefused result (IsSaidBetween S.goes_on store.old store.new (λ middle.
+        → IfRefused result (IsSaidBetween S.goes_on (IsActive (S.shows store.old) session) store.old store.new (λ middle.
         TellsReached (StatementTells (S.counted middle) (S.is_sound store.old) (S.shows store.old).working x))) }
     ensures damage { (x : Tree) → IsRead text.now x → is_of_transaction x ≡ true
         → TellsDamage result (S.damaged store.old) (S.damaged store.new) }
@@ -124,7 +124,7 @@ fn carry_out<S: Store, L: Language + Changes<S>>(
     ensures device { Counts result (S.refused store.old) (S.refused store.new) }
     ensures limits { IfRefused result (TellsReached (StatementReaches (S.counted store.old) (S.shows store.old).commits statement.now)) }
     ensures reached { is_change statement.now ≡ true
-        → IfRefused result (IsSaidBetween S.goes_on store.old store.new (λ middle.
+        → IfRefused result (IsSaidBetween S.goes_on (IsActive (S.shows store.old) session) store.old store.new (λ middle.
         TellsReached (StatementTells (S.counted middle) (S.is_sound store.old) (S.shows store.old).working statement.now))) }
     ensures damage { is_of_transaction statement.now ≡ true
         → TellsDamage result (S.damaged store.old) (S.damaged store.new) }

@@ -25,7 +25,7 @@ ghost use Rattle.typing.specs.declared.statement.Typed.TheVariants as does;
 ghost use Rattle.sessions.specs.Changed.{HasChanged, MakesChange, RefusesChange, RefusesStatement};
 ghost use Rattle.sessions.specs.Kinds.{is_change};
 ghost use Rattle.sessions.specs.Seen.{seen_in};
-ghost use Rattle.sessions.specs.ToldLimits.{IsSaidBetween, StatementTells, TypedTells};
+ghost use Rattle.sessions.specs.ToldLimits.{IsActive, IsSaidBetween, StatementTells, TypedTells};
 
 use crate::changes::Changes;
 use crate::falling::let_fall;
@@ -64,7 +64,7 @@ pub(crate) fn change<S: Store, L: Language + Changes<S>>(
         → SameButMark (S.shows store.old) (S.shows store.new) × (writer.new ≡ writer.old)) }
     ensures left { IsShut slot.now.cursors
         ⊎ (SameButMark (S.shows store.old) (S.shows store.new) × (writer.new ≡ writer.old)) }
-    ensures reached { IfRefused result (IsSaidBetween S.goes_on store.old store.new (λ middle.
+    ensures reached { IfRefused result (IsSaidBetween S.goes_on (IsActive (S.shows store.old) session) store.old store.new (λ middle.
         TellsReached (StatementTells (S.counted middle) (S.is_sound store.old) (S.shows store.old).working statement.now))) }
     ensures device { Counts result (S.refused store.old) (S.refused store.new) }
     ensures goes { S.goes_on store.old store.new Going.changes }

@@ -71,7 +71,7 @@ impl<S: Store, L: Language + Changes<S>> Core<S, L> {
     ghost use Rattle.sessions.specs.Kinds.{IsFetchText, IsQueryText, is_change, is_of_transaction};
     ghost use Rattle.sessions.specs.Turned.{TellsOpening, TellsRows};
     ghost use Rattle.sessions.specs.Limits.{CallReaches};
-    ghost use Rattle.sessions.specs.ToldLimits.{GivenTell, IsSaidBetween, StatementTells};
+    ghost use Rattle.sessions.specs.ToldLimits.{GivenTell, IsActive, IsSaidBetween, StatementTells};
     ghost use Rattle.sessions.specs.Seen.{seen_in};
     ghost use Rattle.sessions.specs.Opening.{Stays};
     ghost use Rattle.sessions.specs.OfCore.{IsSound, OthersStay, StandAlike, StandBeside, number_of, world_of};
@@ -107,7 +107,7 @@ impl<S: Store, L: Language + Changes<S>> Core<S, L> {
         ensures device { Counts result (S.refused self.old.store) (S.refused self.new.store) }
         ensures limits { IfRefused result (TellsReached (CallReaches (S.counted self.old.store) (S.shows self.old.store).commits text.now)) }
         ensures reached { (x : Tree) → IsRead text.now x → is_change x ≡ true
-            → IfRefused result (IsSaidBetween S.goes_on self.old.store self.new.store (λ middle.
+            → IfRefused result (IsSaidBetween S.goes_on (IsActive (S.shows self.old.store) (number_of session)) self.old.store self.new.store (λ middle.
             TellsReached (StatementTells (S.counted middle) (S.is_sound self.old.store) (S.shows self.old.store).working x))) }
         ensures damage { (x : Tree) → IsRead text.now x → is_of_transaction x ≡ true
             → TellsDamage result (S.damaged self.old.store) (S.damaged self.new.store) }
@@ -260,7 +260,7 @@ impl<S: Store, L: Language + Changes<S>> Core<S, L> {
         ensures ended { is_live (world_of S.shows self.old) (number_of session) ≡ false
             → (result ≡ Reply.Refused (Invalid reason.Session)) × (self.new ≡ self.old) }
         ensures live { StandAlike (world_of S.shows self.old) (world_of S.shows self.new) }
-        ensures reached { IfRefused result (IsSaidBetween S.goes_on self.old.store self.new.store (λ middle.
+        ensures reached { IfRefused result (IsSaidBetween S.goes_on (IsActive (S.shows self.old.store) (number_of session)) self.old.store self.new.store (λ middle.
             TellsReached (GivenTell (S.counted middle) (S.is_sound self.old.store) (S.shows self.old.store).working table.now rows))) }
         ensures device { Counts result (S.refused self.old.store) (S.refused self.new.store) }
         ensures kept { IfRefused result (λ refusal. refusal ≢ SerializationFailure

@@ -19,7 +19,7 @@ ghost use Rattle.cursors.specs.ByName.{IsShut};
 ghost use Rattle.sessions.specs.Changed.{MakesChange, RefusesStatement};
 ghost use Rattle.sessions.specs.Numbers.{kept_of};
 ghost use Rattle.sessions.specs.Seen.{seen_in};
-ghost use Rattle.sessions.specs.ToldLimits.{GivenTell, IsSaidBetween};
+ghost use Rattle.sessions.specs.ToldLimits.{GivenTell, IsActive, IsSaidBetween};
 
 use crate::change::is_read_only;
 use crate::changes::Changes;
@@ -58,7 +58,7 @@ pub(crate) fn insert_rows<S: Store, L: Changes<S>>(
         → SameButMark (S.shows store.old) (S.shows store.new) × (writer.new ≡ writer.old)) }
     ensures left { IsShut slot.now.cursors
         ⊎ (SameButMark (S.shows store.old) (S.shows store.new) × (writer.new ≡ writer.old)) }
-    ensures reached { IfRefused result (IsSaidBetween S.goes_on store.old store.new (λ middle.
+    ensures reached { IfRefused result (IsSaidBetween S.goes_on (IsActive (S.shows store.old) session) store.old store.new (λ middle.
         TellsReached (GivenTell (S.counted middle) (S.is_sound store.old) (S.shows store.old).working table.now rows))) }
     ensures device { Counts result (S.refused store.old) (S.refused store.new) }
     ensures goes { S.goes_on store.old store.new Going.changes }

@@ -1,5 +1,5 @@
 //! Who writes, and what a session sees.
-ghost use Rattle.std.specs.Prelude.{◌≡◌, if◌then◌else◌};
+ghost use Rattle.std.specs.Prelude.{◌≡◌, false, if◌then◌else◌};
 ghost use Rattle.store.specs.Going.{keeps};
 ghost use Rattle.store.specs.Stored.{ended};
 ghost use Rattle.session_definitions.specs.World.{is_session};
@@ -43,9 +43,11 @@ pub fn view_of(writer: Option<u64>, session: u64) -> View
     }
 }
 
-/// Ends the transaction that a refused statement would have begun.
+/// Ends the transaction that a refused statement would have begun, and does nothing where it began
+/// none.
 pub fn take_back<S: Store>(store: &mut S, session: u64, idle: bool)
     ensures shows { S.shows store.new ≡ (if idle then ended (S.shows store.old) session else S.shows store.old) }
+    ensures stays { idle ≡ false → store.new ≡ store.old }
     ensures goes { S.goes_on store.old store.new keeps }
 {
     if idle {

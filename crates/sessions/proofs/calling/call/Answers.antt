@@ -18,7 +18,7 @@ use Rattle.sessions.proofs.Unread.{refuses_text}
 use Rattle.transactions.proofs.Orders.{same}
 use Rattle.ast.specs.declared.statement.Statement.{Statement}
 use Rattle.transactions.specs.Refused.{IfRefused, TellsReached}
-use Rattle.sessions.specs.ToldLimits.{IsSaidBetween, StatementTells}
+use Rattle.sessions.specs.ToldLimits.{IsActive, IsSaidBetween, StatementTells}
 use Rattle.sessions.proofs.ToldLimits.{is_no_change}
 use Rattle.sessions.proofs.Damage.{is_of_none, memory_tells}
 use Rattle.sessions.proofs.calling.call.Goals as goal
@@ -177,7 +177,7 @@ pub returns-in-Err-declared_in-clause-reached : goal.returns-in-Err-declared_in-
 returns-in-Err-declared_in-clause-reached g c = λ x read is.
     let same_text : c.in-Err-declared_in.statement ≡ x = c.in-Err-declared_in.ensures.0 ∙ c.in-Ok.ensures.only x read in
     subst
-    (λ (y : Statement). IfRefused c.carry_out-reply.result (IsSaidBetween g.S.Store.goes_on c.args.store.now c.carry_out-reply.new.store (λ middle. TellsReached (StatementTells (g.S.Store.counted middle) (g.S.Store.is_sound c.args.store.now) (g.S.Store.shows c.args.store.now).working y))))
+    (λ (y : Statement). IfRefused c.carry_out-reply.result (IsSaidBetween g.S.Store.goes_on (IsActive (g.S.Store.shows c.args.store.now) c.args.session) c.args.store.now c.carry_out-reply.new.store (λ middle. TellsReached (StatementTells (g.S.Store.counted middle) (g.S.Store.is_sound c.args.store.now) (g.S.Store.shows c.args.store.now).working y))))
     same_text (c.carry_out-reply.ensures.reached (ap is_change same_text ∙ is))
 
 pub returns-in-Err-clause-reached : goal.returns-in-Err-clause-reached
@@ -185,6 +185,7 @@ returns-in-Err-clause-reached g c = λ x read is. record {
   middle = c.args.store.now;
   before = g.met.S.Store.goes_on_refl _ Going.changes;
   behind = g.met.S.Store.goes_on_refl _ Going.keeps;
+  at_end = λ active. refl;
   said = tells_none (StatementTells (g.S.Store.counted c.args.store.now) (g.S.Store.is_sound c.args.store.now) (g.S.Store.shows c.args.store.now).working x) c.in-Err.refusal
       (unread_tells c.args.text.now c.in-Err.refusal c.in-Err.ensures.unread);
 }

@@ -12,7 +12,8 @@ use Rattle.sessions.proofs.Devices.{risen_later, risen_still, counts_none, of_st
 use Rattle.store.specs.Going.{Going}
 use Rattle.sessions.proofs.Kept.{none_kept}
 use Rattle.sessions.proofs.Limits.{tells_none}
-use Rattle.sessions.proofs.ToldLimits.{statement_told_before}
+use Rattle.std.specs.FinMap.{get}
+use Rattle.sessions.proofs.ToldLimits.{begun_before, statement_told_before}
 use Rattle.sessions.specs.ToldLimits.{StatementTells}
 use Rattle.sessions.proofs.change.change.Goals as goal
 
@@ -141,6 +142,7 @@ returns-then-is_read_only-clause-reached g c = record {
   middle = c.args.store.now;
   before = g.met.S.Store.goes_on_refl _ Going.changes;
   behind = g.met.S.Store.goes_on_refl _ Going.keeps;
+  at_end = λ active. refl;
   said = tt;
 }
 
@@ -149,23 +151,26 @@ returns-then-has_open-clause-reached g c = record {
   middle = c.args.store.now;
   before = g.met.S.Store.goes_on_refl _ Going.changes;
   behind = g.met.S.Store.goes_on_refl _ Going.keeps;
+  at_end = λ active. refl;
   said = tt;
 }
 
 pub returns-then-comes_too_late-clause-reached : goal.returns-then-comes_too_late-clause-reached
 returns-then-comes_too_late-clause-reached g c = record {
-  middle = c.args.store.now;
-  before = g.met.S.Store.goes_on_refl _ Going.changes;
-  behind = c.end.ensures.goes;
+  middle = c.end.new.self;
+  before = g.met.S.Store.goes_on_trans _ _ _ Going.keeps Going.changes c.end.ensures.goes (g.met.S.Store.goes_on_refl _ Going.changes);
+  behind = g.met.S.Store.goes_on_refl _ Going.keeps;
+  at_end = λ active. refl;
   said = tt;
 }
 
 pub returns-in-Err-clause-reached : goal.returns-in-Err-clause-reached
 returns-in-Err-clause-reached g c = record {
-  middle = c.args.store.now;
-  before = g.met.S.Store.goes_on_refl _ Going.changes;
-  behind = c.begin.ensures.goes;
-  said = tells_none (StatementTells (g.S.Store.counted c.args.store.now) (g.S.Store.is_sound c.args.store.now) (g.S.Store.shows c.args.store.now).working c.args.statement.now) c.refusal_of.result
+  middle = c.begin.new.self;
+  before = g.met.S.Store.goes_on_trans _ _ _ Going.keeps Going.changes c.begin.ensures.goes (g.met.S.Store.goes_on_refl _ Going.changes);
+  behind = g.met.S.Store.goes_on_refl _ Going.keeps;
+  at_end = λ active. refl;
+  said = tells_none (StatementTells (g.S.Store.counted c.begin.new.self) (g.S.Store.is_sound c.args.store.now) (g.S.Store.shows c.args.store.now).working c.args.statement.now) c.refusal_of.result
       (tells_reached _ _ _ _ _ _ c.refusal_of.ensures (rw c.in-Err.is at c.begin.ensures.refused));
 }
 
@@ -179,6 +184,8 @@ returns-in-Err-make-clause-reached g c =
       middle = c.make.new.store;
       before = g.met.S.Store.goes_on_trans _ _ _ Going.keeps Going.changes c.begin.ensures.goes c.make.ensures.goes;
       behind = c.take_back.ensures.goes;
+      at_end = λ active.
+          sym (c.take_back.ensures.stays (begun_before (get (g.S.Store.shows c.args.store.now).readers c.args.session) _ _ c.number.ensures c.is_none-idle.ensures active.0 active.1));
       said = statement_told_before (g.S.Store.counted c.make.new.store) (g.S.Store.is_sound c.args.store.now) (g.S.Store.is_sound c.begin.new.self)
           (g.S.Store.shows c.args.store.now).working (g.S.Store.shows c.begin.new.self).working
           (g.met.S.Store.goes_on_goes _ _ _ c.begin.ensures.goes).sound

@@ -126,6 +126,7 @@ returns-then-not-stands-clause-reached g c = record {
   middle = c.args.self.now.store;
   before = g.met.S.Store.goes_on_refl _ Going.changes;
   behind = g.met.S.Store.goes_on_refl _ Going.keeps;
+  at_end = λ active. refl;
   said = tt;
 }
 

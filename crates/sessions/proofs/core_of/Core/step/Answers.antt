@@ -159,6 +159,7 @@ returns-then-not-stands-clause-reached g c = λ x read is. record {
   middle = c.args.self.now.store;
   before = g.met.S.Store.goes_on_refl _ Going.changes;
   behind = g.met.S.Store.goes_on_refl _ Going.keeps;
+  at_end = λ active. refl;
   said = tt;
 }
 
