@@ -8,6 +8,7 @@ use Rattle.std.proofs.rt.Memory.TheSendSync as memory
 use Rattle.std.proofs.boxed.Box.TheSendSync as box
 use Rattle.std.proofs.vec.Vec.TheSendSync as vec
 use Rattle.std.proofs.collections.BTreeMap.TheSendSync as tree_map
+use Rattle.std.proofs.collections.BTreeSet.TheSendSync as tree_set
 use Rattle.std.proofs.collections.VecDeque.TheSendSync as deque
 use Rattle.std.proofs.vec.IntoIter.TheSendSync as into_iter
 use Rattle.std.proofs.alloc.Global.TheSendSync as global
@@ -46,6 +47,8 @@ use Rattle.algebra.proofs.tree.Bound.TheSendSync as bound
 use Rattle.algebra.proofs.tree.StoredTable.TheSendSync as stored_table
 use Rattle.algebra.proofs.tree.Condition.TheLaws.TheKnot as tree_knot
 use Rattle.key_tables.proofs.kept_keys.KeptKeys.TheSendSync as kept_keys
+use Rattle.key_tables.proofs.member.Member.TheSendSync as one_member
+use Rattle.key_tables.proofs.members.Members.TheSendSync as member_values
 use Rattle.places.proofs.place.KeyedRows.TheSendSync as keyed_rows
 use Rattle.places.proofs.place.Members.TheSendSync as members
 use Rattle.places.proofs.place.Place.TheLaws.TheKnot as place_knot
@@ -65,6 +68,7 @@ ruleset lists = (
   box.the_send,
   vec.the_send,
   tree_map.the_send,
+  tree_set.the_send,
   deque.the_send,
   into_iter.the_send,
   global.the_send,
@@ -136,6 +140,10 @@ ruleset plans = (
   bound.the_field_send,
   stored_table.the_send,
   stored_table.the_field_send,
+  one_member.the_send,
+  one_member.the_field_send,
+  member_values.the_send,
+  member_values.the_field_send,
   kept_keys.the_send,
   kept_keys.the_field_send,
   keyed_rows.the_send,

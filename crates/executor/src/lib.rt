@@ -21,7 +21,8 @@ pub use listed::{Env, Listed};
 pub use parts::{combined_listed, distinct_listed, grouped_listed, sorted_listed};
 pub use predicates::condition_truth;
 pub use rows::{product_listed, put_if, put_pairs};
+pub use subqueries::{MemberList, list_of_members, members_of};
 pub use trees::{
-    filtered_moving, filtered_part, groups_of_part, members_kept, members_of_sides, projected,
+    filtered_moving, filtered_part, groups_of_part, kept_by_list, members_of_sides, projected,
     projected_part, tree_listed,
 };

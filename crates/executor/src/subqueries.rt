@@ -103,6 +103,21 @@ pub fn member_list(alloc: Global, listed: &Listed) -> Result<MemberList, AllocEr
     })
 }
 
+/// A list whose members are known.
+pub fn list_of_members(members: Members, fault: Option<Fault>) -> MemberList
+    ensures members { result.members ≡ members }
+    ensures fault { result.fault ≡ fault }
+{
+    MemberList { members, fault }
+}
+
+/// What decides IN, out of a list.
+pub fn members_of(list: MemberList) -> Members
+    ensures { result ≡ list.members }
+{
+    list.members
+}
+
 /// The members that these values are.
 pub fn list_of_values(alloc: Global, values: &[Value]) -> Result<MemberList, AllocError>
     ensures { IfOk result (λ list. HasMembers list (listed_rows (map (λ value. value ∷ []) values.now))) }

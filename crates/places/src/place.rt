@@ -1,9 +1,11 @@
 //! How far the list of a plan was given.
+ghost use Rattle.denote.specs.Condition.{first_column};
+ghost use Rattle.key_tables.specs.Among.{AreMembers};
 ghost use Rattle.key_tables.specs.Digests.{AreKeysOf};
 
 use denote::{Fault, Row, Rows};
 use items::{Boxed, Items};
-use key_tables::KeptKeys;
+use key_tables::{KeptKeys, Members as Values};
 use std::vec::IntoIter;
 use store::Position;
 
@@ -18,11 +20,13 @@ pub struct KeyedRows {
     ghost keyed: { AreKeysOf keys columns rows },
 }
 
-/// What IN looks for: rows, and the fault that ends their list.
+/// What IN looks for: rows, and the fault that ends their list; beside them what decides it.
 #[derive(Drop)]
 pub struct Members {
     pub rows: Rows,
     pub fault: Option<Fault>,
+    pub values: Values,
+    ghost decides: { AreMembers values (first_column rows) },
 }
 
 /// How far the list of a plan was given. It keeps rows, row numbers and keys, and nothing that is

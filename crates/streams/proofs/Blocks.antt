@@ -87,9 +87,15 @@ place-is entries tree (Ok place) q whole h e = ap (λ (z : Place). left entries 
 place-is entries tree (Err error) q whole h e = tt
 
 -- members as they are listed
-pub same-members : (members : Members)
-    → outcome_of (record { rows = members.rows; fault = members.fault }) ≡ members_listed members
-same-members members = ap (λ faults. record { rows = members.rows; faults = faults }) (same-ending members.fault)
+pub same-members : (members : Members) (rows : List Row) (fault : Option Fault) → members.rows ≡ rows → members.fault ≡ fault
+    → record { rows = rows; faults = as_list fault } ≡ members_listed members
+same-members members rows fault r f = (λ i. record { rows = sym r i; faults = as_list (sym f i) })
+    ∙ ap (λ faults. record { rows = members.rows; faults = faults }) (same-ending members.fault)
+
+-- of members with these rows and this fault
+pub alike-members : (members others : Members) → members.rows ≡ others.rows → members.fault ≡ others.fault
+    → members_listed members ≡ members_listed others
+alike-members members others r f = λ i. record { rows = r i; faults = option_to_list (f i) }
 
 -- ---- a filter of one row more
 

@@ -75,15 +75,13 @@ module _ (entries : Entries) where
       ∙ ap (member_left entries operand is_negated others rows) (sym none)
       ∙ sym (left_member entries place operand is_negated others rows goes)
 
-  pub member-begins : (operand : Expression) (is_negated : Bool) (others rows : Tree) (listed : Listed)
-      → outcome_of listed ≡ left entries p.Start others
-      → left entries (asked_above (record { rows = listed.rows; fault = listed.fault }) p.Start) (t.Member operand is_negated others rows)
+  pub member-begins : (operand : Expression) (is_negated : Bool) (others rows : Tree) (members : Members)
+      → members_listed members ≡ left entries p.Start others
+      → left entries (asked_above members p.Start) (t.Member operand is_negated others rows)
       ≡ left entries p.Start (t.Member operand is_negated others rows)
-  member-begins operand is_negated others rows listed e =
-      let members : Members = record { rows = listed.rows; fault = listed.fault } in
+  member-begins operand is_negated others rows members e =
       let asks : Outcome → List Row → Outcome = λ o. row_by_row (kept_row (is_member (value_listing (rows_by entries) operand) is_negated o) []) in
-      let same : members_listed members ≡ tree_listing (rows_by entries) others [] =
-      ap (λ faults. record { rows = listed.rows; faults = faults }) (sym (same-ending listed.fault)) ∙ e ∙ left_start entries others in
+      let same : members_listed members ≡ tree_listing (rows_by entries) others [] = e ∙ left_start entries others in
       above_member entries members p.Start operand is_negated others rows
       ∙ ap (λ o. onwards o (asks (members_listed members))) (left_start entries rows)
       ∙ ap (λ o. onwards (tree_listing (rows_by entries) rows []) (asks o)) same

@@ -5,10 +5,13 @@ use Rattle.algebra.specs.declared.tree.Tree.{Tree}
 use Rattle.denote.specs.Outcome.{Outcome}
 use Rattle.store.specs.declared.error.StoreError.{StoreError}
 use Rattle.store.specs.declared.error.StoreError.TheVariants.{Memory}
+use Rattle.executor.specs.declared.listed.Listed.{Listed}
+use Rattle.places.specs.declared.place.Members.{Members}
 use Rattle.places.specs.declared.place.Place.{Place}
+use Rattle.places.specs.declared.place.Place.TheVariants.{Start}
 use Rattle.places.specs.Joins.{Join, Pairing, joined_on}
 use Rattle.places.specs.Left.{Entries, before, left}
-use Rattle.places.specs.Views.{ByKeys, Paired, Pairs, by_keys, is_whole, keyed_left, paired, standing}
+use Rattle.places.specs.Views.{ByKeys, Paired, Pairs, asked_above, by_keys, is_whole, keyed_left, paired, standing}
 use Rattle.streams.specs.declared.step.Step.{Step}
 
 -- rows of a tree and its place behind them
@@ -40,3 +43,10 @@ IsPaired entries tree pairing others right_of rows = (place : Place) (at : Paire
 abbrev pub IsKeyed : Entries → Tree → Join → Type 0
 IsKeyed entries tree join = (place : Place) (at : ByKeys) → is_whole place ≡ false → by_keys place ≡ Some at
     → left entries place tree ≡ keyed_left entries join at
+
+-- the place of a `Member` before its first row, once its members are listed
+pub record BeginsMember (place : Place) (listed : Listed) : Type 0 where
+  pub members : Members
+  pub is : place ≡ asked_above members Start
+  pub rows : members.rows ≡ listed.rows
+  pub fault : members.fault ≡ listed.fault
