@@ -20,8 +20,8 @@ pub fn first_page(header: FileHeader) -> Page
     header.encode()
 }
 
-/// Writes page 0 of a new file in the place of what the device held, and waits for it. Refused where
-/// the device refuses a call, and then the device is as it was or has 4,096 bytes.
+/// Writes page 0 of a new file in the place of what the device held, and waits for it. Refused
+/// where the device refuses a call, and then the device is as it was or has 4,096 bytes.
 fn write_first<D: Disk>(disk: &mut D) -> Result<(), DiskError>
     ensures made { OnOk result (IsTrue D.is_honest → D.bytes disk.new ≡ header_bytes_2 FileHeader.NEW) }
     ensures only { IsTrue D.is_durable → IsTrue D.is_honest

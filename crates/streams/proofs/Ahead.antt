@@ -1,4 +1,5 @@
--- Steps of plans of one table that is scanned: which plans these are, their places, and what is read.
+-- Steps of plans of one table that is scanned: which plans these are, their places, and what is
+-- read.
 use Rattle.std.proofs.Common.{◌≡◌, ◌≤◌, ◌+◌, refl, sym, ap, ◌∙◌, subst, suc, ℕ, Bool, true, false, List, [], ◌∷◌, ◌++◌, length, map, take, drop, Option, Some, None, Result, Ok, Err, IfOk, rules, arith, inl, inr}
 use Rattle.std.proofs.Math.Nat.{min-le_left}
 use Rattle.std.proofs.lemmas.List.{length-take}

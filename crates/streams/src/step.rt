@@ -28,7 +28,8 @@ pub(crate) fn put_step(
         → RowsGive entries tree whole result place.new }
     ensures reads { (entries : Entries) (tree : Tree) (count limit : ℕ) → StepReads entries tree count limit step
         → RowsRead entries tree count limit result place.new }
-    ensures ahead { (entries : Entries) (tree : Tree) (to_come was count most : ℕ) → StepAhead entries tree to_come was count most step
+    ensures ahead { (entries : Entries) (tree : Tree) (to_come was count most : ℕ)
+        → StepAhead entries tree to_come was count most step
         → RowsAhead entries tree to_come was count most result place.new }
     ensures refused { IfErr result (IsPassed step) }
 {
