@@ -1,7 +1,6 @@
 -- Steps of plans of one table that is scanned: which plans these are, their places, and what is
 -- read.
-use Rattle.std.proofs.Common.{◌≡◌, ◌≤◌, ◌+◌, refl, sym, ap, ◌∙◌, subst, suc, ℕ, Bool, true, false, List, [], ◌∷◌, ◌++◌, length, map, take, drop, Option, Some, None, Result, Ok, Err, IfOk, rules, arith, inl, inr}
-use Rattle.std.proofs.Math.Nat.{min-le_left}
+use Rattle.std.proofs.Common.{◌≡◌, ◌≤◌, ◌+◌, refl, sym, ap, ◌∙◌, subst, suc, ℕ, Bool, true, false, List, [], ◌∷◌, ◌++◌, length, map, take, drop, min, Option, Some, None, Result, Ok, Err, IfOk, rules, arith, inl, inr}
 use Rattle.std.proofs.lemmas.List.{length-take}
 use Rattle.std.specs.Option.{option_to_list}
 use Rattle.sqlval.specs.declared.truth.Truth.{Truth}
@@ -118,7 +117,7 @@ walks_opened : (place : Place) → walks place ≡ walks_at (map-Place _ _ walks
 unfolding walks
 walks_opened place = fold_out-Place _ walks_at place
 
-walks_start : walks p.Start ≡ true
+pub walks_start : walks p.Start ≡ true
 unfolding walks
 walks_start = search (rules, the_lemmas)
 
@@ -201,12 +200,10 @@ block_ahead shown tree entries is place next rows most was count goes r n counts
     ap (λ (zs : List Row). length zs) r ∙ length-map (λ (e : Entry). e.1) (take most found) in
     let both : length (take most found) + length (drop most found) ≡ length found = both-lengths most found in
     let old : to_read shown place tree ≡ length found = is place goes in
-    let le : length (take most found) ≤ most =
-    subst (λ n. n ≤ most) (sym (length-take most found)) (min-le_left most (length found)) in
     let faults : length (option_to_list (fault_of next)) ≡ 0 = ap (λ f. length (option_to_list f)) none in
     record {
       read = length rows;
-      few = omega (arith, same, le);
+      exact = same ∙ length-take most found ∙ ap (min most) (sym old);
       counted = counts;
       gives = omega (arith, faults);
       left = λ h. omega (arith, same, both, old, n);
@@ -292,7 +289,7 @@ ahead_above entries tree below_it law to_come was count most rows inner ahead =
     let same : to_read entries (above inner) tree ≡ to_read entries inner below_it = go (out-Place inner) refl in
     record {
       read = ahead.read;
-      few = ahead.few;
+      exact = ahead.exact;
       counted = ahead.counted;
       gives = omega (arith, faults, gives);
       left = λ none. let all = ahead.left (sym (fault_above inner) ∙ none) in omega (arith, same, all);
@@ -312,7 +309,7 @@ ahead_fewer entries tree to_come was count most given rows next ahead few =
     let gives = ahead.gives in
     record {
       read = ahead.read;
-      few = ahead.few;
+      exact = ahead.exact;
       counted = ahead.counted;
       gives = omega (arith, gives, few);
       left = ahead.left;
@@ -330,7 +327,7 @@ ahead_ended entries tree below_it to_come was count most given rows inner fault 
     ap (λ f. length (option_to_list f)) (fault_ended (Some fault)) in
     record {
       read = ahead.read;
-      few = ahead.few;
+      exact = ahead.exact;
       counted = ahead.counted;
       gives = omega (arith, gives, few, faults);
       left = λ none. absurd (some_fault (sym (fault_ended (Some fault)) ∙ none));

@@ -1,7 +1,8 @@
--- Plans of one table that is scanned, under filters and projections. A step reads at most as many
--- rows as it is asked for, and then stands behind the last that it read. So in steps of one row a
--- step that gives a row has read that row alone, and the count is the row's place in the scan.
-use Rattle.std.specs.Prelude.{◌≡◌, ◌≤◌, ◌⊎◌, ℕ, ◌+◌, Bool, true, false, List, length, Option, None, Result, IfOk}
+-- Plans of one table that is scanned, under filters and projections. A step reads as many rows as
+-- it is asked for, or all that are left, and then stands behind the last that it read. So in steps
+-- of one row a step that gives a row has read that row alone, and the count is the row's place in
+-- the scan.
+use Rattle.std.specs.Prelude.{◌≡◌, ◌≤◌, ◌⊎◌, ℕ, ◌+◌, min, Bool, true, false, List, length, Option, None, Result, IfOk}
 use Rattle.std.specs.Option.{option_to_list}
 use Rattle.sqlval.specs.Value.{Row}
 use Rattle.algebra.specs.declared.tree.Tree.{Tree, Tree-F, fold-Tree}
@@ -52,11 +53,11 @@ fault_of place = fault_in (out-Place place)
 
 -- ---- what a step reads
 
--- Of `to_come` rows at most `most` are read, and counted on `was`. Each gives a row, none, or the
--- fault that ends the list; without one, all others are still to be read.
+-- Of `to_come` rows as many as `most` are read, or all that there are, and counted on `was`. Each
+-- gives a row, none, or the fault that ends the list; without one, all others are still to be read.
 pub record ReadsAhead (entries : Entries) (tree : Tree) (to_come was count most : ℕ) (rows : List Row) (next : Place) : Type 0 where
   pub read : ℕ
-  pub few : read ≤ most
+  pub exact : read ≡ min most to_come
   pub counted : count ≡ counted_on was read
   pub gives : length rows + length (option_to_list (fault_of next)) ≤ read
   pub left : fault_of next ≡ None → read + to_read entries next tree ≡ to_come
